@@ -1,0 +1,5 @@
+mod Appending
+mod FieldLemmas
+mod HeldLemmas
+mod NumberLemmas
+mod Phrases

@@ -1,0 +1,12 @@
+use Rattle.std.proofs.Common.{◌≡◌, ℕ, ◌+◌, ◌≤◌, ◌<◌, List, ◌++◌, length, inl, inr, refl, ap, arith, length-append, decimal, codes}
+use Rattle.std.proofs.lemmas.Fmt.{length-decimal-le}
+use Rattle.http.specs.StatusCode.{code_digits}
+use Rattle.api.specs.Answer.{phrase, head, IsAnswered}
+use Rattle.api.proofs.Phrases.{short_phrase}
+use Rattle.api.proofs.answer.head_fits.Goals as goal
+
+pub returns : goal.returns
+returns c = λ code len is small.
+    let d : length (decimal len) ≤ 20 = length-decimal-le 20 len (omega arith) (omega arith) small in
+    let p : length (phrase code) ≤ 31 = short_phrase code is in
+    simp length-append (omega (arith, d, p))

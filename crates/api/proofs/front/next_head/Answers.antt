@@ -1,0 +1,21 @@
+use Rattle.std.proofs.Common.{◌≡◌, ℕ, List, ◌++◌, length, take, Option, Some, None, rules, arith, ◌∙◌, subst, sym}
+use Rattle.std.specs.Prelude.{IfSome}
+use Rattle.std.specs.Io.KnownBytes.{prepend_known}
+use Rattle.std.proofs.lemmas.List.{length-take-le}
+use Rattle.httparse.specs.Grammar.{RequestHead, HasNoRequest}
+use Rattle.api.specs.Head.{HasHead}
+use Rattle.api.specs.Held.{held_bytes}
+use Rattle.api.specs.Front.{HasNoHead}
+use Rattle.api.proofs.front.next_head.Goals as goal
+
+by_rest : (held : List ℕ) (r : Option (List ℕ)) → ((more : List ℕ) (h : RequestHead) (rest : List ℕ) → ¬ (HasHead (held ++ more) h rest)) → IfSome (prepend_known held r) HasNoHead
+by_rest held None f = tt
+by_rest held (Some zs) f = f zs
+
+pub returns-then-held-len-clause-bad : goal.returns-then-held-len-clause-bad
+returns-then-held-len-clause-bad g c =
+    let held : List ℕ = held_bytes c.reads.held in
+    let none : HasNoRequest held = subst (λ (b : List ℕ). HasNoRequest (take c.reads.held.filled b)) c.deref.ensures.value c.in-More.ensures in
+    let size : c.reads.held.filled ≡ 8192 = c.if-held-len.true ∙ c.len.ensures ∙ c.reads.invariant.0 in
+    let full : length held ≡ 8192 = length-take-le c.reads.held.filled c.reads.held.bytes.items (omega (arith, c.reads.held.fits, c.reads.held.bytes.ok.0)) ∙ size in
+    λ _. by_rest held (g.R.Read.remaining c.reads.reader) (λ more h rest. c.heads_of_the_input.ensures.full held more h rest full none)

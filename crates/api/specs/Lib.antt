@@ -1,0 +1,9 @@
+pub mod Answer
+pub mod Blank
+pub mod Fields
+pub mod Front
+pub mod Head
+pub mod Held
+pub mod Rooms
+pub mod Sending
+pub mod Table

@@ -1,0 +1,159 @@
+//! What an answer says in place of a reply.
+ghost use Rattle.std.specs.Prelude.{◌≤◌, length};
+ghost use Rattle.api.specs.Answer.{IsAnswered};
+
+use meaning::Refusal;
+
+/// Why a message was not carried out.
+#[derive(Clone, Copy, Debug, PartialEq, Eq)]
+pub enum MessageFault {
+    BadRequest = 41,
+    NoPath = 42,
+    BadMethod = 43,
+    TooLarge = 44,
+    BadHead = 45,
+    CutBody = 46,
+}
+
+impl MessageFault {
+    /// The name on the wire.
+    pub fn name(self) -> &'static str {
+        match self {
+            MessageFault::BadRequest => "bad_request",
+            MessageFault::NoPath => "no_path",
+            MessageFault::BadMethod => "bad_method",
+            MessageFault::TooLarge => "too_large",
+            MessageFault::BadHead => "bad_head",
+            MessageFault::CutBody => "cut_body",
+        }
+    }
+}
+
+/// Why the text of a query is no telephone number's URI.
+#[derive(Clone, Copy, Debug, PartialEq, Eq)]
+pub enum UriFault {
+    BadNumber = 32,
+}
+
+/// Why a message got no reply: by the register, its URI or its form.
+#[derive(Clone, Copy, Debug, PartialEq, Eq)]
+pub enum Failure {
+    Refused(Refusal),
+    Uri(UriFault),
+    Message(MessageFault),
+}
+
+impl From<Refusal> for Failure {
+    fn from(refusal: Refusal) -> Failure {
+        Failure::Refused(refusal)
+    }
+}
+
+impl From<UriFault> for Failure {
+    fn from(fault: UriFault) -> Failure {
+        Failure::Uri(fault)
+    }
+}
+
+impl From<MessageFault> for Failure {
+    fn from(fault: MessageFault) -> Failure {
+        Failure::Message(fault)
+    }
+}
+
+fn name_of(refusal: Refusal) -> &'static str
+    ensures { length result.now ≤ 16 }
+{
+    match refusal {
+        Refusal::UnknownCarrier => "unknown_carrier",
+        Refusal::NotAdmin => "not_admin",
+        Refusal::UnknownCode => "unknown_code",
+        Refusal::CarrierTaken => "carrier_taken",
+        Refusal::CodeTaken => "code_taken",
+        Refusal::LrnTaken => "lrn_taken",
+        Refusal::BadLrn => "bad_lrn",
+        Refusal::InPool => "in_pool",
+        Refusal::WrongOld => "wrong_old",
+        Refusal::NotFound => "not_found",
+        Refusal::NotYours => "not_yours",
+        Refusal::Busy => "busy",
+        Refusal::WrongStatus => "wrong_status",
+        Refusal::DuePast => "due_past",
+        Refusal::DueMismatch => "due_mismatch",
+        Refusal::NotConcurred => "not_concurred",
+        Refusal::BeforeDue => "before_due",
+        Refusal::ConflictSpent => "conflict_spent",
+        Refusal::TooLate => "too_late",
+        Refusal::TooEarly => "too_early",
+        Refusal::Protected => "protected",
+        Refusal::Contaminated => "contaminated",
+        Refusal::OpenPorts => "open_ports",
+        Refusal::BlockTaken => "block_taken",
+        Refusal::NotQueued => "not_queued",
+        Refusal::OutOfOrder => "out_of_order",
+        Refusal::ClockBack => "clock_back",
+        Refusal::Full => "full",
+        Refusal::Storage => "storage",
+        Refusal::NoMemory => "no_memory",
+    }
+}
+
+fn status_of(refusal: Refusal) -> u16
+    ensures { IsAnswered result }
+{
+    match refusal {
+        Refusal::UnknownCarrier | Refusal::NotAdmin | Refusal::NotYours => 403,
+        Refusal::UnknownCode | Refusal::NotFound | Refusal::NotQueued => 404,
+        Refusal::Full | Refusal::Storage | Refusal::NoMemory => 503,
+        _ => 409,
+    }
+}
+
+fn message_status(fault: MessageFault) -> u16
+    ensures { IsAnswered result }
+{
+    match fault {
+        MessageFault::NoPath => 404,
+        MessageFault::BadMethod => 405,
+        MessageFault::TooLarge => 413,
+        MessageFault::BadRequest | MessageFault::BadHead | MessageFault::CutBody => 400,
+    }
+}
+
+impl Failure {
+    /// The name on the wire.
+    pub fn name(self) -> &'static str
+        ensures { length result.now ≤ 16 }
+    {
+        match self {
+            Failure::Refused(refusal) => name_of(refusal),
+            Failure::Uri(UriFault::BadNumber) => "bad_number",
+            Failure::Message(MessageFault::BadRequest) => "bad_request",
+            Failure::Message(MessageFault::NoPath) => "no_path",
+            Failure::Message(MessageFault::BadMethod) => "bad_method",
+            Failure::Message(MessageFault::TooLarge) => "too_large",
+            Failure::Message(MessageFault::BadHead) => "bad_head",
+            Failure::Message(MessageFault::CutBody) => "cut_body",
+        }
+    }
+
+    /// The number on the wire.
+    pub fn number(self) -> u8 {
+        match self {
+            Failure::Refused(refusal) => refusal.number(),
+            Failure::Uri(fault) => fault as u8,
+            Failure::Message(fault) => fault as u8,
+        }
+    }
+
+    /// The status code of the answer.
+    pub fn status(self) -> u16
+        ensures { IsAnswered result }
+    {
+        match self {
+            Failure::Refused(refusal) => status_of(refusal),
+            Failure::Uri(_) => 400,
+            Failure::Message(fault) => message_status(fault),
+        }
+    }
+}

@@ -1,0 +1,127 @@
+//! The next message of the input.
+ghost use Rattle.std.specs.Prelude.{◌≡◌, ◌≤◌, length, vec_len, vec_capacity, IfOk, OnOk};
+ghost use Rattle.httparse.specs.Spans.{IsRequestWithin};
+ghost use Rattle.api.specs.Fields.{IsFoundWithin};
+
+use crate::body::read_body;
+use crate::fault::MessageFault;
+use crate::front::{Front, next_head};
+use crate::head::{Found, read_head};
+use crate::held::Held;
+use crate::paths::{Route, route_of};
+use httparse::spans::{HeaderSpan, RequestSpans};
+use matchit::Router;
+use numbers::Spid;
+use std::alloc::AllocError;
+use std::io::Read;
+
+/// The most bytes that a body may have.
+pub const BODY_LIMIT: u64 = 1_048_576;
+
+/// What the head of a message says.
+#[derive(Clone, Copy, Debug)]
+pub struct Request {
+    /// The path, if it is one.
+    pub route: Option<Route>,
+    pub is_post: bool,
+    /// The caller, where `x-spid` names one once.
+    pub caller: Option<Spid>,
+    /// The length of the body.
+    pub length: usize,
+    /// Whether the answer is the last.
+    pub closes: bool,
+}
+
+/// What comes next.
+#[derive(Clone, Copy, Debug)]
+pub enum Next {
+    Message(Request),
+    Refused(MessageFault),
+    End,
+}
+
+/// Why no next message came.
+#[derive(Clone, Copy, Debug)]
+pub enum NextFault {
+    Read,
+    Memory,
+}
+
+// The provider that a field names, if it is there once.
+fn caller_of(held: &[u8], found: Found) -> Option<Spid>
+    requires { IsFoundWithin (length held.now) found }
+{
+    match found {
+        Found::Once(span) => Spid::read(str::from_utf8(span.of(held)).ok()?),
+        Found::Absent | Found::Twice => None,
+    }
+}
+
+// What a head says that was found in the held bytes, and how long it is. `BadHead` comes before `TooLarge`.
+fn request_of(
+    held: &[u8],
+    headers: &[HeaderSpan],
+    spans: &RequestSpans,
+    router: &Router<Route>,
+) -> Result<Request, MessageFault>
+    requires { IsRequestWithin held.now headers.now spans.now }
+    ensures { IfOk result (λ r. r.length ≤ 1048576) }
+{
+    let Some(head) = read_head(held, headers, spans) else {
+        return Err(MessageFault::BadHead);
+    };
+    if head.body > BODY_LIMIT {
+        return Err(MessageFault::TooLarge);
+    }
+    Ok(Request {
+        route: route_of(router, spans.path.of(held)),
+        is_post: spans.method.of(held) == b"POST".as_slice(),
+        caller: caller_of(held, head.caller),
+        length: head.body as usize,
+        closes: head.closes,
+    })
+}
+
+fn take_room(body: &mut Vec<u8>, length: usize) -> Result<(), AllocError>
+    ensures empty { vec_len body.new ≡ 0 }
+    ensures room { OnOk result (length ≤ vec_capacity body.new) }
+{
+    body.clear();
+    body.reserve(length)
+}
+
+/// Reads the next message: its head, and then its body into `body`.
+///
+/// A message is refused with `BadHead`, `TooLarge` or `CutBody`, in this order; its path, its method and
+/// its form are judged later.
+pub fn next_message<R: Read>(
+    held: &mut Held,
+    headers: &mut [HeaderSpan],
+    router: &Router<Route>,
+    reader: &mut R,
+    body: &mut Vec<u8>,
+) -> Result<Next, NextFault>
+    requires room { length headers.old ≡ 64 }
+    requires size { vec_len held.old.bytes ≡ 8192 }
+    ensures size { vec_len held.new.bytes ≡ 8192 }
+{
+    let spans = match next_head(held, headers, reader) {
+        Err(_) => return Err(NextFault::Read),
+        Ok(Front::End) => return Ok(Next::End),
+        Ok(Front::Bad) => return Ok(Next::Refused(MessageFault::BadHead)),
+        Ok(Front::Head(spans)) => spans,
+    };
+    let request = match request_of(held.held(), headers, &spans, router) {
+        Ok(request) => request,
+        Err(fault) => return Ok(Next::Refused(fault)),
+    };
+    held.drop_front(spans.len);
+    if take_room(body, request.length).is_err() {
+        return Err(NextFault::Memory);
+    }
+    match read_body(held, reader, request.length, body) {
+        Err(_) => Err(NextFault::Read),
+        Ok(false) => Ok(Next::Refused(MessageFault::CutBody)),
+        Ok(true) => Ok(Next::Message(request)),
+    }
+}

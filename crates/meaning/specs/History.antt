@@ -1,0 +1,299 @@
+-- The accepted commands and acknowledgements, newest first, and what they make of each subject.
+use Rattle.std.specs.Prelude.{ℕ, suc, ◌+◌, Bool, true, false, ◌&&◌, ◌==◌, nat_lt, List, [], ◌∷◌, ◌++◌, map, filter, length, Option, Some, None, is_some, is_none, unwrap_or, if◌then◌else◌, ⊤, ◌<◌}
+use Rattle.std.specs.List.{list_any}
+use Rattle.numbers.specs.Digits.{number_in}
+use Rattle.numbers.specs.Subjects.{subject_eq, Subject, Number, Block}
+use Rattle.numbers.specs.Routings.{Routing}
+use Rattle.meaning.specs.Commands.{Command, RegisterCarrier, RegisterRoutingNumber, OpenCode, OldProviderCreate, NewProviderCreate, Activate, PutInConflict, RemoveFromConflict, Cancel, OldProviderCancellationAcknowledge, NewProviderCancellationAcknowledge, Disconnect, Donate, Assign, Release}
+use Rattle.meaning.specs.declared.words.Action.TheVariants.{Create, Delete}
+use Rattle.meaning.specs.Statuses.{Status, Pending, Conflict, CancelPending, Sending, Active, PartialFailure, Failed, DisconnectPending, Old, Canceled}
+use Rattle.meaning.specs.declared.words.Side.{Side}
+use Rattle.meaning.specs.declared.words.Side.TheVariants.{OldProvider, NewProvider}
+use Rattle.meaning.specs.Windows.{Windows}
+use Rattle.meaning.specs.Versions.{Version, Record, nothing, with_number, in_force, version_in_force}
+use Rattle.meaning.specs.Changes.{enters, sent, acknowledged_by, joined_by, changed_at, of_id}
+use Rattle.meaning.specs.Judge.{judged}
+
+-- ---- entries
+
+-- what a caller did: a command, or the acknowledgement of an attempt of a version
+pub data Request : Type 0 where
+  Commands : (command : Command) → Request
+  Acknowledges : (id attempt : ℕ) → Request
+
+pub record Entry : Type 0 where
+  pub minute : ℕ
+  pub caller : ℕ
+  pub request : Request
+
+-- the lines of a donation are lines: three digits
+abbrev pub AreLines : List ℕ → Type 0
+AreLines [] = ⊤
+AreLines (line ∷ lines) = (line < 1000) × AreLines lines
+
+abbrev pub HasLines : Request → Type 0
+HasLines (Commands (Donate block used lrn cic)) = AreLines used
+HasLines _ = ⊤
+
+-- ---- the registry, by searching the history
+
+-- what the newest entry that names it says
+abbrev pub or_else : {A : Type 0} → Option A → Option A → Option A
+or_else None other = other
+or_else (Some x) other = Some x
+
+abbrev pub search_history : {A : Type 0} → (Entry → Option A) → List Entry → Option A
+search_history named [] = None
+search_history named (e ∷ h) = or_else (named e) (search_history named h)
+
+-- the carrier that an entry registers
+abbrev pub carrier_named : Request → Option ℕ
+carrier_named (Commands (RegisterCarrier spid)) = Some spid
+carrier_named _ = None
+
+-- the registered carriers, rising
+abbrev pub carrier_added : Option ℕ → List ℕ → List ℕ
+carrier_added None cs = cs
+carrier_added (Some c) cs = with_number c cs
+
+abbrev pub carriers : List Entry → List ℕ
+carriers [] = []
+carriers (e ∷ h) = carrier_added (carrier_named e.request) (carriers h)
+
+-- who registered a routing number
+abbrev pub lrn_named : ℕ → ℕ → Request → Option ℕ
+lrn_named lrn caller (Commands (RegisterRoutingNumber l)) = if l == lrn then Some caller else None
+lrn_named lrn caller _ = None
+
+abbrev pub lrn_owner : ℕ → List Entry → Option ℕ
+lrn_owner lrn h = search_history (λ e. lrn_named lrn e.caller e.request) h
+
+-- for whom a code was opened
+abbrev pub code_named : ℕ → Request → Option ℕ
+code_named code (Commands (OpenCode c spid)) = if c == code then Some spid else None
+code_named code _ = None
+
+abbrev pub code_holder : ℕ → List Entry → Option ℕ
+code_holder code h = search_history (λ e. code_named code e.request) h
+
+-- who donated a block
+abbrev pub donor_named : ℕ → ℕ → Request → Option ℕ
+donor_named block caller (Commands (Donate b used lrn cic)) = if b == block then Some caller else None
+donor_named block caller _ = None
+
+abbrev pub donor_of : ℕ → List Entry → Option ℕ
+donor_of block h = search_history (λ e. donor_named block e.caller e.request) h
+
+-- ---- creates
+
+-- a create of the other side is a second one: pending or conflict, the same providers, and the caller's own create missing
+abbrev pub awaits_creates : Status → Bool
+awaits_creates Pending = true
+awaits_creates Conflict = true
+awaits_creates (CancelPending by) = false
+awaits_creates (Sending action) = false
+awaits_creates Active = false
+awaits_creates PartialFailure = false
+awaits_creates Failed = false
+awaits_creates (DisconnectPending release) = false
+awaits_creates Old = false
+awaits_creates Canceled = false
+
+-- over the status, the providers and the create of the caller's side, so that it serves a row too
+abbrev pub lacks_create : (old_provider new_provider : ℕ) → Status → (its_old its_new : ℕ) → (made_at : Option ℕ) → Bool
+lacks_create old_provider new_provider status its_old its_new made_at =
+    awaits_creates status && ((its_old == old_provider) && (its_new == new_provider)) && is_none made_at
+
+abbrev pub lacks_old_create : ℕ → ℕ → Version → Bool
+lacks_old_create old_provider new_provider v = lacks_create old_provider new_provider v.status v.old_provider v.new_provider v.old_at
+
+abbrev pub lacks_new_create : ℕ → ℕ → Version → Bool
+lacks_new_create old_provider new_provider v = lacks_create old_provider new_provider v.status v.old_provider v.new_provider v.new_at
+
+-- the old provider's second create
+abbrev pub with_old_create : Bool → ℕ → Version → Version
+with_old_create authorized minute v =
+    if authorized
+    then record v { old_at = Some minute }
+    else record (enters Conflict minute v) { old_at = Some minute; spent = true }
+
+-- the new provider's second create
+abbrev pub with_new_create : Routing → ℕ → Version → Version
+with_new_create routing minute v = record v { new_at = Some minute; routing = Some routing }
+
+-- ---- what an entry does to a version that is there
+
+abbrev pub has_both_creates : (old_at new_at : Option ℕ) → Bool
+has_both_creates old_at new_at = is_some old_at && is_some new_at
+
+-- on which side one of a version's two providers stands
+abbrev pub side_of : (provider old_provider : ℕ) → Side
+side_of provider old_provider = if provider == old_provider then OldProvider else NewProvider
+
+-- a cancel of a version with both creates waits for the other provider's acknowledgement
+abbrev pub cancelled_before_sending : ℕ → ℕ → Version → Version
+cancelled_before_sending caller minute v =
+    if has_both_creates v.old_at v.new_at
+    then enters (CancelPending (side_of caller v.old_provider)) minute v
+    else enters Canceled minute v
+
+-- by the status in which the version is cancelled. In the other statuses a cancel is refused
+abbrev pub cancelled_by : Status → ℕ → ℕ → Version → Version
+cancelled_by Pending caller minute v = cancelled_before_sending caller minute v
+cancelled_by Conflict caller minute v = cancelled_before_sending caller minute v
+cancelled_by Failed caller minute v = enters Canceled minute v
+cancelled_by (DisconnectPending release) caller minute v = enters Active minute v
+cancelled_by (CancelPending by) caller minute v = v
+cancelled_by (Sending action) caller minute v = v
+cancelled_by Active caller minute v = v
+cancelled_by PartialFailure caller minute v = v
+cancelled_by Old caller minute v = v
+cancelled_by Canceled caller minute v = v
+
+-- a release that is still to come waits for its minute
+abbrev pub disconnected : Option ℕ → List ℕ → ℕ → Version → Version
+disconnected None everyone minute v = sent Delete everyone minute v
+disconnected (Some release) everyone minute v =
+    if nat_lt minute release
+    then enters (DisconnectPending release) minute v
+    else sent Delete everyone minute v
+
+-- a version of the subject s after a request
+abbrev pub done_to : Subject → ℕ → ℕ → List ℕ → Request → Version → Version
+done_to s caller minute everyone (Commands (RegisterCarrier spid)) v = joined_by spid v
+done_to s caller minute everyone (Commands (RegisterRoutingNumber lrn)) v = v
+done_to s caller minute everyone (Commands (OpenCode code spid)) v = v
+done_to s caller minute everyone (Commands (OldProviderCreate tn old_provider new_provider due authorized)) v =
+    if subject_eq s (Number tn) && lacks_old_create old_provider new_provider v then with_old_create authorized minute v else v
+done_to s caller minute everyone (Commands (NewProviderCreate tn old_provider new_provider due lrn cic)) v =
+    if subject_eq s (Number tn) && lacks_new_create old_provider new_provider v then with_new_create (record { lrn = lrn; cic = cic }) minute v else v
+done_to s caller minute everyone (Commands (Activate id)) v = of_id id (sent Create everyone minute) v
+done_to s caller minute everyone (Commands (PutInConflict id)) v = of_id id (λ u. record (enters Conflict minute u) { spent = true }) v
+done_to s caller minute everyone (Commands (RemoveFromConflict id)) v = of_id id (enters Pending minute) v
+done_to s caller minute everyone (Commands (Cancel id)) v = of_id id (λ u. cancelled_by u.status caller minute u) v
+done_to s caller minute everyone (Commands (OldProviderCancellationAcknowledge id)) v = of_id id (enters Canceled minute) v
+done_to s caller minute everyone (Commands (NewProviderCancellationAcknowledge id)) v = of_id id (enters Canceled minute) v
+done_to s caller minute everyone (Commands (Disconnect id release)) v = of_id id (disconnected release everyone minute) v
+done_to s caller minute everyone (Commands (Donate block used lrn cic)) v = v
+done_to s caller minute everyone (Commands (Assign block holder lrn cic)) v = v
+done_to s caller minute everyone (Commands (Release block)) v =
+    if subject_eq s (Block block) && in_force v then sent Delete everyone minute v else v
+done_to s caller minute everyone (Acknowledges id attempt) v = of_id id (acknowledged_by caller attempt minute) v
+
+-- ---- what an entry makes
+
+-- the used numbers of a block, each once, rising
+abbrev pub rising : List ℕ → List ℕ
+rising [] = []
+rising (n ∷ ns) = with_number n (rising ns)
+
+abbrev pub used_numbers : ℕ → List ℕ → List Subject
+used_numbers block used = map (λ line. Number (number_in block line)) (rising used)
+
+-- the subjects for which a request makes a version, in the order of their ids; `at` gives the records before it
+abbrev pub makes : Request → (Subject → Record) → List Subject
+makes (Commands (OldProviderCreate tn old_provider new_provider due authorized)) at =
+    if list_any (lacks_old_create old_provider new_provider) (at (Number tn)).versions then [] else Number tn ∷ []
+makes (Commands (NewProviderCreate tn old_provider new_provider due lrn cic)) at =
+    if list_any (lacks_new_create old_provider new_provider) (at (Number tn)).versions then [] else Number tn ∷ []
+makes (Commands (Donate block used lrn cic)) at =
+    filter (λ s. is_none (version_in_force (at s))) (used_numbers block used)
+makes (Commands (Assign block holder lrn cic)) at = Block block ∷ []
+makes _ at = []
+
+-- a version as it is made, before its status
+abbrev pub blank_version : ℕ → ℕ → ℕ → ℕ → ℕ → Version
+blank_version id old_provider new_provider due minute = record {
+  id = id;
+  old_provider = old_provider;
+  new_provider = new_provider;
+  due = due;
+  routing = None;
+  old_at = None;
+  new_at = None;
+  status = Pending;
+  since = minute;
+  attempt = 0;
+  spent = false;
+  protective = false;
+  broadcasts = [];
+}
+
+-- the version that a request makes. An assigned block has a donor
+abbrev pub made_version : ℕ → ℕ → ℕ → List ℕ → Option ℕ → Request → Version
+made_version id caller minute everyone donor (Commands (OldProviderCreate tn old_provider new_provider due authorized)) =
+    with_old_create authorized minute (blank_version id old_provider new_provider due minute)
+made_version id caller minute everyone donor (Commands (NewProviderCreate tn old_provider new_provider due lrn cic)) =
+    with_new_create (record { lrn = lrn; cic = cic }) minute (blank_version id old_provider new_provider due minute)
+made_version id caller minute everyone donor (Commands (Donate block used lrn cic)) =
+    sent Create everyone minute (record (blank_version id caller caller minute minute) { routing = Some (record { lrn = lrn; cic = cic }); protective = true })
+made_version id caller minute everyone donor (Commands (Assign block holder lrn cic)) =
+    sent Create everyone minute (record (blank_version id (unwrap_or donor 0) holder minute minute) { routing = Some (record { lrn = lrn; cic = cic }) })
+made_version id caller minute everyone donor _ = blank_version id caller caller minute minute
+
+-- the id of the version that is made for s, if one is: the subjects take ids in turn
+abbrev pub id_among : Subject → ℕ → List Subject → Option ℕ
+id_among s id [] = None
+id_among s id (t ∷ ts) = if subject_eq s t then Some id else id_among s (suc id) ts
+
+-- the block that an assignment names; any number stands for the other requests, which have no use for a donor
+abbrev pub assigned_block : Request → ℕ
+assigned_block (Commands (Assign block holder lrn cic)) = block
+assigned_block _ = 0
+
+-- the new version in front, if one is made
+abbrev pub with_made : Option ℕ → (ℕ → Version) → List Version → List Version
+with_made None made vs = vs
+with_made (Some id) made vs = made id ∷ vs
+
+-- ---- the replay
+
+-- what stands after an entry: for which subjects the versions 1, 2, .. were made, and each subject's record at each minute from the entry's on
+pub record Meaning : Type 0 where
+  pub made : List Subject
+  pub at : Subject → ℕ → Record
+
+-- ids are given in turn, from 1 on
+abbrev pub next_after : List Subject → ℕ
+next_after made = 1 + length made
+
+-- one entry's effect on the record of s
+unfoldable pub effect : Subject → Option ℕ → Option ℕ → Entry → Record → Record
+effect s made donor e r = record {
+  carriers = carrier_added (carrier_named e.request) r.carriers;
+  versions = with_made made (λ id. made_version id e.caller e.minute r.carriers donor e.request)
+      (changed_at e.minute (done_to s e.caller e.minute r.carriers e.request) r.versions);
+}
+
+-- one more entry: the minutes after it are judged, each before what comes in it
+unfoldable pub after : Windows → Entry → Option ℕ → Meaning → Meaning
+after w e donor before =
+    let new = makes e.request (λ s. before.at s e.minute) in
+    record {
+      made = before.made ++ new;
+      at = λ s m. judged w e.minute m (effect s (id_among s (next_after before.made) new) donor e (before.at s e.minute));
+    }
+
+-- the first state: no version
+abbrev pub at_first : Meaning
+at_first = record { made = []; at = λ s m. nothing }
+
+unfoldable pub meaning : Windows → List Entry → Meaning
+meaning w [] = at_first
+meaning w (e ∷ h) = after w e (donor_of (assigned_block e.request) h) (meaning w h)
+
+-- the record of a subject at a minute that is not before the last entry
+abbrev pub replay : Windows → Subject → List Entry → ℕ → Record
+replay w s h m = (meaning w h).at s m
+
+-- the subjects for which versions were made, in the order of the ids
+abbrev pub made_by : Windows → List Entry → List Subject
+made_by w h = (meaning w h).made
+
+abbrev pub next_id : Windows → List Entry → ℕ
+next_id w h = next_after (made_by w h)
+
+-- the subject to which an id was given, where the first of the list has the id `from`
+abbrev pub subject_of_id : ℕ → ℕ → List Subject → Option Subject
+subject_of_id id from [] = None
+subject_of_id id from (s ∷ ss) = if id == from then Some s else subject_of_id id (suc from) ss

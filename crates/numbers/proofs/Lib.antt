@@ -1,0 +1,4 @@
+pub mod SubjectKeys
+pub mod DigitLemmas
+pub mod SpidLemmas
+pub mod SubjectOrder

@@ -1,0 +1,58 @@
+//! Texts of a fixed number of decimal digits.
+
+ghost use Rattle.std.specs.Prelude.{◌≡◌, ◌≢◌, ℕ, ◌+◌, ◌^◌, ◌<◌, ◌≤◌, ◌++◌, IfSome, IfNone, IsOk, OnOk, OnErr, IsUtf8, length, string_bytes, string_len, string_capacity};
+ghost use Rattle.numbers.specs.Texts.{digits_of};
+
+use std::alloc::AllocError;
+
+/// The number that a text of so many decimal digits writes.
+pub fn read_digits(text: &str, width: usize) -> Option<u64>
+    requires { width ≤ 18 }
+    ensures some { IfSome result (λ n. (n < 10 ^ width) × (text.now ≡ digits_of width n)) }
+    ensures none { IfNone result ((n : ℕ) → text.now ≢ digits_of width n) }
+{
+    if text.len() != width {
+        return None;
+    }
+    let mut number: u64 = 0;
+    for byte in text.as_bytes() {
+        if !byte.is_ascii_digit() {
+            return None;
+        }
+        number = number * 10 + u64::from(*byte - b'0');
+    }
+    Some(number)
+}
+
+/// Appends so many decimal digits of a number, with leading zeros.
+pub fn write_digits<const N: usize>(number: u64, out: &mut String) -> Result<(), AllocError>
+    requires { N ≤ 18 }
+    ensures ok { OnOk result (string_bytes out.new ≡ string_bytes out.old ++ digits_of N number) }
+    ensures err { OnErr result (string_bytes out.new ≡ string_bytes out.old) }
+    ensures capacity { string_capacity out.old ≤ string_capacity out.new }
+    ensures len { string_len out.new ≤ string_len out.old + N }
+    ensures succeeds { string_len out.old + N ≤ string_capacity out.old → IsOk result }
+{
+    let mut digits = [b'0'; N];
+    let mut rest = number;
+    for place in (0..N).rev() {
+        digits[place] = b'0' + (rest % 10) as u8;
+        rest /= 10;
+    }
+    write_bytes(&digits, out)
+}
+
+/// Appends the bytes of a text.
+pub fn write_bytes(text: &[u8], out: &mut String) -> Result<(), AllocError>
+    requires { IsUtf8 text.now }
+    ensures ok { OnOk result (string_bytes out.new ≡ string_bytes out.old ++ text.now) }
+    ensures err { OnErr result (string_bytes out.new ≡ string_bytes out.old) }
+    ensures capacity { string_capacity out.old ≤ string_capacity out.new }
+    ensures len { string_len out.new ≤ string_len out.old + length text.now }
+    ensures succeeds { string_len out.old + length text.now ≤ string_capacity out.old → IsOk result }
+{
+    match str::from_utf8(text) {
+        Ok(text) => out.push_str(text),
+        Err(_) => unreachable!(),
+    }
+}

@@ -1,0 +1,16 @@
+//! The register: each call of the clearinghouse over any store.
+#![tactic(auto)]
+
+mod acknowledgement;
+mod activation;
+mod command;
+mod create;
+mod query;
+mod register;
+mod registration;
+mod serving;
+mod view;
+
+pub use command::{Command, Reply};
+pub use register::{OpenFault, Register};
+pub use view::{Answer, VersionView};

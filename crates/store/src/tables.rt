@@ -1,0 +1,56 @@
+//! The tables of a store in memory.
+use crate::keys::{SubjectVersion, SubjectWait};
+use delivery::Broadcast;
+use numbers::{BlockId, CodeId, Lrn, Spid, Subject};
+use settle::{BlockRow, BroadcastKey, ClockRow, VersionRow, WaitKey};
+use std::alloc::Global;
+use std::collections::BTreeMap;
+
+/// The rows of a register, each table an ordered map, with the indexes by which versions and downloads
+/// are found by their subject.
+#[derive(Drop)]
+pub struct Tables {
+    pub clock: Option<ClockRow>,
+    pub carriers: BTreeMap<Spid, ()>,
+    pub lrns: BTreeMap<Lrn, Spid>,
+    pub codes: BTreeMap<CodeId, Spid>,
+    pub blocks: BTreeMap<BlockId, BlockRow>,
+    pub versions: BTreeMap<u64, VersionRow>,
+    /// The versions in force.
+    pub holds: BTreeMap<SubjectVersion, ()>,
+    /// The open versions.
+    pub opens: BTreeMap<SubjectVersion, ()>,
+    pub broadcasts: BTreeMap<BroadcastKey, Broadcast>,
+    pub waits: BTreeMap<WaitKey, Subject>,
+    pub waits_about: BTreeMap<SubjectWait, ()>,
+}
+
+impl Tables {
+    /// Empty tables, and no clock row.
+    pub fn new(alloc: Global) -> Tables {
+        Tables {
+            clock: None,
+            carriers: BTreeMap::new(alloc),
+            lrns: BTreeMap::new(alloc),
+            codes: BTreeMap::new(alloc),
+            blocks: BTreeMap::new(alloc),
+            versions: BTreeMap::new(alloc),
+            holds: BTreeMap::new(alloc),
+            opens: BTreeMap::new(alloc),
+            broadcasts: BTreeMap::new(alloc),
+            waits: BTreeMap::new(alloc),
+            waits_about: BTreeMap::new(alloc),
+        }
+    }
+}
+
+/// The index key of a wait.
+pub fn about(key: &WaitKey, subject: Subject) -> SubjectWait {
+    SubjectWait {
+        carrier: key.carrier,
+        subject,
+        minute: key.minute,
+        id: key.id,
+        attempt: key.attempt,
+    }
+}

@@ -1,0 +1,13 @@
+//! One number's machine: subscription versions, and what commands make of them.
+#![tactic(auto)]
+
+mod acknowledgement;
+mod activation;
+mod create;
+mod deadline;
+mod phase;
+mod version;
+
+pub use create::{Create, CreateFacts, Created, Creator};
+pub use phase::Phase;
+pub use version::{FIRST_ID, ID_LIMIT, Version};
