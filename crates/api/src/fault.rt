@@ -3,6 +3,7 @@ ghost use Rattle.std.specs.Prelude.{◌≤◌, length};
 ghost use Rattle.api.specs.Answer.{IsAnswered};
 
 use meaning::Refusal;
+use std::alloc::AllocError;
 
 /// Why a message was not carried out.
 #[derive(Clone, Copy, Debug, PartialEq, Eq)]
@@ -17,7 +18,9 @@ pub enum MessageFault {
 
 impl MessageFault {
     /// The name on the wire.
-    pub fn name(self) -> &'static str {
+    pub fn name(self) -> &'static str
+        ensures { length result.now ≤ 16 }
+    {
         match self {
             MessageFault::BadRequest => "bad_request",
             MessageFault::NoPath => "no_path",
@@ -46,6 +49,12 @@ pub enum Failure {
 impl From<Refusal> for Failure {
     fn from(refusal: Refusal) -> Failure {
         Failure::Refused(refusal)
+    }
+}
+
+impl From<AllocError> for Failure {
+    fn from(_refused: AllocError) -> Failure {
+        Failure::Refused(Refusal::NoMemory)
     }
 }
 
@@ -128,12 +137,7 @@ impl Failure {
         match self {
             Failure::Refused(refusal) => name_of(refusal),
             Failure::Uri(UriFault::BadNumber) => "bad_number",
-            Failure::Message(MessageFault::BadRequest) => "bad_request",
-            Failure::Message(MessageFault::NoPath) => "no_path",
-            Failure::Message(MessageFault::BadMethod) => "bad_method",
-            Failure::Message(MessageFault::TooLarge) => "too_large",
-            Failure::Message(MessageFault::BadHead) => "bad_head",
-            Failure::Message(MessageFault::CutBody) => "cut_body",
+            Failure::Message(fault) => fault.name(),
         }
     }
 

@@ -1,16 +1,20 @@
 //! The clearinghouse over HTTP: messages from any reader, answers to any writer.
 #![tactic(auto)]
 
-mod front;
-mod head;
-mod held;
-mod message;
 mod answer;
 mod body;
 mod call;
 mod fault;
 mod forms;
+mod front;
+mod head;
+mod held;
+mod message;
 mod paths;
 mod reply;
 mod room;
 mod send;
+mod serving;
+
+pub use fault::MessageFault;
+pub use serving::{End, Fault, NoTicks, Options, Served, Ticks, serve};

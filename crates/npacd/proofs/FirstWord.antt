@@ -1,0 +1,61 @@
+-- The first word names the subcommand, and its rule reads the rest.
+use Rattle.std.proofs.Common.{◌≡◌, List, [], ◌∷◌, ◌++◌, Option, Some, option_map, refl, ap, sym, ◌∙◌, append-nil, append_assoc, codes, subst}
+use Rattle.std.specs.Prelude.{fold}
+use Rattle.clap.specs.Words.{Row, Rule, Text, subcommand_of}
+use Rattle.clap.specs.Walk.{Names, Walk, walked, walked_from, walk_from, nothing_held}
+use Rattle.clap.specs.Simple.{built, names_of, entered}
+use Rattle.clap.proofs.OnLiterals.{clap_on_literals}
+use Rattle.npacd.specs.declared.parse.Subcommand.{Subcommand}
+use Rattle.npacd.specs.declared.parse.Subcommand.TheVariants as sub
+use Rattle.npacd.specs.CommandLine.{npacd_app, rows_named, IsSubcommand}
+
+abbrev Stop : Type 0
+Stop = Text × List Text
+
+met_again : (c : List Rule) (names : Names) (w : Walk) (p : Stop) (word : Text) → w.stopped ≡ Some p → (walked c names w word).stopped ≡ Some (p.0, p.1 ++ word ∷ [])
+unfolding walked
+met_again c names w p word e = ap (λ (o : Option Stop). (walked_from c names o w word).stopped) e
+
+-- after a subcommand was met, each word goes to it
+kept : (c : List Rule) (names : Names) (w : Walk) (p : Stop) (rest : List Text)
+    → w.stopped ≡ Some p → (fold (walked c names) w rest).stopped ≡ Some (p.0, p.1 ++ rest)
+kept c names w p [] e = e ∙ ap (λ (t : List Text). Some (p.0, t)) (sym (append-nil p.1))
+kept c names w p (word ∷ rest) e =
+    kept c names (walked c names w word) (p.0, p.1 ++ word ∷ []) rest (met_again c names w p word e)
+    ∙ ap (λ (t : List Text). Some (p.0, t)) (append_assoc p.1 (word ∷ []) rest)
+
+-- a name is met at once
+abbrev IsMet : Text → Type 0
+IsMet name = (walked (built npacd_app).top.rules (names_of (built npacd_app)) (walk_from nothing_held) name).stopped ≡ Some (name, [])
+
+feed_met : IsMet (codes "feed")
+unfolding clap_on_literals
+feed_met = refl
+
+-- where a name is met at once, its rule reads the words after it
+entered_at : (program name : Text) (after : List Text) → IsMet name
+    → subcommand_of npacd_app (program ∷ name ∷ after) ≡ entered (built npacd_app) (Some (name, after))
+entered_at program name after met =
+    ap (entered (built npacd_app)) (kept (built npacd_app).top.rules (names_of (built npacd_app)) _ (name, []) after met)
+
+abbrev Pair : Type 0
+Pair = Text × List Row
+
+-- the rows of the named subcommand
+abbrev Reads : Text → List Text → List Row → Type 0
+Reads name after rows = entered (built npacd_app) (Some (name, after)) ≡ Some (name, rows) → rows_named name after ≡ Some rows
+
+feed_rows : (after : List Text) (rows : List Row) → Reads (codes "feed") after rows
+unfolding clap_on_literals
+feed_rows after rows e = ap (option_map (λ (p : Pair). p.1)) e
+
+at_name : (program literal name : Text) (after : List Text) (rows : List Row) → IsMet literal → Reads literal after rows → name ≡ literal
+    → subcommand_of npacd_app (program ∷ name ∷ after) ≡ Some (name, rows) → rows_named name after ≡ Some rows
+at_name program literal name after rows met reads e found =
+    let P : Text → Type 0 = λ n. subcommand_of npacd_app (program ∷ n ∷ after) ≡ Some (n, rows) in
+    let Q : Text → Type 0 = λ n. rows_named n after ≡ Some rows in
+    subst Q (sym e) (reads (sym (entered_at program literal after met) ∙ subst P e found))
+
+pub rows_are_named : (program name : Text) (after : List Text) (rows : List Row) (s : Subcommand) → IsSubcommand name rows s
+    → subcommand_of npacd_app (program ∷ name ∷ after) ≡ Some (name, rows) → rows_named name after ≡ Some rows
+rows_are_named program name after rows sub.Feed h found = at_name program (codes "feed") name after rows feed_met (feed_rows after rows) h found

@@ -1,0 +1,49 @@
+-- The command line: what `clap`'s rule reads off the words.
+use Rattle.std.specs.Prelude.{◌≡◌, Bool, true, List, ◌∷◌, [], codes, Option, Some, option_map, find}
+use Rattle.clap.specs.Walk.{answers_to, rows_after}
+use Rattle.clap.specs.Simple.{built, label_of}
+use Rattle.clap.specs.Words.{App, Row, Rule, Text, first_of, new_app, new_rule, with_rule, with_subcommand}
+use Rattle.npacd.specs.declared.parse.Subcommand.{Subcommand}
+use Rattle.npacd.specs.declared.parse.Subcommand.TheVariants as sub
+use Rattle.npacd.specs.declared.parse.Line.{Line}
+
+-- an option `--id`, which may be required
+abbrev pub option_rule : Text → Bool → Rule
+option_rule id required = record (new_rule id) { long = Some id; value_names = 1; required = required }
+
+-- a subcommand with the options that each has
+abbrev pub plain_app : Text → App
+plain_app name = with_rule (new_app name) (option_rule (codes "windows") true)
+
+abbrev pub with_wanted_subcommand : App → App
+with_wanted_subcommand a = record a { top = record a.top { subcommand_required = true } }
+
+abbrev pub npacd_app : App
+npacd_app = with_subcommand (with_wanted_subcommand (new_app (codes "npacd"))) (plain_app (codes "feed")).top
+
+-- which subcommand a name is
+abbrev pub IsSubcommand : Text → List Row → Subcommand → Type 0
+IsSubcommand name rows sub.Feed = name ≡ codes "feed"
+
+pub record IsLineOf (name : Text) (rows : List Row) (line : Line) : Type 0 where
+  pub subcommand : IsSubcommand name rows line.subcommand
+  pub windows : first_of (codes "windows") rows ≡ Some line.windows.now
+
+-- the rows that the rule of the subcommand of this name reads off the words after it
+abbrev pub rows_named : Text → List Text → Option (List Row)
+rows_named name words = option_map (λ s. rows_after s.rules [] words) (find (λ s. answers_to name (label_of s)) (built npacd_app).subs)
+
+-- the line is what the words say: the first after the program's name is the subcommand, and the values are those that
+-- its rule reads off the words after it
+pub record IsLine (words : List Text) (line : Line) : Type 0 where
+  pub program : Text
+  pub name : Text
+  pub after : List Text
+  pub rows : List Row
+  pub words_are : words ≡ program ∷ name ∷ after
+  pub rows_are : rows_named name after ≡ Some rows
+  pub line_is : IsLineOf name rows line
+
+-- the second word is this one
+abbrev pub HasSecond : List Text → Text → Type 0
+HasSecond words name = (program : Text) × (after : List Text) × (words ≡ program ∷ name ∷ after)

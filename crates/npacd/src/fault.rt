@@ -1,0 +1,42 @@
+//! Why a command line was not carried out.
+use api::MessageFault;
+use register::OpenFault;
+use windows::WindowFault;
+
+/// Why a command line was not carried out.
+#[derive(Clone, Copy, PartialEq, Eq, Debug)]
+pub enum Fault {
+    Windows(WindowFault),
+    Open(OpenFault),
+    Message(MessageFault),
+    Read,
+    Write,
+    NoMemory,
+}
+
+impl Fault {
+    /// The name on standard error.
+    pub fn name(self) -> &'static str {
+        match self {
+            Fault::Windows(fault) => fault.name(),
+            Fault::Open(OpenFault::WindowsDiffer) => "windows_differ",
+            Fault::Open(OpenFault::Storage) => "storage",
+            Fault::Open(OpenFault::NoMemory) | Fault::NoMemory => "no_memory",
+            Fault::Message(fault) => fault.name(),
+            Fault::Read => "read",
+            Fault::Write => "write",
+        }
+    }
+
+    /// The exit status: 1 for a refused file or message, 3 where the machine failed.
+    pub fn status(self) -> u8 {
+        match self {
+            Fault::Windows(WindowFault::NoMemory)
+            | Fault::Open(OpenFault::Storage | OpenFault::NoMemory)
+            | Fault::Read
+            | Fault::Write
+            | Fault::NoMemory => 3,
+            Fault::Windows(_) | Fault::Open(OpenFault::WindowsDiffer) | Fault::Message(_) => 1,
+        }
+    }
+}

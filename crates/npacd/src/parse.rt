@@ -1,0 +1,85 @@
+//! The command line.
+ghost use Rattle.std.specs.Prelude.{IfOk, IsTrue, map};
+ghost use Rattle.npacd.specs.CommandLine.{IsLine, HasSecond};
+
+use crate::command::npacd;
+use crate::options::line_of;
+use clap::Error;
+use clap::error::ErrorKind;
+use std::alloc::Global;
+use std::convert::AsStr;
+
+/// What a subcommand does, with its own options.
+#[derive(Clone, Copy, PartialEq, Eq, Debug)]
+pub enum Subcommand {
+    /// Serves standard input to standard output.
+    Feed,
+}
+
+/// A command line that is carried out.
+#[derive(Clone, Copy, PartialEq, Eq, Debug)]
+pub struct Line<'a> {
+    pub subcommand: Subcommand,
+    /// The file of the windows.
+    pub windows: &'a str,
+}
+
+/// A text for the user and the exit status that goes with it.
+#[derive(Debug, Drop)]
+pub struct Usage {
+    pub text: String,
+    pub status: u8,
+}
+
+fn no_memory(alloc: Global) -> Usage {
+    Usage {
+        text: String::new(alloc),
+        status: 3,
+    }
+}
+
+fn usage_of(alloc: Global, error: &Error) -> Usage {
+    if error.kind() == ErrorKind::OutOfMemory {
+        return no_memory(alloc);
+    }
+    match error.to_string(alloc) {
+        Ok(text) => Usage {
+            text,
+            status: if error.use_stderr() { 2 } else { 0 },
+        },
+        Err(_) => no_memory(alloc),
+    }
+}
+
+// The first word after the program's name is this name. A subcommand that `clap` found is.
+fn is_second<S: AsStr>(words: &[S], name: &str) -> bool
+    ensures { IsTrue result → HasSecond (map S.text words.now) name.now }
+{
+    match words {
+        [_, second, ..] => second.as_str() == name,
+        _ => false,
+    }
+}
+
+/// Reads the words of a command line, of which the first is the program's name. Where there is no line, the
+/// answer is a text for the user with the exit status: 0 for help, 2 for a fault of the line, 3 where
+/// memory was refused.
+pub fn parse<'a, S: AsStr>(alloc: Global, words: &'a [S]) -> Result<Line<'a>, Usage>
+    ensures { IfOk result (IsLine (map S.text words.entry.now)) }
+{
+    let command = match npacd(alloc) {
+        Ok(command) => command,
+        Err(_) => return Err(no_memory(alloc)),
+    };
+    let matches = match command.try_get_matches_from(words) {
+        Ok(matches) => matches,
+        Err(error) => return Err(usage_of(alloc, &error)),
+    };
+    match matches.subcommand() {
+        Some((name, found)) if is_second(words, name) => match line_of(name, found) {
+            Ok(line) => Ok(line),
+            Err(_) => Err(no_memory(alloc)),
+        },
+        _ => Err(no_memory(alloc)),
+    }
+}

@@ -1,0 +1,110 @@
+//! Carrying out a command line.
+use crate::fault::Fault;
+use crate::parse::{Line, Subcommand, Usage, parse};
+use api::{End, NoTicks, Options, Served, serve};
+use register::Register;
+use std::alloc::Global;
+use std::fs;
+use std::io::{Read, Write};
+use std::rt::Files;
+use store::MemoryStore;
+use windows::{WindowFault, Windows};
+
+fn windows_at<T: Files + AllocGlobal>(rt: &T, path: &str) -> Result<Windows, Fault> {
+    let bytes = fs::read(rt, path).map_err(|_| Fault::Read)?;
+    match str::from_utf8(bytes.as_slice()) {
+        Ok(text) => Windows::from_toml(rt.alloc(), text).map_err(Fault::Windows),
+        Err(_) => Err(Fault::Windows(WindowFault::Syntax)),
+    }
+}
+
+// A connection that ended by a message's fault ends the program by it.
+fn ended(served: Result<Served, api::Fault>) -> Result<(), Fault> {
+    match served {
+        Ok(served) => match served.end {
+            End::Input | End::Closed => Ok(()),
+            End::Refused(fault) => Err(Fault::Message(fault)),
+        },
+        Err(api::Fault::Read(_)) => Err(Fault::Read),
+        Err(api::Fault::Write(_)) => Err(Fault::Write),
+        Err(api::Fault::Memory(_)) => Err(Fault::NoMemory),
+    }
+}
+
+// Serves the reader to the writer over a new store in memory.
+fn feed<R: Read, W: Write>(
+    alloc: Global,
+    windows: &Windows,
+    reader: &mut R,
+    writer: &mut W,
+) -> Result<(), Fault> {
+    let store = MemoryStore::new(alloc);
+    match Register::open(alloc, store, windows) {
+        Ok(register) => {
+            let mut register = register;
+            let options = Options { clock_route: true };
+            let served = serve(
+                alloc,
+                &mut register,
+                &mut NoTicks,
+                &options,
+                reader,
+                writer,
+            );
+            let _store = register.close();
+            ended(served)
+        }
+        Err((_store, fault)) => Err(Fault::Open(fault)),
+    }
+}
+
+fn carry_out<T: Files + AllocGlobal, R: Read, W: Write>(
+    rt: &T,
+    line: &Line<'_>,
+    reader: &mut R,
+    writer: &mut W,
+) -> Result<(), Fault> {
+    let windows = windows_at(rt, line.windows)?;
+    match line.subcommand {
+        Subcommand::Feed => feed(rt.alloc(), &windows, reader, writer),
+    }
+}
+
+fn show<W: Write>(writer: &mut W, usage: &Usage) -> u8 {
+    match writer.write_all(usage.text.as_bytes()) {
+        Ok(()) => usage.status,
+        Err(_) => 3,
+    }
+}
+
+// One line on the errors, and the exit status.
+fn tell<E: Write>(errors: &mut E, fault: Fault) -> u8 {
+    let name = fault.name();
+    match writeln!(errors, "npacd: {name}") {
+        Ok(()) => fault.status(),
+        Err(_) => 3,
+    }
+}
+
+/// Carries out the words of a command line, of which the first is the program's name, and gives the exit
+/// status: 0 done, or help; 1 a refused windows file, or input that ended by a message's fault; 2 the
+/// command line; 3 memory, a read or a write. With 1 and 3 one line `npacd: ` and the fault's name goes to
+/// the errors.
+pub fn run<T: Files + AllocGlobal, R: Read, W: Write, E: Write>(
+    rt: &T,
+    words: &[String],
+    reader: &mut R,
+    writer: &mut W,
+    errors: &mut E,
+) -> u8 {
+    let line = match parse(rt.alloc(), words) {
+        Ok(line) => line,
+        Err(usage) if usage.status == 0 => return show(writer, &usage),
+        Err(usage) if usage.status == 3 => return tell(errors, Fault::NoMemory),
+        Err(usage) => return show(errors, &usage),
+    };
+    match carry_out(rt, &line, reader, writer) {
+        Ok(()) => 0,
+        Err(fault) => tell(errors, fault),
+    }
+}
