@@ -1,3 +1,5 @@
+//! A thousands-block.
+
 ghost use Rattle.std.specs.Prelude.{◌≡◌, ◌≢◌, ℕ, ◌+◌, ◌≤◌, ◌++◌, IfSome, IfNone, IsOk, OnOk, OnErr, string_bytes, string_len, string_capacity};
 ghost use Rattle.numbers.specs.Digits.{IsBlock, block_code_of, number_in};
 ghost use Rattle.numbers.specs.Texts.{block_text};
@@ -8,8 +10,9 @@ use crate::line::Line;
 use crate::tn::Tn;
 use std::alloc::AllocError;
 
-/// A thousands-block, the unit in which numbers are pooled: the seven digits that its thousand telephone numbers
-/// begin with (the thousands-block pooling administration guidelines of the INC).
+/// A thousands-block, the unit in which numbers are pooled: the seven digits that its thousand
+/// telephone numbers begin with, as in the INC's thousands-block pooling guidelines. The first and
+/// the fourth are 2 to 9.
 #[derive(Clone, Copy, Debug, PartialEq, Eq, PartialOrd, Ord)]
 pub struct BlockId {
     pub number: u32,
@@ -34,7 +37,8 @@ impl BlockId {
 
     /// Appends the seven digits, or leaves the `String` as it was.
     pub fn write(&self, out: &mut String) -> Result<(), AllocError>
-        ensures ok { OnOk result (string_bytes out.new ≡ string_bytes out.old ++ block_text self.now.number) }
+        ensures ok { OnOk result
+            (string_bytes out.new ≡ string_bytes out.old ++ block_text self.now.number) }
         ensures err { OnErr result (string_bytes out.new ≡ string_bytes out.old) }
         ensures capacity { string_capacity out.old ≤ string_capacity out.new }
         ensures len { string_len out.new ≤ string_len out.old + 7 }

@@ -1,3 +1,5 @@
+//! A carrier identification code.
+
 ghost use Rattle.std.specs.Prelude.{◌≡◌, ◌≢◌, ℕ, ◌+◌, ◌≤◌, ◌++◌, IfSome, IfNone, IsOk, OnOk, OnErr, string_bytes, string_len, string_capacity};
 ghost use Rattle.numbers.specs.Digits.{IsCic};
 ghost use Rattle.numbers.specs.Texts.{cic_text};
@@ -5,7 +7,8 @@ ghost use Rattle.numbers.specs.Texts.{cic_text};
 use crate::digits::{read_digits, write_digits};
 use std::alloc::AllocError;
 
-/// A carrier identification code, 0000 to 9999 (the parameter `cic` of RFC 4694, without its country code).
+/// A carrier identification code of four digits, 0000 to 9999: the parameter `cic` of RFC 4694,
+/// without its country code.
 #[derive(Clone, Copy, Debug, PartialEq, Eq, PartialOrd, Ord)]
 pub struct Cic {
     pub number: u16,
@@ -26,7 +29,8 @@ impl Cic {
 
     /// Appends the four digits, or leaves the `String` as it was.
     pub fn write(&self, out: &mut String) -> Result<(), AllocError>
-        ensures ok { OnOk result (string_bytes out.new ≡ string_bytes out.old ++ cic_text self.now.number) }
+        ensures ok { OnOk result
+            (string_bytes out.new ≡ string_bytes out.old ++ cic_text self.now.number) }
         ensures err { OnErr result (string_bytes out.new ≡ string_bytes out.old) }
         ensures capacity { string_capacity out.old ≤ string_capacity out.new }
         ensures len { string_len out.new ≤ string_len out.old + 4 }

@@ -1,3 +1,5 @@
+//! A central office code.
+
 ghost use Rattle.std.specs.Prelude.{◌≡◌, ◌≢◌, ℕ, ◌+◌, ◌≤◌, ◌++◌, IfSome, IfNone, IsOk, OnOk, OnErr, string_bytes, string_len, string_capacity};
 ghost use Rattle.numbers.specs.Digits.{IsCode};
 ghost use Rattle.numbers.specs.Texts.{code_text};
@@ -5,8 +7,9 @@ ghost use Rattle.numbers.specs.Texts.{code_text};
 use crate::digits::{read_digits, write_digits};
 use std::alloc::AllocError;
 
-/// A central office code with its area code, in which numbers are assigned to a carrier: the six digits that its
-/// ten thousand telephone numbers begin with (the central office code assignment guidelines of the INC).
+/// A central office code with its area code, the unit in which numbers are assigned to a carrier:
+/// the six digits that its ten thousand telephone numbers begin with, as in the INC's central
+/// office code guidelines. The first and the fourth are 2 to 9.
 #[derive(Clone, Copy, Debug, PartialEq, Eq, PartialOrd, Ord)]
 pub struct CodeId {
     pub number: u32,
@@ -31,7 +34,8 @@ impl CodeId {
 
     /// Appends the six digits, or leaves the `String` as it was.
     pub fn write(&self, out: &mut String) -> Result<(), AllocError>
-        ensures ok { OnOk result (string_bytes out.new ≡ string_bytes out.old ++ code_text self.now.number) }
+        ensures ok { OnOk result
+            (string_bytes out.new ≡ string_bytes out.old ++ code_text self.now.number) }
         ensures err { OnErr result (string_bytes out.new ≡ string_bytes out.old) }
         ensures capacity { string_capacity out.old ≤ string_capacity out.new }
         ensures len { string_len out.new ≤ string_len out.old + 6 }

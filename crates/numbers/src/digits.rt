@@ -27,7 +27,8 @@ pub fn read_digits(text: &str, width: usize) -> Option<u64>
 /// Appends so many decimal digits of a number, with leading zeros.
 pub fn write_digits<const N: usize>(number: u64, out: &mut String) -> Result<(), AllocError>
     requires { N ≤ 18 }
-    ensures ok { OnOk result (string_bytes out.new ≡ string_bytes out.old ++ digits_of N number) }
+    ensures ok { OnOk result
+        (string_bytes out.new ≡ string_bytes out.old ++ digits_of N number) }
     ensures err { OnErr result (string_bytes out.new ≡ string_bytes out.old) }
     ensures capacity { string_capacity out.old ≤ string_capacity out.new }
     ensures len { string_len out.new ≤ string_len out.old + N }

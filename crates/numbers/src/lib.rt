@@ -1,9 +1,10 @@
 //! The values of a register of ported telephone numbers, and their texts.
 //!
-//! Telephone numbers, codes, thousands-blocks, lines, routing numbers, carrier codes, providers and minutes.
-//! Each is a small whole number with its rule in a ghost field, so that a value that exists is a valid one.
-//! Each has one text: `read` answers a value exactly for the texts of its kind and takes no memory, and `write`
-//! appends that text to a `String`, or hands want of memory back with the `String` unchanged.
+//! Telephone numbers, codes, thousands-blocks, lines, routing numbers, carrier codes, providers and
+//! minutes. Each is a small whole number with its rule in a ghost field, so that a value that
+//! exists is a valid one. Each has one text: `read` answers a value exactly for the texts of its
+//! kind and takes no memory, and `write` appends that text to a `String`, or hands want of memory
+//! back with the `String` unchanged.
 #![tactic(auto)]
 
 mod block_id;

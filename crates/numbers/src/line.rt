@@ -1,3 +1,5 @@
+//! A line within a block.
+
 ghost use Rattle.std.specs.Prelude.{◌≡◌, ◌≢◌, ℕ, ◌+◌, ◌≤◌, ◌++◌, IfSome, IfNone, IsOk, OnOk, OnErr, string_bytes, string_len, string_capacity};
 ghost use Rattle.numbers.specs.Digits.{IsLine};
 ghost use Rattle.numbers.specs.Texts.{line_text};
@@ -5,7 +7,7 @@ ghost use Rattle.numbers.specs.Texts.{line_text};
 use crate::digits::{read_digits, write_digits};
 use std::alloc::AllocError;
 
-/// The last three digits of a telephone number, 000 to 999, which name it within its thousands-block.
+/// The last three digits of a telephone number, 000 to 999, which name it within its block.
 #[derive(Clone, Copy, Debug, PartialEq, Eq, PartialOrd, Ord)]
 pub struct Line {
     pub number: u16,
@@ -26,7 +28,8 @@ impl Line {
 
     /// Appends the three digits, or leaves the `String` as it was.
     pub fn write(&self, out: &mut String) -> Result<(), AllocError>
-        ensures ok { OnOk result (string_bytes out.new ≡ string_bytes out.old ++ line_text self.now.number) }
+        ensures ok { OnOk result
+            (string_bytes out.new ≡ string_bytes out.old ++ line_text self.now.number) }
         ensures err { OnErr result (string_bytes out.new ≡ string_bytes out.old) }
         ensures capacity { string_capacity out.old ≤ string_capacity out.new }
         ensures len { string_len out.new ≤ string_len out.old + 3 }

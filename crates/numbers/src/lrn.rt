@@ -1,3 +1,5 @@
+//! A location routing number.
+
 ghost use Rattle.std.specs.Prelude.{◌≡◌, ◌≢◌, ℕ, ◌+◌, ◌≤◌, ◌++◌, IfSome, IfNone, IsOk, OnOk, OnErr, string_bytes, string_len, string_capacity};
 ghost use Rattle.numbers.specs.Digits.{IsLrn};
 ghost use Rattle.numbers.specs.Texts.{lrn_text};
@@ -5,8 +7,8 @@ ghost use Rattle.numbers.specs.Texts.{lrn_text};
 use crate::digits::{read_digits, write_digits};
 use std::alloc::AllocError;
 
-/// A location routing number: the ten digits by which calls to a ported number are routed to the switch that serves
-/// it (the parameter `rn` of RFC 4694, without its country code).
+/// A location routing number: the ten digits by which calls to a ported number are routed to the
+/// switch that serves it. It is the parameter `rn` of RFC 4694, without its country code.
 #[derive(Clone, Copy, Debug, PartialEq, Eq, PartialOrd, Ord)]
 pub struct Lrn {
     pub number: u64,
@@ -25,7 +27,8 @@ impl Lrn {
 
     /// Appends the ten digits, or leaves the `String` as it was.
     pub fn write(&self, out: &mut String) -> Result<(), AllocError>
-        ensures ok { OnOk result (string_bytes out.new ≡ string_bytes out.old ++ lrn_text self.now.number) }
+        ensures ok { OnOk result
+            (string_bytes out.new ≡ string_bytes out.old ++ lrn_text self.now.number) }
         ensures err { OnErr result (string_bytes out.new ≡ string_bytes out.old) }
         ensures capacity { string_capacity out.old ≤ string_capacity out.new }
         ensures len { string_len out.new ≤ string_len out.old + 10 }

@@ -1,3 +1,5 @@
+//! A minute of the clock.
+
 ghost use Rattle.std.specs.Prelude.{◌≡◌, ◌≢◌, ℕ, ◌+◌, ◌^◌, ◌<◌, ◌≤◌, ◌++◌, ◌↔◌, IsTrue, IsSome, IfSome, IfNone, IsOk, OnOk, OnErr, decimal, string_bytes, string_len, string_capacity};
 ghost use Rattle.numbers.specs.Digits.{IsMinute};
 ghost use Rattle.numbers.specs.Texts.{minute_text};
@@ -31,8 +33,8 @@ impl Minute {
         }
     }
 
-    /// The minute that the text writes in decimal, or nothing where the text has a leading zero or another sign,
-    /// or is not below the limit.
+    /// The minute that the text writes in decimal, or nothing where the text is no such number: it
+    /// has no sign, no leading zero but for `0` itself, and is below the limit.
     pub fn read(text: &str) -> Option<Self>
         ensures some { IfSome result (λ value. text.now ≡ minute_text value.number) }
         ensures none { IfNone result ((n : ℕ) → IsMinute n → text.now ≢ minute_text n) }
@@ -47,7 +49,8 @@ impl Minute {
 
     /// Appends the minute in decimal, at most thirteen digits, or leaves the `String` as it was.
     pub fn write(&self, out: &mut String) -> Result<(), AllocError>
-        ensures ok { OnOk result (string_bytes out.new ≡ string_bytes out.old ++ minute_text self.now.number) }
+        ensures ok { OnOk result
+            (string_bytes out.new ≡ string_bytes out.old ++ minute_text self.now.number) }
         ensures err { OnErr result (string_bytes out.new ≡ string_bytes out.old) }
         ensures capacity { string_capacity out.old ≤ string_capacity out.new }
         ensures len { string_len out.new ≤ string_len out.old + 13 }

@@ -1,6 +1,6 @@
 //! What is ported, and where it is routed.
 
-ghost use Rattle.std.specs.Prelude.{◌≡◌, ◌+◌, ◌≤◌, ◌++◌, IsOk, OnOk, OnErr, length, string_bytes, string_len, string_capacity};
+ghost use Rattle.std.specs.Prelude.{◌≡◌, ◌+◌, ◌≤◌, ◌++◌, IsOk, OnOk, OnErr, string_bytes, string_len, string_capacity};
 ghost use Rattle.numbers.specs.Texts.{subject_text, AreInOrderOfTexts};
 ghost use Rattle.numbers.specs.Views.{key_of, subject_of};
 
@@ -10,15 +10,16 @@ use std::cmp::Ordering;
 
 /// What is ported: a number, or a whole block.
 ///
-/// Its text is the ten or the seven digits, and subjects stand in the order of the bytes of their texts, so that a
-/// block stands just before its numbers.
+/// Its text is the ten or the seven digits, and subjects stand in the order of the bytes of their
+/// texts, so that a block stands just before its numbers.
 #[derive(Clone, Copy, Debug)]
 pub enum Subject {
     Number(Tn),
     Block(BlockId),
 }
 
-/// Where calls to a ported number are routed: a location routing number, and the carrier's code if there is one.
+/// Where calls to a ported number are routed: a location routing number, and the carrier's code if
+/// there is one.
 #[derive(Clone, Copy, Debug, PartialEq, Eq)]
 pub struct Routing {
     pub lrn: Lrn,
@@ -28,7 +29,8 @@ pub struct Routing {
 impl Subject {
     /// Appends the ten or the seven digits, or leaves the `String` as it was.
     pub fn write(&self, out: &mut String) -> Result<(), AllocError>
-        ensures ok { OnOk result (string_bytes out.new ≡ string_bytes out.old ++ subject_text (subject_of self.now)) }
+        ensures ok { OnOk result
+            (string_bytes out.new ≡ string_bytes out.old ++ subject_text (subject_of self.now)) }
         ensures err { OnErr result (string_bytes out.new ≡ string_bytes out.old) }
         ensures capacity { string_capacity out.old ≤ string_capacity out.new }
         ensures len { string_len out.new ≤ string_len out.old + 10 }

@@ -1,3 +1,5 @@
+//! A service provider.
+
 ghost use Rattle.std.specs.Prelude.{◌≡◌, ◌≢◌, ℕ, ◌+◌, ◌*◌, ◌≤◌, ◌++◌, IfSome, IfNone, IsOk, OnOk, OnErr, string_bytes, string_len, string_capacity};
 ghost use Rattle.numbers.specs.Spids.{IsSpid, is_spid_character};
 ghost use Rattle.numbers.specs.Texts.{spid_text};
@@ -5,9 +7,9 @@ ghost use Rattle.numbers.specs.Texts.{spid_text};
 use crate::digits::write_bytes;
 use std::alloc::AllocError;
 
-/// A service provider, by the identifier (SPID) that the number portability administration center gives it.
-///
-/// Four characters, each A to Z or 0 to 9, kept as the four bytes of a number, the first the highest.
+/// A service provider, by the identifier (SPID) under which the number portability administration
+/// center (NPAC) knows it: four characters, each A to Z or 0 to 9. They are kept as the four bytes
+/// of a number, the first the highest.
 #[derive(Clone, Copy, Debug, PartialEq, Eq, PartialOrd, Ord)]
 pub struct Spid {
     pub number: u32,
@@ -38,7 +40,8 @@ impl Spid {
 
     /// Appends the four characters, or leaves the `String` as it was.
     pub fn write(&self, out: &mut String) -> Result<(), AllocError>
-        ensures ok { OnOk result (string_bytes out.new ≡ string_bytes out.old ++ spid_text self.now.number) }
+        ensures ok { OnOk result
+            (string_bytes out.new ≡ string_bytes out.old ++ spid_text self.now.number) }
         ensures err { OnErr result (string_bytes out.new ≡ string_bytes out.old) }
         ensures capacity { string_capacity out.old ≤ string_capacity out.new }
         ensures len { string_len out.new ≤ string_len out.old + 4 }

@@ -1,3 +1,5 @@
+//! A telephone number.
+
 ghost use Rattle.std.specs.Prelude.{◌≡◌, ◌≢◌, ℕ, ◌+◌, ◌≤◌, ◌++◌, IfSome, IfNone, IsOk, OnOk, OnErr, string_bytes, string_len, string_capacity};
 ghost use Rattle.numbers.specs.Digits.{IsTn, code_of, block_of, line_of};
 ghost use Rattle.numbers.specs.Texts.{tn_text};
@@ -8,9 +10,9 @@ use crate::digits::{read_digits, write_digits};
 use crate::line::Line;
 use std::alloc::AllocError;
 
-/// A telephone number of the North American Numbering Plan: the ten digits that follow the country code 1 in
-/// an international number (ITU-T E.164), the area code, the central office code and the line.
-/// The area code and the central office code each begin with 2 to 9.
+/// A telephone number of the North American Numbering Plan: the ten digits that follow the country
+/// code 1 in an international number (ITU-T E.164). These are an area code of three digits, a
+/// central office code of three, and four more; both codes begin with 2 to 9.
 #[derive(Clone, Copy, Debug, PartialEq, Eq, PartialOrd, Ord)]
 pub struct Tn {
     pub number: u64,
@@ -33,7 +35,8 @@ impl Tn {
 
     /// Appends the ten digits, or leaves the `String` as it was.
     pub fn write(&self, out: &mut String) -> Result<(), AllocError>
-        ensures ok { OnOk result (string_bytes out.new ≡ string_bytes out.old ++ tn_text self.now.number) }
+        ensures ok { OnOk result
+            (string_bytes out.new ≡ string_bytes out.old ++ tn_text self.now.number) }
         ensures err { OnErr result (string_bytes out.new ≡ string_bytes out.old) }
         ensures capacity { string_capacity out.old ≤ string_capacity out.new }
         ensures len { string_len out.new ≤ string_len out.old + 10 }

@@ -1,4 +1,4 @@
-use Rattle.std.proofs.Common.{◌≡◌, ◌+◌, ◌-◌, ◌<◌, ◌≤◌, ◌∙◌, refl, ap, length, get_or, arith}
+use Rattle.std.proofs.Common.{◌≤◌, ◌∙◌, refl, ap, length, get_or, arith}
 use Rattle.std.proofs.lemmas.Grind.{common_steps}
 use Rattle.numbers.specs.Texts.{digits_of}
 use Rattle.numbers.proofs.DigitLemmas.{length-digits_of, digit_at, digits_of-more, below_more, pow_small}

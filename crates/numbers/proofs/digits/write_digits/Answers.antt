@@ -1,6 +1,5 @@
-use Rattle.std.proofs.Common.{◌≡◌, ◌≤◌, ◌∙◌, arith}
+use Rattle.std.proofs.Common.{◌∙◌, arith}
 use Rattle.std.proofs.lemmas.Grind.{common_steps}
-use Rattle.numbers.specs.Texts.{digits_of}
 use Rattle.numbers.proofs.DigitLemmas.{digits_of-placed, digits_of-written, utf8_digits}
 use Rattle.numbers.proofs.digits.write_digits.Goals as goal
 
