@@ -32,6 +32,7 @@ impl From<StoreFault> for OpenFault {
 }
 
 /// A store and its windows, and nothing else.
+#[derive(Drop)]
 pub struct Register<S: Store> {
     store: S,
     windows: Windows,

@@ -1,0 +1,11 @@
+//! Tests that cross crates: messages in, answers out, at the public function that serves.
+#![tactic(auto)]
+
+#[cfg(test)]
+mod desk;
+#[cfg(test)]
+mod first_port;
+#[cfg(test)]
+mod messages;
+#[cfg(test)]
+mod ports;
