@@ -1,6 +1,5 @@
 """The stream of N ports, and the time that the program takes for it."""
 import os
-import resource
 import subprocess
 import sys
 import tempfile
@@ -55,20 +54,25 @@ def write_stream(path, count):
     return messages
 
 
-def run(path):
-    """Seconds, and the peak memory in kilobytes."""
-    begun = time.monotonic()
+def check(path, messages):
+    """Every message is answered, and none is refused."""
     with open(path, "rb") as stream:
         program = subprocess.Popen([PROGRAM, "feed", "--windows", WINDOWS], stdin=stream, stdout=subprocess.PIPE)
-        answers = 0
-        refused = 0
-        while piece := program.stdout.read(1 << 20):
-            answers += piece.count(b"HTTP/1.1 ")
-            refused += piece.count(b'{"error"')
+        answers = refused = 0
+        for line in program.stdout:
+            answers += line.startswith(b"HTTP/1.1 ") or b"}HTTP/1.1 " in line
+            refused += b'{"error"' in line
+    assert program.wait() == 0 and answers == messages and refused == 0, (answers, messages, refused)
+
+
+def run(path):
+    """Seconds on the clock and of the processor, and the peak memory in kilobytes."""
+    begun = time.monotonic()
+    with open(path, "rb") as stream:
+        program = subprocess.Popen([PROGRAM, "feed", "--windows", WINDOWS], stdin=stream, stdout=subprocess.DEVNULL)
         _, status, usage = os.wait4(program.pid, 0)
-    seconds = time.monotonic() - begun
-    assert status == 0 and refused == 0, (status, refused)
-    return seconds, usage.ru_utime + usage.ru_stime, usage.ru_maxrss, answers
+    assert status == 0, status
+    return time.monotonic() - begun, usage.ru_utime + usage.ru_stime, usage.ru_maxrss
 
 
 def main():
@@ -78,7 +82,8 @@ def main():
         for ports in (count, 2 * count):
             path = os.path.join(folder, "stream")
             messages = write_stream(path, ports)
-            wall, processor, peak, _ = min(run(path) for _ in range(3))
+            check(path, messages)
+            wall, processor, peak = min(run(path) for _ in range(5))
             times.append(processor)
             print(f"{ports} ports, {messages} messages: {messages / processor:,.0f} messages/s of processor time, "
                   f"{messages / wall:,.0f} messages/s on the clock, peak {peak / 1024:.1f} MiB")

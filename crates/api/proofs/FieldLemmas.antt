@@ -72,7 +72,7 @@ pub any_found : (P : List ℕ → Bool) (name buf : List ℕ) (hs : List HeaderS
     → lower (header_bytes buf (get_or hs i d)).0 ≡ name → P (header_bytes buf (get_or hs i d)).1 ≡ true → any_value P name buf hs ≡ true
 any_found P name buf hs i d l n p =
     let here : any_value P name buf (take (i + 1) hs) ≡ true =
-      any_more P name buf hs i d l ∙ or_second _ _ (ap (list_any P) (one_value name (header_bytes buf (get_or hs i d)) n) ∙ or_true _ false p) in
+    any_more P name buf hs i d l ∙ or_second _ _ (ap (list_any P) (one_value name (header_bytes buf (get_or hs i d)) n) ∙ or_true _ false p) in
     let cut : take (i + 1) hs ++ drop (i + 1) hs ≡ hs = take-append-drop (i + 1) hs in
     ap (any_value P name buf) (sym cut) ∙ ap (list_any P) (ap (values_in name) (map-append (header_bytes buf) (take (i + 1) hs) (drop (i + 1) hs)) ∙ values_in-append name _ _) ∙ list_any-append P _ _ ∙ or_true _ _ here
 

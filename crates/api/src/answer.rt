@@ -41,7 +41,10 @@ fn put_head(out: &mut String, status: StatusCode, length: u64)
     put(out, status.as_str());
     put(out, " ");
     put(out, phrase_of(status));
-    put(out, "\r\ncontent-type: application/json\r\ncontent-length: ");
+    put(
+        out,
+        "\r\ncontent-type: application/json\r\ncontent-length: ",
+    );
     put_number(out, length);
     put(out, "\r\n\r\n");
 }
@@ -49,8 +52,7 @@ fn put_head(out: &mut String, status: StatusCode, length: u64)
 /// The head of an answer fits its room.
 pub fn head_fits()
     ensures { (code len : ℕ) → IsAnswered code → len < 2 ^ 64 → length (head code len) ≤ HEAD_ROOM }
-{
-}
+{}
 
 impl Room {
     ghost use Rattle.api.specs.Rooms.{HasRoom, IsEmpty, IsWritten};

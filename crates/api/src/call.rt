@@ -8,13 +8,14 @@ use crate::forms::{Call, call_of, json};
 use crate::message::Request;
 use crate::paths::Route;
 use crate::reply::{
-    ROW_ROOM, put_failure, put_opened_code, put_registered, put_routing_number, put_uri, put_version,
+    ROW_ROOM, put_failure, put_opened_code, put_registered, put_routing_number, put_uri,
+    put_version,
 };
 use meaning::Refusal;
 use numbers::{Spid, Tn};
 use register::{Command, Register, Reply};
-use settle::{RoutedRow, Store};
 use serde_json::Value;
+use settle::{RoutedRow, Store};
 use std::alloc::Global;
 
 // The path and the caller of a message: first its path, then its method, then its caller.

@@ -9,8 +9,8 @@ ghost use Rattle.httparse.specs.Spans.{IsHeaderWithin, IsRequestAt, IsRequestWit
 ghost use Rattle.api.specs.Fields.{lower, values_in, IsFound, IsFoundWithin, number_of};
 ghost use Rattle.api.specs.Head.{IsLook, IsHeadOf, HasHead};
 
-use httparse::spans::{HeaderSpan, RequestSpans, Span, parse_request};
 use httparse::Status;
+use httparse::spans::{HeaderSpan, RequestSpans, Span, parse_request};
 
 /// How often a field is there.
 #[derive(Clone, Copy, Debug)]
@@ -145,5 +145,4 @@ pub fn heads_of_the_input()
     ensures full { (buf more : List ℕ) (h : RequestHead) (rest : List ℕ) → length buf ≡ 8192 → HasNoRequest buf → ¬ (HasHead (buf ++ more) h rest) }
     ensures blank { (buf more : List ℕ) (ends : List LineEnd) → RequestOverflows 64 buf → ¬ (buf ++ more ≡ print_blank ends) }
     ensures ended { (s : List ℕ) (h : RequestHead) (rest : List ℕ) → HasNoRequest s → ¬ (HasHead s h rest) }
-{
-}
+{}

@@ -91,7 +91,11 @@ fn answer<S: Store, T: Ticks>(
 {
     let _ = ticks.next();
     put_answer(alloc, register, request, body, room);
-    if request.closes { Some(End::Closed) } else { None }
+    if request.closes {
+        Some(End::Closed)
+    } else {
+        None
+    }
 }
 
 // Writes the answer of a message that is refused.

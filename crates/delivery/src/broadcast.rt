@@ -1,4 +1,11 @@
 //! One send of a version.
+ghost use Rattle.std.specs.Prelude.{◌≡◌, ℕ, List, Some, option_map};
+ghost use Rattle.numbers.specs.Subjects.{Subject as SubjectSeen};
+ghost use Rattle.numbers.specs.Views.{routing_of, subject_of};
+ghost use Rattle.meaning.specs.Versions.{Broadcast as BroadcastSeen};
+ghost use Rattle.meaning.specs.Content.{stored_broadcast};
+ghost use Rattle.delivery.specs.Broadcasts.{answered, begun, broadcast_row, outcome_after, outcome_while_waited, row_of};
+
 use meaning::{Action, Outcome};
 use numbers::{Minute, Routing, Subject};
 
@@ -23,7 +30,10 @@ impl Broadcast {
         subject: Subject,
         action: Action,
         routing: Option<Routing>,
-    ) -> Broadcast {
+    ) -> Broadcast
+        ensures { (attempt : ℕ) (everyone : List ℕ) →
+            Some (row_of result) ≡ stored_broadcast (subject_of subject) (begun attempt minute.number action (option_map routing_of routing) everyone) }
+    {
         Broadcast {
             minute,
             subject,
@@ -35,7 +45,10 @@ impl Broadcast {
     }
 
     /// The broadcast after one recipient more has acknowledged it. The last one closes it.
-    pub fn acknowledged(&self, is_last: bool) -> Broadcast {
+    pub fn acknowledged(&self, is_last: bool) -> Broadcast
+        ensures { (s : SubjectSeen) (b : BroadcastSeen) (c : ℕ) →
+            row_of self.now ≡ broadcast_row s b → row_of result ≡ broadcast_row s (answered c is_last b) }
+    {
         Broadcast {
             is_open: self.is_open && !is_last,
             is_acknowledged: true,
@@ -45,7 +58,9 @@ impl Broadcast {
 
     /// How the broadcast stands while recipients are missing, or once none is: a broadcast that was
     /// closed before stays partly acknowledged.
-    pub fn outcome(&self, is_last: bool) -> Outcome {
+    pub fn outcome(&self, is_last: bool) -> Outcome
+        ensures { result ≡ outcome_after is_last (outcome_while_waited self.now.is_open) }
+    {
         if self.is_open {
             if is_last {
                 Outcome::AllAcknowledged

@@ -1,4 +1,10 @@
 //! Downloads that wait for a carrier.
+ghost use Rattle.std.specs.Prelude.{◌≡◌, ℕ, List, IfOk, Some, find};
+ghost use Rattle.delivery.specs.Refused.{refusal_in};
+ghost use Rattle.delivery.specs.Queues.{AreKeysOf, has_earlier, is_behind, is_earlier, is_key, key_refusal, queue_refusal};
+ghost use Rattle.numbers.specs.Subjects.{Subject};
+ghost use Rattle.meaning.specs.Reading.{Download};
+
 use meaning::Refusal;
 use numbers::Minute;
 
@@ -10,8 +16,54 @@ pub struct DownloadKey {
     pub attempt: u64,
 }
 
+fn is_key(key: &DownloadKey, id: u64, attempt: u64) -> bool
+    ensures { result ≡ is_key id attempt key.now }
+{
+    key.id == id && key.attempt == attempt
+}
+
+fn is_earlier(first: &DownloadKey, second: &DownloadKey) -> bool
+    ensures { result ≡ is_earlier first.now second.now }
+{
+    first.minute.number < second.minute.number
+        || (first.minute.number == second.minute.number
+            && (first.id < second.id || (first.id == second.id && first.attempt < second.attempt)))
+}
+
+fn has_earlier(waiting: &[DownloadKey], key: &DownloadKey) -> bool
+    ensures { result ≡ has_earlier waiting.now key.now }
+{
+    waiting.iter().any(|earlier| is_earlier(earlier, key))
+}
+
+fn is_behind(waiting: &[DownloadKey], id: u64, attempt: u64) -> bool
+    ensures { result ≡ is_behind waiting.now id attempt }
+{
+    waiting.iter().any(|key| is_key(key, id, attempt) && has_earlier(waiting, key))
+}
+
+fn found(waiting: &[DownloadKey], id: u64, attempt: u64) -> Option<DownloadKey>
+    ensures { result ≡ find (is_key id attempt) waiting.now }
+{
+    waiting.iter().copied().find(|key| is_key(key, id, attempt))
+}
+
+#[tactic(auto, using(crate::proofs::Queues::any_found))]
+fn acknowledgeable(waiting: &[DownloadKey], id: u64, attempt: u64) -> Result<DownloadKey, Refusal>
+    ensures refusal { refusal_in result ≡ key_refusal waiting.now id attempt }
+    ensures found { IfOk result (λ key. find (is_key id attempt) waiting.now ≡ Some key) }
+{
+    let Some(found) = found(waiting, id, attempt) else {
+        return Err(Refusal::NotQueued);
+    };
+    if is_behind(waiting, id, attempt) {
+        return Err(Refusal::OutOfOrder);
+    }
+    Ok(found)
+}
+
 /// Whether a carrier may acknowledge an attempt of a version. `waiting` are the downloads of the
-/// version's subject that wait for the carrier, earliest first.
+/// version's subject that wait for the carrier.
 ///
 /// Refused with `NotQueued` where no such download waits, and with `OutOfOrder` while an earlier download
 /// of the subject does.
@@ -19,15 +71,11 @@ pub fn may_acknowledge(
     waiting: &[DownloadKey],
     id: u64,
     attempt: u64,
-) -> Result<DownloadKey, Refusal> {
-    let Some(found) = waiting
-        .iter()
-        .find(|key| key.id == id && key.attempt == attempt)
-    else {
-        return Err(Refusal::NotQueued);
-    };
-    if waiting.iter().any(|key| *key < *found) {
-        return Err(Refusal::OutOfOrder);
-    }
-    Ok(*found)
+) -> Result<DownloadKey, Refusal>
+    ensures refusal { (subject : Subject) (downloads : List Download) →
+        AreKeysOf subject waiting.now downloads → refusal_in result ≡ queue_refusal downloads id attempt }
+    ensures of_keys { refusal_in result ≡ key_refusal waiting.now id attempt }
+    ensures found { IfOk result (λ key. find (is_key id attempt) waiting.now ≡ Some key) }
+{
+    acknowledgeable(waiting, id, attempt)
 }

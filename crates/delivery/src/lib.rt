@@ -3,6 +3,8 @@
 
 mod broadcast;
 mod download;
+#[cfg(test)]
+mod tests;
 
 pub use broadcast::Broadcast;
 pub use download::{DownloadKey, may_acknowledge};

@@ -44,6 +44,9 @@ pub fn npacd<'a>(alloc: Global) -> Result<Command<'a>, AllocError>
     ensures { IfOk result (λ c. app_of c ≡ npacd_app) }
 {
     let command = top(alloc);
-    let command = with(command, plain(alloc, "feed", "Serve standard input to standard output")?)?;
+    let command = with(
+        command,
+        plain(alloc, "feed", "Serve standard input to standard output")?,
+    )?;
     Ok(command)
 }

@@ -43,14 +43,7 @@ fn feed<R: Read, W: Write>(
         Ok(register) => {
             let mut register = register;
             let options = Options { clock_route: true };
-            let served = serve(
-                alloc,
-                &mut register,
-                &mut NoTicks,
-                &options,
-                reader,
-                writer,
-            );
+            let served = serve(alloc, &mut register, &mut NoTicks, &options, reader, writer);
             let _store = register.close();
             ended(served)
         }

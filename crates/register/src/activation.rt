@@ -58,9 +58,7 @@ pub fn activate<S: Store>(
     let Some(row) = store.version(id)? else {
         return Err(Refusal::NotFound);
     };
-    let version = row
-        .version
-        .activated(caller, clock.minute, &clock.windows)?;
+    let version = row.version.activated(caller, clock.minute, &clock.windows)?;
     let everyone = store.carriers()?;
     let changes = changes_of(alloc, id, &version, Action::Create, &clock, &everyone)?;
     store.commit(&changes)?;

@@ -22,9 +22,11 @@ fn are_carriers_known<S: Store>(
     caller: Spid,
     create: &Create,
 ) -> Result<bool, Refusal> {
-    Ok(store.carrier(create.old_provider)?
-        && store.carrier(create.new_provider)?
-        && store.carrier(caller)?)
+    Ok(
+        store.carrier(create.old_provider)?
+            && store.carrier(create.new_provider)?
+            && store.carrier(caller)?,
+    )
 }
 
 fn facts<S: Store>(
@@ -79,14 +81,18 @@ pub fn create<S: Store>(
     };
     let row = NumberRow::read(store, create.tn)?;
     let facts = facts(store, caller, create, &row, clock.next_id)?;
-    let (id, version, is_first) =
-        match create.apply(caller, &facts, clock.minute, &clock.windows)? {
-            Created::First(version) => (clock.next_id, version, true),
-            Created::Second(version) => match row.opened {
-                Some((id, _)) => (id, version, false),
-                None => return Err(Refusal::Storage),
-            },
-        };
+    let (id, version, is_first) = match create.apply(
+        caller,
+        &facts,
+        clock.minute,
+        &clock.windows,
+    )? {
+        Created::First(version) => (clock.next_id, version, true),
+        Created::Second(version) => match row.opened {
+            Some((id, _)) => (id, version, false),
+            None => return Err(Refusal::Storage),
+        },
+    };
     let changes = changes_of(alloc, id, &version, clock, is_first)?;
     store.commit(&changes)?;
     Ok(VersionView::of(id, &version, clock.minute, &clock.windows))

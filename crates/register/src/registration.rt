@@ -1,10 +1,10 @@
 //! The registry: carriers, routing numbers and codes.
 use crate::command::Reply;
+use delivery::Broadcast;
 use meaning::Refusal;
 use numbers::{CodeId, Lrn, Spid, Subject};
 use settle::{BroadcastKey, Changes, Store, WaitKey};
 use std::alloc::{AllocError, Global};
-use delivery::Broadcast;
 
 /// The carriers that a register takes.
 const MOST_CARRIERS: usize = 100;

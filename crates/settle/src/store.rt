@@ -44,11 +44,7 @@ pub trait Store {
     fn broadcast(&mut self, key: BroadcastKey) -> Result<Option<Broadcast>, StoreFault>;
 
     /// The downloads of a subject that wait for a carrier, earliest first.
-    fn waits_about(
-        &mut self,
-        spid: Spid,
-        subject: Subject,
-    ) -> Result<Vec<DownloadKey>, StoreFault>;
+    fn waits_about(&mut self, spid: Spid, subject: Subject) -> Result<Vec<DownloadKey>, StoreFault>;
 
     /// The carriers for which a broadcast of that minute waits, rising.
     fn waiters(&mut self, minute: Minute, key: BroadcastKey) -> Result<Vec<Spid>, StoreFault>;

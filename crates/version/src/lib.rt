@@ -6,6 +6,8 @@ mod activation;
 mod create;
 mod deadline;
 mod phase;
+#[cfg(test)]
+mod tests;
 mod version;
 
 pub use create::{Create, CreateFacts, Created, Creator};

@@ -23,13 +23,13 @@ loop-header-preserved c =
     let text : lower (header_bytes buf h).0 ≡ lower c.of.result.now = ap lower (sym c.of.ensures) in
     elim c.if-eq_ignore_ascii_case.branch [
       | then-eq_ignore_ascii_case+in-Absent w ↦
-        let one = one_value name (header_bytes buf h) (text ∙ c.eq_ignore_ascii_case.ensures.test.0 w.if-eq_ignore_ascii_case.true ∙ c.requires.lower) in
-        rw w.found-is (found_first buf c.loop-header.found before _ h.value w.in-Absent.is c.loop-header.invariant (more ∙ ap (λ (t : List (List ℕ)). before ++ t) one) (All-get_or (IsHeaderWithin (length buf)) hs i none c.loop-header-test.true c.requires.within).1)
+          let one = one_value name (header_bytes buf h) (text ∙ c.eq_ignore_ascii_case.ensures.test.0 w.if-eq_ignore_ascii_case.true ∙ c.requires.lower) in
+          rw w.found-is (found_first buf c.loop-header.found before _ h.value w.in-Absent.is c.loop-header.invariant (more ∙ ap (λ (t : List (List ℕ)). before ++ t) one) (All-get_or (IsHeaderWithin (length buf)) hs i none c.loop-header-test.true c.requires.within).1)
       | then-eq_ignore_ascii_case+in_default w ↦
-        let one = one_value name (header_bytes buf h) (text ∙ c.eq_ignore_ascii_case.ensures.test.0 w.if-eq_ignore_ascii_case.true ∙ c.requires.lower) in
-        rw w.found-is (found_again buf c.loop-header.found before _ _ w.in_default.not-Absent c.loop-header.invariant (more ∙ ap (λ (t : List (List ℕ)). before ++ t) one))
-      | else-eq_ignore_ascii_case w ↦ 
-        let none_here = no_value name (header_bytes buf h) (λ e. eq_not_false (c.eq_ignore_ascii_case.ensures.test.1 (sym text ∙ e ∙ sym c.requires.lower)) w.if-eq_ignore_ascii_case.false) in
-        let same = more ∙ ap (λ (t : List (List ℕ)). before ++ t) none_here ∙ append-nil before in
-        rw (w.found-is, same) c.loop-header.invariant
+          let one = one_value name (header_bytes buf h) (text ∙ c.eq_ignore_ascii_case.ensures.test.0 w.if-eq_ignore_ascii_case.true ∙ c.requires.lower) in
+          rw w.found-is (found_again buf c.loop-header.found before _ _ w.in_default.not-Absent c.loop-header.invariant (more ∙ ap (λ (t : List (List ℕ)). before ++ t) one))
+      | else-eq_ignore_ascii_case w ↦
+          let none_here = no_value name (header_bytes buf h) (λ e. eq_not_false (c.eq_ignore_ascii_case.ensures.test.1 (sym text ∙ e ∙ sym c.requires.lower)) w.if-eq_ignore_ascii_case.false) in
+          let same = more ∙ ap (λ (t : List (List ℕ)). before ++ t) none_here ∙ append-nil before in
+          rw (w.found-is, same) c.loop-header.invariant
     ]

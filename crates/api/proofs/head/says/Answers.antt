@@ -29,11 +29,11 @@ loop-header-preserved c =
     let text = ap lower (sym c.of.ensures) in
     elim c.else-eq_ignore_ascii_case.branch [
       | else-eq_ignore_ascii_case-via-then-eq_ignore_ascii_case+else-eq_ignore_ascii_case-2 w ↦
-        let name_is = text ∙ c.eq_ignore_ascii_case.ensures.test.0 w.if-eq_ignore_ascii_case.true ∙ c.requires.lower in
-        let other = ap lower (sym w.of-then-eq_ignore_ascii_case.ensures) in
-        any_other P c.args.name.now c.args.buf.now c.args.headers.now c.loop-header.header-index none c.loop-header-test.true c.loop-header.invariant name_is
-        (eq_false _ value (λ e. eq_not_false (w.eq_ignore_ascii_case-then-eq_ignore_ascii_case.ensures.test.1 (sym other ∙ e ∙ sym c.requires.lower_value)) w.if-eq_ignore_ascii_case-2.false))
+          let name_is = text ∙ c.eq_ignore_ascii_case.ensures.test.0 w.if-eq_ignore_ascii_case.true ∙ c.requires.lower in
+          let other = ap lower (sym w.of-then-eq_ignore_ascii_case.ensures) in
+          any_other P c.args.name.now c.args.buf.now c.args.headers.now c.loop-header.header-index none c.loop-header-test.true c.loop-header.invariant name_is
+          (eq_false _ value (λ e. eq_not_false (w.eq_ignore_ascii_case-then-eq_ignore_ascii_case.ensures.test.1 (sym other ∙ e ∙ sym c.requires.lower_value)) w.if-eq_ignore_ascii_case-2.false))
       | else-eq_ignore_ascii_case-via-else-eq_ignore_ascii_case w ↦
-        any_none P c.args.name.now c.args.buf.now c.args.headers.now c.loop-header.header-index none c.loop-header-test.true c.loop-header.invariant
-        (λ e. eq_not_false (c.eq_ignore_ascii_case.ensures.test.1 (sym text ∙ e ∙ sym c.requires.lower)) w.if-eq_ignore_ascii_case.false)
+          any_none P c.args.name.now c.args.buf.now c.args.headers.now c.loop-header.header-index none c.loop-header-test.true c.loop-header.invariant
+          (λ e. eq_not_false (c.eq_ignore_ascii_case.ensures.test.1 (sym text ∙ e ∙ sym c.requires.lower)) w.if-eq_ignore_ascii_case.false)
     ]

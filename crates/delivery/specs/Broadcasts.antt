@@ -1,0 +1,55 @@
+-- What the definitions see of the code's broadcasts.
+use Rattle.std.specs.Prelude.{ℕ, Bool, true, false, List, [], Option, option_map}
+use Rattle.numbers.specs.Subjects.{Subject}
+use Rattle.numbers.specs.Routings.{Routing}
+use Rattle.numbers.specs.Views.{subject_of, routing_of}
+use Rattle.delivery.specs.declared.broadcast.Broadcast.{Broadcast as BroadcastCode}
+use Rattle.meaning.specs.declared.words.Action.{Action}
+use Rattle.meaning.specs.declared.words.Outcome.{Outcome}
+use Rattle.meaning.specs.declared.words.Outcome.TheVariants.{Open, AllAcknowledged, SomeAcknowledged, NoneAcknowledged}
+use Rattle.meaning.specs.Versions.{Broadcast, is_open_broadcast, with_number}
+use Rattle.meaning.specs.Content.{BroadcastRow, is_nonempty}
+
+-- a broadcast of the code is the row of one
+abbrev pub row_of : BroadcastCode → BroadcastRow
+row_of b = record {
+  minute = b.minute.number;
+  subject = subject_of b.subject;
+  action = b.action;
+  routing = option_map routing_of b.routing;
+  is_open = b.is_open;
+  any = b.is_acknowledged;
+}
+
+-- the row of a broadcast of the subject
+abbrev pub broadcast_row : Subject → Broadcast → BroadcastRow
+broadcast_row s b = record { minute = b.minute; subject = s; action = b.action; routing = b.routing; is_open = is_open_broadcast b; any = is_nonempty b.acknowledged }
+
+-- a broadcast as it begins: to every carrier that there is
+abbrev pub begun : (attempt minute : ℕ) → Action → Option Routing → (everyone : List ℕ) → Broadcast
+begun attempt minute action routing everyone = record {
+  attempt = attempt;
+  minute = minute;
+  action = action;
+  routing = routing;
+  recipients = everyone;
+  acknowledged = [];
+  outcome = Open;
+}
+
+-- the last recipient closes a broadcast that is open
+abbrev pub outcome_after : (is_last : Bool) → Outcome → Outcome
+outcome_after true Open = AllAcknowledged
+outcome_after false Open = Open
+outcome_after is_last AllAcknowledged = AllAcknowledged
+outcome_after is_last SomeAcknowledged = SomeAcknowledged
+outcome_after is_last NoneAcknowledged = NoneAcknowledged
+
+-- a broadcast after the acknowledgement of the carrier c
+abbrev pub answered : (c : ℕ) → (is_last : Bool) → Broadcast → Broadcast
+answered c is_last b = record b { acknowledged = with_number c b.acknowledged; outcome = outcome_after is_last b.outcome }
+
+-- how a broadcast for which some carrier waits stands: once its window ended it is partly acknowledged
+abbrev pub outcome_while_waited : (is_open : Bool) → Outcome
+outcome_while_waited true = Open
+outcome_while_waited false = SomeAcknowledged

@@ -1,0 +1,3 @@
+pub mod Refused
+pub mod Broadcasts
+pub mod Queues

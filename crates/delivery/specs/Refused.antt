@@ -1,0 +1,9 @@
+-- The number of the refusal that a call answered with.
+use Rattle.std.specs.Prelude.{ℕ, Option, Some, None}
+use Rattle.std.specs.Prelude.{Result, Ok, Err}
+use Rattle.meaning.specs.declared.refusal.Refusal.{Refusal}
+use Rattle.meaning.specs.RefusalNumbers.{number_of}
+
+abbrev pub refusal_in : {A : Type 0} → Result A Refusal → Option ℕ
+refusal_in (Ok value) = None
+refusal_in (Err refusal) = Some (number_of refusal)

@@ -1,0 +1,5 @@
+pub mod Ends
+pub mod Changed
+pub mod Made
+pub mod Refused
+pub mod CreateRefused

@@ -1,0 +1,5 @@
+pub mod Views
+pub mod Deadlines
+pub mod Activation
+pub mod Creates
+pub mod Facts
