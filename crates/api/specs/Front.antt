@@ -3,12 +3,10 @@ use Rattle.std.specs.Prelude.{◌≡◌, ℕ, ◌<◌, List, length, true, Optio
 use Rattle.std.specs.Io.KnownBytes.{IsAtEnd}
 use Rattle.httparse.specs.declared.spans.HeaderSpan.{HeaderSpan}
 use Rattle.httparse.specs.declared.spans.RequestSpans.{RequestSpans}
-use Rattle.httparse.specs.Grammar.{RequestHead, HasNoRequest}
+use Rattle.httparse.specs.Grammar.{RequestHead}
 use Rattle.httparse.specs.Spans.{IsRequestAt, IsRequestWithin}
 use Rattle.api.specs.Head.{HasHead}
 use Rattle.api.specs.Blank.{is_blank}
-use Rattle.api.specs.declared.front.Front.{Front}
-use Rattle.api.specs.declared.front.Front.TheVariants.{Head, Bad, End}
 
 -- a head that was found in the held bytes, within the limits
 abbrev pub IsHeadAt : List ℕ → List HeaderSpan → RequestSpans → Type 0

@@ -1,5 +1,5 @@
 -- What stands at the front of the input.
-use Rattle.std.specs.Prelude.{◌≡◌, ◌≢◌, ℕ, ◌<◌, ◌≤◌, List, [], ◌++◌, length, Option, Some, None, codes}
+use Rattle.std.specs.Prelude.{◌≡◌, ℕ, ◌<◌, ◌≤◌, List, length, Option, Some, None, codes}
 use Rattle.httparse.specs.Grammar.{LineEnd, print_blank, RequestHead, print_request, ReadsRequest}
 use Rattle.httparse.specs.Grammar.{HasNoRequest}
 use Rattle.httparse.specs.Spans.{IsRequestAt, IsRequestWithin, span_bytes, RequestOverflows}

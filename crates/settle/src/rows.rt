@@ -1,5 +1,8 @@
 //! The rows of a store.
+ghost use Rattle.std.specs.Prelude.{◌≡◌};
+
 use numbers::{Minute, Routing, Spid, Subject};
+use std::marker::Model;
 use version::Version;
 use windows::Windows;
 
@@ -15,6 +18,16 @@ pub struct VersionRow {
     pub opens: Option<Subject>,
 }
 
+impl Model for VersionRow {
+    ghost use Rattle.meaning.specs.Content.{VersionRow as Row};
+
+    ghost Value = { Row };
+
+    ghost use Rattle.settle.specs.Views.{version_row_of};
+
+    ghost view = { version_row_of };
+}
+
 impl VersionRow {
     /// The row of a version under these windows.
     pub fn of(version: &Version, windows: &Windows) -> VersionRow {
@@ -28,7 +41,9 @@ impl VersionRow {
     }
 
     /// The same row once more.
-    pub fn copied(&self) -> VersionRow {
+    pub fn copied(&self) -> VersionRow
+        ensures { result ≡ self.now }
+    {
         VersionRow {
             version: self.version,
             deadline: self.deadline,

@@ -1,0 +1,9 @@
+pub mod Maps
+pub mod Orders
+pub mod Forgotten
+pub mod Lists
+pub mod Changed
+pub mod Undone
+pub mod Registry
+pub mod Found
+pub mod Listed

@@ -1,281 +1,328 @@
-//! A commit: first every new key finds its place, which memory may refuse, and then nothing is changed;
-//! afterwards every row is written over or taken away, which cannot fail.
-use crate::admit::{admit, overwrite, withdraw};
-use crate::keys::SubjectVersion;
-use crate::tables::{Tables, about};
+//! A commit: the rows are put table by table, and each function puts one row and then all later ones.
+//! Where memory is refused, each puts back what was there before, on the way back, which takes no memory.
+//! Rows are taken away at the end, which cannot fail.
+ghost use Rattle.std.specs.Prelude.{◌≡◌, Some, None, [], ◌∷◌, IfOk, OnOk, OnErr, IsSome, option_map};
+ghost use Rattle.std.specs.FinMap.{get};
+ghost use Rattle.numbers.specs.Views.{subject_of};
+ghost use Rattle.settle.specs.Views.{wait_key_of, broadcast_key_of};
+ghost use Rattle.settle.specs.Changes.{IsChanged, changes_of, no_changes};
+ghost use Rattle.store.specs.Tables.{content_of, AreIndexed, with_wait, from_waits, from_broadcasts, from_versions, from_block, from_code, from_lrn, from_carrier, IsKept, IsVersionPut, IsVersionBack, IsWaitPut, IsWaitBack, AreBroadcastsTaken, AreWaitsTaken};
+
+use crate::indexes::{
+    forget_version, forget_wait, put_about, put_subject, take_about, take_subject,
+};
+use crate::put::{put, put_back};
+use crate::tables::Tables;
 use delivery::Broadcast;
 use numbers::Subject;
 use settle::{BroadcastKey, Changes, VersionRow, WaitKey};
 use std::alloc::AllocError;
 use std::collections::BTreeMap;
 
-// ---- new keys
+// ---- keys of rows that are no more
 
-// Which of a version's keys are new: its row's, and those of its subject in the indexes.
+fn forget_wait_before(tables: &mut Tables, key: WaitKey, before: Option<Subject>)
+    requires { AreIndexed tables.old }
+    ensures same { content_of tables.new ≡ content_of tables.old }
+    ensures indexed { AreIndexed tables.new }
+{
+    if let Some(subject) = before {
+        forget_wait(tables, key, subject);
+    }
+}
+
+fn forget_version_before(tables: &mut Tables, id: u64, before: Option<VersionRow>)
+    requires { AreIndexed tables.old }
+    ensures same { content_of tables.new ≡ content_of tables.old }
+    ensures indexed { AreIndexed tables.new }
+{
+    if let Some(row) = before {
+        forget_version(tables, id, row.holds, row.opens);
+    }
+}
+
+// ---- rows taken away
+
+fn take_broadcasts(map: &mut BTreeMap<BroadcastKey, Broadcast>, keys: &[BroadcastKey])
+    ensures { AreBroadcastsTaken keys.now map.old map.new }
+{
+    if let Some((first, others)) = keys.split_first() {
+        let _ = map.remove(first);
+        take_broadcasts(map, others);
+    }
+}
+
+fn take_wait(tables: &mut Tables, key: WaitKey)
+    requires { AreIndexed tables.old }
+    ensures taken { content_of tables.new ≡ with_wait (content_of tables.old) (wait_key_of key) None }
+    ensures indexed { AreIndexed tables.new }
+{
+    let before = tables.waits.remove(&key);
+    forget_wait_before(tables, key, before);
+}
+
+fn take_waits(tables: &mut Tables, keys: &[WaitKey])
+    requires { AreIndexed tables.old }
+    ensures taken { AreWaitsTaken keys.now (content_of tables.old) (content_of tables.new) }
+    ensures indexed { AreIndexed tables.new }
+{
+    if let Some((first, others)) = keys.split_first() {
+        take_wait(tables, *first);
+        take_waits(tables, others);
+    }
+}
+
+// What cannot fail: the clock's row, and the rows that are taken away.
+fn finish(tables: &mut Tables, changes: &Changes)
+    requires { AreIndexed tables.old }
+    ensures changed { IsChanged (from_waits [] changes.now) (content_of tables.old) (content_of tables.new) }
+    ensures indexed { AreIndexed tables.new }
+{
+    tables.clock = changes.clock.or(tables.clock);
+    take_broadcasts(&mut tables.broadcasts, &changes.taken_broadcasts);
+    take_waits(tables, &changes.taken_waits);
+}
+
+// ---- downloads
+
+/// What was at a download's key, and its subject if its key in the index is new.
 #[derive(Clone, Copy)]
-struct NewVersion {
-    row: bool,
-    holds: bool,
-    opens: bool,
+pub struct WaitPut {
+    pub before: Option<Subject>,
+    pub about: Option<Subject>,
 }
 
-fn admit_subject(
-    index: &mut BTreeMap<SubjectVersion, ()>,
-    id: u64,
-    subject: Option<Subject>,
-) -> Result<bool, AllocError> {
-    match subject {
-        None => Ok(false),
-        Some(subject) => admit(index, SubjectVersion { subject, id }, ()),
-    }
-}
-
-fn withdraw_subject(
-    index: &mut BTreeMap<SubjectVersion, ()>,
-    id: u64,
-    subject: Option<Subject>,
-    is_new: bool,
-) {
-    if let Some(subject) = subject {
-        withdraw(index, SubjectVersion { subject, id }, is_new);
-    }
-}
-
-fn withdraw_version(tables: &mut Tables, id: u64, row: &VersionRow, new: NewVersion) {
-    withdraw_subject(&mut tables.opens, id, row.opens, new.opens);
-    withdraw_subject(&mut tables.holds, id, row.holds, new.holds);
-    withdraw(&mut tables.versions, id, new.row);
-}
-
-fn admit_version(tables: &mut Tables, id: u64, row: &VersionRow) -> Result<NewVersion, AllocError> {
-    let mut new = NewVersion {
-        row: admit(&mut tables.versions, id, row.copied())?,
-        holds: false,
-        opens: false,
-    };
-    match admit_subject(&mut tables.holds, id, row.holds) {
-        Ok(is_new) => new.holds = is_new,
-        Err(fault) => {
-            withdraw_version(tables, id, row, new);
-            return Err(fault);
-        }
-    }
-    match admit_subject(&mut tables.opens, id, row.opens) {
-        Ok(is_new) => new.opens = is_new,
-        Err(fault) => {
-            withdraw_version(tables, id, row, new);
-            return Err(fault);
-        }
-    }
-    Ok(new)
-}
-
-// Whether a wait's key is new, and its index key.
-#[derive(Clone, Copy)]
-struct NewWait {
-    row: bool,
-    about: bool,
-}
-
-fn withdraw_wait(tables: &mut Tables, key: WaitKey, subject: Subject, new: NewWait) {
-    withdraw(&mut tables.waits_about, about(&key, subject), new.about);
-    withdraw(&mut tables.waits, key, new.row);
-}
-
-fn admit_wait(tables: &mut Tables, key: WaitKey, subject: Subject) -> Result<NewWait, AllocError> {
-    let mut new = NewWait {
-        row: admit(&mut tables.waits, key, subject)?,
-        about: false,
-    };
-    match admit(&mut tables.waits_about, about(&key, subject), ()) {
-        Ok(is_new) => {
-            new.about = is_new;
-            Ok(new)
-        }
-        Err(fault) => {
-            withdraw_wait(tables, key, subject, new);
-            Err(fault)
+fn put_wait(tables: &mut Tables, key: WaitKey, subject: Subject) -> Result<WaitPut, AllocError>
+    requires { AreIndexed tables.old }
+    ensures ok { IfOk result (λ put. IsWaitPut (wait_key_of key) (subject_of subject) put tables.old tables.new) }
+    ensures err { OnErr result (IsKept tables.old tables.new) }
+{
+    let about = put_about(&mut tables.waits_about, key, subject)?;
+    match put(&mut tables.waits, key, subject) {
+        Ok(before) => Ok(WaitPut { before, about }),
+        Err(refused) => {
+            take_about(&mut tables.waits_about, key, about);
+            Err(refused)
         }
     }
 }
 
-fn admit_waits(tables: &mut Tables, waits: &[(WaitKey, Subject)]) -> Result<(), AllocError> {
+fn put_back_wait(tables: &mut Tables, key: WaitKey, put: WaitPut)
+    requires { IsSome (get (content_of tables.old).waits (wait_key_of key)) }
+    ensures { IsWaitBack (wait_key_of key) put tables.old tables.new }
+{
+    put_back(&mut tables.waits, key, put.before);
+    take_about(&mut tables.waits_about, key, put.about);
+}
+
+fn put_waits(
+    tables: &mut Tables,
+    waits: &[(WaitKey, Subject)],
+    changes: &Changes,
+) -> Result<(), AllocError>
+    requires { AreIndexed tables.old }
+    ensures changed { OnOk result (IsChanged (from_waits waits.now changes.now) (content_of tables.old) (content_of tables.new)) }
+    ensures indexed { OnOk result (AreIndexed tables.new) }
+    ensures kept { OnErr result (IsKept tables.old tables.new) }
+{
     let Some((first, others)) = waits.split_first() else {
+        finish(tables, changes);
         return Ok(());
     };
-    let new = admit_wait(tables, first.0, first.1)?;
-    let result = admit_waits(tables, others);
-    if result.is_err() {
-        withdraw_wait(tables, first.0, first.1, new);
+    let put = put_wait(tables, first.0, first.1)?;
+    match put_waits(tables, others, changes) {
+        Ok(()) => {
+            forget_wait_before(tables, first.0, put.before);
+            Ok(())
+        }
+        Err(refused) => {
+            put_back_wait(tables, first.0, put);
+            Err(refused)
+        }
     }
-    result
 }
 
-fn admit_broadcasts(
+// ---- broadcasts
+
+fn put_broadcasts(
     tables: &mut Tables,
     broadcasts: &[(BroadcastKey, Broadcast)],
     changes: &Changes,
-) -> Result<(), AllocError> {
+) -> Result<(), AllocError>
+    requires { AreIndexed tables.old }
+    ensures changed { OnOk result (IsChanged (from_broadcasts broadcasts.now changes.now) (content_of tables.old) (content_of tables.new)) }
+    ensures indexed { OnOk result (AreIndexed tables.new) }
+    ensures kept { OnErr result (IsKept tables.old tables.new) }
+{
     let Some((first, others)) = broadcasts.split_first() else {
-        return admit_waits(tables, &changes.waits);
+        return put_waits(tables, &changes.waits, changes);
     };
-    let is_new = admit(&mut tables.broadcasts, first.0, first.1)?;
-    let result = admit_broadcasts(tables, others, changes);
-    if result.is_err() {
-        withdraw(&mut tables.broadcasts, first.0, is_new);
+    let before = put(&mut tables.broadcasts, first.0, first.1)?;
+    match put_broadcasts(tables, others, changes) {
+        Ok(()) => Ok(()),
+        Err(refused) => {
+            put_back(&mut tables.broadcasts, first.0, before);
+            Err(refused)
+        }
     }
-    result
 }
 
-fn admit_versions(
+// ---- versions
+
+/// What was at a version's id, and its subject where its key in an index is new.
+#[derive(Drop)]
+pub struct VersionPut {
+    pub before: Option<VersionRow>,
+    pub held: Option<Subject>,
+    pub opened: Option<Subject>,
+}
+
+fn put_version(tables: &mut Tables, id: u64, row: &VersionRow) -> Result<VersionPut, AllocError>
+    requires { AreIndexed tables.old }
+    ensures ok { IfOk result (λ put. IsVersionPut id row.now put tables.old tables.new) }
+    ensures err { OnErr result (IsKept tables.old tables.new) }
+{
+    let held = put_subject(&mut tables.holds, id, row.holds)?;
+    let opened = match put_subject(&mut tables.opens, id, row.opens) {
+        Ok(opened) => opened,
+        Err(refused) => {
+            take_subject(&mut tables.holds, id, held);
+            return Err(refused);
+        }
+    };
+    match put(&mut tables.versions, id, row.copied()) {
+        Ok(before) => Ok(VersionPut {
+            before,
+            held,
+            opened,
+        }),
+        Err(refused) => {
+            take_subject(&mut tables.holds, id, held);
+            take_subject(&mut tables.opens, id, opened);
+            Err(refused)
+        }
+    }
+}
+
+fn put_back_version(tables: &mut Tables, id: u64, put: VersionPut)
+    requires { IsSome (get (content_of tables.old).versions id) }
+    ensures { IsVersionBack id put tables.old tables.new }
+{
+    put_back(&mut tables.versions, id, put.before);
+    take_subject(&mut tables.holds, id, put.held);
+    take_subject(&mut tables.opens, id, put.opened);
+}
+
+fn put_versions(
     tables: &mut Tables,
     versions: &[(u64, VersionRow)],
     changes: &Changes,
-) -> Result<(), AllocError> {
+) -> Result<(), AllocError>
+    requires { AreIndexed tables.old }
+    ensures changed { OnOk result (IsChanged (from_versions versions.now changes.now) (content_of tables.old) (content_of tables.new)) }
+    ensures indexed { OnOk result (AreIndexed tables.new) }
+    ensures kept { OnErr result (IsKept tables.old tables.new) }
+{
     let Some((first, others)) = versions.split_first() else {
-        return admit_broadcasts(tables, &changes.broadcasts, changes);
+        return put_broadcasts(tables, &changes.broadcasts, changes);
     };
-    let new = admit_version(tables, first.0, &first.1)?;
-    let result = admit_versions(tables, others, changes);
-    if result.is_err() {
-        withdraw_version(tables, first.0, &first.1, new);
+    let put = put_version(tables, first.0, &first.1)?;
+    match put_versions(tables, others, changes) {
+        Ok(()) => {
+            forget_version_before(tables, first.0, put.before);
+            Ok(())
+        }
+        Err(refused) => {
+            put_back_version(tables, first.0, put);
+            Err(refused)
+        }
     }
-    result
 }
 
-fn admit_block(tables: &mut Tables, changes: &Changes) -> Result<(), AllocError> {
+// ---- the registry
+
+fn put_block(tables: &mut Tables, changes: &Changes) -> Result<(), AllocError>
+    requires { AreIndexed tables.old }
+    ensures changed { OnOk result (IsChanged (from_block changes.now) (content_of tables.old) (content_of tables.new)) }
+    ensures indexed { OnOk result (AreIndexed tables.new) }
+    ensures kept { OnErr result (IsKept tables.old tables.new) }
+{
     let Some((block, row)) = changes.block else {
-        return admit_versions(tables, &changes.versions, changes);
+        return put_versions(tables, &changes.versions, changes);
     };
-    let is_new = admit(&mut tables.blocks, block, row)?;
-    let result = admit_versions(tables, &changes.versions, changes);
-    if result.is_err() {
-        withdraw(&mut tables.blocks, block, is_new);
+    let before = put(&mut tables.blocks, block, row)?;
+    match put_versions(tables, &changes.versions, changes) {
+        Ok(()) => Ok(()),
+        Err(refused) => {
+            put_back(&mut tables.blocks, block, before);
+            Err(refused)
+        }
     }
-    result
 }
 
-fn admit_code(tables: &mut Tables, changes: &Changes) -> Result<(), AllocError> {
+fn put_code(tables: &mut Tables, changes: &Changes) -> Result<(), AllocError>
+    requires { AreIndexed tables.old }
+    ensures changed { OnOk result (IsChanged (from_code changes.now) (content_of tables.old) (content_of tables.new)) }
+    ensures indexed { OnOk result (AreIndexed tables.new) }
+    ensures kept { OnErr result (IsKept tables.old tables.new) }
+{
     let Some((code, spid)) = changes.code else {
-        return admit_block(tables, changes);
+        return put_block(tables, changes);
     };
-    let is_new = admit(&mut tables.codes, code, spid)?;
-    let result = admit_block(tables, changes);
-    if result.is_err() {
-        withdraw(&mut tables.codes, code, is_new);
+    let before = put(&mut tables.codes, code, spid)?;
+    match put_block(tables, changes) {
+        Ok(()) => Ok(()),
+        Err(refused) => {
+            put_back(&mut tables.codes, code, before);
+            Err(refused)
+        }
     }
-    result
 }
 
-fn admit_lrn(tables: &mut Tables, changes: &Changes) -> Result<(), AllocError> {
+fn put_lrn(tables: &mut Tables, changes: &Changes) -> Result<(), AllocError>
+    requires { AreIndexed tables.old }
+    ensures changed { OnOk result (IsChanged (from_lrn changes.now) (content_of tables.old) (content_of tables.new)) }
+    ensures indexed { OnOk result (AreIndexed tables.new) }
+    ensures kept { OnErr result (IsKept tables.old tables.new) }
+{
     let Some((lrn, spid)) = changes.lrn else {
-        return admit_code(tables, changes);
+        return put_code(tables, changes);
     };
-    let is_new = admit(&mut tables.lrns, lrn, spid)?;
-    let result = admit_code(tables, changes);
-    if result.is_err() {
-        withdraw(&mut tables.lrns, lrn, is_new);
+    let before = put(&mut tables.lrns, lrn, spid)?;
+    match put_code(tables, changes) {
+        Ok(()) => Ok(()),
+        Err(refused) => {
+            put_back(&mut tables.lrns, lrn, before);
+            Err(refused)
+        }
     }
-    result
 }
 
-fn admit_carrier(tables: &mut Tables, changes: &Changes) -> Result<(), AllocError> {
+fn put_carrier(tables: &mut Tables, changes: &Changes) -> Result<(), AllocError>
+    requires { AreIndexed tables.old }
+    ensures changed { OnOk result (IsChanged (from_carrier changes.now) (content_of tables.old) (content_of tables.new)) }
+    ensures indexed { OnOk result (AreIndexed tables.new) }
+    ensures kept { OnErr result (IsKept tables.old tables.new) }
+{
     let Some(spid) = changes.carrier else {
-        return admit_lrn(tables, changes);
+        return put_lrn(tables, changes);
     };
-    let is_new = admit(&mut tables.carriers, spid, ())?;
-    let result = admit_lrn(tables, changes);
-    if result.is_err() {
-        withdraw(&mut tables.carriers, spid, is_new);
-    }
-    result
-}
-
-// ---- rows
-
-// Takes an old subject's key away where the new row has another or none.
-fn take_subject(
-    index: &mut BTreeMap<SubjectVersion, ()>,
-    id: u64,
-    old: Option<Subject>,
-    new: Option<Subject>,
-) {
-    if let Some(subject) = old
-        && new != old
-    {
-        let _ = index.remove(&SubjectVersion { subject, id });
-    }
-}
-
-fn put_version(tables: &mut Tables, id: u64, row: &VersionRow) {
-    let Some(place) = tables.versions.get_mut(&id) else {
-        return;
-    };
-    let held = place.holds;
-    let opened = place.opens;
-    *place = row.copied();
-    take_subject(&mut tables.holds, id, held, row.holds);
-    take_subject(&mut tables.opens, id, opened, row.opens);
-}
-
-fn put_wait(tables: &mut Tables, key: WaitKey, subject: Subject) {
-    let Some(place) = tables.waits.get_mut(&key) else {
-        return;
-    };
-    let old = *place;
-    *place = subject;
-    if old != subject {
-        let _ = tables.waits_about.remove(&about(&key, old));
-    }
-}
-
-fn take_wait(tables: &mut Tables, key: WaitKey) {
-    if let Some(subject) = tables.waits.remove(&key) {
-        let _ = tables.waits_about.remove(&about(&key, subject));
-    }
-}
-
-fn put_registry(tables: &mut Tables, changes: &Changes) {
-    if let Some((lrn, spid)) = changes.lrn {
-        overwrite(&mut tables.lrns, lrn, spid);
-    }
-    if let Some((code, spid)) = changes.code {
-        overwrite(&mut tables.codes, code, spid);
-    }
-    if let Some((block, row)) = changes.block {
-        overwrite(&mut tables.blocks, block, row);
-    }
-    if let Some(row) = changes.clock {
-        tables.clock = Some(row);
-    }
-}
-
-fn put_rows(tables: &mut Tables, changes: &Changes) {
-    for (id, row) in &changes.versions {
-        put_version(tables, *id, row);
-    }
-    for (key, broadcast) in &changes.broadcasts {
-        overwrite(&mut tables.broadcasts, *key, *broadcast);
-    }
-    for (key, subject) in &changes.waits {
-        put_wait(tables, *key, *subject);
-    }
-}
-
-fn take_rows(tables: &mut Tables, changes: &Changes) {
-    for key in &changes.taken_broadcasts {
-        let _ = tables.broadcasts.remove(key);
-    }
-    for key in &changes.taken_waits {
-        take_wait(tables, *key);
+    let before = put(&mut tables.carriers, spid, ())?;
+    match put_lrn(tables, changes) {
+        Ok(()) => Ok(()),
+        Err(refused) => {
+            put_back(&mut tables.carriers, spid, before);
+            Err(refused)
+        }
     }
 }
 
 /// Makes all changes, or none where memory is refused.
-pub fn commit(tables: &mut Tables, changes: &Changes) -> Result<(), AllocError> {
-    admit_carrier(tables, changes)?;
-    put_registry(tables, changes);
-    put_rows(tables, changes);
-    take_rows(tables, changes);
-    Ok(())
+pub fn commit(tables: &mut Tables, changes: &Changes) -> Result<(), AllocError>
+    requires { AreIndexed tables.old }
+    ensures done { OnOk result (IsChanged (changes_of changes.now) (content_of tables.old) (content_of tables.new)) }
+    ensures refused { OnErr result (content_of tables.new ≡ content_of tables.old) }
+    ensures indexed { AreIndexed tables.new }
+{
+    put_carrier(tables, changes)
 }

@@ -1,10 +1,12 @@
 //! The stores of a register: its rows in memory.
 #![tactic(auto)]
 
-mod admit;
 mod commit;
+mod indexes;
 mod keys;
 mod memory;
+mod put;
+mod reads;
 mod tables;
 
 pub use memory::MemoryStore;

@@ -1,26 +1,34 @@
 //! A store in memory.
+ghost use Rattle.std.specs.Prelude.{◌≡◌};
+ghost use Rattle.meaning.specs.Content.{empty_content};
+ghost use Rattle.store.specs.Tables.{content_of, AreIndexed};
+
 use crate::commit::commit;
-use crate::keys::{SubjectVersion, SubjectWait};
+use crate::reads::{
+    carriers, in_force, open_broadcasts, open_version, version_in_force, waiters, waits_about,
+};
 use crate::tables::Tables;
 use delivery::{Broadcast, DownloadKey};
 use numbers::{BlockId, CodeId, Lrn, Minute, Spid, Subject};
 use settle::{
     BlockRow, BroadcastKey, Changes, ClockRow, NumberedRow, RoutedRow, Store, StoreFault,
-    VersionRow, WaitKey,
+    VersionRow,
 };
 use std::alloc::{AllocError, Global};
-use std::collections::BTreeMap;
 
 /// A store in memory. Its device never fails.
 #[derive(Drop)]
 pub struct MemoryStore {
     alloc: Global,
     tables: Tables,
+    ghost indexed: { AreIndexed tables },
 }
 
 impl MemoryStore {
     /// A store in which nothing is written.
-    pub fn new(alloc: Global) -> MemoryStore {
+    pub fn new(alloc: Global) -> MemoryStore
+        ensures { content_of result.tables ≡ empty_content }
+    {
         MemoryStore {
             alloc,
             tables: Tables::new(alloc),
@@ -28,112 +36,31 @@ impl MemoryStore {
     }
 }
 
-// The id of the subject's first version in an index.
-fn first_of(index: &BTreeMap<SubjectVersion, ()>, subject: Subject) -> Option<u64> {
-    let (key, _) = index.range(SubjectVersion { subject, id: 0 }..).next()?;
-    if key.subject == subject {
-        Some(key.id)
-    } else {
-        None
-    }
-}
-
-fn numbered(tables: &Tables, id: Option<u64>) -> Option<NumberedRow> {
-    let id = id?;
-    let row = tables.versions.get(&id)?;
-    Some(NumberedRow {
-        id,
-        row: row.copied(),
-    })
-}
-
-fn waits_about(
-    alloc: Global,
-    index: &BTreeMap<SubjectWait, ()>,
-    carrier: Spid,
-    subject: Subject,
-    from: Minute,
-) -> Result<Vec<DownloadKey>, AllocError> {
-    let start = SubjectWait {
-        carrier,
-        subject,
-        minute: from,
-        id: 0,
-        attempt: 0,
-    };
-    let mut found = Vec::new(alloc);
-    for (key, _) in index.range(start..) {
-        if key.carrier != carrier || key.subject != subject {
-            return Ok(found);
-        }
-        found.push(DownloadKey {
-            minute: key.minute,
-            id: key.id,
-            attempt: key.attempt,
-        })?;
-    }
-    Ok(found)
-}
-
-fn waiters(
-    alloc: Global,
-    tables: &Tables,
-    minute: Minute,
-    key: BroadcastKey,
-) -> Result<Vec<Spid>, AllocError> {
-    let mut found = Vec::new(alloc);
-    for carrier in tables.carriers.keys() {
-        let wait = WaitKey {
-            carrier: *carrier,
-            minute,
-            id: key.id,
-            attempt: key.attempt,
-        };
-        if tables.waits.contains_key(&wait) {
-            found.push(*carrier)?;
-        }
-    }
-    Ok(found)
-}
-
-fn carriers(alloc: Global, tables: &Tables) -> Result<Vec<Spid>, AllocError> {
-    tables.carriers.keys().copied().collect(alloc)
-}
-
-fn open_broadcasts(
-    alloc: Global,
-    tables: &Tables,
-) -> Result<Vec<(BroadcastKey, Broadcast)>, AllocError> {
-    let mut found = Vec::new(alloc);
-    for (key, broadcast) in tables.broadcasts.iter() {
-        if broadcast.is_open {
-            found.push((*key, *broadcast))?;
-        }
-    }
-    Ok(found)
-}
-
-fn in_force(alloc: Global, tables: &Tables) -> Result<Vec<RoutedRow>, AllocError> {
-    let mut found = Vec::new(alloc);
-    for (key, _) in tables.holds.iter() {
-        if let Some(row) = tables.versions.get(&key.id)
-            && let Some(routing) = row.version.routing
-        {
-            found.push(RoutedRow {
-                subject: key.subject,
-                routing,
-            })?;
-        }
-    }
-    Ok(found)
-}
-
 // Want of memory, as a store's fault.
-fn no_memory(_refused: AllocError) -> StoreFault {
+fn no_memory(_refused: AllocError) -> StoreFault
+    ensures { result ≡ StoreFault.NoMemory }
+{
     StoreFault::NoMemory
 }
 
 impl Store for MemoryStore {
+    ghost use Rattle.std.specs.Prelude.{◌≡◌};
+    ghost use Rattle.store.specs.Tables.{content_of};
+
+    ghost content = { λ s. content_of s.tables };
+
+    ghost IsUsable = { λ _. Unit {0} };
+
+    ghost IsHonest = { λ _. Unit {0} };
+
+    ghost MayLeave = { λ s m. m ≡ content_of s.tables };
+
+    ghost failed = { λ _. 0 };
+
+    ghost leaves_content = { λ s m _ e. e };
+
+    ghost usable_is_honest = { λ s u. u };
+
     fn clock(&mut self) -> Result<Option<ClockRow>, StoreFault> {
         Ok(self.tables.clock)
     }
@@ -162,13 +89,11 @@ impl Store for MemoryStore {
     }
 
     fn version_in_force(&mut self, subject: Subject) -> Result<Option<NumberedRow>, StoreFault> {
-        let id = first_of(&self.tables.holds, subject);
-        Ok(numbered(&self.tables, id))
+        Ok(version_in_force(&self.tables, subject))
     }
 
     fn open_version(&mut self, subject: Subject) -> Result<Option<NumberedRow>, StoreFault> {
-        let id = first_of(&self.tables.opens, subject);
-        Ok(numbered(&self.tables, id))
+        Ok(open_version(&self.tables, subject))
     }
 
     fn broadcast(&mut self, key: BroadcastKey) -> Result<Option<Broadcast>, StoreFault> {
@@ -180,8 +105,7 @@ impl Store for MemoryStore {
         spid: Spid,
         subject: Subject,
     ) -> Result<Vec<DownloadKey>, StoreFault> {
-        let from = Minute { number: 0 };
-        waits_about(self.alloc, &self.tables.waits_about, spid, subject, from).map_err(no_memory)
+        waits_about(self.alloc, &self.tables, spid, subject).map_err(no_memory)
     }
 
     fn waiters(&mut self, minute: Minute, key: BroadcastKey) -> Result<Vec<Spid>, StoreFault> {

@@ -1,4 +1,8 @@
 //! The tables of a store in memory.
+ghost use Rattle.std.specs.Prelude.{◌≡◌};
+ghost use Rattle.meaning.specs.Content.{empty_content};
+ghost use Rattle.store.specs.Tables.{content_of, AreIndexed};
+
 use crate::keys::{SubjectVersion, SubjectWait};
 use delivery::Broadcast;
 use numbers::{BlockId, CodeId, Lrn, Spid, Subject};
@@ -27,7 +31,10 @@ pub struct Tables {
 
 impl Tables {
     /// Empty tables, and no clock row.
-    pub fn new(alloc: Global) -> Tables {
+    pub fn new(alloc: Global) -> Tables
+        ensures content { content_of result ≡ empty_content }
+        ensures indexed { AreIndexed result }
+    {
         Tables {
             clock: None,
             carriers: BTreeMap::new(alloc),
@@ -41,16 +48,5 @@ impl Tables {
             waits: BTreeMap::new(alloc),
             waits_about: BTreeMap::new(alloc),
         }
-    }
-}
-
-/// The index key of a wait.
-pub fn about(key: &WaitKey, subject: Subject) -> SubjectWait {
-    SubjectWait {
-        carrier: key.carrier,
-        subject,
-        minute: key.minute,
-        id: key.id,
-        attempt: key.attempt,
     }
 }

@@ -1,7 +1,6 @@
-use Rattle.std.proofs.Common.{◌≡◌, ℕ, ◌+◌, ◌≤◌, ◌<◌, List, ◌++◌, length, inl, inr, refl, ap, arith, length-append, decimal, codes}
+use Rattle.std.proofs.Common.{◌≤◌, length, arith, length-append, decimal}
 use Rattle.std.proofs.lemmas.Fmt.{length-decimal-le}
-use Rattle.http.specs.StatusCode.{code_digits}
-use Rattle.api.specs.Answer.{phrase, head, IsAnswered}
+use Rattle.api.specs.Answer.{phrase}
 use Rattle.api.proofs.Phrases.{short_phrase}
 use Rattle.api.proofs.answer.head_fits.Goals as goal
 

@@ -1,8 +1,8 @@
-use Rattle.std.proofs.Common.{◌≡◌, ℕ, List, [], ◌∷◌, ◌++◌, get_or, map, take, ap, ◌∙◌, sym, subst, refl, append-nil, length, Bool, true, false}
+use Rattle.std.proofs.Common.{◌≡◌, ℕ, List, ◌++◌, get_or, map, take, ap, ◌∙◌, sym, append-nil, length, Bool, true, false}
 use Rattle.std.proofs.lemmas.List.Elements.{All-get_or}
 use Rattle.httparse.specs.declared.spans.HeaderSpan.{HeaderSpan}
 use Rattle.httparse.specs.Spans.{header_bytes, IsHeaderWithin}
-use Rattle.api.specs.Fields.{values_in, IsFound, lower}
+use Rattle.api.specs.Fields.{values_in, lower}
 use Rattle.api.proofs.FieldLemmas.{values_more, one_value, no_value, found_first, found_again}
 use Rattle.api.proofs.head.find.Goals.{then-eq_ignore_ascii_case+in-Absent, then-eq_ignore_ascii_case+in_default, else-eq_ignore_ascii_case}
 use Rattle.api.proofs.head.find.Goals as goal

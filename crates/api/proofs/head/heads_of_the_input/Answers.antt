@@ -6,7 +6,6 @@ use Rattle.std.proofs.lemmas.Str.{IsUtf8-from_is_utf8}
 use Rattle.std.specs.Str.{is_utf8, chars}
 use lib.Utf8.{encode}
 use Rattle.httparse.proofs.GrammarLemmas.{request_unique, print_request-append}
-use Rattle.api.specs.Head.{HasHead}
 use Rattle.api.proofs.head.heads_of_the_input.Goals as goal
 
 -- a front of a whole that is no longer than another front is a front of that

@@ -1,5 +1,4 @@
-use Rattle.std.proofs.Common.{◌≡◌, ℕ, ◌-◌, ◌+◌, ◌*◌, ◌<◌, ◌^◌, get_or, true, false, arith, sym, ◌∙◌}
-use Rattle.std.specs.Char.{is_ascii_digit}
+use Rattle.std.proofs.Common.{◌+◌, ◌*◌, ◌<◌, ◌^◌, get_or, arith, sym, ◌∙◌}
 use Rattle.api.proofs.NumberLemmas.{none_number, not_digits, so_far_more, fits, digit_is}
 use Rattle.api.proofs.head.read_number.Goals as goal
 

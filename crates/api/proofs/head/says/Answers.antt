@@ -1,8 +1,7 @@
-use Rattle.std.proofs.Common.{◌≡◌, ℕ, List, get_or, ap, ◌∙◌, sym, Bool, true, false}
+use Rattle.std.proofs.Common.{◌≡◌, ℕ, List, ap, ◌∙◌, sym, Bool, true, false}
 use Rattle.std.specs.Str.{bytes_eq}
 use Rattle.std.proofs.lemmas.Slice.Eq.{bytes_eq-Decides}
 use Rattle.httparse.specs.declared.spans.HeaderSpan.{HeaderSpan}
-use Rattle.httparse.specs.Spans.{header_bytes}
 use Rattle.api.specs.Fields.{lower}
 use Rattle.api.proofs.FieldLemmas.{any_none, any_other, any_found, eq_false}
 use Rattle.api.proofs.head.says.Goals.{else-eq_ignore_ascii_case-via-then-eq_ignore_ascii_case+else-eq_ignore_ascii_case-2, else-eq_ignore_ascii_case-via-else-eq_ignore_ascii_case}

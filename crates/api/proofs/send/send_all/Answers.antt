@@ -1,4 +1,4 @@
-use Rattle.std.proofs.Common.{arith, length, ◌≤◌, ◌-◌, ℕ}
+use Rattle.std.proofs.Common.{arith, length, ◌≤◌, ◌-◌}
 use Rattle.api.proofs.Appending.{Appends-next, length_part}
 use Rattle.api.proofs.send.send_all.Goals as goal
 

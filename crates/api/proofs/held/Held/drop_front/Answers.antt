@@ -1,4 +1,4 @@
-use Rattle.std.proofs.Common.{◌≡◌, ℕ, ◌-◌, ◌≤◌, ◌∙◌, ap, arith, List, length, take}
+use Rattle.std.proofs.Common.{ℕ, ◌-◌, ◌≤◌, ◌∙◌, ap, arith, List, length, take}
 use Rattle.api.proofs.HeldLemmas.{front_dropped}
 use Rattle.api.proofs.held.Held.drop_front.Goals as goal
 

@@ -1,5 +1,4 @@
-use Rattle.std.proofs.Common.{◌≡◌, ℕ, ◌+◌, ◌-◌, ◌≤◌, ◌<◌, List, length, take, sym, arith, rules}
-use Rattle.std.proofs.lemmas.Grind.{common_steps}
+use Rattle.std.proofs.Common.{◌≡◌, ℕ, ◌-◌, List, length, take, sym, arith, rules}
 use Rattle.api.proofs.HeldLemmas.{taken_more}
 use Rattle.api.proofs.held.reads.read_at.Goals as goal
 

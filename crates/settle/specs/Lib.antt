@@ -1,0 +1,4 @@
+pub mod Views
+pub mod Changes
+pub mod Reads
+pub mod Faults

@@ -1,0 +1,207 @@
+-- What the tables of a store in memory contain.
+use Rattle.std.specs.Prelude.{◌≡◌, ◌<◌, ℕ, List, map, Option, Some, option_map, is_some, true, IfSome}
+use Rattle.std.specs.declared.cmp.Ordering.{Ordering}
+use Rattle.std.specs.Ordering.{nat_cmp, ordering_then}
+use Rattle.std.specs.BTreeMap.{BTreeMap}
+use Rattle.std.specs.FinMap.{FinMap, get}
+use Rattle.numbers.specs.Subjects.{Subject, subject_key}
+use Rattle.numbers.specs.Views.{subject_of}
+use Rattle.meaning.specs.Content.{Content, VersionRow, BroadcastKey, WaitKey, wait_cmp, broadcast_cmp}
+use Rattle.settle.specs.Views.{spid_of, lrn_of, code_of, block_of, block_row_of, clock_row_of, broadcast_row_of, broadcast_key_of, wait_key_of}
+use Rattle.settle.specs.Changes.{Changes, no_changes, take_rows, same_broadcast, same_wait}
+use Rattle.settle.specs.declared.changes.Changes.{Changes as ChangesCode}
+use Rattle.settle.specs.declared.rows.BroadcastKey.{BroadcastKey as BroadcastKeyCode}
+use Rattle.settle.specs.declared.rows.WaitKey.{WaitKey as WaitKeyCode}
+use Rattle.numbers.specs.declared.ported.Subject.{Subject as SubjectCode}
+use Rattle.delivery.specs.declared.broadcast.Broadcast.{Broadcast}
+use Rattle.store.specs.declared.commit.VersionPut.{VersionPut}
+use Rattle.store.specs.declared.commit.WaitPut.{WaitPut}
+use Rattle.store.specs.Maps.{map_of, set}
+use Rattle.store.specs.declared.keys.SubjectVersion.{SubjectVersion as SubjectVersionCode}
+use Rattle.store.specs.declared.keys.SubjectWait.{SubjectWait as SubjectWaitCode}
+use Rattle.store.specs.declared.tables.Tables.{Tables}
+
+abbrev pub content_of : Tables → Content
+content_of t = record {
+  carriers = map_of spid_of (λ u. u) t.carriers;
+  lrns = map_of lrn_of spid_of t.lrns;
+  codes = map_of code_of spid_of t.codes;
+  blocks = map_of block_of block_row_of t.blocks;
+  versions = map_of (λ k. k) (λ row. row) t.versions;
+  broadcasts = map_of broadcast_key_of broadcast_row_of t.broadcasts;
+  waits = map_of wait_key_of subject_of t.waits;
+  clock = option_map clock_row_of t.clock;
+}
+
+-- ---- the indexes
+
+-- a version by its subject
+pub record SubjectVersion : Type 0 where
+  pub subject : Subject
+  pub id : ℕ
+
+abbrev pub subject_version_cmp : SubjectVersion → SubjectVersion → Ordering
+subject_version_cmp a b = ordering_then (nat_cmp (subject_key a.subject) (subject_key b.subject)) (nat_cmp a.id b.id)
+
+abbrev pub subject_version_of : SubjectVersionCode → SubjectVersion
+subject_version_of k = record { subject = subject_of k.subject; id = k.id }
+
+-- a download by its carrier and its subject
+pub record SubjectWait : Type 0 where
+  pub carrier : ℕ
+  pub subject : Subject
+  pub minute : ℕ
+  pub id : ℕ
+  pub attempt : ℕ
+
+abbrev pub subject_wait_cmp : SubjectWait → SubjectWait → Ordering
+subject_wait_cmp a b =
+    ordering_then (nat_cmp a.carrier b.carrier)
+    (ordering_then (nat_cmp (subject_key a.subject) (subject_key b.subject))
+    (ordering_then (nat_cmp a.minute b.minute) (ordering_then (nat_cmp a.id b.id) (nat_cmp a.attempt b.attempt))))
+
+abbrev pub subject_wait_of : SubjectWaitCode → SubjectWait
+subject_wait_of k = record { carrier = k.carrier.number; subject = subject_of k.subject; minute = k.minute.number; id = k.id; attempt = k.attempt }
+
+abbrev pub versions_index : BTreeMap SubjectVersionCode (Unit {0}) → FinMap subject_version_cmp (Unit {0})
+versions_index m = map_of subject_version_of (λ u. u) m
+
+abbrev pub waits_index : BTreeMap SubjectWaitCode (Unit {0}) → FinMap subject_wait_cmp (Unit {0})
+waits_index m = map_of subject_wait_of (λ u. u) m
+
+abbrev pub HasVersion : BTreeMap SubjectVersionCode (Unit {0}) → Subject → ℕ → Type 0
+HasVersion index s id = (id < 18446744073709551616) × (is_some (get (versions_index index) (record { subject = s; id = id })) ≡ true)
+
+abbrev pub wait_about : WaitKey → Subject → SubjectWait
+wait_about k s = record { carrier = k.carrier; subject = s; minute = k.minute; id = k.id; attempt = k.attempt }
+
+-- the numbers of a key of the code
+abbrev pub IsWaitKey : WaitKey → Type 0
+IsWaitKey k = (k.minute < 1099511627776) × (k.id < 18446744073709551616) × (k.attempt < 18446744073709551616)
+
+abbrev pub HasWait : BTreeMap SubjectWaitCode (Unit {0}) → WaitKey → Subject → Type 0
+HasWait index k s = IsWaitKey k × (is_some (get (waits_index index) (wait_about k s)) ≡ true)
+
+abbrev pub LacksVersion : BTreeMap SubjectVersionCode (Unit {0}) → Subject → ℕ → Type 0
+LacksVersion index s id = HasVersion index s id → ⊥
+
+abbrev pub LacksWait : BTreeMap SubjectWaitCode (Unit {0}) → WaitKey → Subject → Type 0
+LacksWait index k s = HasWait index k s → ⊥
+
+-- each version that has a subject in the column stands in the index under it. What the index has beside them is passed over
+abbrev pub AreVersionsIndexed : (VersionRow → Option Subject) → FinMap nat_cmp VersionRow → BTreeMap SubjectVersionCode (Unit {0}) → Type 0
+AreVersionsIndexed column versions index = (id : ℕ) (row : VersionRow) (s : Subject) → get versions id ≡ Some row → column row ≡ Some s → HasVersion index s id
+
+-- each download stands in the index under its subject
+abbrev pub AreWaitsIndexed : FinMap wait_cmp Subject → BTreeMap SubjectWaitCode (Unit {0}) → Type 0
+AreWaitsIndexed waits index = (k : WaitKey) (s : Subject) → get waits k ≡ Some s → HasWait index k s
+
+-- whatever a look-up has to find, the indexes have
+abbrev pub AreIndexed : Tables → Type 0
+AreIndexed t =
+    AreVersionsIndexed (λ row. row.holds) (map_of (λ k. k) (λ row. row) t.versions) t.holds
+    × AreVersionsIndexed (λ row. row.opens) (map_of (λ k. k) (λ row. row) t.versions) t.opens
+    × AreWaitsIndexed (map_of wait_key_of subject_of t.waits) t.waits_about
+
+-- what an index had it has
+abbrev pub KeepsVersions : BTreeMap SubjectVersionCode (Unit {0}) → BTreeMap SubjectVersionCode (Unit {0}) → Type 0
+KeepsVersions old new = (s : Subject) (id : ℕ) → HasVersion old s id → HasVersion new s id
+
+-- what an index had it has, but for the subject's version
+abbrev pub KeepsOtherVersions : BTreeMap SubjectVersionCode (Unit {0}) → BTreeMap SubjectVersionCode (Unit {0}) → Option Subject → ℕ → Type 0
+KeepsOtherVersions old new subject id = (s : Subject) (i : ℕ) → HasVersion old s i → (subject ≡ Some s → i ≡ id → ⊥) → HasVersion new s i
+
+abbrev pub KeepsWaits : BTreeMap SubjectWaitCode (Unit {0}) → BTreeMap SubjectWaitCode (Unit {0}) → Type 0
+KeepsWaits old new = (k : WaitKey) (s : Subject) → HasWait old k s → HasWait new k s
+
+abbrev pub KeepsOtherWaits : BTreeMap SubjectWaitCode (Unit {0}) → BTreeMap SubjectWaitCode (Unit {0}) → WaitKey → Option Subject → Type 0
+KeepsOtherWaits old new key subject = (k : WaitKey) (s : Subject) → HasWait old k s → (k ≡ key → subject ≡ Some s → ⊥) → HasWait new k s
+
+-- ---- one row put
+
+abbrev pub with_version : Content → ℕ → Option VersionRow → Content
+with_version c id row = record c { versions = set c.versions id row }
+
+abbrev pub with_wait : Content → WaitKey → Option Subject → Content
+with_wait c k s = record c { waits = set c.waits k s }
+
+-- the content is the same, and what the indexes had they have
+pub record IsKept (old new : Tables) : Type 0 where
+  pub content : content_of new ≡ content_of old
+  pub holds : KeepsVersions old.holds new.holds
+  pub opens : KeepsVersions old.opens new.opens
+  pub waits_about : KeepsWaits old.waits_about new.waits_about
+
+-- a version's row is put, and with it the keys of its subject, of which some were new
+pub record IsVersionPut (id : ℕ) (row : VersionRow) (put : VersionPut) (old new : Tables) : Type 0 where
+  pub content : content_of new ≡ with_version (content_of old) id (Some row)
+  pub before : put.before ≡ get (content_of old).versions id
+  pub new_held : IfSome put.held (λ s. LacksVersion old.holds (subject_of s) id)
+  pub new_opened : IfSome put.opened (λ s. LacksVersion old.opens (subject_of s) id)
+  pub holds : KeepsVersions old.holds new.holds
+  pub opens : KeepsVersions old.opens new.opens
+  pub waits_about : KeepsWaits old.waits_about new.waits_about
+  pub indexed : AreIndexed new
+
+-- what was there before is there again
+pub record IsVersionBack (id : ℕ) (put : VersionPut) (old new : Tables) : Type 0 where
+  pub content : content_of new ≡ with_version (content_of old) id put.before
+  pub holds : KeepsOtherVersions old.holds new.holds (option_map subject_of put.held) id
+  pub opens : KeepsOtherVersions old.opens new.opens (option_map subject_of put.opened) id
+  pub waits_about : KeepsWaits old.waits_about new.waits_about
+
+-- a download is put, and with it its key under its subject, which may have been new
+pub record IsWaitPut (key : WaitKey) (subject : Subject) (put : WaitPut) (old new : Tables) : Type 0 where
+  pub content : content_of new ≡ with_wait (content_of old) key (Some subject)
+  pub before : option_map subject_of put.before ≡ get (content_of old).waits key
+  pub new_about : IfSome put.about (λ s. LacksWait old.waits_about key (subject_of s))
+  pub holds : KeepsVersions old.holds new.holds
+  pub opens : KeepsVersions old.opens new.opens
+  pub waits_about : KeepsWaits old.waits_about new.waits_about
+  pub indexed : AreIndexed new
+
+pub record IsWaitBack (key : WaitKey) (put : WaitPut) (old new : Tables) : Type 0 where
+  pub content : content_of new ≡ with_wait (content_of old) key (option_map subject_of put.before)
+  pub holds : KeepsVersions old.holds new.holds
+  pub opens : KeepsVersions old.opens new.opens
+  pub waits_about : KeepsOtherWaits old.waits_about new.waits_about key (option_map subject_of put.about)
+
+-- ---- the changes from a table on: each function puts the rows of one table, and then those of the next ones
+
+abbrev pub from_waits : List (WaitKeyCode × SubjectCode) → ChangesCode → Changes
+from_waits waits c = record no_changes {
+  clock = option_map clock_row_of c.clock;
+  waits = map (λ e. (wait_key_of e.0, subject_of e.1)) waits;
+  taken_broadcasts = map broadcast_key_of c.taken_broadcasts.items;
+  taken_waits = map wait_key_of c.taken_waits.items;
+}
+
+abbrev pub from_broadcasts : List (BroadcastKeyCode × Broadcast) → ChangesCode → Changes
+from_broadcasts broadcasts c = record (from_waits c.waits.items c) { broadcasts = map (λ e. (broadcast_key_of e.0, broadcast_row_of e.1)) broadcasts }
+
+abbrev pub from_versions : List (ℕ × VersionRow) → ChangesCode → Changes
+from_versions versions c = record (from_broadcasts c.broadcasts.items c) { versions = versions }
+
+abbrev pub from_block : ChangesCode → Changes
+from_block c = record (from_versions c.versions.items c) { block = option_map (λ e. (block_of e.0, block_row_of e.1)) c.block }
+
+abbrev pub from_code : ChangesCode → Changes
+from_code c = record (from_block c) { code = option_map (λ e. (code_of e.0, spid_of e.1)) c.code }
+
+abbrev pub from_lrn : ChangesCode → Changes
+from_lrn c = record (from_code c) { lrn = option_map (λ e. (lrn_of e.0, spid_of e.1)) c.lrn }
+
+abbrev pub from_carrier : ChangesCode → Changes
+from_carrier c = record (from_lrn c) { carrier = option_map spid_of c.carrier }
+
+-- ---- rows taken away
+
+abbrev pub AreBroadcastsTaken : List BroadcastKeyCode → BTreeMap BroadcastKeyCode Broadcast → BTreeMap BroadcastKeyCode Broadcast → Type 0
+AreBroadcastsTaken keys old new =
+    (k : BroadcastKey) → get (map_of {R = broadcast_cmp} broadcast_key_of broadcast_row_of new) k
+    ≡ take_rows same_broadcast (map broadcast_key_of keys) k (get (map_of {R = broadcast_cmp} broadcast_key_of broadcast_row_of old) k)
+
+-- the downloads are taken away, and nothing else
+pub record AreWaitsTaken (keys : List WaitKeyCode) (old new : Content) : Type 0 where
+  pub waits : (k : WaitKey) → get new.waits k ≡ take_rows same_wait (map wait_key_of keys) k (get old.waits k)
+  pub others : new ≡ record old { waits = new.waits }
