@@ -8,5 +8,7 @@ mod memory;
 mod put;
 mod reads;
 mod tables;
+#[cfg(test)]
+mod tests;
 
 pub use memory::MemoryStore;
