@@ -3,7 +3,9 @@
 ghost use Rattle.std.specs.Prelude.{◌≡◌, codes};
 ghost use Rattle.numbers.specs.Texts.{spid_text};
 
-use super::{BlockId, Cic, CodeId, Line, Lrn, Minute, Spid, Subject, Tn};
+use super::{
+    BlockId, Cic, CodeId, Line, Lrn, Minute, Spid, Subject, Tn, subjects_in_order_of_texts,
+};
 use std::test::Fail;
 
 // The administrator, by its text.
@@ -80,6 +82,12 @@ fn orders_subjects_by_text(rt: HostRuntime) -> Result<(), Fail> {
     first.write(&mut out)?;
     assert_eq!(rt; out.as_str(), "20253312025331000");
     Ok(())
+}
+
+#[test]
+fn laws_are_called(rt: HostRuntime) {
+    subjects_in_order_of_texts();
+    assert!(rt; true);
 }
 
 #[test]
