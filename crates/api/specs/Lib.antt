@@ -1,9 +1,17 @@
 pub mod Answer
 pub mod Blank
+pub mod Cuts
+pub mod Failures
 pub mod Fields
+pub mod Forms
 pub mod Front
 pub mod Head
 pub mod Held
+pub mod RefusalTexts
 pub mod Rooms
+pub mod Run
 pub mod Sending
+pub mod Serving
+pub mod Step
 pub mod Table
+pub mod Texts

@@ -1,6 +1,15 @@
 //! Carrying out a message.
-ghost use Rattle.std.specs.Prelude.{ℕ, ◌+◌, ◌*◌, OnOk};
+ghost use Rattle.std.specs.Prelude.{◌≡◌, ◌⊎◌, ℕ, ◌+◌, ◌*◌, ◌<◌, List, Some, None, true, length, map, string_bytes, IfOk, IfErr, OnOk, OnErr};
+ghost use Rattle.meaning.specs.Commands.{RegisterCarrier};
+ghost use Rattle.meaning.specs.Machine.{Shown};
+ghost use Rattle.meaning.specs.Reading.{State, all_in_force};
+ghost use Rattle.register.specs.Answers.{Stands};
+ghost use Rattle.register.specs.Calls.{command_of as command_seen, view_of, reply_of, answer_of, in_force_of};
+ghost use Rattle.api.specs.Failures.{failure_text};
+ghost use Rattle.api.specs.Forms.{Orders, Confirms, Seeks, asked_of};
 ghost use Rattle.api.specs.Rooms.{HasRoom, IsEmpty, IsWritten};
+ghost use Rattle.api.specs.Step.{Step, StepsOnce, Meets, Calls, Carries, HasNumber, IsShort, Outgrows, success, told, reply_text};
+ghost use Rattle.api.specs.Texts.{registered_text, view_text, uri_text};
 
 use crate::answer::Room;
 use crate::fault::{Failure, MessageFault, UriFault};
@@ -13,13 +22,15 @@ use crate::reply::{
 };
 use meaning::Refusal;
 use numbers::{Spid, Tn};
-use register::{Command, Register, Reply};
-use serde_json::Value;
+use register::{Answer, Command, Register, Reply, VersionView};
 use settle::{RoutedRow, Store};
 use std::alloc::Global;
 
 // The path and the caller of a message: first its path, then its method, then its caller.
-fn judged(request: &Request) -> Result<(Route, Spid), MessageFault> {
+fn judged(request: &Request) -> Result<(Route, Spid), MessageFault>
+    ensures ok { IfOk result (λ found. (request.now.route ≡ Some found.0) × (request.now.is_post ≡ true) × (request.now.caller ≡ Some found.1)) }
+    ensures err { IfErr result (λ fault. (st : State) (body : List ℕ) → Meets st request.now.route request.now.is_post request.now.caller body (failure_text (Failure.Message fault)) st) }
+{
     let Some(route) = request.route else {
         return Err(MessageFault::NoPath);
     };
@@ -33,7 +44,10 @@ fn judged(request: &Request) -> Result<(Route, Spid), MessageFault> {
 }
 
 // The number of a URI. Until the grammar of telephone URIs is whole, it is `tel:+1` and the number.
-fn number_of(uri: &str) -> Result<Tn, UriFault> {
+fn number_of(uri: &str) -> Result<Tn, UriFault>
+    ensures ok { IfOk result (λ tn. HasNumber uri.now tn.number) }
+    ensures err { OnErr result ((tn : ℕ) → ¬ (HasNumber uri.now tn)) }
+{
     match uri.strip_prefix("tel:+1") {
         Some(number) => Tn::read(number).ok_or(UriFault::BadNumber),
         None => Err(UriFault::BadNumber),
@@ -47,6 +61,7 @@ const MOST_ROWS: usize = 1 << 40;
 fn take_rows(room: &mut Room, count: usize) -> Result<(), Refusal>
     requires empty { IsEmpty room.old }
     ensures ok { OnOk result (HasRoom (64 + count * 64) room.new) }
+    ensures err { IfErr result (λ refusal. refusal ≡ Refusal.NoMemory) }
     ensures empty { IsEmpty room.new }
     ensures room { (n : ℕ) → HasRoom n room.old → HasRoom n room.new }
 {
@@ -57,24 +72,60 @@ fn take_rows(room: &mut Room, count: usize) -> Result<(), Refusal>
     Ok(())
 }
 
-fn put_starting_rows(room: &mut Room, spid: Spid, rows: &[RoutedRow]) -> Result<(), Refusal>
+// The rows were counted before, and the room for so many was taken: more than those would be a fault of the
+// storage.
+fn put_starting_rows(
+    room: &mut Room,
+    spid: Spid,
+    rows: &[RoutedRow],
+    count: usize,
+) -> Result<(), Failure>
     requires empty { IsEmpty room.old }
+    requires room { HasRoom 512 room.old }
+    requires rows { HasRoom (64 + count * 64) room.old }
     ensures ok { OnOk result (IsWritten room.new) }
-    ensures room { (n : ℕ) → HasRoom n room.old → HasRoom n room.new }
+    ensures room { HasRoom 512 room.new }
+    ensures body { OnOk result (string_bytes room.new.body ≡ registered_text spid.number (map in_force_of rows.now)) }
+    ensures more { OnErr result (count < length rows.now) }
 {
-    take_rows(room, rows.len())?;
+    if rows.len() > count {
+        return Err(Failure::Refused(Refusal::Storage));
+    }
     put_registered(&mut room.body, spid, rows);
     Ok(())
 }
 
-fn put_reply(room: &mut Room, reply: &Reply) -> Result<(), Refusal>
+fn put_shown(room: &mut Room, view: &VersionView)
     requires empty { IsEmpty room.old }
     requires room { HasRoom 512 room.old }
+    ensures written { IsWritten room.new }
+    ensures room { HasRoom 512 room.new }
+    ensures body { string_bytes room.new.body ≡ view_text (view_of view.now) }
+{
+    put_version(&mut room.body, view);
+}
+
+fn put_routed(room: &mut Room, tn: Tn, answer: Answer)
+    requires empty { IsEmpty room.old }
+    requires room { HasRoom 512 room.old }
+    ensures written { IsWritten room.new }
+    ensures room { HasRoom 512 room.new }
+    ensures body { string_bytes room.new.body ≡ uri_text tn.number (answer_of answer) }
+{
+    put_uri(&mut room.body, tn, answer);
+}
+
+fn put_reply(room: &mut Room, reply: &Reply, count: usize) -> Result<(), Failure>
+    requires empty { IsEmpty room.old }
+    requires room { HasRoom 512 room.old }
+    requires rows { HasRoom (64 + count * 64) room.old }
     ensures ok { OnOk result (IsWritten room.new) }
     ensures room { HasRoom 512 room.new }
+    ensures text { OnOk result (success (string_bytes room.new.body) ≡ reply_text (reply_of reply.now)) }
+    ensures more { OnErr result (Outgrows count (reply_of reply.now)) }
 {
     match reply {
-        Reply::Registered { spid, rows } => put_starting_rows(room, *spid, rows),
+        Reply::Registered { spid, rows } => put_starting_rows(room, *spid, rows, count),
         Reply::RoutingNumberRegistered { lrn, spid } => {
             put_routing_number(&mut room.body, *lrn, *spid);
             Ok(())
@@ -84,27 +135,50 @@ fn put_reply(room: &mut Room, reply: &Reply) -> Result<(), Refusal>
             Ok(())
         }
         Reply::Shown(view) => {
-            put_version(&mut room.body, view);
+            put_shown(room, view);
             Ok(())
         }
     }
 }
 
-// Takes the room for the starting rows of a registration, before it is made.
+// How many rows are in force.
+fn count_rows<S: Store>(register: &mut Register<S>) -> Result<usize, Refusal>
+    ensures kept { S.IsUsable register.new.store → (st : State) → Stands (S.content register.old.store) st → Stands (S.content register.new.store) st }
+    ensures usable { S.IsUsable register.new.store → S.IsUsable register.old.store }
+    ensures count { IfOk result (λ count. S.IsUsable register.new.store → (st : State) → Stands (S.content register.old.store) st → length (all_in_force st) ≡ count) }
+    ensures short { IfErr result (λ refusal. S.IsUsable register.new.store → (st : State) → Stands (S.content register.old.store) st → IsShort refusal) }
+{
+    match register.in_force() {
+        Ok(rows) => Ok(rows.len()),
+        Err(refusal) => Err(refusal),
+    }
+}
+
+// Takes the room for the starting rows of a registration, before it is made: nothing may fail after it.
 fn prepare<S: Store>(
     register: &mut Register<S>,
     command: &Command,
     room: &mut Room,
-) -> Result<(), Refusal>
+) -> Result<usize, Refusal>
     requires empty { IsEmpty room.old }
+    requires room { HasRoom 512 room.old }
     ensures empty { IsEmpty room.new }
-    ensures room { (n : ℕ) → HasRoom n room.old → HasRoom n room.new }
+    ensures room { HasRoom 512 room.new }
+    ensures rows { IfOk result (λ count. HasRoom (64 + count * 64) room.new) }
+    ensures kept { S.IsUsable register.new.store → (st : State) → Stands (S.content register.old.store) st → Stands (S.content register.new.store) st }
+    ensures usable { S.IsUsable register.new.store → S.IsUsable register.old.store }
+    ensures count { IfOk result (λ count. S.IsUsable register.new.store → (st : State) → Stands (S.content register.old.store) st →
+        (spid : ℕ) → command_seen command.now ≡ RegisterCarrier spid → length (all_in_force st) ≡ count) }
+    ensures short { IfErr result (λ refusal. S.IsUsable register.new.store → (st : State) → Stands (S.content register.old.store) st → IsShort refusal) }
 {
-    if let Command::RegisterCarrier { .. } = command {
-        let rows = register.in_force()?;
-        take_rows(room, rows.len())?;
+    match command {
+        Command::RegisterCarrier { .. } => {
+            let count = count_rows(register)?;
+            take_rows(room, count)?;
+            Ok(count)
+        }
+        _ => Ok(0),
     }
-    Ok(())
 }
 
 fn command<S: Store>(
@@ -112,15 +186,22 @@ fn command<S: Store>(
     caller: Spid,
     command: &Command,
     room: &mut Room,
-) -> Result<(), Refusal>
+) -> Result<(), Failure>
     requires empty { IsEmpty room.old }
     requires room { HasRoom 512 room.old }
     ensures ok { OnOk result (IsWritten room.new) }
     ensures room { HasRoom 512 room.new }
+    ensures usable { S.IsUsable register.new.store → S.IsUsable register.old.store }
+    ensures carries { S.IsUsable register.new.store → Carries (S.content register.old.store) (S.content register.new.store) caller.number (Orders (command_seen command.now)) (told result (string_bytes room.new.body)) }
 {
-    prepare(register, command, room)?;
-    let reply = register.do_it(caller, command)?;
-    put_reply(room, &reply)
+    let count = match prepare(register, command, room) {
+        Ok(count) => count,
+        Err(refusal) => return Err(Failure::Refused(refusal)),
+    };
+    match register.do_it(caller, command) {
+        Ok(reply) => put_reply(room, &reply, count),
+        Err(refusal) => Err(Failure::Refused(refusal)),
+    }
 }
 
 fn acknowledge<S: Store>(
@@ -129,15 +210,21 @@ fn acknowledge<S: Store>(
     id: u64,
     attempt: u64,
     room: &mut Room,
-) -> Result<(), Refusal>
+) -> Result<(), Failure>
     requires empty { IsEmpty room.old }
     requires room { HasRoom 512 room.old }
     ensures ok { OnOk result (IsWritten room.new) }
     ensures room { HasRoom 512 room.new }
+    ensures usable { S.IsUsable register.new.store → S.IsUsable register.old.store }
+    ensures carries { S.IsUsable register.new.store → Carries (S.content register.old.store) (S.content register.new.store) caller.number (Confirms id attempt) (told result (string_bytes room.new.body)) }
 {
-    let view = register.acknowledge(caller, id, attempt)?;
-    put_version(&mut room.body, &view);
-    Ok(())
+    match register.acknowledge(caller, id, attempt) {
+        Ok(view) => {
+            put_shown(room, &view);
+            Ok(())
+        }
+        Err(refusal) => Err(Failure::Refused(refusal)),
+    }
 }
 
 // A query: first the caller, then its URI, then its number's code.
@@ -151,12 +238,23 @@ fn query<S: Store>(
     requires room { HasRoom 512 room.old }
     ensures ok { OnOk result (IsWritten room.new) }
     ensures room { HasRoom 512 room.new }
+    ensures usable { S.IsUsable register.new.store → S.IsUsable register.old.store }
+    ensures carries { S.IsUsable register.new.store → Carries (S.content register.old.store) (S.content register.new.store) caller.number (Seeks uri.now) (told result (string_bytes room.new.body)) }
 {
-    register.knows(caller)?;
-    let tn = number_of(uri)?;
-    let answer = register.query(caller, tn)?;
-    put_uri(&mut room.body, tn, answer);
-    Ok(())
+    if let Err(refusal) = register.knows(caller) {
+        return Err(Failure::Refused(refusal));
+    }
+    let tn = match number_of(uri) {
+        Ok(tn) => tn,
+        Err(fault) => return Err(Failure::Uri(fault)),
+    };
+    match register.query(caller, tn) {
+        Ok(answer) => {
+            put_routed(room, tn, answer);
+            Ok(())
+        }
+        Err(refusal) => Err(Failure::Refused(refusal)),
+    }
 }
 
 fn carry_out<S: Store>(
@@ -169,23 +267,40 @@ fn carry_out<S: Store>(
     requires room { HasRoom 512 room.old }
     ensures ok { OnOk result (IsWritten room.new) }
     ensures room { HasRoom 512 room.new }
+    ensures usable { S.IsUsable register.new.store → S.IsUsable register.old.store }
+    ensures carries { S.IsUsable register.new.store → Carries (S.content register.old.store) (S.content register.new.store) caller.number (asked_of call.now) (told result (string_bytes room.new.body)) }
 {
     match call {
-        Call::Command(asked) => {
-            command(register, caller, asked, room)?;
-            Ok(())
-        }
-        Call::Acknowledge { id, attempt } => {
-            acknowledge(register, caller, *id, *attempt, room)?;
-            Ok(())
-        }
+        Call::Command(asked) => command(register, caller, asked, room),
+        Call::Acknowledge { id, attempt } => acknowledge(register, caller, *id, *attempt, room),
         Call::Query { uri } => query(register, caller, uri, room),
     }
 }
 
-fn read_value(alloc: Global, body: &[u8]) -> Result<Value, Failure> {
-    match json(alloc, body)? {
-        Some(value) => Ok(value),
+// Reads the body of a message of a path, and carries out what it asks.
+fn carry_out_body<S: Store>(
+    alloc: Global,
+    register: &mut Register<S>,
+    route: Route,
+    caller: Spid,
+    body: &[u8],
+    room: &mut Room,
+) -> Result<(), Failure>
+    requires empty { IsEmpty room.old }
+    requires room { HasRoom 512 room.old }
+    ensures ok { OnOk result (IsWritten room.new) }
+    ensures room { HasRoom 512 room.new }
+    ensures usable { S.IsUsable register.new.store → S.IsUsable register.old.store }
+    ensures calls { S.IsUsable register.new.store → (st : State) → Stands (S.content register.old.store) st →
+        (after : State) × Calls st route caller.number body.now (told result (string_bytes room.new.body)) after × Stands (S.content register.new.store) after }
+{
+    let value = match json(alloc, body) {
+        Ok(Some(value)) => value,
+        Ok(None) => return Err(Failure::Message(MessageFault::BadRequest)),
+        Err(_) => return Err(Failure::Refused(Refusal::NoMemory)),
+    };
+    match call_of(route, &value) {
+        Some(call) => carry_out(register, caller, &call, room),
         None => Err(Failure::Message(MessageFault::BadRequest)),
     }
 }
@@ -201,24 +316,43 @@ fn reply<S: Store>(
     requires room { HasRoom 512 room.old }
     ensures ok { OnOk result (IsWritten room.new) }
     ensures room { HasRoom 512 room.new }
+    ensures usable { S.IsUsable register.new.store → S.IsUsable register.old.store }
+    ensures step { S.IsUsable register.new.store → (st : State) → Stands (S.content register.old.store) st →
+        (after : State) × Step st request.now body.now (told result (string_bytes room.new.body)) after × Stands (S.content register.new.store) after }
 {
-    let (route, caller) = judged(request)?;
-    let value = read_value(alloc, body)?;
-    match call_of(route, &value) {
-        Some(call) => carry_out(register, caller, &call, room),
-        None => Err(Failure::Message(MessageFault::BadRequest)),
+    match judged(request) {
+        Ok((route, caller)) => carry_out_body(alloc, register, route, caller, body, room),
+        Err(fault) => Err(Failure::Message(fault)),
     }
 }
 
 /// Writes the answer of a message that was not carried out.
+#[tactic(auto, unfolding(crate::specs::Failures::failure_text))]
 pub fn put_refused(room: &mut Room, failure: Failure)
     requires room { HasRoom 512 room.old }
     ensures room { HasRoom 512 room.new }
+    ensures text { string_bytes room.new.text ≡ failure_text failure }
 {
     room.clear();
     put_failure(&mut room.body, failure);
     room.finish(failure.status());
 }
+
+// Writes the answer of a message that was carried out.
+#[tactic(auto, unfolding(crate::specs::Step::success))]
+fn put_success(room: &mut Room)
+    requires written { IsWritten room.old }
+    requires room { HasRoom 512 room.old }
+    ensures room { HasRoom 512 room.new }
+    ensures text { string_bytes room.new.text ≡ success (string_bytes room.old.body) }
+{
+    room.finish(200);
+}
+
+/// But for want of the device or of memory, a message has one answer and one state after it.
+pub fn message_steps_once()
+    ensures { StepsOnce }
+{}
 
 /// Carries out a message and writes its answer. All memory of the answer is taken before the message is
 /// carried out.
@@ -231,10 +365,13 @@ pub fn put_answer<S: Store>(
 )
     requires room { HasRoom 512 room.old }
     ensures room { HasRoom 512 room.new }
+    ensures usable { S.IsUsable register.new.store → S.IsUsable register.old.store }
+    ensures step { S.IsUsable register.new.store → (st : State) → Stands (S.content register.old.store) st →
+        (after : State) × Step st request.now body.now (string_bytes room.new.text) after × Stands (S.content register.new.store) after }
 {
     room.clear();
     match reply(alloc, register, request, body, room) {
-        Ok(()) => room.finish(200),
+        Ok(()) => put_success(room),
         Err(failure) => put_refused(room, failure),
     }
 }

@@ -1,6 +1,9 @@
 //! What an answer says in place of a reply.
-ghost use Rattle.std.specs.Prelude.{◌≤◌, length};
+ghost use Rattle.std.specs.Prelude.{◌≡◌, ◌≤◌, length};
+ghost use Rattle.meaning.specs.declared.refusal.Refusal.TheVariants.{NoMemory};
+ghost use Rattle.api.specs.declared.fault.Failure.TheVariants.{Refused, Uri, Message};
 ghost use Rattle.api.specs.Answer.{IsAnswered};
+ghost use Rattle.api.specs.Failures.{failure_name, failure_number, failure_status, message_name, message_status, refusal_name, refusal_status};
 
 use meaning::Refusal;
 use std::alloc::AllocError;
@@ -19,7 +22,8 @@ pub enum MessageFault {
 impl MessageFault {
     /// The name on the wire.
     pub fn name(self) -> &'static str
-        ensures { length result.now ≤ 16 }
+        ensures text { result.now ≡ message_name self }
+        ensures short { length result.now ≤ 16 }
     {
         match self {
             MessageFault::BadRequest => "bad_request",
@@ -47,31 +51,40 @@ pub enum Failure {
 }
 
 impl From<Refusal> for Failure {
+    ghost from_gives = { λ refusal failure. failure ≡ Refused refusal };
+
     fn from(refusal: Refusal) -> Failure {
         Failure::Refused(refusal)
     }
 }
 
 impl From<AllocError> for Failure {
+    ghost from_gives = { λ _ failure. failure ≡ Refused NoMemory };
+
     fn from(_refused: AllocError) -> Failure {
         Failure::Refused(Refusal::NoMemory)
     }
 }
 
 impl From<UriFault> for Failure {
+    ghost from_gives = { λ fault failure. failure ≡ Uri fault };
+
     fn from(fault: UriFault) -> Failure {
         Failure::Uri(fault)
     }
 }
 
 impl From<MessageFault> for Failure {
+    ghost from_gives = { λ fault failure. failure ≡ Message fault };
+
     fn from(fault: MessageFault) -> Failure {
         Failure::Message(fault)
     }
 }
 
 fn name_of(refusal: Refusal) -> &'static str
-    ensures { length result.now ≤ 16 }
+    ensures text { result.now ≡ refusal_name refusal }
+    ensures short { length result.now ≤ 16 }
 {
     match refusal {
         Refusal::UnknownCarrier => "unknown_carrier",
@@ -108,7 +121,8 @@ fn name_of(refusal: Refusal) -> &'static str
 }
 
 fn status_of(refusal: Refusal) -> u16
-    ensures { IsAnswered result }
+    ensures value { result ≡ refusal_status refusal }
+    ensures answered { IsAnswered result }
 {
     match refusal {
         Refusal::UnknownCarrier | Refusal::NotAdmin | Refusal::NotYours => 403,
@@ -118,8 +132,9 @@ fn status_of(refusal: Refusal) -> u16
     }
 }
 
-fn message_status(fault: MessageFault) -> u16
-    ensures { IsAnswered result }
+fn status_of_message(fault: MessageFault) -> u16
+    ensures value { result ≡ message_status fault }
+    ensures answered { IsAnswered result }
 {
     match fault {
         MessageFault::NoPath => 404,
@@ -132,7 +147,8 @@ fn message_status(fault: MessageFault) -> u16
 impl Failure {
     /// The name on the wire.
     pub fn name(self) -> &'static str
-        ensures { length result.now ≤ 16 }
+        ensures text { result.now ≡ failure_name self }
+        ensures short { length result.now ≤ 16 }
     {
         match self {
             Failure::Refused(refusal) => name_of(refusal),
@@ -142,7 +158,9 @@ impl Failure {
     }
 
     /// The number on the wire.
-    pub fn number(self) -> u8 {
+    pub fn number(self) -> u8
+        ensures { result ≡ failure_number self }
+    {
         match self {
             Failure::Refused(refusal) => refusal.number(),
             Failure::Uri(fault) => fault as u8,
@@ -152,12 +170,13 @@ impl Failure {
 
     /// The status code of the answer.
     pub fn status(self) -> u16
-        ensures { IsAnswered result }
+        ensures value { result ≡ failure_status self }
+        ensures answered { IsAnswered result }
     {
         match self {
             Failure::Refused(refusal) => status_of(refusal),
             Failure::Uri(_) => 400,
-            Failure::Message(fault) => message_status(fault),
+            Failure::Message(fault) => status_of_message(fault),
         }
     }
 }

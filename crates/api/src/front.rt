@@ -5,6 +5,7 @@ ghost use Rattle.std.specs.Io.KnownBytes.{Keeps};
 ghost use Rattle.api.specs.Held.{held_bytes, input_left};
 ghost use Rattle.api.specs.Blank.{is_blank};
 ghost use Rattle.api.specs.Front.{IsHeadAt, IsDone, HasNoHead};
+ghost use Rattle.api.specs.Head.{IsBlank};
 
 use crate::head::{Look, heads_of_the_input, look_at};
 use crate::held::Held;
@@ -50,11 +51,15 @@ pub fn next_head<R: Read>(
     ensures head { (spans : RequestSpans) → result ≡ Ok (Front.Head spans) → IsHeadAt (held_bytes held.new) headers.new spans }
     ensures end { result ≡ Ok Front.End → IsDone (held_bytes held.new) (R.remaining reader.new) }
     ensures bad { result ≡ Ok Front.Bad → IfSome (input_left held.new (R.remaining reader.new)) HasNoHead }
+    ensures not_blank { result ≡ Ok Front.Bad → IfSome (input_left held.new (R.remaining reader.new)) (λ input. ¬ (IsBlank input)) }
 {
     'reads: loop {
         match look_at(&held.bytes[..held.filled], headers) {
             Look::Head(spans) => return Ok(Front::Head(spans)),
-            Look::Bad => return Ok(Front::Bad),
+            Look::Bad => {
+                heads_of_the_input();
+                return Ok(Front::Bad);
+            }
             Look::More => {}
         }
         if held.filled == held.bytes.len() {

@@ -7,7 +7,7 @@ ghost use Rattle.std.specs.Str.{bytes_eq};
 ghost use Rattle.httparse.specs.Grammar.{RequestHead, HasNoRequest, ReadsRequest, print_request, LineEnd, print_blank};
 ghost use Rattle.httparse.specs.Spans.{IsHeaderWithin, IsRequestAt, IsRequestWithin, header_bytes, RequestOverflows};
 ghost use Rattle.api.specs.Fields.{lower, values_in, IsFound, IsFoundWithin, number_of};
-ghost use Rattle.api.specs.Head.{IsLook, IsHeadOf, HasHead};
+ghost use Rattle.api.specs.Head.{IsLook, IsHeadOf, HasHead, IsBlank};
 
 use httparse::Status;
 use httparse::spans::{HeaderSpan, RequestSpans, Span, parse_request};
@@ -137,7 +137,7 @@ pub fn read_head(buf: &[u8], headers: &[HeaderSpan], spans: &RequestSpans) -> Op
 }
 
 /// A head that was found is the head of the whole input, and it is no other; where none is in the first 8,192 bytes or in all
-/// there is, none is at all.
+/// there is, none is at all. Empty lines alone have no head.
 pub fn heads_of_the_input()
     ensures found { (buf more : List ℕ) (h : RequestHead) → ReadsRequest buf h (drop (length (print_request h)) buf) → length buf ≤ 8192 → length h.fields ≤ 64
         → HasHead (buf ++ more) h (drop (length (print_request h)) (buf ++ more)) }
@@ -145,4 +145,5 @@ pub fn heads_of_the_input()
     ensures full { (buf more : List ℕ) (h : RequestHead) (rest : List ℕ) → length buf ≡ 8192 → HasNoRequest buf → ¬ (HasHead (buf ++ more) h rest) }
     ensures blank { (buf more : List ℕ) (ends : List LineEnd) → RequestOverflows 64 buf → ¬ (buf ++ more ≡ print_blank ends) }
     ensures ended { (s : List ℕ) (h : RequestHead) (rest : List ℕ) → HasNoRequest s → ¬ (HasHead s h rest) }
+    ensures begun { (s : List ℕ) (h : RequestHead) (rest : List ℕ) → HasHead s h rest → ¬ (IsBlank s) }
 {}

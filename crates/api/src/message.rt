@@ -1,12 +1,16 @@
 //! The next message of the input.
-ghost use Rattle.std.specs.Prelude.{◌≡◌, ◌≤◌, length, vec_len, vec_capacity, IfOk, OnOk};
-ghost use Rattle.httparse.specs.Spans.{IsRequestWithin};
-ghost use Rattle.api.specs.Fields.{IsFoundWithin};
+ghost use Rattle.std.specs.Prelude.{◌≡◌, ℕ, ◌≤◌, List, length, vec_len, vec_capacity, IfOk, IfErr, IfSome, OnOk};
+ghost use Rattle.httparse.specs.Grammar.{RequestHead};
+ghost use Rattle.httparse.specs.Spans.{IsRequestAt, IsRequestWithin};
+ghost use Rattle.api.specs.Cuts.{Cut, Cuts, IsCaller, IsNamed, IsNext, IsRequestOf, RefusesHead};
+ghost use Rattle.api.specs.Fields.{IsFound, IsFoundWithin};
+ghost use Rattle.api.specs.Held.{input_left};
+ghost use Rattle.api.specs.Table.{table};
 
 use crate::body::read_body;
 use crate::fault::MessageFault;
 use crate::front::{Front, next_head};
-use crate::head::{Found, read_head};
+use crate::head::{Found, heads_of_the_input, read_head};
 use crate::held::Held;
 use crate::paths::{Route, route_of};
 use httparse::spans::{HeaderSpan, RequestSpans};
@@ -37,7 +41,6 @@ pub struct Request {
 pub enum Next {
     Message(Request),
     Refused(MessageFault),
-    End,
 }
 
 /// Why no next message came.
@@ -47,12 +50,23 @@ pub enum NextFault {
     Memory,
 }
 
+// The provider that a text names.
+fn named(value: &[u8]) -> Option<Spid>
+    ensures { IsNamed value.now result }
+{
+    match str::from_utf8(value) {
+        Ok(text) => Spid::read(text),
+        Err(_) => None,
+    }
+}
+
 // The provider that a field names, if it is there once.
 fn caller_of(held: &[u8], found: Found) -> Option<Spid>
     requires { IsFoundWithin (length held.now) found }
+    ensures { (values : List (List ℕ)) → IsFound held.now found values → IsCaller values result }
 {
     match found {
-        Found::Once(span) => Spid::read(str::from_utf8(span.of(held)).ok()?),
+        Found::Once(span) => named(span.of(held)),
         Found::Absent | Found::Twice => None,
     }
 }
@@ -64,8 +78,11 @@ fn request_of(
     spans: &RequestSpans,
     router: &Router<Route>,
 ) -> Result<Request, MessageFault>
-    requires { IsRequestWithin held.now headers.now spans.now }
-    ensures { IfOk result (λ r. r.length ≤ 1048576) }
+    requires within { IsRequestWithin held.now headers.now spans.now }
+    requires router { router.now ≡ table }
+    ensures small { IfOk result (λ request. request.length ≤ 1048576) }
+    ensures asks { (h : RequestHead) → IsRequestAt held.now headers.now spans.now h → IfOk result (IsRequestOf h) }
+    ensures refuses { (h : RequestHead) → IsRequestAt held.now headers.now spans.now h → IfErr result (RefusesHead h) }
 {
     let Some(head) = read_head(held, headers, spans) else {
         return Err(MessageFault::BadHead);
@@ -82,6 +99,14 @@ fn request_of(
     })
 }
 
+/// An input is cut in one way alone: into one message with its body and what follows it, or into one of
+/// what stands in place of a message.
+pub fn cuts_of_the_input()
+    ensures { (input : List ℕ) (a b : Cut) → Cuts input a → Cuts input b → a ≡ b }
+{
+    heads_of_the_input();
+}
+
 fn take_room(body: &mut Vec<u8>, length: usize) -> Result<(), AllocError>
     ensures empty { vec_len body.new ≡ 0 }
     ensures room { OnOk result (length ≤ vec_capacity body.new) }
@@ -90,7 +115,7 @@ fn take_room(body: &mut Vec<u8>, length: usize) -> Result<(), AllocError>
     body.reserve(length)
 }
 
-/// Reads the next message: its head, and then its body into `body`.
+/// Reads the next message, if there is one: its head, and then its body into `body`.
 ///
 /// A message is refused with `BadHead`, `TooLarge` or `CutBody`, in this order; its path, its method and
 /// its form are judged later.
@@ -100,20 +125,26 @@ pub fn next_message<R: Read>(
     router: &Router<Route>,
     reader: &mut R,
     body: &mut Vec<u8>,
-) -> Result<Next, NextFault>
+) -> Result<Option<Next>, NextFault>
     requires room { length headers.old ≡ 64 }
     requires size { vec_len held.old.bytes ≡ 8192 }
+    requires router { router.now ≡ table }
     ensures size { vec_len held.new.bytes ≡ 8192 }
+    ensures room { length headers.new ≡ 64 }
+    ensures cut { IfOk result (λ next. IfSome (input_left held.old (R.remaining reader.old)) (λ input. IsNext input next body.new.items (input_left held.new (R.remaining reader.new)))) }
 {
     let spans = match next_head(held, headers, reader) {
         Err(_) => return Err(NextFault::Read),
-        Ok(Front::End) => return Ok(Next::End),
-        Ok(Front::Bad) => return Ok(Next::Refused(MessageFault::BadHead)),
+        Ok(Front::End) => return Ok(None),
+        Ok(Front::Bad) => return Ok(Some(Next::Refused(MessageFault::BadHead))),
         Ok(Front::Head(spans)) => spans,
     };
     let request = match request_of(held.held(), headers, &spans, router) {
         Ok(request) => request,
-        Err(fault) => return Ok(Next::Refused(fault)),
+        Err(fault) => {
+            heads_of_the_input();
+            return Ok(Some(Next::Refused(fault)));
+        }
     };
     held.drop_front(spans.len);
     if take_room(body, request.length).is_err() {
@@ -121,7 +152,7 @@ pub fn next_message<R: Read>(
     }
     match read_body(held, reader, request.length, body) {
         Err(_) => Err(NextFault::Read),
-        Ok(false) => Ok(Next::Refused(MessageFault::CutBody)),
-        Ok(true) => Ok(Next::Message(request)),
+        Ok(false) => Ok(Some(Next::Refused(MessageFault::CutBody))),
+        Ok(true) => Ok(Some(Next::Message(request))),
     }
 }

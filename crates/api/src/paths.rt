@@ -1,6 +1,6 @@
 //! The paths of the interface. Edit it seldom: the router's table is computed by its proof.
 ghost use Rattle.std.specs.Prelude.{◌≡◌, IfOk};
-ghost use Rattle.api.specs.Table.{table};
+ghost use Rattle.api.specs.Table.{table, path_of};
 
 use matchit::{InsertError, Router};
 use std::alloc::Global;
@@ -35,8 +35,15 @@ pub fn router(alloc: Global) -> Result<Router<Route>, InsertError>
 }
 
 /// The path of a message's target, if it is one: byte for byte, with no decoding.
-pub fn route_of(router: &Router<Route>, target: &[u8]) -> Option<Route> {
-    let target = str::from_utf8(target).ok()?;
-    let found = router.at(target).ok()?;
-    Some(*found.value)
+pub fn route_of(router: &Router<Route>, target: &[u8]) -> Option<Route>
+    requires { router.now ≡ table }
+    ensures { result ≡ path_of target.now }
+{
+    match str::from_utf8(target) {
+        Ok(text) => match router.at(text) {
+            Ok(found) => Some(*found.value),
+            Err(_) => None,
+        },
+        Err(_) => None,
+    }
 }

@@ -1,5 +1,16 @@
 //! The bodies of answers.
-ghost use Rattle.std.specs.Prelude.{◌≡◌, ◌+◌, ◌*◌, ◌≤◌, length, string_len, string_capacity};
+ghost use Rattle.std.specs.Prelude.{◌≡◌, ◌+◌, ◌*◌, ◌≤◌, ◌++◌, length, map, option_map, string_bytes, string_len, string_capacity};
+ghost use Rattle.std.specs.List.{flat_map};
+ghost use Rattle.numbers.specs.declared.cic.Cic.{Cic as CicSeen};
+ghost use Rattle.numbers.specs.declared.lrn.Lrn.{Lrn as LrnSeen};
+ghost use Rattle.numbers.specs.Views.{routing_of};
+ghost use Rattle.meaning.specs.Views.{status_of as status_seen};
+ghost use Rattle.meaning.specs.Reading.{release_of};
+ghost use Rattle.version.specs.Views.{routings_of, phase_seen};
+ghost use Rattle.register.specs.Calls.{view_of, in_force_of, answer_of};
+ghost use Rattle.api.specs.Answer.{refusal_body};
+ghost use Rattle.api.specs.Failures.{failure_body};
+ghost use Rattle.api.specs.Texts.{cic_value, lrn_value, minute_value, phase_value, status_word, cic_in, lrn_in, counts_text, parties_text, times_text, standing_text, view_text, row_text, next_row_text, rows_text, registered_text, routing_number_text, opened_code_text, carrier_code_text, routing_text, looked_up_text, uri_text};
 
 use crate::fault::Failure;
 use crate::room::{put, put_cic, put_code, put_lrn, put_minute, put_number, put_spid, put_subject};
@@ -7,7 +18,7 @@ use meaning::{Action, Status};
 use numbers::{Cic, CodeId, Lrn, Routing, Spid, Subject, Tn};
 use register::VersionView;
 use settle::RoutedRow;
-use version::{Phase, Version};
+use version::Phase;
 
 /// The most that a version's body takes.
 pub const VERSION_ROOM: usize = 400;
@@ -18,6 +29,7 @@ pub const ROW_ROOM: usize = 64;
 /// The body of a refusal.
 pub fn put_failure(out: &mut String, failure: Failure)
     requires { string_len out.old + 64 ≤ string_capacity out.old }
+    ensures bytes { string_bytes out.new ≡ string_bytes out.old ++ failure_body failure }
     ensures len { string_len out.new ≤ string_len out.old + 64 }
     ensures capacity { string_capacity out.old ≤ string_capacity out.new }
 {
@@ -30,6 +42,7 @@ pub fn put_failure(out: &mut String, failure: Failure)
 
 fn put_cic_or_null(out: &mut String, cic: Option<Cic>)
     requires { string_len out.old + 6 ≤ string_capacity out.old }
+    ensures bytes { string_bytes out.new ≡ string_bytes out.old ++ cic_value (option_map (λ (c : CicSeen). c.number) cic) }
     ensures len { string_len out.new ≤ string_len out.old + 6 }
     ensures capacity { string_capacity out.old ≤ string_capacity out.new }
 {
@@ -45,6 +58,7 @@ fn put_cic_or_null(out: &mut String, cic: Option<Cic>)
 
 fn put_lrn_or_null(out: &mut String, lrn: Option<Lrn>)
     requires { string_len out.old + 12 ≤ string_capacity out.old }
+    ensures bytes { string_bytes out.new ≡ string_bytes out.old ++ lrn_value (option_map (λ (n : LrnSeen). n.number) lrn) }
     ensures len { string_len out.new ≤ string_len out.old + 12 }
     ensures capacity { string_capacity out.old ≤ string_capacity out.new }
 {
@@ -59,7 +73,8 @@ fn put_lrn_or_null(out: &mut String, lrn: Option<Lrn>)
 }
 
 fn phase_text(phase: Option<Phase>) -> &'static str
-    ensures { length result.now ≤ 9 }
+    ensures text { result.now ≡ phase_value (option_map phase_seen phase) }
+    ensures len { length result.now ≤ 9 }
 {
     match phase {
         None => "null",
@@ -70,7 +85,8 @@ fn phase_text(phase: Option<Phase>) -> &'static str
 }
 
 fn status_text(status: Status) -> &'static str
-    ensures { length result.now ≤ 20 }
+    ensures text { result.now ≡ status_word (status_seen status) }
+    ensures len { length result.now ≤ 20 }
 {
     match status {
         Status::Pending => "pending",
@@ -89,6 +105,7 @@ fn status_text(status: Status) -> &'static str
 // The minute of the release that a disconnect-pending version waits for, or null.
 fn put_release(out: &mut String, status: Status)
     requires { string_len out.old + 20 ≤ string_capacity out.old }
+    ensures bytes { string_bytes out.new ≡ string_bytes out.old ++ minute_value (release_of (status_seen status)) }
     ensures len { string_len out.new ≤ string_len out.old + 20 }
     ensures capacity { string_capacity out.old ≤ string_capacity out.new }
 {
@@ -101,6 +118,7 @@ fn put_release(out: &mut String, status: Status)
 // The members `attempt` to `id`.
 fn put_counts(out: &mut String, view: &VersionView)
     requires { string_len out.old + 120 ≤ string_capacity out.old }
+    ensures bytes { string_bytes out.new ≡ string_bytes out.old ++ counts_text (view_of view.now) }
     ensures len { string_len out.new ≤ string_len out.old + 120 }
     ensures capacity { string_capacity out.old ≤ string_capacity out.new }
 {
@@ -114,33 +132,39 @@ fn put_counts(out: &mut String, view: &VersionView)
     put_number(out, view.id);
 }
 
-fn cic_of(routing: Option<Routing>) -> Option<Cic> {
+fn cic_of(routing: Option<Routing>) -> Option<Cic>
+    ensures { option_map (λ (c : CicSeen). c.number) result ≡ cic_in (routings_of routing) }
+{
     routing?.cic
 }
 
-fn lrn_of(routing: Option<Routing>) -> Option<Lrn> {
+fn lrn_of(routing: Option<Routing>) -> Option<Lrn>
+    ensures { option_map (λ (n : LrnSeen). n.number) result ≡ lrn_in (routings_of routing) }
+{
     Some(routing?.lrn)
 }
 
 // The members `lrn` to `old`.
-fn put_parties(out: &mut String, version: &Version)
+fn put_parties(out: &mut String, view: &VersionView)
     requires { string_len out.old + 60 ≤ string_capacity out.old }
+    ensures bytes { string_bytes out.new ≡ string_bytes out.old ++ parties_text (view_of view.now) }
     ensures len { string_len out.new ≤ string_len out.old + 60 }
     ensures capacity { string_capacity out.old ≤ string_capacity out.new }
 {
     put(out, ",\"lrn\":");
-    put_lrn_or_null(out, lrn_of(version.routing));
+    put_lrn_or_null(out, lrn_of(view.version.routing));
     put(out, ",\"new\":\"");
-    put_spid(out, version.new_provider);
+    put_spid(out, view.version.new_provider);
     put(out, "\",\"old\":\"");
-    put_spid(out, version.old_provider);
+    put_spid(out, view.version.old_provider);
     put(out, "\"");
 }
 
-// The members `phase` to `subject`.
-fn put_standing(out: &mut String, view: &VersionView)
-    requires { string_len out.old + 160 ≤ string_capacity out.old }
-    ensures len { string_len out.new ≤ string_len out.old + 160 }
+// The members `phase` to `since`.
+fn put_times(out: &mut String, view: &VersionView)
+    requires { string_len out.old + 80 ≤ string_capacity out.old }
+    ensures bytes { string_bytes out.new ≡ string_bytes out.old ++ times_text (view_of view.now) }
+    ensures len { string_len out.new ≤ string_len out.old + 80 }
     ensures capacity { string_capacity out.old ≤ string_capacity out.new }
 {
     put(out, ",\"phase\":");
@@ -149,6 +173,15 @@ fn put_standing(out: &mut String, view: &VersionView)
     put_release(out, view.version.status);
     put(out, ",\"since\":");
     put_minute(out, view.version.since);
+}
+
+// The members `status` and `subject`.
+fn put_standing(out: &mut String, view: &VersionView)
+    requires { string_len out.old + 80 ≤ string_capacity out.old }
+    ensures bytes { string_bytes out.new ≡ string_bytes out.old ++ standing_text (view_of view.now) }
+    ensures len { string_len out.new ≤ string_len out.old + 80 }
+    ensures capacity { string_capacity out.old ≤ string_capacity out.new }
+{
     put(out, ",\"status\":\"");
     put(out, status_text(view.version.status));
     put(out, "\",\"subject\":\"");
@@ -157,19 +190,24 @@ fn put_standing(out: &mut String, view: &VersionView)
 }
 
 /// The body that shows a version.
+#[tactic(auto, unfolding(crate::specs::Texts::view_text))]
 pub fn put_version(out: &mut String, view: &VersionView)
     requires { string_len out.old + 400 ≤ string_capacity out.old }
+    ensures bytes { string_bytes out.new ≡ string_bytes out.old ++ view_text (view_of view.now) }
     ensures len { string_len out.new ≤ string_len out.old + 400 }
     ensures capacity { string_capacity out.old ≤ string_capacity out.new }
 {
     put_counts(out, view);
-    put_parties(out, &view.version);
+    put_parties(out, view);
+    put_times(out, view);
     put_standing(out, view);
 }
 
 /// The body that shows a routing number and whose it is.
+#[tactic(auto, unfolding(crate::specs::Texts::routing_number_text))]
 pub fn put_routing_number(out: &mut String, lrn: Lrn, spid: Spid)
     requires { string_len out.old + 64 ≤ string_capacity out.old }
+    ensures bytes { string_bytes out.new ≡ string_bytes out.old ++ routing_number_text lrn.number spid.number }
     ensures len { string_len out.new ≤ string_len out.old + 64 }
     ensures capacity { string_capacity out.old ≤ string_capacity out.new }
 {
@@ -181,8 +219,10 @@ pub fn put_routing_number(out: &mut String, lrn: Lrn, spid: Spid)
 }
 
 /// The body that shows a code and its holder.
+#[tactic(auto, unfolding(crate::specs::Texts::opened_code_text))]
 pub fn put_opened_code(out: &mut String, code: CodeId, spid: Spid)
     requires { string_len out.old + 64 ≤ string_capacity out.old }
+    ensures bytes { string_bytes out.new ≡ string_bytes out.old ++ opened_code_text code.number spid.number }
     ensures len { string_len out.new ≤ string_len out.old + 64 }
     ensures capacity { string_capacity out.old ≤ string_capacity out.new }
 {
@@ -193,24 +233,62 @@ pub fn put_opened_code(out: &mut String, code: CodeId, spid: Spid)
     put(out, "\"}");
 }
 
-// One row in force, behind a comma or not.
-fn put_row(out: &mut String, row: &RoutedRow, is_first: bool)
-    requires { string_len out.old + 64 ≤ string_capacity out.old }
-    ensures len { string_len out.new ≤ string_len out.old + 64 }
+// One row in force.
+fn put_row(out: &mut String, row: &RoutedRow)
+    requires { string_len out.old + 60 ≤ string_capacity out.old }
+    ensures bytes { string_bytes out.new ≡ string_bytes out.old ++ row_text (in_force_of row.now) }
+    ensures len { string_len out.new ≤ string_len out.old + 60 }
     ensures capacity { string_capacity out.old ≤ string_capacity out.new }
 {
-    put(out, if is_first { "{\"cic\":" } else { ",{\"cic\":" });
+    put(out, "{\"cic\":");
     put_cic_or_null(out, row.routing.cic);
-    put(out, ",\"lrn\":\"");
-    put_lrn(out, row.routing.lrn);
-    put(out, "\",\"subject\":\"");
+    put(out, ",\"lrn\":");
+    put_lrn_or_null(out, Some(row.routing.lrn));
+    put(out, ",\"subject\":\"");
     put_subject(out, row.subject);
     put(out, "\"}");
 }
 
+// A row behind another.
+fn put_next_row(out: &mut String, row: &RoutedRow)
+    requires { string_len out.old + 64 ≤ string_capacity out.old }
+    ensures bytes { string_bytes out.new ≡ string_bytes out.old ++ next_row_text (in_force_of row.now) }
+    ensures len { string_len out.new ≤ string_len out.old + 64 }
+    ensures capacity { string_capacity out.old ≤ string_capacity out.new }
+{
+    put(out, ",");
+    put_row(out, row);
+}
+
+// The rows behind the first.
+fn put_next_rows(out: &mut String, rows: &[RoutedRow])
+    requires { string_len out.old + length rows.now * 64 ≤ string_capacity out.old }
+    ensures bytes { string_bytes out.new ≡ string_bytes out.old ++ flat_map next_row_text (map in_force_of rows.now) }
+    ensures len { string_len out.new ≤ string_len out.old + length rows.now * 64 }
+    ensures capacity { string_capacity out.old ≤ string_capacity out.new }
+{
+    for row in rows {
+        put_next_row(out, row);
+    }
+}
+
+fn put_rows(out: &mut String, rows: &[RoutedRow])
+    requires { string_len out.old + length rows.now * 64 ≤ string_capacity out.old }
+    ensures bytes { string_bytes out.new ≡ string_bytes out.old ++ rows_text (map in_force_of rows.now) }
+    ensures len { string_len out.new ≤ string_len out.old + length rows.now * 64 }
+    ensures capacity { string_capacity out.old ≤ string_capacity out.new }
+{
+    if let Some((first, rest)) = rows.split_first() {
+        put_row(out, first);
+        put_next_rows(out, rest);
+    }
+}
+
 /// The body that shows a carrier and its starting rows.
+#[tactic(auto, unfolding(crate::specs::Texts::registered_text))]
 pub fn put_registered(out: &mut String, spid: Spid, rows: &[RoutedRow])
     requires { string_len out.old + 64 + length rows.now * 64 ≤ string_capacity out.old }
+    ensures bytes { string_bytes out.new ≡ string_bytes out.old ++ registered_text spid.number (map in_force_of rows.now) }
     ensures len { string_len out.new ≤ string_len out.old + 64 + length rows.now * 64 }
     ensures capacity { string_capacity out.old ≤ string_capacity out.new }
 {
@@ -221,18 +299,9 @@ pub fn put_registered(out: &mut String, spid: Spid, rows: &[RoutedRow])
     put(out, "\"}");
 }
 
-fn put_rows(out: &mut String, rows: &[RoutedRow])
-    requires { string_len out.old + length rows.now * 64 ≤ string_capacity out.old }
-    ensures len { string_len out.new ≤ string_len out.old + length rows.now * 64 }
-    ensures capacity { string_capacity out.old ≤ string_capacity out.new }
-{
-    for (place, row) in rows.iter().enumerate() {
-        put_row(out, row, place == 0);
-    }
-}
-
 fn put_carrier_code(out: &mut String, cic: Option<Cic>)
     requires { string_len out.old + 16 ≤ string_capacity out.old }
+    ensures bytes { string_bytes out.new ≡ string_bytes out.old ++ carrier_code_text (option_map (λ (c : CicSeen). c.number) cic) }
     ensures len { string_len out.new ≤ string_len out.old + 16 }
     ensures capacity { string_capacity out.old ≤ string_capacity out.new }
 {
@@ -244,6 +313,7 @@ fn put_carrier_code(out: &mut String, cic: Option<Cic>)
 
 fn put_routing(out: &mut String, routing: Option<Routing>)
     requires { string_len out.old + 48 ≤ string_capacity out.old }
+    ensures bytes { string_bytes out.new ≡ string_bytes out.old ++ routing_text (routings_of routing) }
     ensures len { string_len out.new ≤ string_len out.old + 48 }
     ensures capacity { string_capacity out.old ≤ string_capacity out.new }
 {
@@ -255,18 +325,30 @@ fn put_routing(out: &mut String, routing: Option<Routing>)
     }
 }
 
+// What was looked up of a number, where its code is opened.
+fn put_looked_up(out: &mut String, answer: register::Answer)
+    requires { string_len out.old + 48 ≤ string_capacity out.old }
+    ensures bytes { string_bytes out.new ≡ string_bytes out.old ++ looked_up_text (answer_of answer) }
+    ensures len { string_len out.new ≤ string_len out.old + 48 }
+    ensures capacity { string_capacity out.old ≤ string_capacity out.new }
+{
+    if let register::Answer::Open(routing) = answer {
+        put_routing(out, routing);
+    }
+}
+
 /// The body that answers a query for a number: its URI with the routing, where its code is opened
 /// (RFC 4694: `npdi` says that the number was looked up, `rn` is the routing number, `cic` the carrier's
 /// code).
+#[tactic(auto, unfolding(crate::specs::Texts::uri_text))]
 pub fn put_uri(out: &mut String, tn: Tn, answer: register::Answer)
     requires { string_len out.old + 128 ≤ string_capacity out.old }
+    ensures bytes { string_bytes out.new ≡ string_bytes out.old ++ uri_text tn.number (answer_of answer) }
     ensures len { string_len out.new ≤ string_len out.old + 128 }
     ensures capacity { string_capacity out.old ≤ string_capacity out.new }
 {
     put(out, "{\"uri\":\"tel:+1");
     put_subject(out, Subject::Number(tn));
-    if let register::Answer::Open(routing) = answer {
-        put_routing(out, routing);
-    }
+    put_looked_up(out, answer);
     put(out, "\"}");
 }

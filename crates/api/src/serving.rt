@@ -1,6 +1,11 @@
 //! Serving the messages of a reader to a writer.
-ghost use Rattle.std.specs.Prelude.{◌≡◌, vec_len, IfOk};
+ghost use Rattle.std.specs.Prelude.{◌≡◌, List, [], string_bytes, vec_len, IfOk, IfErr, IfSome};
+ghost use Rattle.meaning.specs.Reading.{State};
+ghost use Rattle.register.specs.Answers.{Stands};
+ghost use Rattle.api.specs.Held.{held_bytes};
 ghost use Rattle.api.specs.Rooms.{HasRoom};
+ghost use Rattle.api.specs.Serving.{EndsAt, FailsAt, Responds, end_of};
+ghost use Rattle.api.specs.Table.{table};
 
 use crate::answer::Room;
 use crate::call::{put_answer, put_refused};
@@ -61,14 +66,6 @@ pub struct Served {
     pub end: End,
 }
 
-impl Served {
-    fn of(count: u64, end: End) -> Served
-        ensures { result ≡ record { count = count; end = end } }
-    {
-        Served { count, end }
-    }
-}
-
 /// What failed, and how many messages were answered whole before.
 #[derive(Clone, Copy, Debug, PartialEq, Eq)]
 pub enum Fault {
@@ -78,45 +75,65 @@ pub enum Fault {
 }
 
 // Carries out a message, after the minute that the ticks hand in, and writes its answer.
-fn answer<S: Store, T: Ticks>(
+fn carry_out<S: Store, T: Ticks>(
     alloc: Global,
     register: &mut Register<S>,
     ticks: &mut T,
     request: &Request,
     body: &[u8],
     room: &mut Room,
-) -> Option<End>
+)
     requires { HasRoom 512 room.old }
-    ensures { HasRoom 512 room.new }
+    ensures room { HasRoom 512 room.new }
+    ensures usable { S.IsUsable register.new.store → S.IsUsable register.old.store }
+    ensures responds { S.IsUsable register.new.store → Responds (Next.Message request.now) body.now (string_bytes room.new.text) (S.content register.old.store) (S.content register.new.store) }
 {
     let _ = ticks.next();
     put_answer(alloc, register, request, body, room);
-    if request.closes {
-        Some(End::Closed)
-    } else {
-        None
+}
+
+// Writes the answer to what comes, and tells whether it is the last.
+fn respond<S: Store, T: Ticks>(
+    alloc: Global,
+    register: &mut Register<S>,
+    ticks: &mut T,
+    next: Next,
+    body: &[u8],
+    room: &mut Room,
+) -> Option<End>
+    requires { HasRoom 512 room.old }
+    ensures room { HasRoom 512 room.new }
+    ensures end { result ≡ end_of next }
+    ensures usable { S.IsUsable register.new.store → S.IsUsable register.old.store }
+    ensures responds { S.IsUsable register.new.store → Responds next body.now (string_bytes room.new.text) (S.content register.old.store) (S.content register.new.store) }
+{
+    match next {
+        Next::Message(request) => {
+            carry_out(alloc, register, ticks, &request, body, room);
+            if request.closes {
+                Some(End::Closed)
+            } else {
+                None
+            }
+        }
+        Next::Refused(fault) => {
+            put_refused(room, Failure::Message(fault));
+            Some(End::Refused(fault))
+        }
     }
 }
 
-// Writes the answer of a message that is refused.
-fn refuse(fault: MessageFault, room: &mut Room) -> Option<End>
-    requires { HasRoom 512 room.old }
-    ensures { HasRoom 512 room.new }
+// The buffers of a connection, where there is memory: what was read, an answer, and the router.
+fn buffers(alloc: Global) -> Option<(Held, Room, Router<Route>)>
+    ensures size { IfSome result (λ made. vec_len made.0.bytes ≡ 8192) }
+    ensures empty { IfSome result (λ made. held_bytes made.0 ≡ []) }
+    ensures room { IfSome result (λ made. HasRoom 512 made.1) }
+    ensures router { IfSome result (λ made. made.2 ≡ table) }
 {
-    put_refused(room, Failure::Message(fault));
-    Some(End::Refused(fault))
-}
-
-// The buffers of a connection: what was read, a body, an answer.
-fn buffers(alloc: Global) -> Result<(Held, Room, Router<Route>), Fault>
-    ensures held { IfOk result (λ made. vec_len made.0.bytes ≡ 8192) }
-    ensures room { IfOk result (λ made. HasRoom 512 made.1) }
-{
-    let (Ok(held), Ok(room), Ok(router)) = (Held::new(alloc), Room::new(alloc), router(alloc))
-    else {
-        return Err(Fault::Memory(0));
-    };
-    Ok((held, room, router))
+    match (Held::new(alloc), Room::new(alloc), router(alloc)) {
+        (Ok(held), Ok(room), Ok(router)) => Some((held, room, router)),
+        _ => None,
+    }
 }
 
 /// Serves the messages of a reader, one after the other, and writes their answers.
@@ -131,26 +148,41 @@ pub fn serve<S: Store, T: Ticks, R: Read, W: Write>(
     _options: &Options,
     reader: &mut R,
     writer: &mut W,
-) -> Result<Served, Fault> {
-    let (mut held, mut room, router) = buffers(alloc)?;
+) -> Result<Served, Fault>
+    ensures served { S.IsUsable register.new.store → (st : State) → Stands (S.content register.old.store) st → IfOk result (λ served. IfSome (R.remaining reader.old) (λ input.
+        EndsAt served.end st (S.content register.new.store) input (W.contents writer.old) (W.contents writer.new) served.count)) }
+    ensures fault { S.IsUsable register.new.store → (st : State) → Stands (S.content register.old.store) st → IfErr result (λ fault. IfSome (R.remaining reader.old) (λ input.
+        FailsAt fault st (S.content register.new.store) input (W.contents writer.old) (W.contents writer.new))) }
+    ensures state { S.IsUsable register.new.store → (st : State) → Stands (S.content register.old.store) st → (after : State) × Stands (S.content register.new.store) after }
+    ensures usable { S.IsUsable register.new.store → S.IsUsable register.old.store }
+{
+    let Some((mut held, mut room, router)) = buffers(alloc) else {
+        return Err(Fault::Memory(0));
+    };
     let mut body = Vec::new(alloc);
     let mut headers = [EMPTY_HEADER_SPAN; FIELD_LIMIT];
     for count in 0..u64::MAX {
         let next = match next_message(&mut held, &mut headers, &router, reader, &mut body) {
-            Ok(next) => next,
+            Ok(Some(next)) => next,
+            Ok(None) => {
+                return Ok(Served {
+                    count,
+                    end: End::Input,
+                });
+            }
             Err(NextFault::Read) => return Err(Fault::Read(count)),
             Err(NextFault::Memory) => return Err(Fault::Memory(count)),
         };
-        let end = match next {
-            Next::End => return Ok(Served::of(count, End::Input)),
-            Next::Refused(fault) => refuse(fault, &mut room),
-            Next::Message(request) => answer(alloc, register, ticks, &request, &body, &mut room),
-        };
-        if send_all(writer, room.text.as_bytes()).is_err() {
-            return Err(Fault::Write(count));
+        let end = respond(alloc, register, ticks, next, &body, &mut room);
+        match send_all(writer, room.text.as_bytes()) {
+            Ok(()) => {}
+            Err(_) => return Err(Fault::Write(count)),
         }
         if let Some(end) = end {
-            return Ok(Served::of(count + 1, end));
+            return Ok(Served {
+                count: count + 1,
+                end,
+            });
         }
     }
     Err(Fault::Read(u64::MAX))

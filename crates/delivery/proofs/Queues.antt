@@ -26,13 +26,13 @@ module _ (s : Subject) (P : Download → Bool) (Q : DownloadKey → Bool) (same 
   any_same [] (d ∷ ds) are = absurd are
   any_same (k ∷ ks) [] are = absurd are
 
-key_same : (s : Subject) (id attempt : ℕ) (k : DownloadKey) (d : Download) → IsKeyOf s k d → is_download id attempt d ≡ is_key id attempt k
+pub key_same : (s : Subject) (id attempt : ℕ) (k : DownloadKey) (d : Download) → IsKeyOf s k d → is_download id attempt d ≡ is_key id attempt k
 key_same s id attempt k d is = ap (λ n. (n == id) && (d.attempt == attempt)) is.id ∙ ap (λ n. (k.id == id) && (n == attempt)) is.attempt
 
 one_subject : (s t u : Subject) → t ≡ s → u ≡ s → subject_eq t u ≡ true
 one_subject s t u e f = ap (λ x. subject_eq x u) e ∙ ap (λ x. subject_eq s x) f ∙ subject_eq-refl s
 
-before_same : (s : Subject) (k l : DownloadKey) (e d : Download) → IsKeyOf s k e → IsKeyOf s l d → (subject_eq e.subject d.subject && is_before e d) ≡ is_earlier k l
+pub before_same : (s : Subject) (k l : DownloadKey) (e d : Download) → IsKeyOf s k e → IsKeyOf s l d → (subject_eq e.subject d.subject && is_before e d) ≡ is_earlier k l
 before_same s k l e d is js =
     ap (λ b. b && is_before e d) (one_subject s e.subject d.subject is.subject js.subject)
     ∙ ap (λ m. nat_lt m d.minute || ((m == d.minute) && (nat_lt e.id d.id || ((e.id == d.id) && nat_lt e.attempt d.attempt)))) is.minute

@@ -46,7 +46,7 @@ next_id-same st caller request unmade = ap (λ new. 1 + length (made_by st.windo
 
 -- ---- the carriers of a record
 
-judged_for-carriers : (w : Windows) (from n : ℕ) (r : Record) → (judged_for w from n r).carriers ≡ r.carriers
+pub judged_for-carriers : (w : Windows) (from n : ℕ) (r : Record) → (judged_for w from n r).carriers ≡ r.carriers
 unfolding judged_for judge
 judged_for-carriers w from zero r = refl
 judged_for-carriers w from (suc n) r = judged_for-carriers w from n r

@@ -18,3 +18,5 @@ pub mod Shown
 pub mod Routed
 pub mod Answered
 pub mod Creates
+pub mod Recipients
+pub mod Tended

@@ -1,111 +1,223 @@
 //! Acknowledgements of downloads.
+ghost use Rattle.std.specs.Prelude.{◌≡◌, ◌≤◌, ◌&&◌, ◌++◌, [], ◌∷◌, Some, IfOk, IfSome, OnOk};
+ghost use Rattle.numbers.specs.Views.{subject_of};
+ghost use Rattle.meaning.specs.Content.{row_of};
+ghost use Rattle.meaning.specs.History.{Acknowledges};
+ghost use Rattle.meaning.specs.Machine.{Shown};
+ghost use Rattle.meaning.specs.Refusals.{Requests};
+ghost use Rattle.meaning.specs.Versions.{sends_create};
+ghost use Rattle.meaning.specs.Views.{status_of};
+ghost use Rattle.meaning.specs.Changes.{enters};
+ghost use Rattle.meaning.specs.Statuses.{Old};
+ghost use Rattle.meaning.specs.Windows.{Windows};
+ghost use Rattle.version.specs.Views.{Becomes, seen, windows_of};
+ghost use Rattle.settle.specs.Changes.{changes_of as changes_seen};
+ghost use Rattle.settle.specs.Views.{broadcast_row_of, wait_key_of};
+ghost use Rattle.register.specs.Answers.{AnswersAs};
+ghost use Rattle.register.specs.Calls.{view_of, replied};
+ghost use Rattle.register.specs.Acknowledging.{is_sending, are_only, is_last_of, answered_row, completed_if, completes, by_row, retired_rows, own_rows, acknowledging, all_changes, IsEarlier, IsFound};
+
 use crate::view::VersionView;
-use delivery::{Broadcast, DownloadKey, may_acknowledge};
+use delivery::{Broadcast, may_acknowledge};
 use meaning::{Action, Refusal, Status};
-use numbers::Spid;
-use settle::{BroadcastKey, Changes, ClockRow, NumberedRow, Store, VersionRow, WaitKey};
+use numbers::{Minute, Spid};
+use settle::{
+    BroadcastKey, Changes, ClockRow, NumberedRow, Store, StoreFault, VersionRow, WaitKey,
+};
 use std::alloc::{AllocError, Global};
 use version::Version;
 
-// The version after the acknowledgement. The last one of its newest broadcast completes it.
-fn answered(version: &Version, attempt: u64, is_last: bool, clock: &ClockRow) -> Version {
-    if is_last && version.attempt == attempt {
-        version.completed(clock.minute)
+// What a store has of a download that its carrier acknowledges.
+#[derive(Drop)]
+struct Found {
+    broadcast: Broadcast,
+    // Nobody else waits for it any more.
+    is_last: bool,
+    // The version that was in force until all had acknowledged the create of this one.
+    earlier: Option<NumberedRow>,
+}
+
+// Whether it is the last acknowledgement of the version's newest attempt.
+fn completes(version: &Version, attempt: u64, is_last: bool) -> bool
+    ensures { result ≡ completes version.now attempt is_last }
+{
+    is_last && version.attempt == attempt
+}
+
+// Whether that closes the broadcast, which it does while the version sends.
+fn closes(version: &Version, completes: bool) -> bool
+    ensures { result ≡ (completes && is_sending (status_of version.now.status)) }
+{
+    completes && matches!(version.status, Status::Sending(_))
+}
+
+// Whether it brings the version into force.
+fn takes_over(version: &Version, completes: bool) -> bool
+    ensures { result ≡ (completes && sends_create (status_of version.now.status)) }
+{
+    completes && matches!(version.status, Status::Sending(Action::Create))
+}
+
+// The version after the acknowledgement.
+fn answered(version: &Version, completes: bool, minute: Minute) -> Version
+    ensures { Becomes (completed_if completes minute.number) version.now result }
+{
+    if completes {
+        version.completed(minute)
     } else {
         *version
     }
 }
 
-// The version that was in force before a create of its number was acknowledged by all: it becomes old.
+fn are_only(carrier: Spid, carriers: &[Spid]) -> bool
+    ensures { result ≡ are_only carrier.number carriers.now }
+{
+    carriers.iter().all(|each| each.number == carrier.number)
+}
+
+// Whether nobody but the carrier waits for a download any more.
+fn is_last<S: Store>(store: &mut S, wait: WaitKey) -> Result<bool, StoreFault>
+    ensures value { S.IsUsable store.new → IfOk result (λ last. last ≡ is_last_of (S.content store.old) wait.carrier.number wait.minute.number wait.id wait.attempt) }
+    ensures same { S.IsUsable store.new → S.IsUsable store.old × (S.content store.new ≡ S.content store.old) }
+    ensures rises { S.failed store.old ≤ S.failed store.new }
+{
+    let key = BroadcastKey {
+        id: wait.id,
+        attempt: wait.attempt,
+    };
+    let carriers = store.waiters(wait.minute, key)?;
+    Ok(are_only(wait.carrier, &carriers))
+}
+
+// The version that is in force until now, where this one takes its place.
 fn replaced<S: Store>(
     store: &mut S,
-    before: &Version,
-    after: &Version,
-) -> Result<Option<NumberedRow>, Refusal> {
-    if before.status == Status::Sending(Action::Create) && after.status == Status::Active {
-        Ok(store.version_in_force(before.subject)?)
+    version: &Version,
+    completes: bool,
+) -> Result<Option<NumberedRow>, StoreFault>
+    ensures value { S.IsUsable store.new → IfOk result (IsEarlier (completes && sends_create (status_of version.now.status)) (S.content store.old) (subject_of version.now.subject)) }
+    ensures same { S.IsUsable store.new → S.IsUsable store.old × (S.content store.new ≡ S.content store.old) }
+    ensures rises { S.failed store.old ≤ S.failed store.new }
+{
+    if takes_over(version, completes) {
+        store.version_in_force(version.subject)
     } else {
         Ok(None)
     }
 }
 
+fn look_up<S: Store>(
+    store: &mut S,
+    wait: WaitKey,
+    version: &Version,
+) -> Result<Option<Found>, StoreFault>
+    ensures value { S.IsUsable store.new → IfOk result (λ o. IfSome o (λ found. IsFound (S.content store.old) (wait_key_of wait) version.now (broadcast_row_of found.broadcast) found.is_last found.earlier)) }
+    ensures same { S.IsUsable store.new → S.IsUsable store.old × (S.content store.new ≡ S.content store.old) }
+    ensures rises { S.failed store.old ≤ S.failed store.new }
+{
+    let key = BroadcastKey {
+        id: wait.id,
+        attempt: wait.attempt,
+    };
+    let Some(broadcast) = store.broadcast(key)? else {
+        return Ok(None);
+    };
+    let is_last = is_last(store, wait)?;
+    let earlier = replaced(store, version, completes(version, wait.attempt, is_last))?;
+    Ok(Some(Found {
+        broadcast,
+        is_last,
+        earlier,
+    }))
+}
+
 fn put_version(
-    changes: &mut Changes,
+    versions: &mut Vec<(u64, VersionRow)>,
     id: u64,
     version: &Version,
     clock: &ClockRow,
-) -> Result<(), AllocError> {
-    changes
-        .versions
-        .push((id, VersionRow::of(version, &clock.windows)))?;
+) -> Result<(), AllocError>
+    ensures { OnOk result (versions.new.items ≡ versions.old.items ++ (id, row_of (windows_of clock.now.windows) (subject_of version.now.subject) (seen version.now)) ∷ []) }
+{
+    versions.push((id, VersionRow::of(version, &clock.windows)))?;
     Ok(())
 }
 
-// The carrier's download is taken from its queue; the broadcast goes with its last one.
-fn take_download(
-    changes: &mut Changes,
-    spid: Spid,
-    download: DownloadKey,
-    broadcast: &Broadcast,
-    is_last: bool,
-) -> Result<(), AllocError> {
-    let key = BroadcastKey {
-        id: download.id,
-        attempt: download.attempt,
-    };
-    changes.taken_waits.push(WaitKey {
-        carrier: spid,
-        minute: download.minute,
-        id: download.id,
-        attempt: download.attempt,
-    })?;
-    if is_last {
-        changes.taken_broadcasts.push(key)?;
-    } else {
-        changes
-            .broadcasts
-            .push((key, broadcast.acknowledged(is_last)))?;
-    }
-    Ok(())
+// The version of a row once it is replaced.
+fn replaced_version(row: &VersionRow, minute: Minute) -> Version
+    ensures { (w : Windows) → row_of w (subject_of result.subject) (seen result) ≡ row_of w row.now.subject (enters Old minute.number (by_row row.now)) }
+{
+    row.version.entering(Status::Old, minute)
 }
 
-// Whether nobody but the carrier waits for a download any more.
-fn is_last<S: Store>(store: &mut S, spid: Spid, download: DownloadKey) -> Result<bool, Refusal> {
-    let key = BroadcastKey {
-        id: download.id,
-        attempt: download.attempt,
-    };
-    let waiters = store.waiters(download.minute, key)?;
-    Ok(waiters.iter().all(|carrier| *carrier == spid))
-}
-
-fn changes_of<S: Store>(
+// The row of the version, where its status changes, and that of the version that it replaces.
+fn versions_of(
     alloc: Global,
-    store: &mut S,
-    spid: Spid,
-    download: DownloadKey,
+    id: u64,
     version: &Version,
+    completes: bool,
+    earlier: &Option<NumberedRow>,
     clock: &ClockRow,
-) -> Result<(Changes, Version), Refusal> {
+) -> Result<Vec<(u64, VersionRow)>, AllocError>
+    ensures { IfOk result (λ versions. versions.items ≡ retired_rows (windows_of clock.now.windows) clock.now.minute.number earlier.now ++ own_rows completes id (row_of (windows_of clock.now.windows) (subject_of version.now.subject) (seen version.now))) }
+{
+    let mut versions = Vec::new(alloc);
+    if let Some(replaced) = earlier {
+        let old = replaced_version(&replaced.row, clock.minute);
+        put_version(&mut versions, replaced.id, &old, clock)?;
+    }
+    if completes {
+        put_version(&mut versions, id, version, clock)?;
+    }
+    Ok(versions)
+}
+
+// The carrier's download is taken from its queue; the broadcast goes with its last one, unless it is open.
+fn take_download(
+    alloc: Global,
+    wait: WaitKey,
+    is_last: bool,
+    versions: Vec<(u64, VersionRow)>,
+    broadcast: Broadcast,
+) -> Result<Changes, AllocError>
+    ensures { IfOk result (λ changes. changes_seen changes ≡ acknowledging wait.carrier.number wait.minute.number wait.id wait.attempt is_last versions.items (broadcast_row_of broadcast)) }
+{
     let key = BroadcastKey {
-        id: download.id,
-        attempt: download.attempt,
+        id: wait.id,
+        attempt: wait.attempt,
     };
-    let Some(broadcast) = store.broadcast(key)? else {
-        return Err(Refusal::Storage);
-    };
-    let last = is_last(store, spid, download)?;
-    let after = answered(version, download.attempt, last, clock);
+    let mut taken_waits = Vec::new(alloc);
+    taken_waits.push(wait)?;
     let mut changes = Changes::none(alloc);
-    if let Some(earlier) = replaced(store, version, &after)? {
-        let old = earlier.row.version.entering(Status::Old, clock.minute);
-        put_version(&mut changes, earlier.id, &old, clock)?;
+    changes.versions = versions;
+    changes.taken_waits = taken_waits;
+    if is_last && !broadcast.is_open {
+        let mut taken_broadcasts = Vec::new(alloc);
+        taken_broadcasts.push(key)?;
+        changes.taken_broadcasts = taken_broadcasts;
+    } else {
+        let mut broadcasts = Vec::new(alloc);
+        broadcasts.push((key, broadcast))?;
+        changes.broadcasts = broadcasts;
     }
-    if after != *version {
-        put_version(&mut changes, download.id, &after, clock)?;
-    }
-    take_download(&mut changes, spid, download, &broadcast, last)?;
-    Ok((changes, after))
+    Ok(changes)
+}
+
+// All changes of an acknowledgement; `after` is the version once it is answered.
+fn changes_of(
+    alloc: Global,
+    wait: WaitKey,
+    version: &Version,
+    after: &Version,
+    found: &Found,
+    clock: &ClockRow,
+) -> Result<Changes, AllocError>
+    ensures { IfOk result (λ changes. changes_seen changes ≡ all_changes (windows_of clock.now.windows) clock.now.minute.number (wait_key_of wait) version.now after.now (broadcast_row_of found.now.broadcast) found.now.is_last found.now.earlier) }
+{
+    let completes = completes(version, wait.attempt, found.is_last);
+    let versions = versions_of(alloc, wait.id, after, completes, &found.earlier, clock)?;
+    let broadcast = found.broadcast.acknowledged(closes(version, completes));
+    take_download(alloc, wait, found.is_last, versions, broadcast)
 }
 
 /// A carrier acknowledges an attempt of a version.
@@ -115,7 +227,11 @@ pub fn acknowledge<S: Store>(
     spid: Spid,
     id: u64,
     attempt: u64,
-) -> Result<VersionView, Refusal> {
+) -> Result<VersionView, Refusal>
+    ensures answers { S.IsUsable store.new → AnswersAs (S.content store.old) (S.content store.new) (Requests spid.number (Acknowledges id attempt)) (replied (λ view. Shown (Some (view_of view))) result) }
+    ensures usable { S.IsUsable store.new → S.IsUsable store.old }
+    ensures rises { S.failed store.old ≤ S.failed store.new }
+{
     if !store.carrier(spid)? {
         return Err(Refusal::UnknownCarrier);
     }
@@ -127,7 +243,18 @@ pub fn acknowledge<S: Store>(
     };
     let waiting = store.waits_about(spid, row.version.subject)?;
     let download = may_acknowledge(&waiting, id, attempt)?;
-    let (changes, after) = changes_of(alloc, store, spid, download, &row.version, &clock)?;
+    let wait = WaitKey {
+        carrier: spid,
+        minute: download.minute,
+        id,
+        attempt,
+    };
+    let Some(found) = look_up(store, wait, &row.version)? else {
+        return Err(Refusal::Storage);
+    };
+    let completes = completes(&row.version, attempt, found.is_last);
+    let after = answered(&row.version, completes, clock.minute);
+    let changes = changes_of(alloc, wait, &row.version, &after, &found, &clock)?;
     store.commit(&changes)?;
     Ok(VersionView::of(id, &after, clock.minute, &clock.windows))
 }

@@ -1,33 +1,38 @@
 //! The activation of a version.
+ghost use Rattle.std.specs.Prelude.{◌≡◌, ◌≤◌};
+ghost use Rattle.meaning.specs.History.{Commands};
+ghost use Rattle.meaning.specs.Machine.{Shown};
+ghost use Rattle.meaning.specs.Refusals.{Requests};
+ghost use Rattle.register.specs.Answers.{AnswersAs};
+ghost use Rattle.register.specs.Calls.{view_of, replied};
+ghost use Rattle.meaning.specs.Commands.{Activate};
+ghost use Rattle.std.specs.Prelude.{Some, IfOk, map};
+ghost use Rattle.numbers.specs.Views.{subject_of};
+ghost use Rattle.version.specs.Views.{routings_of, seen, windows_of};
+ghost use Rattle.settle.specs.Changes.{changes_of as changes_seen};
+ghost use Rattle.settle.specs.Views.{spid_of};
+ghost use Rattle.register.specs.Sending.{sending, wait_of};
+
 use crate::view::VersionView;
 use delivery::Broadcast;
 use meaning::{Action, Refusal};
-use numbers::Spid;
+use numbers::{Minute, Spid, Subject};
 use settle::{BroadcastKey, Changes, ClockRow, Store, VersionRow, WaitKey};
 use std::alloc::{AllocError, Global};
 use version::Version;
 
-// The rows of a version that begins to send: its own, its broadcast's, and one for each carrier.
-fn changes_of(
+// The downloads of a broadcast, one for each carrier.
+fn waits(
     alloc: Global,
+    minute: Minute,
     id: u64,
-    version: &Version,
-    action: Action,
-    clock: &ClockRow,
+    attempt: u64,
+    subject: Subject,
     everyone: &[Spid],
-) -> Result<Changes, AllocError> {
-    let attempt = version.attempt;
-    let minute = clock.minute;
-    let subject = version.subject;
-    let mut changes = Changes::none(alloc);
-    changes
-        .versions
-        .push((id, VersionRow::of(version, &clock.windows)))?;
-    changes.broadcasts.push((
-        BroadcastKey { id, attempt },
-        Broadcast::send(minute, subject, action, version.routing),
-    ))?;
-    changes.waits = everyone
+) -> Result<Vec<(WaitKey, Subject)>, AllocError>
+    ensures { IfOk result (λ waits. waits.items ≡ map (wait_of minute id attempt subject) everyone.now) }
+{
+    everyone
         .iter()
         .map(|carrier| (
             WaitKey {
@@ -38,7 +43,33 @@ fn changes_of(
             },
             subject,
         ))
-        .collect(alloc)?;
+        .collect(alloc)
+}
+
+// The rows of a version that begins to send: its own, its broadcast's, and one for each carrier.
+fn changes_of(
+    alloc: Global,
+    id: u64,
+    version: &Version,
+    action: Action,
+    clock: &ClockRow,
+    everyone: &[Spid],
+) -> Result<Changes, AllocError>
+    ensures { IfOk result (λ changes. changes_seen changes ≡ sending id (windows_of clock.now.windows) clock.now.minute.number action (subject_of version.now.subject) (seen version.now) (routings_of version.now.routing) (map spid_of everyone.now)) }
+{
+    let attempt = version.attempt;
+    let minute = clock.minute;
+    let subject = version.subject;
+    let broadcast = Broadcast::send(minute, subject, action, version.routing);
+    let waits = waits(alloc, minute, id, attempt, subject, everyone)?;
+    let mut broadcasts = Vec::new(alloc);
+    broadcasts.push((BroadcastKey { id, attempt }, broadcast))?;
+    let mut versions = Vec::new(alloc);
+    versions.push((id, VersionRow::of(version, &clock.windows)))?;
+    let mut changes = Changes::none(alloc);
+    changes.versions = versions;
+    changes.broadcasts = broadcasts;
+    changes.waits = waits;
     Ok(changes)
 }
 
@@ -48,7 +79,11 @@ pub fn activate<S: Store>(
     store: &mut S,
     caller: Spid,
     id: u64,
-) -> Result<VersionView, Refusal> {
+) -> Result<VersionView, Refusal>
+    ensures answers { S.IsUsable store.new → AnswersAs (S.content store.old) (S.content store.new) (Requests caller.number (Commands (Activate id))) (replied (λ view. Shown (Some (view_of view))) result) }
+    ensures usable { S.IsUsable store.new → S.IsUsable store.old }
+    ensures rises { S.failed store.old ≤ S.failed store.new }
+{
     if !store.carrier(caller)? {
         return Err(Refusal::UnknownCarrier);
     }

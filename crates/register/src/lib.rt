@@ -5,6 +5,7 @@ mod acknowledgement;
 mod activation;
 mod command;
 mod create;
+mod laws;
 mod query;
 mod register;
 mod registration;
@@ -12,5 +13,6 @@ mod serving;
 mod view;
 
 pub use command::{Command, Reply};
+pub use laws::law_of_new_stores;
 pub use register::{OpenFault, Register};
 pub use view::{Answer, VersionView};

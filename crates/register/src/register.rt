@@ -1,4 +1,19 @@
 //! The register and its calls.
+ghost use Rattle.std.specs.Prelude.{◌≡◌, ◌≤◌, Some, Err, map, IfOk, IfErr, IfSome, OnOk, OnErr};
+ghost use Rattle.meaning.specs.Content.{Represents};
+ghost use Rattle.meaning.specs.History.{Commands, Acknowledges};
+ghost use Rattle.meaning.specs.Laws.{IsOrderly};
+ghost use Rattle.meaning.specs.Machine.{Reply as ReplySeen, Known, Shown, Answered, Rows};
+ghost use Rattle.meaning.specs.Reading.{State, record_now};
+ghost use Rattle.meaning.specs.Refusals.{Requests, Asks, Knows, Query, AllInForce};
+ghost use Rattle.numbers.specs.Subjects.{Subject};
+ghost use Rattle.settle.specs.Reads.{HasRisen};
+ghost use Rattle.settle.specs.Views.{windows_of};
+ghost use Rattle.settle.specs.Changes.{changes_of, no_changes};
+ghost use Rattle.register.specs.Opening.{IsOpened, HasOtherWindows, first_clock};
+ghost use Rattle.register.specs.Answers.{Stands, AnswersAs};
+ghost use Rattle.register.specs.Calls.{command_of, view_of, reply_of, answer_of, in_force_of, replied};
+
 use crate::acknowledgement::acknowledge;
 use crate::activation::activate;
 use crate::command::{Command, Reply};
@@ -23,6 +38,10 @@ pub enum OpenFault {
 }
 
 impl From<StoreFault> for OpenFault {
+    ghost use Rattle.register.specs.Opening.{open_fault_of};
+
+    ghost from_gives = { λ fault refused. refused ≡ open_fault_of fault };
+
     fn from(fault: StoreFault) -> OpenFault {
         match fault {
             StoreFault::Storage => OpenFault::Storage,
@@ -40,20 +59,33 @@ pub struct Register<S: Store> {
 }
 
 // Writes the clock's row of a new store, or compares the windows of one that was opened before.
-fn first_row<S: Store>(alloc: Global, store: &mut S, windows: &Windows) -> Result<(), OpenFault> {
+fn first_row<S: Store>(alloc: Global, store: &mut S, windows: &Windows) -> Result<(), OpenFault>
+    ensures opened { OnOk result (S.IsUsable store.new → IsOpened (windows_of windows.now) (S.content store.old) (S.content store.new)) }
+    ensures differ { result ≡ Err OpenFault.WindowsDiffer → S.IsUsable store.new → HasOtherWindows (windows_of windows.now) (S.content store.old) }
+    ensures back { OnErr result (S.IsUsable store.new → S.content store.new ≡ S.content store.old) }
+    ensures usable { S.IsUsable store.new → S.IsUsable store.old }
+{
     match store.clock()? {
         Some(row) if row.windows == *windows => Ok(()),
         Some(_) => Err(OpenFault::WindowsDiffer),
         None => {
-            let mut changes = Changes::none(alloc);
-            changes.clock = Some(ClockRow {
-                minute: Minute { number: 0 },
-                next_id: FIRST_ID,
-                windows: *windows,
-            });
-            store.commit(&changes)?;
+            store.commit(&with_first_row(alloc, windows))?;
             Ok(())
         }
+    }
+}
+
+// The clock of a new store stands at minute 0.
+fn with_first_row(alloc: Global, windows: &Windows) -> Changes
+    ensures { changes_of result ≡ record no_changes { clock = Some (first_clock (windows_of windows.now)) } }
+{
+    Changes {
+        clock: Some(ClockRow {
+            minute: Minute { number: 0 },
+            next_id: FIRST_ID,
+            windows: *windows,
+        }),
+        ..Changes::none(alloc)
     }
 }
 
@@ -62,7 +94,14 @@ impl<S: Store> Register<S> {
     ///
     /// Refused with `WindowsDiffer` where the store was first opened with other windows; every refusal
     /// hands the store back with its rows unchanged.
-    pub fn open(alloc: Global, store: S, windows: &Windows) -> Result<Register<S>, (S, OpenFault)> {
+    pub fn open(alloc: Global, store: S, windows: &Windows) -> Result<Register<S>, (S, OpenFault)>
+        ensures stands { IfOk result (λ r. S.IsUsable r.store → (st : State) → Stands (S.content store) st → st.windows ≡ windows_of windows.now → Stands (S.content r.store) st) }
+        ensures clock { IfOk result (λ r. S.IsUsable r.store → IfSome (S.content r.store).clock (λ row. row.windows ≡ windows_of windows.now)) }
+        ensures opened { IfOk result (λ r. S.IsUsable r.store → IsOpened (windows_of windows.now) (S.content store) (S.content r.store)) }
+        ensures differ { IfErr result (λ e. e.1 ≡ OpenFault.WindowsDiffer → S.IsUsable e.0 → HasOtherWindows (windows_of windows.now) (S.content store)) }
+        ensures back { IfErr result (λ e. S.IsUsable e.0 → S.content e.0 ≡ S.content store) }
+        ensures usable { IfOk result (λ r. S.IsUsable r.store → S.IsUsable store) }
+    {
         let mut store = store;
         match first_row(alloc, &mut store, windows) {
             Ok(()) => Ok(Register {
@@ -75,7 +114,9 @@ impl<S: Store> Register<S> {
     }
 
     /// The store as it is.
-    pub fn close(self) -> S {
+    pub fn close(self) -> S
+        ensures { result ≡ self.store }
+    {
         let Register {
             store,
             windows: _,
@@ -86,13 +127,22 @@ impl<S: Store> Register<S> {
 
     /// Whether the register knows the caller: a registered carrier, or the administrator. Any other is
     /// refused with `UnknownCarrier`.
-    pub fn knows(&mut self, caller: Spid) -> Result<(), Refusal> {
+    pub fn knows(&mut self, caller: Spid) -> Result<(), Refusal>
+        ensures answers { S.IsUsable self.new.store → AnswersAs (S.content self.old.store) (S.content self.new.store) (Asks caller.number Knows) (replied (λ done. Known) result) }
+        ensures usable { S.IsUsable self.new.store → S.IsUsable self.old.store }
+        ensures rises { S.failed self.old.store ≤ S.failed self.new.store }
+    {
         knows(&mut self.store, caller)
     }
 
     /// Carries out a caller's command, or refuses it with the first refusal that holds. After a refusal
     /// nothing has changed.
-    pub fn do_it(&mut self, caller: Spid, command: &Command) -> Result<Reply, Refusal> {
+    pub fn do_it(&mut self, caller: Spid, command: &Command) -> Result<Reply, Refusal>
+        ensures answers { S.IsUsable self.new.store → AnswersAs (S.content self.old.store) (S.content self.new.store) (Requests caller.number (Commands (command_of command.now))) (replied reply_of result) }
+        ensures orderly { S.IsUsable self.new.store → (st : State) → Represents (S.content self.new.store) st → (s : Subject) → IsOrderly s (record_now st s) }
+        ensures usable { S.IsUsable self.new.store → S.IsUsable self.old.store }
+        ensures rises { S.failed self.old.store ≤ S.failed self.new.store }
+    {
         let alloc = self.alloc;
         let store = &mut self.store;
         match command {
@@ -116,23 +166,30 @@ impl<S: Store> Register<S> {
     ///
     /// Refused with `UnknownCarrier`, `NotFound` where no version has the id, `NotQueued` where no such
     /// download waits for the carrier, and `OutOfOrder` while an earlier one of the same subject does.
-    pub fn acknowledge(
-        &mut self,
-        spid: Spid,
-        id: u64,
-        attempt: u64,
-    ) -> Result<VersionView, Refusal> {
+    pub fn acknowledge(&mut self, spid: Spid, id: u64, attempt: u64) -> Result<VersionView, Refusal>
+        ensures answers { S.IsUsable self.new.store → AnswersAs (S.content self.old.store) (S.content self.new.store) (Requests spid.number (Acknowledges id attempt)) (replied (λ view. Shown (Some (view_of view))) result) }
+        ensures usable { S.IsUsable self.new.store → S.IsUsable self.old.store }
+        ensures rises { S.failed self.old.store ≤ S.failed self.new.store }
+    {
         acknowledge(self.alloc, &mut self.store, spid, id, attempt)
     }
 
     /// Where calls to a number are routed: by its version in force, else by its block's, else nowhere
     /// else than to its own switch (All Call Query, ITU-T E.164 Supplement 2).
-    pub fn query(&mut self, caller: Spid, tn: Tn) -> Result<Answer, Refusal> {
+    pub fn query(&mut self, caller: Spid, tn: Tn) -> Result<Answer, Refusal>
+        ensures answers { S.IsUsable self.new.store → AnswersAs (S.content self.old.store) (S.content self.new.store) (Asks caller.number (Query tn.number)) (replied (λ answer. Answered (answer_of answer)) result) }
+        ensures usable { S.IsUsable self.new.store → S.IsUsable self.old.store }
+        ensures rises { S.failed self.old.store ≤ S.failed self.new.store }
+    {
         query(&mut self.store, caller, tn)
     }
 
     /// Everything in force, by subject.
-    pub fn in_force(&mut self) -> Result<Vec<RoutedRow>, Refusal> {
+    pub fn in_force(&mut self) -> Result<Vec<RoutedRow>, Refusal>
+        ensures answers { S.IsUsable self.new.store → AnswersAs (S.content self.old.store) (S.content self.new.store) (Asks 0 AllInForce) (replied (λ rows. Rows (map in_force_of rows.items)) result) }
+        ensures usable { S.IsUsable self.new.store → S.IsUsable self.old.store }
+        ensures rises { S.failed self.old.store ≤ S.failed self.new.store }
+    {
         Ok(self.store.in_force()?)
     }
 }

@@ -4,8 +4,14 @@
 #[cfg(test)]
 mod desk;
 #[cfg(test)]
+mod failing;
+#[cfg(test)]
 mod first_port;
 #[cfg(test)]
 mod messages;
 #[cfg(test)]
+mod opening;
+#[cfg(test)]
 mod ports;
+#[cfg(test)]
+mod retries;

@@ -55,9 +55,10 @@ third-of false p q r e = cc
 
 -- ---- a content
 
-pub untouched : (st : State) (old new : Content) (changes : Changes) (s : Subject) (id : ℕ) (v : Version) → IsHistory st.windows st.history st.now → NothingIsDue old st →
-    version_with id (record_now st s) ≡ Some v → AreOfVersion id s changes → IsChanged changes old new → (t : Subject) → subject_eq s t ≡ false → SameRows t old new
-untouched st old new changes s id v history due found are changed t apart = record {
+-- where no version of the subject has the id
+pub untouched_where : (st : State) (old new : Content) (changes : Changes) (s : Subject) (id : ℕ) → NothingIsDue old st →
+    AreOfVersion id s changes → IsChanged changes old new → (t : Subject) → subject_eq s t ≡ false → version_with id (record_now st t) ≡ None → SameRows t old new
+untouched_where st old new changes s id due are changed t apart free = record {
   versions = λ k. ap (of_subject t (λ (x : VersionRow). x.subject)) (changed.versions k)
       ∙ puts-stay ◌==◌ (λ n. n) (λ (x : VersionRow). x.subject) id s t apart k (λ a e. same_id a k e) changes.versions are.versions (get old.versions k)
       (λ e. (due.shows t).versions k ∙ ap (option_map (row_of st.windows t)) (gone k e));
@@ -72,4 +73,10 @@ untouched st old new changes s id v history due found are changed t apart = reco
 }
   where
     gone : (k : ℕ) → k ≡ id → version_with k (record_now st t) ≡ None
-    gone k e = ap (λ j. version_with j (record_now st t)) e ∙ none_elsewhere st history s t id v found apart
+    gone k e = ap (λ j. version_with j (record_now st t)) e ∙ free
+
+-- where the version is another subject's
+pub untouched : (st : State) (old new : Content) (changes : Changes) (s : Subject) (id : ℕ) (v : Version) → IsHistory st.windows st.history st.now → NothingIsDue old st →
+    version_with id (record_now st s) ≡ Some v → AreOfVersion id s changes → IsChanged changes old new → (t : Subject) → subject_eq s t ≡ false → SameRows t old new
+untouched st old new changes s id v history due found are changed t apart =
+    untouched_where st old new changes s id due are changed t apart (none_elsewhere st history s t id v found apart)

@@ -20,7 +20,7 @@ pub not_past : (n : ℕ) → n ≤ limit → nat_lt limit (n + 0) ≡ false
 not_past n below = grind (arith, nat_tests)
 
 -- the table of an activation, by whether the caller is known, the version that is found, and whether the ids are at an end
-abbrev activation_table : State → (caller : ℕ) → (known : Bool) → Option SubjectVersion → (past : Bool) → Option ℕ
+abbrev pub activation_table : State → (caller : ℕ) → (known : Bool) → Option SubjectVersion → (past : Bool) → Option ℕ
 activation_table st caller known found past = first_that_holds (
     (1, not known && not false) ∷ (10, not (holds_of (λ (e : SubjectVersion). is_number e.subject) found))
     ∷ (11, holds_of (λ (e : SubjectVersion). not (caller == e.version.new_provider)) found)
@@ -29,7 +29,7 @@ activation_table st caller known found past = first_that_holds (
     ∷ (17, holds_of (λ (e : SubjectVersion). is_not_yet_due st.now e.version.status e.version.due) found)
     ∷ (28, holds_of (λ (e : SubjectVersion). has_no_attempt_left e.version.attempt) found || past) ∷ [])
 
-activation_by_table : (st : State) (caller id : ℕ) →
+pub activation_by_table : (st : State) (caller id : ℕ) →
     refusal st (Requests caller (Commands (Activate id)))
     ≡ activation_table st caller (is_carrier st caller) (version_of_id st id) (nat_lt limit (next_id st.windows st.history + 0))
 unfolding tests

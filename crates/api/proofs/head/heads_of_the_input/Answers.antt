@@ -1,11 +1,11 @@
-use Rattle.std.proofs.Common.{◌≡◌, ℕ, ◌≤◌, List, ◌++◌, length, take, drop, refl, sym, ap, ◌∙◌, arith, rules, [], ◌∷◌, append_assoc, true}
+use Rattle.std.proofs.Common.{◌≡◌, ℕ, ◌≤◌, List, ◌++◌, length, take, drop, refl, sym, ap, ◌∙◌, arith, rules, [], ◌∷◌, append_assoc, true, length-append}
 use Rattle.std.proofs.lemmas.List.{take-append-le, take-append-drop}
 use Rattle.std.proofs.Math.Seq.{take-append_seam}
 use Rattle.httparse.specs.Grammar.{RequestHead, IsRequestHead, print_request, LineEnd, lf, is_token_byte}
 use Rattle.std.proofs.lemmas.Str.{IsUtf8-from_is_utf8}
 use Rattle.std.specs.Str.{is_utf8, chars}
 use lib.Utf8.{encode}
-use Rattle.httparse.proofs.GrammarLemmas.{request_unique, print_request-append}
+use Rattle.httparse.proofs.GrammarLemmas.{request_unique, print_request-append, ReadsRequest-append}
 use Rattle.api.proofs.head.heads_of_the_input.Goals as goal
 
 -- a front of a whole that is no longer than another front is a front of that
@@ -46,3 +46,12 @@ returns-clause-blank c = λ buf more ends over e.
     let tail : List ℕ = 71 ∷ 32 ∷ 47 ∷ 32 ∷ 72 ∷ 84 ∷ 84 ∷ 80 ∷ 47 ∷ 49 ∷ 46 ∷ 48 ∷ 10 ∷ 10 ∷ [] in
     let reads : buf ++ (more ++ tail) ≡ print_request (witness ends) ++ [] = sym (append_assoc buf more tail) ∙ ap (λ (t : List ℕ). t ++ tail) e ∙ sym (print_request-append (witness ends) []) in
     absurd (omega (arith, over (more ++ tail) (witness ends) [] (is_head ends, reads)))
+
+pub returns-clause-begun : goal.returns-clause-begun
+unfolding print_request
+returns-clause-begun c = λ s h rest x blank.
+    let ends : List LineEnd = blank.0.0 in
+    let tail : List ℕ = 71 ∷ 32 ∷ 47 ∷ 32 ∷ 72 ∷ 84 ∷ 84 ∷ 80 ∷ 47 ∷ 49 ∷ 46 ∷ 48 ∷ 10 ∷ 10 ∷ [] in
+    let reads : s ++ tail ≡ print_request (witness ends) ++ [] = ap (λ (t : List ℕ). t ++ tail) blank.0.1 ∙ sym (print_request-append (witness ends) []) in
+    let same = request_unique (s ++ tail) h (witness ends) (rest ++ tail) [] (ReadsRequest-append s h rest tail x.reads) (is_head ends, reads) in
+    absurd (omega (arith, ap length same.1, length-append rest tail))

@@ -1,0 +1,154 @@
+-- One message, and what it makes of a state.
+use Rattle.std.specs.Prelude.{◌≡◌, ◌⊎◌, ℕ, ◌<◌, List, [], length, ◌++◌, codes, Bool, true, false, Option, Some, None, IsSomeAnd, Result, Ok, Err}
+use Rattle.numbers.specs.Digits.{IsTn}
+use Rattle.numbers.specs.Texts.{tn_text}
+use Rattle.numbers.specs.declared.spid.Spid.{Spid}
+use Rattle.meaning.specs.declared.refusal.Refusal.{Refusal}
+use Rattle.meaning.specs.declared.refusal.Refusal.TheVariants.{Storage, NoMemory}
+use Rattle.meaning.specs.Content.{Content}
+use Rattle.meaning.specs.History.{Commands, Acknowledges}
+use Rattle.meaning.specs.Reading.{State}
+use Rattle.meaning.specs.Refusals.{Input, Requests, Asks, Knows, Query}
+use Rattle.meaning.specs.Machine.{Reply, Refused, Moved, Registered, LrnAdded, CodeOpened, Shown, Donated, Known, Fetched, Answered, Rows, Awaited, Found, out, next}
+use Rattle.register.specs.Answers.{Stands}
+use Rattle.api.specs.declared.fault.Failure.{Failure}
+use Rattle.api.specs.declared.fault.Failure.TheVariants.{Uri, Message}
+use Rattle.api.specs.declared.fault.MessageFault.{MessageFault}
+use Rattle.api.specs.declared.fault.MessageFault.TheVariants.{BadRequest, NoPath, BadMethod}
+use Rattle.api.specs.declared.fault.UriFault.TheVariants.{BadNumber}
+use Rattle.api.specs.declared.message.Request.{Request}
+use Rattle.api.specs.declared.paths.Route.{Route}
+use Rattle.api.specs.Answer.{answer}
+use Rattle.api.specs.Failures.{failure_text}
+use Rattle.api.specs.RefusalTexts.{refusal_text}
+use Rattle.api.specs.Forms.{Asked, Orders, Confirms, Seeks, HasForm, json_of}
+use Rattle.api.specs.Texts.{registered_text, routing_number_text, opened_code_text, view_text, uri_text}
+
+-- ---- the answers to what was asked, byte for byte
+
+-- the whole answer of what was carried out
+unfoldable pub success : List ℕ → List ℕ
+success body = answer 200 body
+
+-- the machine's reply to a command or an acknowledgement. The other replies are of inputs that no path asks for
+abbrev pub reply_text : Reply → List ℕ
+reply_text (Refused number) = refusal_text number
+reply_text (Registered spid rows) = success (registered_text spid rows)
+reply_text (LrnAdded lrn spid) = success (routing_number_text lrn spid)
+reply_text (CodeOpened code spid) = success (opened_code_text code spid)
+reply_text (Shown (Some view)) = success (view_text view)
+reply_text (Shown None) = []
+reply_text (Moved now) = []
+reply_text (Donated block ids) = []
+reply_text Known = []
+reply_text (Fetched downloads) = []
+reply_text (Answered answered) = []
+reply_text (Rows rows) = []
+reply_text (Awaited subjects) = []
+reply_text (Found in_force opened) = []
+
+-- the machine's reply to a query for a number
+abbrev pub routed_text : ℕ → Reply → List ℕ
+routed_text tn (Refused number) = refusal_text number
+routed_text tn (Answered answered) = success (uri_text tn answered)
+routed_text tn (Registered spid rows) = []
+routed_text tn (LrnAdded lrn spid) = []
+routed_text tn (CodeOpened code spid) = []
+routed_text tn (Shown view) = []
+routed_text tn (Moved now) = []
+routed_text tn (Donated block ids) = []
+routed_text tn Known = []
+routed_text tn (Fetched downloads) = []
+routed_text tn (Rows rows) = []
+routed_text tn (Awaited subjects) = []
+routed_text tn (Found in_force opened) = []
+
+-- what is written for a call: a body for what was carried out, or why it was not
+abbrev pub told : {A : Type 0} → Result A Failure → (body : List ℕ) → List ℕ
+told (Ok done) body = success body
+told (Err failure) body = failure_text failure
+
+-- a call is refused for want of the device or of memory
+abbrev pub IsShort : Refusal → Type 0
+IsShort refusal = (refusal ≡ Storage) ⊎ (refusal ≡ NoMemory)
+
+-- a registration shows more than so many rows
+abbrev pub Outgrows : ℕ → Reply → Type 0
+Outgrows count (Registered spid rows) = count < length rows
+Outgrows count _ = ⊥
+
+-- ---- what happens to a state
+
+-- the answer of storage (29) or memory (30) that fails
+abbrev pub IsWithheld : List ℕ → Type 0
+IsWithheld text = (text ≡ refusal_text 29) ⊎ (text ≡ refusal_text 30)
+
+-- storage or memory fails, and nothing has happened
+abbrev pub Withholds : State → (text : List ℕ) → (after : State) → Type 0
+Withholds st text after = IsWithheld text × (after ≡ st)
+
+-- the message is refused, and nothing has happened
+abbrev pub Refuses : State → MessageFault → (text : List ℕ) → (after : State) → Type 0
+Refuses st fault text after = (text ≡ failure_text (Message fault)) × (after ≡ st)
+
+-- the machine takes the input
+abbrev pub Takes : State → Input → (text : List ℕ) → (after : State) → Type 0
+Takes st input text after = (text ≡ reply_text (out st input)) × (after ≡ next st input)
+
+-- the URI of a telephone number. Until the grammar of telephone URIs is whole, it is `tel:+1` and the number
+pub record HasNumber (uri : List ℕ) (tn : ℕ) : Type 0 where
+  pub valid : IsTn tn
+  pub said : uri ≡ codes "tel:+1" ++ tn_text tn
+
+-- a query: first its caller, then its URI, then its number
+abbrev pub AnswersQuery : State → (caller : ℕ) → (uri : List ℕ) → (text : List ℕ) → Type 0
+AnswersQuery st caller uri text =
+    ((number : ℕ) × (out st (Asks caller Knows) ≡ Refused number) × (text ≡ refusal_text number))
+    ⊎ ((out st (Asks caller Knows) ≡ Known) × ((tn : ℕ) → ¬ (HasNumber uri tn)) × (text ≡ failure_text (Uri BadNumber)))
+    ⊎ ((out st (Asks caller Knows) ≡ Known) × ((tn : ℕ) × HasNumber uri tn × (text ≡ routed_text tn (out st (Asks caller (Query tn))))))
+
+-- what a caller asks is answered, or withheld
+abbrev pub Answers : State → (caller : ℕ) → Asked → (text : List ℕ) → (after : State) → Type 0
+Answers st caller (Orders command) text after = Withholds st text after ⊎ Takes st (Requests caller (Commands command)) text after
+Answers st caller (Confirms id attempt) text after = Withholds st text after ⊎ Takes st (Requests caller (Acknowledges id attempt)) text after
+Answers st caller (Seeks uri) text after = Withholds st text after ⊎ (AnswersQuery st caller uri text × (after ≡ st))
+
+-- ---- messages
+
+-- the body is JSON of the path's form, and asks this
+abbrev pub BodyAsks : Route → (body : List ℕ) → Asked → Type 0
+BodyAsks route body asked = IsSomeAnd (json_of body) (λ d. HasForm route d asked)
+
+-- a body that is of no form is refused; else what it asks is answered
+abbrev pub Calls : State → Route → (caller : ℕ) → (body text : List ℕ) → (after : State) → Type 0
+Calls st route caller body text after =
+    Withholds st text after
+    ⊎ (((asked : Asked) → ¬ (BodyAsks route body asked)) × Refuses st BadRequest text after)
+    ⊎ ((asked : Asked) × BodyAsks route body asked × Answers st caller asked text after)
+
+-- first the path is judged, then the method, then the caller, then the body
+abbrev pub Meets : State → Option Route → (is_post : Bool) → (caller : Option Spid) → (body text : List ℕ) → (after : State) → Type 0
+Meets st None is_post caller body text after = Refuses st NoPath text after
+Meets st (Some route) false caller body text after = Refuses st BadMethod text after
+Meets st (Some route) true None body text after = Refuses st BadRequest text after
+Meets st (Some route) true (Some caller) body text after = Calls st route caller.number body text after
+
+-- the message, whose head says the request, is answered by the text, and st becomes after
+pub record Step (st : State) (request : Request) (body text : List ℕ) (after : State) : Type 0 where
+  pub met : Meets st request.route request.is_post request.caller body text after
+
+-- one answer and one state after it, unless either is withheld
+abbrev pub IsOnce : (text said : List ℕ) → (after later : State) → Type 0
+IsOnce text said after later = IsWithheld text ⊎ IsWithheld said ⊎ ((text ≡ said) × (after ≡ later))
+
+-- but for want of the device or of memory, a message has one answer and one state after it
+abbrev pub StepsOnce : Type 0
+StepsOnce =
+    (st : State) (request : Request) (body text said : List ℕ) (after later : State) →
+    Step st request body text after → Step st request body said later → IsOnce text said after later
+
+-- ---- contents that stand for states
+
+-- whatever state the content stands for, what a caller asks is answered by the text, and the content stands for the state afterwards
+abbrev pub Carries : (old new : Content) → (caller : ℕ) → Asked → (text : List ℕ) → Type 0
+Carries old new caller asked text = (st : State) → Stands old st → (after : State) × Answers st caller asked text after × Stands new after

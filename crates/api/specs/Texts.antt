@@ -1,0 +1,131 @@
+-- The bodies of replies, byte for byte.
+use Rattle.std.specs.Prelude.{ℕ, List, [], ◌∷◌, ◌++◌, codes, decimal, Option, Some, None, option_map, option_and_then}
+use Rattle.std.specs.List.{flat_map}
+use Rattle.numbers.specs.Subjects.{Number}
+use Rattle.numbers.specs.Texts.{code_text, lrn_text, cic_text, spid_text, subject_text}
+use Rattle.numbers.specs.Routings.{Routing}
+use Rattle.meaning.specs.Statuses.{Status, Pending, Conflict, CancelPending, Sending, Active, PartialFailure, Failed, DisconnectPending, Old, Canceled}
+use Rattle.meaning.specs.Reading.{View, InForce, Phase, Initial, Final, Ended}
+use Rattle.meaning.specs.Machine.{Answer, Closed, Opened}
+
+-- ---- the values of members
+
+-- a carrier code between quotes, or null
+abbrev pub cic_value : Option ℕ → List ℕ
+cic_value None = codes "null"
+cic_value (Some cic) = codes "\"" ++ cic_text cic ++ codes "\""
+
+-- a routing number between quotes, or null
+abbrev pub lrn_value : Option ℕ → List ℕ
+lrn_value None = codes "null"
+lrn_value (Some lrn) = codes "\"" ++ lrn_text lrn ++ codes "\""
+
+-- a minute, or null
+abbrev pub minute_value : Option ℕ → List ℕ
+minute_value None = codes "null"
+minute_value (Some minute) = decimal minute
+
+abbrev pub phase_value : Option Phase → List ℕ
+phase_value None = codes "null"
+phase_value (Some Initial) = codes "\"initial\""
+phase_value (Some Final) = codes "\"final\""
+phase_value (Some Ended) = codes "\"ended\""
+
+abbrev pub status_word : Status → List ℕ
+status_word Pending = codes "pending"
+status_word Conflict = codes "conflict"
+status_word (CancelPending by) = codes "cancel-pending"
+status_word (Sending action) = codes "sending"
+status_word Active = codes "active"
+status_word PartialFailure = codes "partial-failure"
+status_word Failed = codes "failed"
+status_word (DisconnectPending release) = codes "disconnect-pending"
+status_word Old = codes "old"
+status_word Canceled = codes "canceled"
+
+-- the parts of a routing, if there is one
+abbrev pub cic_in : Option Routing → Option ℕ
+cic_in routing = option_and_then (λ (r : Routing). r.cic) routing
+
+abbrev pub lrn_in : Option Routing → Option ℕ
+lrn_in routing = option_map (λ (r : Routing). r.lrn) routing
+
+-- ---- a version, whose members stand in the order of their names
+
+-- the members `attempt` to `id`
+abbrev pub counts_text : View → List ℕ
+counts_text v =
+    codes "{\"attempt\":" ++ decimal v.attempt ++ codes ",\"cic\":" ++ cic_value (cic_in v.routing)
+    ++ codes ",\"due\":" ++ decimal v.due ++ codes ",\"id\":" ++ decimal v.id
+
+-- the members `lrn` to `old`
+abbrev pub parties_text : View → List ℕ
+parties_text v =
+    codes ",\"lrn\":" ++ lrn_value (lrn_in v.routing) ++ codes ",\"new\":\"" ++ spid_text v.new_provider
+    ++ codes "\",\"old\":\"" ++ spid_text v.old_provider ++ codes "\""
+
+-- the members `phase` to `since`
+abbrev pub times_text : View → List ℕ
+times_text v =
+    codes ",\"phase\":" ++ phase_value v.phase ++ codes ",\"release\":" ++ minute_value v.release
+    ++ codes ",\"since\":" ++ decimal v.since
+
+-- the members `status` and `subject`
+abbrev pub standing_text : View → List ℕ
+standing_text v = codes ",\"status\":\"" ++ status_word v.status ++ codes "\",\"subject\":\"" ++ subject_text v.subject ++ codes "\"}"
+
+unfoldable pub view_text : View → List ℕ
+view_text v = counts_text v ++ parties_text v ++ times_text v ++ standing_text v
+
+-- ---- the rows in force
+
+abbrev pub row_text : InForce → List ℕ
+row_text r =
+    codes "{\"cic\":" ++ cic_value (cic_in r.routing) ++ codes ",\"lrn\":" ++ lrn_value (lrn_in r.routing)
+    ++ codes ",\"subject\":\"" ++ subject_text r.subject ++ codes "\"}"
+
+-- a row behind another
+abbrev pub next_row_text : InForce → List ℕ
+next_row_text r = codes "," ++ row_text r
+
+abbrev pub rows_text : List InForce → List ℕ
+rows_text [] = []
+rows_text (r ∷ rs) = row_text r ++ flat_map next_row_text rs
+
+-- a registered carrier, and its starting rows
+unfoldable pub registered_text : ℕ → List InForce → List ℕ
+registered_text spid rows = codes "{\"rows\":[" ++ rows_text rows ++ codes "],\"spid\":\"" ++ spid_text spid ++ codes "\"}"
+
+-- ---- what an administrator and a carrier set up
+
+-- a routing number, and whose it is
+unfoldable pub routing_number_text : (lrn spid : ℕ) → List ℕ
+routing_number_text lrn spid = codes "{\"lrn\":\"" ++ lrn_text lrn ++ codes "\",\"spid\":\"" ++ spid_text spid ++ codes "\"}"
+
+-- a code, and its holder
+unfoldable pub opened_code_text : (code spid : ℕ) → List ℕ
+opened_code_text code spid = codes "{\"code\":\"" ++ code_text code ++ codes "\",\"spid\":\"" ++ spid_text spid ++ codes "\"}"
+
+-- ---- a query
+
+-- the carrier code, if there is one
+abbrev pub carrier_code_text : Option ℕ → List ℕ
+carrier_code_text None = []
+carrier_code_text (Some cic) = codes ";cic=+1" ++ cic_text cic
+
+-- the routing number, if there is one
+abbrev pub routed_text : Option ℕ → List ℕ
+routed_text None = []
+routed_text (Some lrn) = codes ";rn=+1" ++ lrn_text lrn
+
+-- a number of an opened code was looked up, and has a routing or none
+abbrev pub routing_text : Option Routing → List ℕ
+routing_text routing = carrier_code_text (cic_in routing) ++ codes ";npdi" ++ routed_text (lrn_in routing)
+
+abbrev pub looked_up_text : Answer → List ℕ
+looked_up_text Closed = []
+looked_up_text (Opened routing) = routing_text routing
+
+-- a number's URI with its routing
+unfoldable pub uri_text : (tn : ℕ) → Answer → List ℕ
+uri_text tn answer = codes "{\"uri\":\"tel:+1" ++ subject_text (Number tn) ++ looked_up_text answer ++ codes "\"}"

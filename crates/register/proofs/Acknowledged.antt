@@ -1,0 +1,496 @@
+-- What an acknowledgement answers and leaves, over contents.
+use Rattle.std.proofs.Common.{◌≡◌, ℕ, Bool, true, false, cond, not, ◌&&◌, List, [], ◌∷◌, ◌++◌, Option, Some, None, refl, ap, sym, ◌∙◌, subst, arith}
+use Rattle.std.specs.Prelude.{◌==◌, find, filter, is_some, option_map, option_and_then, if◌then◌else◌}
+use Rattle.std.specs.FinMap.{get, keys}
+use Rattle.numbers.specs.Subjects.{Subject, Block, subject_eq}
+use Rattle.meaning.specs.Windows.{Windows}
+use Rattle.meaning.specs.Versions.{Version, Record, in_force, is_open, sends_create, is_among, unacknowledged, waiters, version_with, version_in_force, last_version}
+use Rattle.meaning.specs.Changes.{enters, is_empty, acknowledged_by, retired, changed_at, of_id}
+use Rattle.meaning.specs.Statuses.{Old}
+use Rattle.meaning.specs.Laws.{IsQuiet}
+use Rattle.meaning.specs.History.{Acknowledges, effect, after, meaning, donor_of, carriers, made_by}
+use Rattle.meaning.specs.Reading.{State, SubjectVersion, View, record_now, view_of}
+use Rattle.meaning.specs.Refusals.{Requests, refusal}
+use Rattle.meaning.specs.Machine.{IsHistory, Shown, accepted, answer_of}
+use Rattle.meaning.specs.Content.{Content, VersionRow, BroadcastRow, BlockRow, BroadcastKey, ClockRow, SameRows, Shows, Represents, row_of, of_subject, stored_broadcast, stored_wait, broadcast_with}
+use Rattle.meaning.specs.Due.{NothingIsDue}
+use Rattle.meaning.proofs.Ids.{same_id, same_subject}
+use Rattle.meaning.proofs.Entered.{judged-now, given_now, sound_now, found_is, entered-elsewhere, none_elsewhere, none_with}
+use Rattle.meaning.proofs.Shown.{id_found, some_is, own, others}
+use Rattle.meaning.proofs.Represented.{same_rows_show}
+use Rattle.meaning.proofs.Tended.{IsTended, replay-tended, found_tended}
+use Rattle.meaning.proofs.Recipients.{AreKnown, broadcast_known}
+use Rattle.settle.specs.declared.rows.NumberedRow.{NumberedRow}
+use Rattle.settle.specs.Changes.{Changes, IsChanged, AreOfVersion, ArePutsOf, AreKeysOf, put_rows, take_rows, same_broadcast}
+use Rattle.settle.proofs.OneVersion.{untouched_where}
+use Rattle.register.specs.Answers.{Stands}
+use Rattle.register.specs.Acknowledging.{is_sending, is_last_of, answered_row, completed_if, by_row, retired_rows, own_rows, acknowledging, IsEarlier}
+use Rattle.register.proofs.Alone.{Held, held_of, held_row, in_force_read, one_in_force, found_by_id, found_alone, passes}
+use Rattle.register.proofs.OnVersion.{due_lags, acknowledge-names, clock_same, shown_is}
+use Rattle.register.proofs.Sent.{among_keys}
+use Rattle.register.proofs.Queued.{IsAwaited, waiting-awaited, awaited-waiting}
+use Rattle.register.proofs.Answering.{same_truth, same_number, among-filtered, last_is, acknowledged_one, left_without, waiters_are, answered_one, row_was, stored_before, stored_after, waits_after, answered_all, acknowledged_is, other_broadcast, this_broadcast, takes_is, acknowledging-quiet, acknowledged_id, last-same, sends_create-open, never_retired, version_after, others_after}
+
+impossible : {P : Type 0} → true ≡ false → P
+impossible e = cc
+
+and_both : (p q : Bool) → (p && q) ≡ true → (p ≡ true) × (q ≡ true)
+and_both true true e = (refl, refl)
+and_both true false e = cc
+and_both false q e = cc
+
+-- ---- who waits for it
+
+module _ (st : State) (old : Content) (stands : Stands old st) (caller : ℕ) (s : Subject) (minute id attempt : ℕ) (is : IsAwaited st caller s minute id attempt) where
+  abbrev waiting : ℕ → Bool
+  waiting k = is_some (get old.waits (record { carrier = k; minute = minute; id = id; attempt = attempt }))
+
+  -- the wait of any carrier is for this broadcast
+  same_wait-broadcast : (k : ℕ) (t : Subject) → get old.waits (record { carrier = k; minute = minute; id = id; attempt = attempt }) ≡ Some t → is_among k (waiters is.broadcast) ≡ true
+  same_wait-broadcast k t e =
+      let other : IsAwaited st k t minute id attempt = waiting-awaited st old stands k t minute id attempt e in
+      let both : Some (record { subject = t; version = other.version }) ≡ Some (record { subject = s; version = is.version }) =
+      sym (found_is st stands.represents.history t id other.version other.found) ∙ found_is st stands.represents.history s id is.version is.found in
+      let same_version : other.version ≡ is.version = ap (λ (x : SubjectVersion). x.version) (some_is (record { subject = t; version = other.version }) (record { subject = s; version = is.version }) both) in
+      let same_one : other.broadcast ≡ is.broadcast = some_is other.broadcast is.broadcast (sym other.sent ∙ ap (λ (x : Version). find (λ b. b.attempt == attempt) x.broadcasts) same_version ∙ is.sent) in
+      ap (λ x. is_among k (waiters x)) (sym same_one) ∙ other.waits
+
+  waiting_are : (k : ℕ) → is_among k (filter waiting (keys old.carriers)) ≡ is_among k (unacknowledged is.broadcast)
+  waiting_are k = among-filtered waiting k (keys old.carriers) ∙ same_truth (is_among k (keys old.carriers) && waiting k) (is_among k (unacknowledged is.broadcast)) there back
+    where
+      some : (o : Option Subject) → get old.waits (record { carrier = k; minute = minute; id = id; attempt = attempt }) ≡ o → is_some o ≡ true → is_among k (unacknowledged is.broadcast) ≡ true
+      some None e f = cc
+      some (Some t) e f = ap (is_among k) (sym (waiters_are caller is.broadcast is.waits)) ∙ same_wait-broadcast k t e
+
+      there : (is_among k (keys old.carriers) && waiting k) ≡ true → is_among k (unacknowledged is.broadcast) ≡ true
+      there e = some (get old.waits (record { carrier = k; minute = minute; id = id; attempt = attempt })) refl (and_both (is_among k (keys old.carriers)) (waiting k) e).1
+
+      stored : broadcast_with id attempt (record_now st s) ≡ Some is.broadcast
+      stored = ap (option_and_then (λ (v : Version). find (λ b. b.attempt == attempt) v.broadcasts)) is.found ∙ is.sent
+
+      back : is_among k (unacknowledged is.broadcast) ≡ true → (is_among k (keys old.carriers) && waiting k) ≡ true
+      back e =
+          let recipient : is_among k is.broadcast.recipients ≡ true =
+          (and_both (is_among k is.broadcast.recipients) (not (is_among k is.broadcast.acknowledged)) (sym (among-filtered (λ d. not (is_among d is.broadcast.acknowledged)) k is.broadcast.recipients) ∙ e)).0 in
+          let known : AreKnown (carriers st.history) is.broadcast = broadcast_known st stands.represents.history s id attempt is.broadcast stored in
+          let carrier : is_among k (keys old.carriers) ≡ true = among_keys old.carriers k ∙ stands.represents.carriers k ∙ known.recipients k recipient in
+          let awaited : IsAwaited st k s minute id attempt =
+          record { version = is.version; broadcast = is.broadcast; found = is.found; sent = is.sent; sent_at = is.sent_at; waits = ap (is_among k) (waiters_are caller is.broadcast is.waits) ∙ e } in
+          ap (λ b. b && waiting k) carrier ∙ ap is_some (awaited-waiting st old stands k s minute id attempt awaited)
+
+  pub last_left : is_last_of old caller minute id attempt ≡ is_empty (unacknowledged (acknowledged_one caller is.broadcast))
+  last_left = last_is caller (filter waiting (keys old.carriers)) (unacknowledged (acknowledged_one caller is.broadcast))
+      (λ k. left_without caller is.broadcast k ∙ ap (λ b. b && not (caller == k)) (sym (waiting_are k)))
+
+  -- its row
+  pub broadcast_read : (row : BroadcastRow) → get old.broadcasts (record { id = id; attempt = attempt }) ≡ Some row → row ≡ row_was caller is.broadcast is.waits s
+  broadcast_read row found = of_it (subject_eq row.subject s) (ap (of_subject s (λ (x : BroadcastRow). x.subject)) (sym found) ∙ (stands.due.shows s).broadcasts id attempt
+      ∙ ap (λ o. option_and_then (stored_broadcast s) (option_and_then (λ (v : Version). find (λ b. b.attempt == attempt) v.broadcasts) o)) is.found
+      ∙ ap (option_and_then (stored_broadcast s)) is.sent ∙ stored_before caller is.broadcast is.waits s)
+    where
+      of_it : (b : Bool) → (if b then Some row else None) ≡ Some (row_was caller is.broadcast is.waits s) → row ≡ row_was caller is.broadcast is.waits s
+      of_it true e = some_is row (row_was caller is.broadcast is.waits s) e
+      of_it false e = let no : None ≡ Some (row_was caller is.broadcast is.waits s) = e in cc
+
+-- ---- the record of the subject
+
+abbrev record_after : (st : State) (caller id attempt : ℕ) (s : Subject) → Record
+record_after st caller id attempt s = record { carriers = (record_now st s).carriers; versions = changed_at st.now (of_id id (acknowledged_by caller attempt st.now)) (record_now st s).versions }
+
+acknowledged-record : (st : State) (caller id attempt : ℕ) (s : Subject) → record_now (accepted st (Requests caller (Acknowledges id attempt))) s ≡ record_after st caller id attempt s
+unfolding meaning after effect
+acknowledged-record st caller id attempt s =
+    judged-now st.windows st.now (effect s None (donor_of 0 st.history) (record { minute = st.now; caller = caller; request = Acknowledges id attempt }) (record_now st s))
+
+-- ---- rows put
+
+abbrev pub puts_of : Windows → (now : ℕ) → Subject → Option Version → List (ℕ × VersionRow)
+puts_of w now s None = []
+puts_of w now s (Some u) = (u.id, row_of w s (enters Old now u)) ∷ []
+
+abbrev pub the_replaced : Bool → Record → Option Version
+the_replaced takes_over r = if takes_over then version_in_force r else None
+
+abbrev held_puts : Windows → (now : ℕ) → Option Held → List (ℕ × VersionRow)
+held_puts w now None = []
+held_puts w now (Some h) = (h.id, row_of w h.row.subject (enters Old now (by_row h.row))) ∷ []
+
+pub retired_read : (st : State) (old : Content) (stands : Stands old st) (s : Subject) (takes_over : Bool) (earlier : Option NumberedRow) → IsEarlier takes_over old s earlier →
+    retired_rows st.windows st.now earlier ≡ puts_of st.windows st.now s (the_replaced takes_over (record_now st s))
+retired_read st old stands s false earlier is = ap (retired_rows st.windows st.now) is
+retired_read st old stands s true earlier is =
+    by_code earlier ∙ ap (held_puts st.windows st.now) (in_force_read st old stands s earlier is) ∙ by_record (version_in_force (record_now st s))
+  where
+    by_code : (o : Option NumberedRow) → retired_rows st.windows st.now o ≡ held_puts st.windows st.now (option_map held_row o)
+    by_code None = refl
+    by_code (Some n) = refl
+
+    by_record : (o : Option Version) → held_puts st.windows st.now (option_map (held_of st s) o) ≡ puts_of st.windows st.now s o
+    by_record None = refl
+    by_record (Some u) = refl
+
+-- one's own row, last
+own_put : (w : Windows) (now : ℕ) (s : Subject) (id k : ℕ) (row : VersionRow) (x : Bool) (o : Option Version) (before : Option VersionRow) → row.subject ≡ s → (id == k) ≡ true →
+    (x ≡ false → o ≡ None) → (x ≡ false → of_subject s (λ (r : VersionRow). r.subject) before ≡ Some row) →
+    of_subject s (λ (r : VersionRow). r.subject) (put_rows ◌==◌ (puts_of w now s o ++ own_rows x id row) k before) ≡ Some row
+own_put w now s id k row true None before of_s here none was = ap (λ b. of_subject s (λ (r : VersionRow). r.subject) (if b then Some row else before)) here ∙ own s (λ (r : VersionRow). r.subject) row of_s
+own_put w now s id k row true (Some u) before of_s here none was =
+    ap (λ b. of_subject s (λ (r : VersionRow). r.subject) (if b then Some row else (if u.id == k then Some (row_of w s (enters Old now u)) else before))) here ∙ own s (λ (r : VersionRow). r.subject) row of_s
+own_put w now s id k row false None before of_s here none was = was refl
+own_put w now s id k row false (Some u) before of_s here none was = let no : Some u ≡ None = none refl in cc
+
+not_put : (w : Windows) (now : ℕ) (s : Subject) (id k : ℕ) (row : VersionRow) (x : Bool) (o : Option Version) (before : Option VersionRow) → (id == k) ≡ false →
+    put_rows ◌==◌ (puts_of w now s o ++ own_rows x id row) k before ≡ put_rows ◌==◌ (puts_of w now s o) k before
+not_put w now s id k row true None before apart = ap (λ b. if b then Some row else before) apart
+not_put w now s id k row true (Some u) before apart = ap (λ b. if b then Some row else (if u.id == k then Some (row_of w s (enters Old now u)) else before)) apart
+not_put w now s id k row false None before apart = refl
+not_put w now s id k row false (Some u) before apart = refl
+
+-- rows of another subject stay
+put_apart : (s t : Subject) (p : ℕ × VersionRow) (k : ℕ) (was now_there : Option VersionRow) → p.1.subject ≡ s → subject_eq s t ≡ false →
+    ((p.0 == k) ≡ true → of_subject t (λ (r : VersionRow). r.subject) was ≡ None) → of_subject t (λ (r : VersionRow). r.subject) now_there ≡ of_subject t (λ (r : VersionRow). r.subject) was →
+    of_subject t (λ (r : VersionRow). r.subject) (if p.0 == k then Some p.1 else now_there) ≡ of_subject t (λ (r : VersionRow). r.subject) was
+put_apart s t p k was now_there of_s apart gone same = go (p.0 == k) refl
+  where
+    go : (b : Bool) → (p.0 == k) ≡ b → of_subject t (λ (r : VersionRow). r.subject) (if b then Some p.1 else now_there) ≡ of_subject t (λ (r : VersionRow). r.subject) was
+    go true e = others s t (λ (r : VersionRow). r.subject) p.1 of_s apart ∙ sym (gone e)
+    go false e = same
+
+-- ---- which versions become old
+
+none_passes : (test by : Version → Bool) (vs : List Version) (x : Version) → find test vs ≡ None → find by vs ≡ Some x → test x ≡ false
+none_passes test by [] x none found = cc
+none_passes test by (v ∷ vs) x none found = go (λ e f. none_passes test by vs x e f) (test v) refl none (by v) found
+  where
+    go : (find test vs ≡ None → find by vs ≡ Some x → test x ≡ false) → (b : Bool) → test v ≡ b → cond b (Some v) (find test vs) ≡ None → (d : Bool) → cond d (Some v) (find by vs) ≡ Some x → test x ≡ false
+    go later true e f d g = cc
+    go later false e f true g = ap test (sym (some_is v x g)) ∙ e
+    go later false e f false g = later f g
+
+module _ (st : State) (old : Content) (stands : Stands old st) (s : Subject) where
+  abbrev r : Record
+  r = record_now st s
+
+  force_by_id : (u : Version) → version_in_force r ≡ Some u → version_with u.id r ≡ Some u
+  force_by_id u found = found_by_id in_force (made_by st.windows st.history) s r.versions u (given_now st stands.represents.history s) found
+
+  -- the rows of the versions that were in force
+  retired_shows : (takes_over : Bool) (k : ℕ) → of_subject s (λ (x : VersionRow). x.subject) (put_rows ◌==◌ (puts_of st.windows st.now s (the_replaced takes_over r)) k (get old.versions k))
+      ≡ option_map (row_of st.windows s) (option_map (retired takes_over st.now) (version_with k r))
+  retired_shows false k = (stands.due.shows s).versions k ∙ ap (option_map (row_of st.windows s)) (sym (never_retired st.now (version_with k r)))
+  retired_shows true k = go (version_in_force r) refl
+    where
+      unmoved : ((x : Version) → version_with k r ≡ Some x → in_force x ≡ false) → (o : Option Version) → version_with k r ≡ o → option_map (retired true st.now) o ≡ o
+      unmoved none None e = refl
+      unmoved none (Some x) e = ap (λ b. Some (if b then enters Old st.now x else x)) (none x e)
+
+      stay : ((x : Version) → version_with k r ≡ Some x → in_force x ≡ false) → of_subject s (λ (x : VersionRow). x.subject) (get old.versions k) ≡ option_map (row_of st.windows s) (option_map (retired true st.now) (version_with k r))
+      stay none = (stands.due.shows s).versions k ∙ ap (option_map (row_of st.windows s)) (sym (unmoved none (version_with k r) refl))
+
+      alone : (u : Version) → version_in_force r ≡ Some u → (u.id == k) ≡ false → (x : Version) → version_with k r ≡ Some x → (b : Bool) → in_force x ≡ b → b ≡ false
+      alone u found apart x there false e = refl
+      alone u found apart x there true e =
+          let same : x ≡ u = some_is x u (sym (found_alone in_force k r.versions x there e (one_in_force st old stands s)) ∙ found) in
+          impossible (sym (ap (λ (y : Version). y.id == k) (sym same) ∙ ap (λ n. n == k) (id_found k r.versions x there) ∙ same_number k) ∙ apart)
+
+      at : (u : Version) → version_in_force r ≡ Some u → (b : Bool) → (u.id == k) ≡ b →
+          of_subject s (λ (x : VersionRow). x.subject) (if b then Some (row_of st.windows s (enters Old st.now u)) else get old.versions k) ≡ option_map (row_of st.windows s) (option_map (retired true st.now) (version_with k r))
+      at u found true e =
+          own s (λ (x : VersionRow). x.subject) (row_of st.windows s (enters Old st.now u)) refl
+          ∙ sym (ap (λ o. option_map (row_of st.windows s) (option_map (retired true st.now) o)) (ap (λ n. version_with n r) (sym (same_id u.id k e)) ∙ force_by_id u found)
+          ∙ ap (λ b. Some (row_of st.windows s (if b then enters Old st.now u else u))) (passes in_force r.versions u found))
+      at u found false e = stay (λ x there. alone u found e x there (in_force x) refl)
+
+      go : (o : Option Version) → version_in_force r ≡ o → of_subject s (λ (x : VersionRow). x.subject) (put_rows ◌==◌ (puts_of st.windows st.now s o) k (get old.versions k))
+          ≡ option_map (row_of st.windows s) (option_map (retired true st.now) (version_with k r))
+      go None e = stay (λ x there. none_passes in_force (λ (y : Version). y.id == k) r.versions x e there)
+      go (Some u) e = at u e (u.id == k) refl
+
+  -- rows of other subjects
+  puts_apart : (takes_over : Bool) (id : ℕ) (row : VersionRow) (x : Bool) → row.subject ≡ s → (t : Subject) → subject_eq s t ≡ false → version_with id (record_now st t) ≡ None → (k : ℕ) →
+      of_subject t (λ (y : VersionRow). y.subject) (put_rows ◌==◌ (puts_of st.windows st.now s (the_replaced takes_over r) ++ own_rows x id row) k (get old.versions k)) ≡ of_subject t (λ (y : VersionRow). y.subject) (get old.versions k)
+  puts_apart takes_over id row x of_s t apart free k = all takes_over
+    where
+      gone : (j : ℕ) → version_with j (record_now st t) ≡ None → (j == k) ≡ true → of_subject t (λ (y : VersionRow). y.subject) (get old.versions k) ≡ None
+      gone j none e = (stands.due.shows t).versions k ∙ ap (option_map (row_of st.windows t)) (ap (λ n. version_with n (record_now st t)) (sym (same_id j k e)) ∙ none)
+
+      own_last : (y : Bool) (there : Option VersionRow) → of_subject t (λ (z : VersionRow). z.subject) there ≡ of_subject t (λ (z : VersionRow). z.subject) (get old.versions k) →
+          of_subject t (λ (z : VersionRow). z.subject) (put_rows ◌==◌ (own_rows y id row) k there) ≡ of_subject t (λ (z : VersionRow). z.subject) (get old.versions k)
+      own_last true there same = put_apart s t (id, row) k (get old.versions k) there of_s apart (gone id free) same
+      own_last false there same = same
+
+      replaced : (o : Option Version) → version_in_force r ≡ o →
+          of_subject t (λ (y : VersionRow). y.subject) (put_rows ◌==◌ (puts_of st.windows st.now s o ++ own_rows x id row) k (get old.versions k)) ≡ of_subject t (λ (y : VersionRow). y.subject) (get old.versions k)
+      replaced None e = own_last x (get old.versions k) refl
+      replaced (Some u) e = own_last x (if u.id == k then Some (row_of st.windows s (enters Old st.now u)) else get old.versions k)
+          (put_apart s t (u.id, row_of st.windows s (enters Old st.now u)) k (get old.versions k) (get old.versions k) refl apart
+          (gone u.id (none_elsewhere st stands.represents.history s t u.id u (force_by_id u e) apart)) refl)
+
+      all : (b : Bool) → of_subject t (λ (y : VersionRow). y.subject) (put_rows ◌==◌ (puts_of st.windows st.now s (the_replaced b r) ++ own_rows x id row) k (get old.versions k)) ≡ of_subject t (λ (y : VersionRow). y.subject) (get old.versions k)
+      all true = replaced (version_in_force r) refl
+      all false = own_last x (get old.versions k) refl
+
+-- ---- other tables
+
+taken_hit : (s : Subject) (key here : BroadcastKey) (row : BroadcastRow) (before : Option BroadcastRow) (gone : Bool) → row.subject ≡ s → same_broadcast key here ≡ true →
+    of_subject s (λ (x : BroadcastRow). x.subject) (take_rows same_broadcast (if gone then key ∷ [] else []) here (put_rows same_broadcast (if gone then [] else (key, row) ∷ []) here before))
+    ≡ (if gone then None else Some row)
+taken_hit s key here row before true of_s e = ap (λ b. of_subject s (λ (x : BroadcastRow). x.subject) (if b then None else before)) e
+taken_hit s key here row before false of_s e = ap (λ b. of_subject s (λ (x : BroadcastRow). x.subject) (if b then Some row else before)) e ∙ own s (λ (x : BroadcastRow). x.subject) row of_s
+
+taken_miss : (key here : BroadcastKey) (row : BroadcastRow) (before : Option BroadcastRow) (gone : Bool) → same_broadcast key here ≡ false →
+    take_rows same_broadcast (if gone then key ∷ [] else []) here (put_rows same_broadcast (if gone then [] else (key, row) ∷ []) here before) ≡ before
+taken_miss key here row before true e = ap (λ b. if b then None else before) e
+taken_miss key here row before false e = ap (λ b. if b then Some row else before) e
+
+-- all but the versions' rows are of the one version
+one_version : (caller minute id attempt : ℕ) (last : Bool) (s : Subject) (row : BroadcastRow) → row.subject ≡ s → AreOfVersion id s (acknowledging caller minute id attempt last [] row)
+one_version caller minute id attempt last s row of_s = record {
+  carrier = refl;
+  lrn = refl;
+  code = refl;
+  block = refl;
+  versions = tt;
+  broadcasts = put (last && not row.is_open);
+  waits = tt;
+  taken_broadcasts = taken (last && not row.is_open);
+  taken_waits = (refl, tt);
+}
+  where
+    put : (b : Bool) → ArePutsOf (λ (k : BroadcastKey). k.id) (λ (x : BroadcastRow). x.subject) id s (if b then [] else (record { id = id; attempt = attempt }, row) ∷ [])
+    put true = tt
+    put false = (refl, of_s, tt)
+
+    taken : (b : Bool) → AreKeysOf (λ (k : BroadcastKey). k.id) id (if b then record { id = id; attempt = attempt } ∷ [] else [])
+    taken true = (refl, tt)
+    taken false = tt
+
+-- ---- an acknowledgement
+
+module _ (st : State) (old new : Content) (stands : Stands old st) (caller : ℕ) (s : Subject) (minute id attempt : ℕ) (is : IsAwaited st caller s minute id attempt) (last : Bool)
+    (last_one : last ≡ is_last_of old caller minute id attempt) where
+  abbrev the_version : Version
+  the_version = is.version
+
+  abbrev change : Version → Version
+  change = acknowledged_by caller attempt st.now
+
+  tended : IsTended (record_now st s).carriers is.version
+  tended = found_tended (record_now st s).carriers (λ (u : Version). u.id == id) (record_now st s).versions is.version (replay-tended st.windows st.history st.now stands.represents.history s st.now) is.found
+
+  is_left : last ≡ is_empty (unacknowledged (acknowledged_one caller is.broadcast))
+  is_left = last_one ∙ last_left st old stands caller s minute id attempt is
+
+  abbrev completes : Bool
+  completes = last && (is.version.attempt == attempt)
+
+  abbrev closes : Bool
+  closes = completes && is_sending is.version.status
+
+  abbrev takes_over : Bool
+  takes_over = completes && sends_create is.version.status
+
+  abbrev finished : Version
+  finished = completed_if completes st.now (answered_all caller attempt st.now is.version)
+
+  pub change_is : change is.version ≡ finished
+  change_is = acknowledged_is caller attempt st.now is.version (record_now st s).carriers is.broadcast tended is.sent last is_left
+
+  takes_over_is : (not (in_force is.version) && in_force (change is.version)) ≡ takes_over
+  takes_over_is = takes_is caller attempt st.now is.version (record_now st s).carriers is.broadcast tended is.sent last is_left
+
+  opens : (not (in_force is.version) && in_force (change is.version)) ≡ true → is_open s is.version ≡ true
+  opens e = sends_create-open s is.version (and_both completes (sends_create is.version.status) (sym takes_over_is ∙ e)).1
+
+  hit : version_with id (record_after st caller id attempt s) ≡ Some (change is.version)
+  hit = version_after (made_by st.windows st.history) s st.now id change (acknowledged_id caller attempt st.now) (record_now st s).versions is.version
+      (given_now st stands.represents.history s) (sound_now st stands.represents.history s) is.found opens
+
+  miss : (k : ℕ) → (id == k) ≡ false → version_with k (record_after st caller id attempt s) ≡ option_map (retired takes_over st.now) (version_with k (record_now st s))
+  miss k apart = others_after (made_by st.windows st.history) s st.now id change (acknowledged_id caller attempt st.now) (record_now st s).versions is.version
+      (given_now st stands.represents.history s) (sound_now st stands.represents.history s) is.found opens k apart
+      ∙ ap (λ b. option_map (retired b st.now) (version_with k (record_now st s))) takes_over_is
+
+  abbrev the_row : BroadcastRow
+  the_row = answered_row closes (row_was caller is.broadcast is.waits s)
+
+  abbrev the_changes : List (ℕ × VersionRow) → Changes
+  the_changes versions = acknowledging caller minute id attempt last versions the_row
+
+  abbrev the_puts : List (ℕ × VersionRow)
+  the_puts = puts_of st.windows st.now s (the_replaced takes_over (record_now st s)) ++ own_rows completes id (row_of st.windows s finished)
+
+  module _ (changed : IsChanged (the_changes the_puts) old new) where
+    version_at : (k : ℕ) (b : Bool) → (id == k) ≡ b → of_subject s (λ (x : VersionRow). x.subject) (get new.versions k) ≡ option_map (row_of st.windows s) (version_with k (record_after st caller id attempt s))
+    version_at k true e =
+        ap (of_subject s (λ (x : VersionRow). x.subject)) (changed.versions k)
+        ∙ own_put st.windows st.now s id k (row_of st.windows s finished) completes (the_replaced takes_over (record_now st s)) (get old.versions k) refl e none was
+        ∙ ap (λ x. Some (row_of st.windows s x)) (sym change_is)
+        ∙ sym (ap (option_map (row_of st.windows s)) (ap (λ n. version_with n (record_after st caller id attempt s)) (sym (same_id id k e)) ∙ hit))
+      where
+        none : completes ≡ false → the_replaced takes_over (record_now st s) ≡ None
+        none f = ap (λ b. the_replaced (b && sends_create is.version.status) (record_now st s)) f
+
+        was : completes ≡ false → of_subject s (λ (x : VersionRow). x.subject) (get old.versions k) ≡ Some (row_of st.windows s finished)
+        was f = (stands.due.shows s).versions k ∙ ap (option_map (row_of st.windows s)) (ap (λ n. version_with n (record_now st s)) (sym (same_id id k e)) ∙ is.found)
+            ∙ sym (ap (λ b. Some (row_of st.windows s (completed_if b st.now (answered_all caller attempt st.now is.version)))) f)
+    version_at k false e =
+        ap (of_subject s (λ (x : VersionRow). x.subject)) (changed.versions k)
+        ∙ ap (of_subject s (λ (x : VersionRow). x.subject)) (not_put st.windows st.now s id k (row_of st.windows s finished) completes (the_replaced takes_over (record_now st s)) (get old.versions k) e)
+        ∙ retired_shows st old stands s takes_over k
+        ∙ sym (ap (option_map (row_of st.windows s)) (miss k e))
+
+    -- a version that becomes old keeps its broadcasts
+    retired_broadcasts : (b : Bool) (a : ℕ) (o : Option Version) → option_and_then (λ (v : Version). find (λ x. x.attempt == a) v.broadcasts) (option_map (retired b st.now) o) ≡ option_and_then (λ (v : Version). find (λ x. x.attempt == a) v.broadcasts) o
+    retired_broadcasts b a None = refl
+    retired_broadcasts b a (Some v) = go (b && in_force v)
+      where
+        go : (x : Bool) → find (λ y. y.attempt == a) (if x then enters Old st.now v else v).broadcasts ≡ find (λ y. y.attempt == a) v.broadcasts
+        go true = refl
+        go false = refl
+
+    -- all broadcasts but the one are the same
+    same_elsewhere : (k a : ℕ) (x : Bool) → (id == k) ≡ x → (x && (attempt == a)) ≡ false → broadcast_with k a (record_after st caller id attempt s) ≡ broadcast_with k a (record_now st s)
+    same_elsewhere k a false e apart = ap (option_and_then (λ (v : Version). find (λ x. x.attempt == a) v.broadcasts)) (miss k e) ∙ retired_broadcasts takes_over a (version_with k (record_now st s))
+    same_elsewhere k a true e apart =
+        ap (λ n. broadcast_with n a (record_after st caller id attempt s)) (sym (same_id id k e))
+        ∙ ap (option_and_then (λ (v : Version). find (λ x. x.attempt == a) v.broadcasts)) hit
+        ∙ other_broadcast caller attempt st.now is.version (record_now st s).carriers is.broadcast tended is.sent last is_left a apart
+        ∙ sym (ap (option_and_then (λ (v : Version). find (λ x. x.attempt == a) v.broadcasts)) is.found)
+        ∙ ap (λ n. broadcast_with n a (record_now st s)) (same_id id k e)
+
+    this_after : broadcast_with id attempt (record_after st caller id attempt s) ≡ Some (answered_one caller is.broadcast is.waits closes)
+    this_after = ap (option_and_then (λ (v : Version). find (λ x. x.attempt == attempt) v.broadcasts)) hit
+        ∙ this_broadcast caller attempt st.now is.version (record_now st s).carriers is.broadcast tended is.sent last is_left is.waits
+
+    at_key : (k a : ℕ) → ((id == k) && (attempt == a)) ≡ true → (record_now_or : Record) → broadcast_with k a record_now_or ≡ broadcast_with id attempt record_now_or
+    at_key k a e x =
+        let parts = and_both (id == k) (attempt == a) e in
+        ap (λ n. broadcast_with n a x) (sym (same_id id k parts.0)) ∙ ap (λ n. broadcast_with id n x) (sym (same_id attempt a parts.1))
+
+    broadcast_at : (k a : ℕ) (x : Bool) → ((id == k) && (attempt == a)) ≡ x → of_subject s (λ (y : BroadcastRow). y.subject) (get new.broadcasts (record { id = k; attempt = a }))
+        ≡ option_and_then (stored_broadcast s) (broadcast_with k a (record_after st caller id attempt s))
+    broadcast_at k a true e =
+        ap (of_subject s (λ (y : BroadcastRow). y.subject)) (changed.broadcasts (record { id = k; attempt = a }))
+        ∙ taken_hit s (record { id = id; attempt = attempt }) (record { id = k; attempt = a }) the_row (get old.broadcasts (record { id = k; attempt = a })) (last && not the_row.is_open) refl e
+        ∙ sym (stored_after caller is.broadcast is.waits s last closes is_left)
+        ∙ sym (ap (option_and_then (stored_broadcast s)) (at_key k a e (record_after st caller id attempt s) ∙ this_after))
+    broadcast_at k a false e =
+        ap (of_subject s (λ (y : BroadcastRow). y.subject)) (changed.broadcasts (record { id = k; attempt = a })
+        ∙ taken_miss (record { id = id; attempt = attempt }) (record { id = k; attempt = a }) the_row (get old.broadcasts (record { id = k; attempt = a })) (last && not the_row.is_open) e)
+        ∙ (stands.due.shows s).broadcasts k a
+        ∙ sym (ap (option_and_then (stored_broadcast s)) (same_elsewhere k a (id == k) refl e))
+
+    wait_at : (c m k a : ℕ) (x : Bool) → ((id == k) && (attempt == a)) ≡ x → of_subject s (λ t. t) (get new.waits (record { carrier = c; minute = m; id = k; attempt = a }))
+        ≡ option_and_then (stored_wait s c m) (broadcast_with k a (record_after st caller id attempt s))
+    wait_at c m k a true e =
+        ap (of_subject s (λ t. t)) (changed.waits (record { carrier = c; minute = m; id = k; attempt = a }))
+        ∙ joined (caller == c) (minute == m) (id == k) (attempt == a) (get old.waits (record { carrier = c; minute = m; id = k; attempt = a })) e
+        ∙ ap (λ o. if (caller == c) && (minute == m) then None else o) was
+        ∙ ap (λ n. if (caller == c) && (n == m) then None else stored_wait s c m is.broadcast) (sym is.sent_at)
+        ∙ sym (waits_after caller is.broadcast is.waits s c m closes)
+        ∙ sym (ap (option_and_then (stored_wait s c m)) (at_key k a e (record_after st caller id attempt s) ∙ this_after))
+      where
+        joined : (p q y z : Bool) (o : Option Subject) → (y && z) ≡ true → of_subject s (λ t. t) (if ((p && q) && y) && z then None else o) ≡ (if p && q then None else of_subject s (λ t. t) o)
+        joined true true true true o f = refl
+        joined true false true true o f = refl
+        joined false q true true o f = refl
+        joined p q true false o f = cc
+        joined p q false z o f = cc
+
+        was : of_subject s (λ t. t) (get old.waits (record { carrier = c; minute = m; id = k; attempt = a })) ≡ stored_wait s c m is.broadcast
+        was = (stands.due.shows s).waits c m k a ∙ ap (option_and_then (stored_wait s c m)) (at_key k a e (record_now st s)
+            ∙ ap (option_and_then (λ (v : Version). find (λ x. x.attempt == attempt) v.broadcasts)) is.found ∙ is.sent)
+    wait_at c m k a false e =
+        ap (of_subject s (λ t. t)) (changed.waits (record { carrier = c; minute = m; id = k; attempt = a }) ∙ off ((caller == c) && (minute == m)) (id == k) (attempt == a) (get old.waits (record { carrier = c; minute = m; id = k; attempt = a })) e)
+        ∙ (stands.due.shows s).waits c m k a
+        ∙ sym (ap (option_and_then (stored_wait s c m)) (same_elsewhere k a (id == k) refl e))
+      where
+        off : (p y z : Bool) (o : Option Subject) → (y && z) ≡ false → (if (p && y) && z then None else o) ≡ o
+        off true true true o f = cc
+        off true true false o f = refl
+        off true false z o f = refl
+        off false y z o f = refl
+
+    own_shows : Shows st.windows new s (record_after st caller id attempt s)
+    own_shows = record {
+      versions = λ k. version_at k (id == k) refl;
+      broadcasts = λ k a. broadcast_at k a ((id == k) && (attempt == a)) refl;
+      waits = λ c m k a. wait_at c m k a ((id == k) && (attempt == a)) refl;
+    }
+
+    -- ---- other subjects
+
+    other_rows : (t : Subject) → subject_eq s t ≡ false → SameRows t old new
+    other_rows t apart =
+        let free : version_with id (record_now st t) ≡ None = none_elsewhere st stands.represents.history s t id is.version is.found apart in
+        let middle : Content = record new { versions = old.versions } in
+        let changed_rest : IsChanged (the_changes []) old middle = record {
+          carriers = changed.carriers;
+          lrns = changed.lrns;
+          codes = changed.codes;
+          blocks = changed.blocks;
+          versions = λ k. refl;
+          broadcasts = changed.broadcasts;
+          waits = changed.waits;
+          clock = changed.clock;
+        } in
+        let rest : SameRows t old middle = untouched_where st old middle (the_changes []) s id stands.due (one_version caller minute id attempt last s the_row refl) changed_rest t apart free in
+        record {
+          versions = λ k. ap (of_subject t (λ (x : VersionRow). x.subject)) (changed.versions k) ∙ puts_apart st old stands s takes_over id (row_of st.windows s finished) completes refl t apart free k;
+          broadcasts = rest.broadcasts;
+          waits = rest.waits;
+        }
+
+    module _ (none : refusal st (Requests caller (Acknowledges id attempt)) ≡ None) (clock : ClockRow) (clock_is : old.clock ≡ Some clock) where
+      abbrev after_it : State
+      after_it = accepted st (Requests caller (Acknowledges id attempt))
+
+      history_after : IsHistory st.windows after_it.history st.now
+      history_after = (omega arith, tt, none, stands.represents.history)
+
+      elsewhere : (t : Subject) → subject_eq s t ≡ false → record_now after_it t ≡ record_now st t
+      elsewhere t apart = entered-elsewhere st caller (Acknowledges id attempt) t refl
+          (none_with id (record_now st t).versions (none_elsewhere st stands.represents.history s t id is.version is.found apart))
+
+      last_id : (b : ℕ) (x : Bool) → subject_eq s (Block b) ≡ x → option_map (λ (v : Version). v.id) (last_version (record_now after_it (Block b))) ≡ option_map (λ (v : Version). v.id) (last_version (record_now st (Block b)))
+      last_id b false e = ap (λ (x : Record). option_map (λ (u : Version). u.id) (last_version x)) (elsewhere (Block b) e)
+      last_id b true e = subst (λ t. option_map (λ (x : Version). x.id) (last_version (record_now after_it t)) ≡ option_map (λ (x : Version). x.id) (last_version (record_now st t))) (sym (same_subject s (Block b) e))
+          (ap (λ (x : Record). option_map (λ (u : Version). u.id) (last_version x)) (acknowledged-record st caller id attempt s)
+          ∙ last-same st.now id change (acknowledged_id caller attempt st.now) (record_now st s).versions)
+
+      shows_at : (t : Subject) (b : Bool) → subject_eq s t ≡ b → Shows st.windows new t (record_now after_it t)
+      shows_at t false e = subst (Shows st.windows new t) (sym (elsewhere t e)) (same_rows_show st.windows t old new (record_now st t) (other_rows t e) (stands.due.shows t))
+      shows_at t true e = subst (λ u. Shows st.windows new u (record_now after_it u)) (sym (same_subject s t e)) (subst (Shows st.windows new s) (sym (acknowledged-record st caller id attempt s)) own_shows)
+
+      quiet_at : (t : Subject) (b : Bool) → subject_eq s t ≡ b → IsQuiet st.windows st.now (record_now after_it t).versions
+      quiet_at t false e = subst (λ (x : Record). IsQuiet st.windows st.now x.versions) (sym (elsewhere t e)) (stands.due.quiet t)
+      quiet_at t true e = subst (λ u. IsQuiet st.windows st.now (record_now after_it u).versions) (sym (same_subject s t e))
+          (subst (λ (x : Record). IsQuiet st.windows st.now x.versions) (sym (acknowledged-record st caller id attempt s))
+          (acknowledging-quiet st.windows st.now caller id attempt (record_now st s).versions (stands.due.quiet s)))
+
+      due_after : NothingIsDue new after_it
+      due_after = record { shows = λ t. shows_at t (subject_eq s t) refl; quiet = λ t. quiet_at t (subject_eq s t) refl }
+
+      represents_after : Represents new after_it
+      represents_after = record {
+        windows = stands.represents.windows;
+        early = stands.represents.early;
+        history = history_after;
+        clock = clock_same st caller (Acknowledges id attempt) s id is.version (acknowledge-names id attempt) stands.represents.history is.found old new changed.clock clock clock_is stands.represents.clock;
+        carriers = λ k. ap is_some (changed.carriers k) ∙ stands.represents.carriers k;
+        lrns = λ k. changed.lrns k ∙ stands.represents.lrns k;
+        codes = λ k. changed.codes k ∙ stands.represents.codes k;
+        blocks = λ b. changed.blocks b ∙ stands.represents.blocks b
+            ∙ sym (ap (λ o. option_map (λ donor. let row : BlockRow = record { donor = donor; last = o } in row) (donor_of b st.history)) (last_id b (subject_eq s (Block b)) refl));
+        subjects = due_lags new after_it history_after due_after;
+      }
+
+      pub acknowledged-stands : Stands new after_it
+      acknowledged-stands = record { represents = represents_after; due = due_after }
+
+      pub acknowledged-answer : (view : View) → view ≡ view_of after_it (record { subject = s; version = finished }) → Shown (Some view) ≡ answer_of st after_it (Requests caller (Acknowledges id attempt))
+      acknowledged-answer view seen =
+          ap (λ x. Shown (Some x)) seen
+          ∙ ap (λ x. Shown (Some (view_of after_it (record { subject = s; version = x })))) (sym change_is)
+          ∙ sym (shown_is after_it s id (change is.version) history_after (ap (version_with id) (acknowledged-record st caller id attempt s) ∙ hit))

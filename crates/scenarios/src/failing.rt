@@ -1,0 +1,170 @@
+//! Readers and writers that fail in mid-stream: what was answered, and what the register is left with.
+use crate::desk::{answer, desk, hear, message};
+use crate::first_port::{FIRST_PORT, first_port};
+use api::{End, Fault, NoTicks, Options, Served, serve};
+use register::Register;
+use std::alloc::Global;
+use std::io;
+use std::io::{ErrorKind, Read, Write};
+use std::test::Fail;
+use store::MemoryStore;
+
+// Hands out its bytes, and then fails.
+#[derive(Drop)]
+struct Breaking<'a> {
+    rest: &'a [u8],
+}
+
+impl Read for Breaking<'_> {
+    fn read(&mut self, buf: &mut [u8]) -> io::Result<usize> {
+        if self.rest.is_empty() {
+            return Err(ErrorKind::ConnectionReset.into());
+        }
+        self.rest.read(buf)
+    }
+}
+
+// Takes so many bytes, and then fails.
+#[derive(Drop)]
+struct Filling {
+    bytes: Vec<u8>,
+    room: usize,
+}
+
+impl Write for Filling {
+    fn write(&mut self, buf: &[u8]) -> io::Result<usize> {
+        let count = buf.len().min(self.room);
+        if count == 0 {
+            return Err(ErrorKind::StorageFull.into());
+        }
+        self.room -= count;
+        self.bytes.write(&buf[..count])
+    }
+
+    fn flush(&mut self) -> io::Result<()> {
+        Ok(())
+    }
+}
+
+// The lengths of the first messages and of their answers, from none to all.
+#[derive(Drop)]
+struct Marks {
+    asked: Vec<usize>,
+    answered: Vec<usize>,
+}
+
+fn marks_of_first_port(alloc: Global) -> Result<Marks, Fail> {
+    let mut marks = Marks {
+        asked: Vec::new(alloc),
+        answered: Vec::new(alloc),
+    };
+    let (mut asked, mut answered) = (0, 0);
+    marks.asked.push(asked)?;
+    marks.answered.push(answered)?;
+    for (caller, path, body, reply) in FIRST_PORT {
+        asked += message(alloc, caller, path, body)?.len();
+        answered += answer(alloc, "200 OK", reply)?.len();
+        marks.asked.push(asked)?;
+        marks.answered.push(answered)?;
+    }
+    Ok(marks)
+}
+
+// How many of the marks lie at or before a place, but for the first.
+fn reached(marks: &[usize], place: usize) -> usize {
+    marks
+        .iter()
+        .filter(|mark| **mark <= place)
+        .count()
+        .saturating_sub(1)
+}
+
+// The rest of the stream is answered as if nothing had happened.
+fn goes_on(
+    alloc: Global,
+    register: &mut Register<MemoryStore>,
+    asked: &[u8],
+    answered: &str,
+    count: u64,
+) -> Result<bool, Fail> {
+    let mut reader = asked;
+    let heard = hear(alloc, register, &mut reader)?;
+    let whole = Served {
+        count,
+        end: End::Input,
+    };
+    Ok(heard.text.as_str() == answered && heard.served == Ok(whole))
+}
+
+#[test]
+fn read_faults_leave_whole_messages(rt: HostRuntime) -> Result<(), Fail> {
+    let alloc = rt.alloc();
+    let (asked, answered) = first_port(alloc)?;
+    let marks = marks_of_first_port(alloc)?;
+    for place in 0..asked.len() {
+        let made = reached(&marks.asked, place);
+        let mut register = desk(alloc)?;
+        let mut reader = Breaking {
+            rest: &asked.as_bytes()[..place],
+        };
+        let heard = hear(alloc, &mut register, &mut reader)?;
+        assert_eq!(rt;
+            heard.served,
+            Err(Fault::Read(made as u64)),
+            "fails at {place}"
+        );
+        assert_eq!(rt;
+            heard.text.as_str(),
+            &answered[..marks.answered[made]],
+            "fails at {place}"
+        );
+        let rest = &asked.as_bytes()[marks.asked[made]..];
+        let text = &answered[marks.answered[made]..];
+        assert!(rt;
+            goes_on(alloc, &mut register, rest, text, 11 - made as u64)?,
+            "fails at {place}"
+        );
+    }
+    Ok(())
+}
+
+#[test]
+fn write_faults_leave_one_message_more(rt: HostRuntime) -> Result<(), Fail> {
+    let alloc = rt.alloc();
+    let (asked, answered) = first_port(alloc)?;
+    let marks = marks_of_first_port(alloc)?;
+    let options = Options { clock_route: true };
+    for place in 0..answered.len() {
+        let written = reached(&marks.answered, place);
+        let mut register = desk(alloc)?;
+        let mut reader: &[u8] = asked.as_bytes();
+        let mut writer = Filling {
+            bytes: Vec::new(alloc),
+            room: place,
+        };
+        let served = serve(
+            alloc,
+            &mut register,
+            &mut NoTicks,
+            &options,
+            &mut reader,
+            &mut writer,
+        );
+        assert_eq!(rt;
+            served,
+            Err(Fault::Write(written as u64)),
+            "fails at {place}"
+        );
+        assert!(rt;
+            writer.bytes.as_slice() == &answered.as_bytes()[..place],
+            "fails at {place}"
+        );
+        let rest = &asked.as_bytes()[marks.asked[written + 1]..];
+        let text = &answered[marks.answered[written + 1]..];
+        assert!(rt;
+            goes_on(alloc, &mut register, rest, text, 10 - written as u64)?,
+            "fails at {place}"
+        );
+    }
+    Ok(())
+}
