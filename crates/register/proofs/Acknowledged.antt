@@ -82,11 +82,18 @@ module _ (st : State) (old : Content) (stands : Stands old st) (caller : ℕ) (s
   last_left = last_is caller (filter waiting (keys old.carriers)) (unacknowledged (acknowledged_one caller is.broadcast))
       (λ k. left_without caller is.broadcast k ∙ ap (λ b. b && not (caller == k)) (sym (waiting_are k)))
 
-  -- its row
-  pub broadcast_read : (row : BroadcastRow) → get old.broadcasts (record { id = id; attempt = attempt }) ≡ Some row → row ≡ row_was caller is.broadcast is.waits s
-  broadcast_read row found = of_it (subject_eq row.subject s) (ap (of_subject s (λ (x : BroadcastRow). x.subject)) (sym found) ∙ (stands.due.shows s).broadcasts id attempt
+  shown_row : of_subject s (λ (x : BroadcastRow). x.subject) (get old.broadcasts (record { id = id; attempt = attempt })) ≡ Some (row_was caller is.broadcast is.waits s)
+  shown_row = (stands.due.shows s).broadcasts id attempt
       ∙ ap (λ o. option_and_then (stored_broadcast s) (option_and_then (λ (v : Version). find (λ b. b.attempt == attempt) v.broadcasts) o)) is.found
-      ∙ ap (option_and_then (stored_broadcast s)) is.sent ∙ stored_before caller is.broadcast is.waits s)
+      ∙ ap (option_and_then (stored_broadcast s)) is.sent ∙ stored_before caller is.broadcast is.waits s
+
+  -- it has a row
+  pub broadcast_there : get old.broadcasts (record { id = id; attempt = attempt }) ≡ None → ⊥
+  broadcast_there absent = let no_row : None ≡ Some (row_was caller is.broadcast is.waits s) = ap (of_subject s (λ (x : BroadcastRow). x.subject)) (sym absent) ∙ shown_row in cc
+
+  -- which is this one
+  pub broadcast_read : (row : BroadcastRow) → get old.broadcasts (record { id = id; attempt = attempt }) ≡ Some row → row ≡ row_was caller is.broadcast is.waits s
+  broadcast_read row found = of_it (subject_eq row.subject s) (ap (of_subject s (λ (x : BroadcastRow). x.subject)) (sym found) ∙ shown_row)
     where
       of_it : (b : Bool) → (if b then Some row else None) ≡ Some (row_was caller is.broadcast is.waits s) → row ≡ row_was caller is.broadcast is.waits s
       of_it true e = some_is row (row_was caller is.broadcast is.waits s) e
@@ -487,7 +494,7 @@ module _ (st : State) (old new : Content) (stands : Stands old st) (caller : ℕ
       }
 
       pub acknowledged-stands : Stands new after_it
-      acknowledged-stands = record { represents = represents_after; due = due_after }
+      acknowledged-stands = record { represents = represents_after; due = due_after; written = ap is_some changed.clock ∙ stands.written }
 
       pub acknowledged-answer : (view : View) → view ≡ view_of after_it (record { subject = s; version = finished }) → Shown (Some view) ≡ answer_of st after_it (Requests caller (Acknowledges id attempt))
       acknowledged-answer view seen =

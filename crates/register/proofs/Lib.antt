@@ -23,3 +23,4 @@ pub mod Queued
 pub mod Answering
 pub mod Acknowledged
 pub mod Receipts
+pub mod Unfailing

@@ -1,6 +1,7 @@
 -- A call on one version of a subject: what it leaves, over contents.
-use Rattle.std.proofs.Common.{◌≡◌, ℕ, Bool, true, false, List, [], ◌∷◌, map, Some, None, refl, ap, sym, ◌∙◌, subst, arith}
+use Rattle.std.proofs.Common.{Option, ◌≡◌, ℕ, Bool, true, false, List, [], ◌∷◌, map, Some, None, refl, ap, sym, ◌∙◌, subst, arith}
 use Rattle.std.specs.Prelude.{◌==◌, option_map, is_some, if◌then◌else◌}
+use Rattle.std.specs.Option.{option_or}
 use Rattle.std.specs.FinMap.{get}
 use Rattle.numbers.specs.Subjects.{Subject, Block, subject_eq}
 use Rattle.meaning.specs.Commands.{Activate}
@@ -30,6 +31,10 @@ due_lags c st history due s = record {
   sound = sound_now st history s;
   catches_up = caught_up-quiet st.windows st.now (record_now st s) (due.quiet s);
 }
+
+is_some-or : {A : Type 0} → (o p : Option A) → is_some p ≡ true → is_some (option_or o p) ≡ true
+is_some-or None p is = is
+is_some-or (Some x) p is = refl
 
 -- the clock's row of a state
 abbrev pub clock_of : State → ClockRow
@@ -94,8 +99,12 @@ module _ (st : State) (old new : Content) (caller : ℕ) (request : Request) (s 
       subjects = due_lags new after_it history_after due_after;
     }
 
+    -- a clock's row put, or the one that was there
+    written : is_some new.clock ≡ true
+    written = ap is_some changed.clock ∙ is_some-or changes.clock old.clock stands.written
+
     pub on_version-stands : Stands new after_it
-    on_version-stands = record { represents = on_version-represents; due = due_after }
+    on_version-stands = record { represents = on_version-represents; due = due_after; written = written }
 
 -- ---- requests on a version that is there
 

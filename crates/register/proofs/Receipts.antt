@@ -36,7 +36,7 @@ use Rattle.register.proofs.OnVersion.{clock_of, clock_is_of}
 use Rattle.register.proofs.Activated.{row_version}
 use Rattle.register.proofs.Queued.{IsAwaited, found-awaited, refused_unknown, refused_not_found, refused_by_keys}
 use Rattle.register.proofs.Answering.{answered_all, row_was}
-use Rattle.register.proofs.Acknowledged.{broadcast_read, retired_read, puts_of, the_replaced, acknowledged-stands, acknowledged-answer}
+use Rattle.register.proofs.Acknowledged.{broadcast_there, broadcast_read, retired_read, puts_of, the_replaced, acknowledged-stands, acknowledged-answer}
 
 -- ---- carriers of the code
 
@@ -104,6 +104,21 @@ pub answers_by_keys : (old new : Content) (caller id attempt : ℕ) (row : Versi
 answers_by_keys old new caller id attempt row u keys k same known found is waits refused =
     answers_refused_same old new (Requests caller (Acknowledges id attempt)) k same
     (λ st stands. refused_by_keys old caller id attempt st stands row keys known found (subst (λ s. AreWaitsAbout old caller s keys) (ap (λ (r : VersionRow). r.subject) is) waits) ∙ sym refused)
+
+-- a download that waits is of a broadcast that has a row
+pub never_missing : (old : Content) (caller id attempt : ℕ) (row : VersionRow) (u : Inside) (keys : List DownloadKey) (key : DownloadKey) →
+    get old.versions id ≡ Some row → version_row_of u ≡ row → AreWaitsAbout old caller (subject_of u.version.subject) keys → find (is_key id attempt) keys ≡ Some key →
+    get old.broadcasts (record { id = id; attempt = attempt }) ≡ None → (st : State) → Stands old st → ⊥
+never_missing old caller id attempt row u keys key found is waits key_is absent st stands = broadcast_there st old stands caller row.subject key.minute.number id attempt awaited absent
+  where
+    waits_about : AreWaitsAbout old caller row.subject keys
+    waits_about = subst (λ s. AreWaitsAbout old caller s keys) (ap (λ (r : VersionRow). r.subject) is) waits
+
+    shown : (v : Version) × (version_with id (record_now st row.subject) ≡ Some v) × (row ≡ row_of st.windows row.subject v)
+    shown = row_shows st old id row stands.due found
+
+    awaited : IsAwaited st caller row.subject key.minute.number id attempt
+    awaited = (found-awaited st old stands caller row.subject keys waits_about id attempt shown.0 shown.1 key key_is).0
 
 -- ---- an acknowledgement
 

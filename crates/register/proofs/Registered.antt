@@ -270,6 +270,7 @@ module _ (old new : Content) (caller spid : ℕ) (clock : ClockRow) (clock_is : 
       shows = λ t. subst (Shows st.windows new t) (sym (the_record t)) (shows t);
       quiet = λ t. subst (λ (r : Record). IsQuiet st.windows st.now r.versions) (sym (the_record t)) (quiet t);
     };
+    written = ap is_some changed.clock ∙ stands.written;
   }
 
 pub answers_registered : (old new : Content) (caller spid : ℕ) (clock : ClockRow) (rows : List InForce) → old.clock ≡ Some clock →

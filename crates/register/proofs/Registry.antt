@@ -77,6 +77,7 @@ module _ (st : State) (old new : Content) (caller : ℕ) (request : Request) (st
         };
       };
       due = still_due;
+      written = ap is_some clock ∙ stands.written;
     }
 
 -- the test of ids at the end of the table

@@ -96,6 +96,10 @@ pub record IsFound (c : Content) (wait : WaitKey) (v : VersionCode) (broadcast :
   pub last : is_last ≡ is_last_of c wait.carrier wait.minute wait.id wait.attempt
   pub replaced : IsEarlier (completes v wait.attempt is_last && sends_create (status_of v.status)) c (subject_of v.subject) earlier
 
+-- a store has no row of the download's broadcast
+abbrev pub IsMissing : Content → WaitKey → Type 0
+IsMissing c wait = get c.broadcasts (record { id = wait.id; attempt = wait.attempt }) ≡ None
+
 -- all changes of an acknowledgement: `after` is the version once it is answered
 abbrev pub all_changes : Windows → (now : ℕ) → WaitKey → (v after : VersionCode) → BroadcastRow → (is_last : Bool) → Option NumberedRow → Changes
 all_changes w now wait v after broadcast is_last earlier =

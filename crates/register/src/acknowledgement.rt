@@ -1,5 +1,7 @@
 //! Acknowledgements of downloads.
-ghost use Rattle.std.specs.Prelude.{◌≡◌, ◌≤◌, ◌&&◌, ◌++◌, [], ◌∷◌, Some, IfOk, IfSome, OnOk};
+ghost use Rattle.meaning.specs.Reading.{State};
+ghost use Rattle.settle.specs.Reads.{HasRisen};
+ghost use Rattle.std.specs.Prelude.{Err, Ok, None, ◌≡◌, ◌≤◌, ◌&&◌, ◌++◌, [], ◌∷◌, Some, IfOk, IfSome, OnOk};
 ghost use Rattle.numbers.specs.Views.{subject_of};
 ghost use Rattle.meaning.specs.Content.{row_of};
 ghost use Rattle.meaning.specs.History.{Acknowledges};
@@ -13,9 +15,9 @@ ghost use Rattle.meaning.specs.Windows.{Windows};
 ghost use Rattle.version.specs.Views.{Becomes, seen, windows_of};
 ghost use Rattle.settle.specs.Changes.{changes_of as changes_seen};
 ghost use Rattle.settle.specs.Views.{broadcast_row_of, wait_key_of};
-ghost use Rattle.register.specs.Answers.{AnswersAs};
+ghost use Rattle.register.specs.Answers.{Stands, AnswersAs};
 ghost use Rattle.register.specs.Calls.{view_of, replied};
-ghost use Rattle.register.specs.Acknowledging.{is_sending, are_only, is_last_of, answered_row, completed_if, completes, by_row, retired_rows, own_rows, acknowledging, all_changes, IsEarlier, IsFound};
+ghost use Rattle.register.specs.Acknowledging.{is_sending, are_only, is_last_of, answered_row, completed_if, completes, by_row, retired_rows, own_rows, acknowledging, all_changes, IsEarlier, IsFound, IsMissing};
 
 use crate::view::VersionView;
 use delivery::{Broadcast, may_acknowledge};
@@ -79,6 +81,7 @@ fn are_only(carrier: Spid, carriers: &[Spid]) -> bool
 fn is_last<S: Store>(store: &mut S, wait: WaitKey) -> Result<bool, StoreFault>
     ensures value { S.IsUsable store.new → IfOk result (λ last. last ≡ is_last_of (S.content store.old) wait.carrier.number wait.minute.number wait.id wait.attempt) }
     ensures same { S.IsUsable store.new → S.IsUsable store.old × (S.content store.new ≡ S.content store.old) }
+    ensures storage { result ≡ Err StoreFault.Storage → HasRisen (S.failed store.old) (S.failed store.new) }
     ensures rises { S.failed store.old ≤ S.failed store.new }
 {
     let key = BroadcastKey {
@@ -97,6 +100,7 @@ fn replaced<S: Store>(
 ) -> Result<Option<NumberedRow>, StoreFault>
     ensures value { S.IsUsable store.new → IfOk result (IsEarlier (completes && sends_create (status_of version.now.status)) (S.content store.old) (subject_of version.now.subject)) }
     ensures same { S.IsUsable store.new → S.IsUsable store.old × (S.content store.new ≡ S.content store.old) }
+    ensures storage { result ≡ Err StoreFault.Storage → HasRisen (S.failed store.old) (S.failed store.new) }
     ensures rises { S.failed store.old ≤ S.failed store.new }
 {
     if takes_over(version, completes) {
@@ -112,7 +116,9 @@ fn look_up<S: Store>(
     version: &Version,
 ) -> Result<Option<Found>, StoreFault>
     ensures value { S.IsUsable store.new → IfOk result (λ o. IfSome o (λ found. IsFound (S.content store.old) (wait_key_of wait) version.now (broadcast_row_of found.broadcast) found.is_last found.earlier)) }
+    ensures missing { S.IsUsable store.new → result ≡ Ok None → IsMissing (S.content store.old) (wait_key_of wait) }
     ensures same { S.IsUsable store.new → S.IsUsable store.old × (S.content store.new ≡ S.content store.old) }
+    ensures storage { result ≡ Err StoreFault.Storage → HasRisen (S.failed store.old) (S.failed store.new) }
     ensures rises { S.failed store.old ≤ S.failed store.new }
 {
     let key = BroadcastKey {
@@ -230,6 +236,7 @@ pub fn acknowledge<S: Store>(
 ) -> Result<VersionView, Refusal>
     ensures answers { S.IsUsable store.new → AnswersAs (S.content store.old) (S.content store.new) (Requests spid.number (Acknowledges id attempt)) (replied (λ view. Shown (Some (view_of view))) result) }
     ensures usable { S.IsUsable store.new → S.IsUsable store.old }
+    ensures storage { S.IsUsable store.new → (st : State) → Stands (S.content store.old) st → result ≡ Err Refusal.Storage → HasRisen (S.failed store.old) (S.failed store.new) }
     ensures rises { S.failed store.old ≤ S.failed store.new }
 {
     if !store.carrier(spid)? {

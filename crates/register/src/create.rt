@@ -1,5 +1,6 @@
 //! Creates of ports.
-ghost use Rattle.std.specs.Prelude.{◌≡◌, ◌≤◌, ℕ, ◌==◌, nat_lt, false, List, Some, IfOk, IfErr, OnOk, OnErr, is_some, ◌&&◌, option_map};
+ghost use Rattle.settle.specs.Reads.{HasRisen};
+ghost use Rattle.std.specs.Prelude.{Err, ◌≡◌, ◌≤◌, ℕ, ◌==◌, nat_lt, false, List, Some, IfOk, IfErr, OnOk, OnErr, is_some, ◌&&◌, option_map};
 ghost use Rattle.std.specs.FinMap.{get};
 ghost use Rattle.numbers.specs.Views.{subject_of};
 ghost use Rattle.meaning.specs.History.{Commands};
@@ -12,7 +13,7 @@ ghost use Rattle.version.specs.Creates.{command_of};
 ghost use Rattle.version.specs.Views.{seen, version_of, windows_of};
 ghost use Rattle.settle.specs.Changes.{IsChanged, changes_of as changes_seen};
 ghost use Rattle.settle.specs.Views.{clock_row_of};
-ghost use Rattle.register.specs.Answers.{AnswersAs};
+ghost use Rattle.register.specs.Answers.{Stands, AnswersAs};
 ghost use Rattle.register.specs.Calls.{view_of, replied};
 ghost use Rattle.register.specs.Sending.{putting};
 ghost use Rattle.register.specs.Serving.{AreRead, is_lrn_good};
@@ -29,6 +30,7 @@ use version::{Create, CreateFacts, Created, Creator, Version};
 fn is_lrn_good<S: Store>(store: &mut S, create: &Create) -> Result<bool, StoreFault>
     ensures value { S.IsUsable store.new → IfOk result (λ good. good ≡ is_lrn_good (S.content store.old) create.now.creator create.now.new_provider.number) }
     ensures same { S.IsUsable store.new → S.IsUsable store.old × (S.content store.new ≡ S.content store.old) }
+    ensures storage { result ≡ Err StoreFault.Storage → HasRisen (S.failed store.old) (S.failed store.new) }
     ensures rises { S.failed store.old ≤ S.failed store.new }
 {
     match create.creator {
@@ -48,6 +50,7 @@ fn are_carriers_known<S: Store>(
 ) -> Result<bool, StoreFault>
     ensures value { S.IsUsable store.new → IfOk result (λ known. known ≡ (is_some (get (S.content store.old).carriers create.now.old_provider.number) && (is_some (get (S.content store.old).carriers create.now.new_provider.number) && is_some (get (S.content store.old).carriers caller.number)))) }
     ensures same { S.IsUsable store.new → S.IsUsable store.old × (S.content store.new ≡ S.content store.old) }
+    ensures storage { result ≡ Err StoreFault.Storage → HasRisen (S.failed store.old) (S.failed store.new) }
     ensures rises { S.failed store.old ≤ S.failed store.new }
 {
     let is_old_known = store.carrier(create.old_provider)?;
@@ -65,6 +68,7 @@ fn facts<S: Store>(
 ) -> Result<CreateFacts, StoreFault>
     ensures value { S.IsUsable store.new → IfOk result (AreRead (S.content store.old) create.now next_id row.now.in_force (option_map (λ e. e.1) row.now.opened) row.now.block_in_force) }
     ensures same { S.IsUsable store.new → S.IsUsable store.old × (S.content store.new ≡ S.content store.old) }
+    ensures storage { result ≡ Err StoreFault.Storage → HasRisen (S.failed store.old) (S.failed store.new) }
     ensures rises { S.failed store.old ≤ S.failed store.new }
 {
     let is_code_open = store.code(create.tn.code())?.is_some();
@@ -115,6 +119,7 @@ fn put_version<S: Store>(
     ensures kept { OnErr result (S.IsUsable store.new → S.content store.new ≡ S.content store.old) }
     ensures fault { IfErr result (λ refusal. nat_lt (number_of refusal) 29 ≡ false) }
     ensures usable { S.IsUsable store.new → S.IsUsable store.old }
+    ensures storage { result ≡ Err Refusal.Storage → HasRisen (S.failed store.old) (S.failed store.new) }
     ensures rises { S.failed store.old ≤ S.failed store.new }
 {
     let changes = changes_of(alloc, id, version, clock, next)?;
@@ -131,6 +136,7 @@ pub fn create<S: Store>(
 ) -> Result<VersionView, Refusal>
     ensures answers { S.IsUsable store.new → AnswersAs (S.content store.old) (S.content store.new) (Requests caller.number (Commands (command_of create.now))) (replied (λ view. Shown (Some (view_of view))) result) }
     ensures usable { S.IsUsable store.new → S.IsUsable store.old }
+    ensures storage { S.IsUsable store.new → (st : State) → Stands (S.content store.old) st → result ≡ Err Refusal.Storage → HasRisen (S.failed store.old) (S.failed store.new) }
     ensures rises { S.failed store.old ≤ S.failed store.new }
 {
     if !are_carriers_known(store, caller, create)? {

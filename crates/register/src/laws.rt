@@ -1,7 +1,7 @@
 //! What holds of stores before a register is opened.
-ghost use Rattle.register.specs.Answers.{NewStoresStand};
+ghost use Rattle.register.specs.Answers.{NewStoresAreCurrent};
 
-/// A store in which nothing was written stands for the first state of every set of windows.
+/// A store in which nothing was written is at the first state of every set of windows.
 pub fn law_of_new_stores()
-    ensures { NewStoresStand }
+    ensures { NewStoresAreCurrent }
 {}

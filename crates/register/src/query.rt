@@ -1,5 +1,6 @@
 //! Questions.
-ghost use Rattle.std.specs.Prelude.{◌≡◌, ◌≤◌, ◌||◌, ◌==◌, is_some, option_map, IfOk};
+ghost use Rattle.settle.specs.Reads.{HasRisen};
+ghost use Rattle.std.specs.Prelude.{Err, ◌≡◌, ◌≤◌, ◌||◌, ◌==◌, is_some, option_map, IfOk};
 ghost use Rattle.std.specs.FinMap.{get};
 ghost use Rattle.numbers.specs.Views.{subject_of};
 ghost use Rattle.meaning.specs.Machine.{Known, Answered};
@@ -19,6 +20,7 @@ use settle::{Store, StoreFault};
 pub fn is_known<S: Store>(store: &mut S, caller: Spid) -> Result<bool, StoreFault>
     ensures value { S.IsUsable store.new → IfOk result (λ known. known ≡ (caller.number == npac || is_some (get (S.content store.old).carriers caller.number))) }
     ensures same { S.IsUsable store.new → S.IsUsable store.old × (S.content store.new ≡ S.content store.old) }
+    ensures storage { result ≡ Err StoreFault.Storage → HasRisen (S.failed store.old) (S.failed store.new) }
     ensures rises { S.failed store.old ≤ S.failed store.new }
 {
     if caller == Spid::NPAC {
@@ -31,6 +33,7 @@ pub fn is_known<S: Store>(store: &mut S, caller: Spid) -> Result<bool, StoreFaul
 pub fn knows<S: Store>(store: &mut S, caller: Spid) -> Result<(), Refusal>
     ensures answers { S.IsUsable store.new → AnswersAs (S.content store.old) (S.content store.new) (Asks caller.number Knows) (replied (λ done. Known) result) }
     ensures usable { S.IsUsable store.new → S.IsUsable store.old }
+    ensures storage { S.IsUsable store.new → (st : State) → Stands (S.content store.old) st → result ≡ Err Refusal.Storage → HasRisen (S.failed store.old) (S.failed store.new) }
     ensures rises { S.failed store.old ≤ S.failed store.new }
 {
     if !is_known(store, caller)? {
@@ -46,6 +49,7 @@ fn routing_in_force<S: Store>(
 ) -> Result<Option<Option<Routing>>, StoreFault>
     ensures value { S.IsUsable store.new → IfOk result (λ o. IsRoutingInForce (S.content store.old) (subject_of subject) (option_map routings_of o)) }
     ensures same { S.IsUsable store.new → S.IsUsable store.old × (S.content store.new ≡ S.content store.old) }
+    ensures storage { result ≡ Err StoreFault.Storage → HasRisen (S.failed store.old) (S.failed store.new) }
     ensures rises { S.failed store.old ≤ S.failed store.new }
 {
     match store.version_in_force(subject)? {
@@ -58,6 +62,7 @@ fn routing_in_force<S: Store>(
 fn routing_of<S: Store>(store: &mut S, tn: Tn) -> Result<Option<Routing>, StoreFault>
     ensures value { S.IsUsable store.new → (st : State) → Stands (S.content store.old) st → IfOk result (λ o. routings_of o ≡ routing_of st tn.number) }
     ensures same { S.IsUsable store.new → S.IsUsable store.old × (S.content store.new ≡ S.content store.old) }
+    ensures storage { result ≡ Err StoreFault.Storage → HasRisen (S.failed store.old) (S.failed store.new) }
     ensures rises { S.failed store.old ≤ S.failed store.new }
 {
     match routing_in_force(store, Subject::Number(tn))? {
@@ -73,6 +78,7 @@ fn routing_of<S: Store>(store: &mut S, tn: Tn) -> Result<Option<Routing>, StoreF
 pub fn query<S: Store>(store: &mut S, caller: Spid, tn: Tn) -> Result<Answer, Refusal>
     ensures answers { S.IsUsable store.new → AnswersAs (S.content store.old) (S.content store.new) (Asks caller.number (Query tn.number)) (replied (λ answer. Answered (answer_of answer)) result) }
     ensures usable { S.IsUsable store.new → S.IsUsable store.old }
+    ensures storage { S.IsUsable store.new → (st : State) → Stands (S.content store.old) st → result ≡ Err Refusal.Storage → HasRisen (S.failed store.old) (S.failed store.new) }
     ensures rises { S.failed store.old ≤ S.failed store.new }
 {
     if !is_known(store, caller)? {

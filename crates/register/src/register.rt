@@ -11,7 +11,7 @@ ghost use Rattle.settle.specs.Reads.{HasRisen};
 ghost use Rattle.settle.specs.Views.{windows_of};
 ghost use Rattle.settle.specs.Changes.{changes_of, no_changes};
 ghost use Rattle.register.specs.Opening.{IsOpened, HasOtherWindows, first_clock};
-ghost use Rattle.register.specs.Answers.{Stands, AnswersAs};
+ghost use Rattle.register.specs.Answers.{IsCurrent, Stands, AnswersAs};
 ghost use Rattle.register.specs.Calls.{command_of, view_of, reply_of, answer_of, in_force_of, replied};
 
 use crate::acknowledgement::acknowledge;
@@ -64,6 +64,8 @@ fn first_row<S: Store>(alloc: Global, store: &mut S, windows: &Windows) -> Resul
     ensures differ { result ≡ Err OpenFault.WindowsDiffer → S.IsUsable store.new → HasOtherWindows (windows_of windows.now) (S.content store.old) }
     ensures back { OnErr result (S.IsUsable store.new → S.content store.new ≡ S.content store.old) }
     ensures usable { S.IsUsable store.new → S.IsUsable store.old }
+    ensures storage { result ≡ Err OpenFault.Storage → HasRisen (S.failed store.old) (S.failed store.new) }
+    ensures rises { S.failed store.old ≤ S.failed store.new }
 {
     match store.clock()? {
         Some(row) if row.windows == *windows => Ok(()),
@@ -95,12 +97,14 @@ impl<S: Store> Register<S> {
     /// Refused with `WindowsDiffer` where the store was first opened with other windows; every refusal
     /// hands the store back with its rows unchanged.
     pub fn open(alloc: Global, store: S, windows: &Windows) -> Result<Register<S>, (S, OpenFault)>
-        ensures stands { IfOk result (λ r. S.IsUsable r.store → (st : State) → Stands (S.content store) st → st.windows ≡ windows_of windows.now → Stands (S.content r.store) st) }
+        ensures stands { IfOk result (λ r. S.IsUsable r.store → (st : State) → IsCurrent (S.content store) st → st.windows ≡ windows_of windows.now → Stands (S.content r.store) st) }
         ensures clock { IfOk result (λ r. S.IsUsable r.store → IfSome (S.content r.store).clock (λ row. row.windows ≡ windows_of windows.now)) }
         ensures opened { IfOk result (λ r. S.IsUsable r.store → IsOpened (windows_of windows.now) (S.content store) (S.content r.store)) }
         ensures differ { IfErr result (λ e. e.1 ≡ OpenFault.WindowsDiffer → S.IsUsable e.0 → HasOtherWindows (windows_of windows.now) (S.content store)) }
         ensures back { IfErr result (λ e. S.IsUsable e.0 → S.content e.0 ≡ S.content store) }
         ensures usable { IfOk result (λ r. S.IsUsable r.store → S.IsUsable store) }
+        ensures storage { IfErr result (λ e. e.1 ≡ OpenFault.Storage → HasRisen (S.failed store) (S.failed e.0)) }
+        ensures rises { IfOk result (λ r. S.failed store ≤ S.failed r.store) }
     {
         let mut store = store;
         match first_row(alloc, &mut store, windows) {
@@ -130,6 +134,7 @@ impl<S: Store> Register<S> {
     pub fn knows(&mut self, caller: Spid) -> Result<(), Refusal>
         ensures answers { S.IsUsable self.new.store → AnswersAs (S.content self.old.store) (S.content self.new.store) (Asks caller.number Knows) (replied (λ done. Known) result) }
         ensures usable { S.IsUsable self.new.store → S.IsUsable self.old.store }
+        ensures storage { S.IsUsable self.new.store → (st : State) → Stands (S.content self.old.store) st → result ≡ Err Refusal.Storage → HasRisen (S.failed self.old.store) (S.failed self.new.store) }
         ensures rises { S.failed self.old.store ≤ S.failed self.new.store }
     {
         knows(&mut self.store, caller)
@@ -141,6 +146,7 @@ impl<S: Store> Register<S> {
         ensures answers { S.IsUsable self.new.store → AnswersAs (S.content self.old.store) (S.content self.new.store) (Requests caller.number (Commands (command_of command.now))) (replied reply_of result) }
         ensures orderly { S.IsUsable self.new.store → (st : State) → Represents (S.content self.new.store) st → (s : Subject) → IsOrderly s (record_now st s) }
         ensures usable { S.IsUsable self.new.store → S.IsUsable self.old.store }
+        ensures storage { S.IsUsable self.new.store → (st : State) → Stands (S.content self.old.store) st → result ≡ Err Refusal.Storage → HasRisen (S.failed self.old.store) (S.failed self.new.store) }
         ensures rises { S.failed self.old.store ≤ S.failed self.new.store }
     {
         let alloc = self.alloc;
@@ -169,6 +175,7 @@ impl<S: Store> Register<S> {
     pub fn acknowledge(&mut self, spid: Spid, id: u64, attempt: u64) -> Result<VersionView, Refusal>
         ensures answers { S.IsUsable self.new.store → AnswersAs (S.content self.old.store) (S.content self.new.store) (Requests spid.number (Acknowledges id attempt)) (replied (λ view. Shown (Some (view_of view))) result) }
         ensures usable { S.IsUsable self.new.store → S.IsUsable self.old.store }
+        ensures storage { S.IsUsable self.new.store → (st : State) → Stands (S.content self.old.store) st → result ≡ Err Refusal.Storage → HasRisen (S.failed self.old.store) (S.failed self.new.store) }
         ensures rises { S.failed self.old.store ≤ S.failed self.new.store }
     {
         acknowledge(self.alloc, &mut self.store, spid, id, attempt)
@@ -179,6 +186,7 @@ impl<S: Store> Register<S> {
     pub fn query(&mut self, caller: Spid, tn: Tn) -> Result<Answer, Refusal>
         ensures answers { S.IsUsable self.new.store → AnswersAs (S.content self.old.store) (S.content self.new.store) (Asks caller.number (Query tn.number)) (replied (λ answer. Answered (answer_of answer)) result) }
         ensures usable { S.IsUsable self.new.store → S.IsUsable self.old.store }
+        ensures storage { S.IsUsable self.new.store → (st : State) → Stands (S.content self.old.store) st → result ≡ Err Refusal.Storage → HasRisen (S.failed self.old.store) (S.failed self.new.store) }
         ensures rises { S.failed self.old.store ≤ S.failed self.new.store }
     {
         query(&mut self.store, caller, tn)
@@ -188,6 +196,7 @@ impl<S: Store> Register<S> {
     pub fn in_force(&mut self) -> Result<Vec<RoutedRow>, Refusal>
         ensures answers { S.IsUsable self.new.store → AnswersAs (S.content self.old.store) (S.content self.new.store) (Asks 0 AllInForce) (replied (λ rows. Rows (map in_force_of rows.items)) result) }
         ensures usable { S.IsUsable self.new.store → S.IsUsable self.old.store }
+        ensures storage { S.IsUsable self.new.store → (st : State) → Stands (S.content self.old.store) st → result ≡ Err Refusal.Storage → HasRisen (S.failed self.old.store) (S.failed self.new.store) }
         ensures rises { S.failed self.old.store ≤ S.failed self.new.store }
     {
         Ok(self.store.in_force()?)

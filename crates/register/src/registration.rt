@@ -1,5 +1,7 @@
 //! The registry: carriers, routing numbers and codes.
-ghost use Rattle.std.specs.Prelude.{◌≡◌, ◌≤◌, false, Some, map, length, filter, nat_le, nat_lt, IfOk, IfErr, OnOk, OnErr};
+ghost use Rattle.meaning.specs.Reading.{State};
+ghost use Rattle.settle.specs.Reads.{HasRisen};
+ghost use Rattle.std.specs.Prelude.{Err, ◌≡◌, ◌≤◌, false, Some, map, length, filter, nat_le, nat_lt, IfOk, IfErr, OnOk, OnErr};
 ghost use Rattle.std.specs.FinMap.{keys, entries};
 ghost use Rattle.meaning.specs.RefusalNumbers.{number_of};
 ghost use Rattle.settle.specs.Views.{broadcast_key_of, broadcast_row_of};
@@ -8,7 +10,7 @@ ghost use Rattle.settle.specs.Changes.{changes_of, no_changes, IsChanged};
 ghost use Rattle.meaning.specs.History.{Commands};
 ghost use Rattle.meaning.specs.Commands.{RegisterCarrier, RegisterRoutingNumber, OpenCode};
 ghost use Rattle.meaning.specs.Refusals.{Requests};
-ghost use Rattle.register.specs.Answers.{AnswersAs};
+ghost use Rattle.register.specs.Answers.{Stands, AnswersAs};
 ghost use Rattle.register.specs.Calls.{reply_of, replied};
 
 use crate::command::Reply;
@@ -48,6 +50,7 @@ fn joined(
 fn is_full<S: Store>(store: &mut S) -> Result<bool, StoreFault>
     ensures value { S.IsUsable store.new → IfOk result (λ full. full ≡ nat_le 100 (length (keys (S.content store.old).carriers))) }
     ensures same { S.IsUsable store.new → S.IsUsable store.old × (S.content store.new ≡ S.content store.old) }
+    ensures storage { result ≡ Err StoreFault.Storage → HasRisen (S.failed store.old) (S.failed store.new) }
     ensures rises { S.failed store.old ≤ S.failed store.new }
 {
     Ok(store.carriers()?.len() >= MOST_CARRIERS)
@@ -75,6 +78,7 @@ fn join<S: Store>(alloc: Global, store: &mut S, spid: Spid) -> Result<(), Refusa
     ensures refused { OnErr result (S.IsUsable store.new → S.content store.new ≡ S.content store.old) }
     ensures fault { IfErr result (λ refusal. nat_lt (number_of refusal) 29 ≡ false) }
     ensures usable { S.IsUsable store.new → S.IsUsable store.old }
+    ensures storage { result ≡ Err Refusal.Storage → HasRisen (S.failed store.old) (S.failed store.new) }
     ensures rises { S.failed store.old ≤ S.failed store.new }
 {
     let opened = store.open_broadcasts()?;
@@ -94,6 +98,7 @@ pub fn register_carrier<S: Store>(
 ) -> Result<Reply, Refusal>
     ensures answers { S.IsUsable store.new → AnswersAs (S.content store.old) (S.content store.new) (Requests caller.number (Commands (RegisterCarrier spid.number))) (replied reply_of result) }
     ensures usable { S.IsUsable store.new → S.IsUsable store.old }
+    ensures storage { S.IsUsable store.new → (st : State) → Stands (S.content store.old) st → result ≡ Err Refusal.Storage → HasRisen (S.failed store.old) (S.failed store.new) }
     ensures rises { S.failed store.old ≤ S.failed store.new }
 {
     if caller != Spid::NPAC {
@@ -142,6 +147,7 @@ pub fn register_routing_number<S: Store>(
 ) -> Result<Reply, Refusal>
     ensures answers { S.IsUsable store.new → AnswersAs (S.content store.old) (S.content store.new) (Requests caller.number (Commands (RegisterRoutingNumber lrn.number))) (replied reply_of result) }
     ensures usable { S.IsUsable store.new → S.IsUsable store.old }
+    ensures storage { S.IsUsable store.new → (st : State) → Stands (S.content store.old) st → result ≡ Err Refusal.Storage → HasRisen (S.failed store.old) (S.failed store.new) }
     ensures rises { S.failed store.old ≤ S.failed store.new }
 {
     if !store.carrier(caller)? {
@@ -166,6 +172,7 @@ pub fn open_code<S: Store>(
 ) -> Result<Reply, Refusal>
     ensures answers { S.IsUsable store.new → AnswersAs (S.content store.old) (S.content store.new) (Requests caller.number (Commands (OpenCode code.number spid.number))) (replied reply_of result) }
     ensures usable { S.IsUsable store.new → S.IsUsable store.old }
+    ensures storage { S.IsUsable store.new → (st : State) → Stands (S.content store.old) st → result ≡ Err Refusal.Storage → HasRisen (S.failed store.old) (S.failed store.new) }
     ensures rises { S.failed store.old ≤ S.failed store.new }
 {
     if !store.carrier(spid)? {

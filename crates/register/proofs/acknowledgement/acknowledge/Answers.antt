@@ -1,4 +1,4 @@
-use Rattle.std.proofs.Common.{rules, ◌≡◌, Some, List, ap, sym, ◌∙◌, subst}
+use Rattle.std.proofs.Common.{rules, arith, Ok, ◌≡◌, Some, List, ap, sym, ◌∙◌, subst}
 use Rattle.std.specs.Prelude.{option_map, Result, Err, IfSome}
 use Rattle.std.specs.FinMap.{get}
 use Rattle.numbers.specs.Views.{subject_of}
@@ -18,8 +18,10 @@ use Rattle.register.specs.Calls.{view_of, replied}
 use Rattle.register.specs.Acknowledging.{completed_if, all_changes, IsFound}
 use Rattle.register.specs.declared.view.VersionView.{VersionView}
 use Rattle.register.specs.declared.acknowledgement.Found.{Found}
+use Rattle.register.proofs.Unfailing.{storage_by, risen_since}
+use Rattle.settle.specs.Faults.{refusal_of}
 use Rattle.register.proofs.Composed.{answers_fault, answers_no_memory}
-use Rattle.register.proofs.Receipts.{answers_unknown, answers_not_found, answers_by_keys, answers_acknowledged}
+use Rattle.register.proofs.Receipts.{never_missing, answers_unknown, answers_not_found, answers_by_keys, answers_acknowledged}
 use Rattle.register.proofs.acknowledgement.acknowledge.Goals as goal
 
 pub returns-then-not-branch-clause-answers : goal.returns-then-not-branch-clause-answers
@@ -120,3 +122,49 @@ returns-clause-answers g c = λ usable.
     (found.1 ∙ waiting.1 ∙ row.1 ∙ clock.1 ∙ carrier.1)
     (subst (λ (d : Changes). IsChanged d (g.S.Store.content c.look_up.new.store) (g.S.Store.content c.commit.new.self)) c.in_ok-changes.ensures (c.in_ok-commit.ensures.done usable)))
     c.of.ensures
+
+pub returns-in_err-waiting-clause-storage : goal.returns-in_err-waiting-clause-storage
+returns-in_err-waiting-clause-storage g c = λ usable st stands said.
+    let is : c.from_residual-in_err-waiting.result ≡ Err (refusal_of c.in_err-waiting.field-0.0) = search rules in
+    let a = c.carrier.ensures.rises in
+    let b = c.clock.ensures.rises in
+    let d = c.version.ensures.rises in
+    risen_since (g.S.Store.failed c.args.store.now) (g.S.Store.failed c.version.new.self) (g.S.Store.failed c.waits_about.new.self) (omega arith) c.waits_about.ensures.rises
+    (c.in_err-waiting.ensures.storage (ap Err (storage_by c.from_residual-in_err-waiting.result c.in_err-waiting.field-0.0 is said)))
+
+pub returns-in_err-found-clause-storage : goal.returns-in_err-found-clause-storage
+returns-in_err-found-clause-storage g c = λ usable st stands said.
+    let is : c.from_residual-in_err-found.result ≡ Err (refusal_of c.in_err-found.field-0.0) = search rules in
+    let a = c.carrier.ensures.rises in
+    let b = c.clock.ensures.rises in
+    let d = c.version.ensures.rises in
+    let e = c.waits_about.ensures.rises in
+    risen_since (g.S.Store.failed c.args.store.now) (g.S.Store.failed c.waits_about.new.self) (g.S.Store.failed c.look_up.new.store) (omega arith) c.look_up.ensures.rises
+    (c.in_err-found.ensures.storage (ap Err (storage_by c.from_residual-in_err-found.result c.in_err-found.field-0.0 is said)))
+
+pub returns-in_err-commit-clause-storage : goal.returns-in_err-commit-clause-storage
+returns-in_err-commit-clause-storage g c = λ usable st stands said.
+    let is : c.from_residual-in_err-commit.result ≡ Err (refusal_of c.in_err-commit.field-0.0) = search rules in
+    let a = c.carrier.ensures.rises in
+    let b = c.clock.ensures.rises in
+    let d = c.version.ensures.rises in
+    let e = c.waits_about.ensures.rises in
+    let f = c.look_up.ensures.rises in
+    risen_since (g.S.Store.failed c.args.store.now) (g.S.Store.failed c.look_up.new.store) (g.S.Store.failed c.commit.new.self) (omega arith) c.commit.ensures.rises
+    (c.in_err-commit.ensures.storage (ap Err (storage_by c.from_residual-in_err-commit.result c.in_err-commit.field-0.0 is said)))
+
+pub returns-in_default-3-clause-storage : goal.returns-in_default-3-clause-storage
+returns-in_default-3-clause-storage g c = λ usable st stands said.
+    let waiting = c.in_ok-found.ensures.same usable in
+    let row = c.in_ok-waiting.ensures.same waiting.0 in
+    let clock = c.in_ok-row.ensures.same row.0 in
+    let carrier = c.in_ok-clock.ensures.same clock.0 in
+    let start = c.in_ok-carrier.ensures.same carrier.0 in
+    absurd (never_missing (g.S.Store.content c.args.store.now) c.args.spid.number c.args.id c.args.attempt c.in-Some-2.row c.row.inside c.deref.result.now c.in_ok-download.download
+    (ap (λ (m : Content). get m.versions c.args.id) (sym (carrier.1 ∙ start.1)) ∙ sym (c.in_ok-row.ensures.value row.0) ∙ c.in-Some-2.is)
+    c.row.view_is
+    (subst (λ (m : Content). AreWaitsAbout m c.args.spid.number (subject_of c.row.inside.version.subject) c.deref.result.now) (clock.1 ∙ carrier.1 ∙ start.1)
+    (subst (λ (keys : List DownloadKey). AreWaitsAbout (g.S.Store.content c.version.new.self) c.args.spid.number (subject_of c.row.inside.version.subject) keys) (sym c.deref.ensures.value) (c.in_ok-waiting.ensures.value waiting.0)))
+    c.in_ok-download.ensures.found
+    (ap (λ (m : Content). get m.broadcasts (record { id = c.args.id; attempt = c.args.attempt })) (sym (row.1 ∙ clock.1 ∙ carrier.1 ∙ start.1)) ∙ c.in_ok-found.ensures.missing usable (ap Ok c.in_default-3.is))
+    st stands)

@@ -1,4 +1,4 @@
-use Rattle.std.proofs.Common.{rules, ◌≡◌, Some, ap, sym, ◌∙◌, subst, map}
+use Rattle.std.proofs.Common.{rules, arith, ◌≡◌, Some, ap, sym, ◌∙◌, subst, map}
 use Rattle.std.specs.Prelude.{option_map, Result, Err}
 use Rattle.std.specs.FinMap.{get, keys}
 use Rattle.numbers.specs.Views.{subject_of}
@@ -16,8 +16,10 @@ use Rattle.meaning.specs.declared.refusal.Refusal.{Refusal}
 use Rattle.meaning.specs.declared.words.Action.TheVariants.{Create}
 use Rattle.meaning.specs.RefusalNumbers.{number_of}
 use Rattle.version.specs.Views.{routings_of, seen, windows_of}
+use Rattle.settle.specs.Faults.{refusal_of}
 use Rattle.settle.specs.Changes.{Changes, IsChanged}
 use Rattle.register.proofs.Composed.{answers_fault, answers_no_memory}
+use Rattle.register.proofs.Unfailing.{storage_by, risen_since}
 use Rattle.register.proofs.Activated.{answers_unknown, answers_not_found, answers_by_row, answers_activated}
 use Rattle.register.proofs.activation.activate.Goals as goal
 
@@ -99,3 +101,23 @@ returns-clause-answers g c = λ usable.
     (subst (λ (m : Content). IsChanged (sending c.args.id (windows_of c.in-Some.clock.windows) c.in-Some.clock.minute.number Create (subject_of c.in_ok-version.version.subject) (seen c.in_ok-version.version) (routings_of c.in_ok-version.version.routing) (map spid_of c.deref.result.now)) m (g.S.Store.content c.commit.new.self)) same
     (subst (λ (d : Changes). IsChanged d (g.S.Store.content c.carriers.new.self) (g.S.Store.content c.commit.new.self)) c.in_ok-changes.ensures (c.in_ok-commit.ensures.done usable)))
     c.of.ensures
+
+pub returns-in_err-everyone-clause-storage : goal.returns-in_err-everyone-clause-storage
+returns-in_err-everyone-clause-storage g c = λ usable st stands said.
+    let is : c.from_residual-in_err-everyone.result ≡ Err (refusal_of c.in_err-everyone.field-0.0) = search rules in
+    let a = c.carrier.ensures.rises in
+    let b = c.clock.ensures.rises in
+    let d = c.version.ensures.rises in
+    let e = c.carriers.ensures.rises in
+    risen_since (g.S.Store.failed c.args.store.now) (g.S.Store.failed c.version.new.self) (g.S.Store.failed c.carriers.new.self) (omega arith) e
+    (c.in_err-everyone.ensures.storage (ap Err (storage_by c.from_residual-in_err-everyone.result c.in_err-everyone.field-0.0 is said)))
+
+pub returns-in_err-commit-clause-storage : goal.returns-in_err-commit-clause-storage
+returns-in_err-commit-clause-storage g c = λ usable st stands said.
+    let is : c.from_residual-in_err-commit.result ≡ Err (refusal_of c.in_err-commit.field-0.0) = search rules in
+    let a = c.carrier.ensures.rises in
+    let b = c.clock.ensures.rises in
+    let d = c.version.ensures.rises in
+    let e = c.carriers.ensures.rises in
+    risen_since (g.S.Store.failed c.args.store.now) (g.S.Store.failed c.carriers.new.self) (g.S.Store.failed c.commit.new.self) (omega arith) c.commit.ensures.rises
+    (c.in_err-commit.ensures.storage (ap Err (storage_by c.from_residual-in_err-commit.result c.in_err-commit.field-0.0 is said)))

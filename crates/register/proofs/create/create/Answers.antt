@@ -1,4 +1,4 @@
-use Rattle.std.proofs.Common.{rules, ◌≡◌, Some, None, ap, sym, ◌∙◌, subst}
+use Rattle.std.proofs.Common.{arith, rules, ◌≡◌, Some, None, ap, sym, ◌∙◌, subst}
 use Rattle.std.specs.Prelude.{option_map, Result, Err}
 use Rattle.meaning.specs.History.{Commands}
 use Rattle.meaning.specs.Machine.{Shown}
@@ -16,6 +16,7 @@ use Rattle.register.specs.Answers.{AnswersAs}
 use Rattle.register.specs.Calls.{view_of, replied}
 use Rattle.register.specs.Sending.{putting}
 use Rattle.register.specs.Serving.{IsOpened, AreRead}
+use Rattle.register.proofs.Unfailing.{create_never, same_refusal, risen_since}
 use Rattle.register.proofs.Composed.{answers_fault}
 use Rattle.register.proofs.Created.{has_read, one_more, Views, answers_create_refused, answers_create_unknown, by_result}
 use Rattle.register.proofs.FirstAnswered.{answers_first}
@@ -119,3 +120,27 @@ returns-in-Some-opened-clause-answers g c = λ usable.
     c.in_ok-version.ensures.refusal
     (subst (IsCreated c.in-Some.clock.minute.number c.args.create.now (answered_by c.args.create.now c.in_ok-facts.facts.opened)) c.in-Second.is c.in_ok-version.ensures.created)
     changed views)
+
+pub returns-in_err-version-clause-storage : goal.returns-in_err-version-clause-storage
+returns-in_err-version-clause-storage g c = λ usable st stands said.
+    let is : c.from_residual-in_err-version.result ≡ Err c.in_err-version.field-0.0 = search rules in
+    absurd (create_never (windows_of c.in-Some.clock.windows) c.in-Some.clock.minute.number c.args.caller.number c.args.create.now c.in_ok-facts.facts c.in_err-version.field-0.0
+    c.in_err-version.ensures.refusal (same_refusal c.in_err-version.field-0.0 c.from_residual-in_err-version.result is said))
+
+pub returns-in-First-clause-storage : goal.returns-in-First-clause-storage
+returns-in-First-clause-storage g c = λ usable st stands said.
+    let a = c.are_carriers_known.ensures.rises in
+    let b = c.clock.ensures.rises in
+    let d = c.read.ensures.rises in
+    let e = c.facts.ensures.rises in
+    risen_since (g.S.Store.failed c.args.store.now) (g.S.Store.failed c.facts.new.store) (g.S.Store.failed c.put_version.new.store) (omega arith) c.put_version.ensures.rises
+    (c.put_version.ensures.storage said)
+
+pub returns-in-Some-opened-clause-storage : goal.returns-in-Some-opened-clause-storage
+returns-in-Some-opened-clause-storage g c = λ usable st stands said.
+    let a = c.are_carriers_known.ensures.rises in
+    let b = c.clock.ensures.rises in
+    let d = c.read.ensures.rises in
+    let e = c.facts.ensures.rises in
+    risen_since (g.S.Store.failed c.args.store.now) (g.S.Store.failed c.facts.new.store) (g.S.Store.failed c.put_version-in-Some-opened.new.store) (omega arith) c.put_version-in-Some-opened.ensures.rises
+    (c.put_version-in-Some-opened.ensures.storage said)
