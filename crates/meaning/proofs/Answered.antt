@@ -14,7 +14,7 @@ use Rattle.meaning.specs.Refusals.{Requests, refusal, tests, is_number, second_o
 use Rattle.meaning.specs.Machine.{IsHistory, Shown, accepted, out, shown, shown_found, id_of_create, answer_of, refused_or}
 use Rattle.meaning.specs.Laws.{IsState, is_on_version, id_shown, IsShownWith, VersionIsShown}
 use Rattle.meaning.proofs.Accepted.{accepted_command, none_holds}
-use Rattle.meaning.proofs.Elsewhere.{has_id}
+use Rattle.meaning.specs.Concerns.{has_id}
 use Rattle.meaning.proofs.Ids.{changed-has_id}
 use Rattle.meaning.proofs.Sound.{keeps_ids, done_to-id, made_version-id}
 use Rattle.meaning.proofs.Entered.{judged-now, found_is, subject_eq-refl}

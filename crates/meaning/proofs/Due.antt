@@ -15,7 +15,7 @@ use Rattle.meaning.specs.Reading.{State, record_now}
 use Rattle.meaning.specs.Conditions.{limit}
 use Rattle.meaning.specs.Content.{Content, VersionRow, Represents, Shows, row_of, of_subject, deadline}
 use Rattle.meaning.proofs.Deadlines.{IsLeastBelow, least_below_is}
-use Rattle.meaning.proofs.Elsewhere.{has_id}
+use Rattle.meaning.specs.Concerns.{has_id}
 use Rattle.meaning.proofs.Ids.{AreGiven}
 use Rattle.meaning.proofs.Settling.{caught_up-quiet}
 use Rattle.meaning.proofs.Represented.{settled_shows}

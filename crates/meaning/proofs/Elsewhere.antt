@@ -1,37 +1,15 @@
 -- An entry changes nothing of the subjects that it does not concern.
 use Rattle.std.proofs.Common.{◌≡◌, ℕ, Bool, true, false, ◌&&◌, ◌||◌, List, [], ◌∷◌, Option, None, refl, ap, ◌∙◌}
 use Rattle.std.specs.Prelude.{◌==◌, if◌then◌else◌}
-use Rattle.std.specs.List.{list_any}
-use Rattle.numbers.specs.Subjects.{subject_eq, Subject, Number, Block}
+use Rattle.numbers.specs.Subjects.{Subject}
 use Rattle.meaning.specs.Commands.{RegisterCarrier, RegisterRoutingNumber, OpenCode, OldProviderCreate, NewProviderCreate, Activate, PutInConflict, RemoveFromConflict, Cancel, OldProviderCancellationAcknowledge, NewProviderCancellationAcknowledge, Disconnect, Donate, Assign, Release}
 use Rattle.meaning.specs.Windows.{Windows}
 use Rattle.meaning.specs.Versions.{Version, Record}
 use Rattle.meaning.specs.Changes.{of_id, changed_at}
 use Rattle.meaning.specs.Judge.{judged}
 use Rattle.meaning.specs.History.{Request, Entry, Commands, Acknowledges, Meaning, carrier_named, carrier_added, done_to, effect, after, makes, id_among, next_after}
+use Rattle.meaning.specs.Concerns.{has_id, concerns}
 use Rattle.meaning.proofs.Minutes.{LeavesEach, changed_at-same}
-
-abbrev pub has_id : ℕ → List Version → Bool
-has_id id vs = list_any (λ v. v.id == id) vs
-
--- the request may change a version of s: it names s, or the id of one of these versions, or it registers a carrier
-abbrev pub concerns : Request → Subject → List Version → Bool
-concerns (Commands (RegisterCarrier spid)) s vs = true
-concerns (Commands (RegisterRoutingNumber lrn)) s vs = false
-concerns (Commands (OpenCode code spid)) s vs = false
-concerns (Commands (OldProviderCreate tn old_provider new_provider due authorized)) s vs = subject_eq s (Number tn)
-concerns (Commands (NewProviderCreate tn old_provider new_provider due lrn cic)) s vs = subject_eq s (Number tn)
-concerns (Commands (Activate id)) s vs = has_id id vs
-concerns (Commands (PutInConflict id)) s vs = has_id id vs
-concerns (Commands (RemoveFromConflict id)) s vs = has_id id vs
-concerns (Commands (Cancel id)) s vs = has_id id vs
-concerns (Commands (OldProviderCancellationAcknowledge id)) s vs = has_id id vs
-concerns (Commands (NewProviderCancellationAcknowledge id)) s vs = has_id id vs
-concerns (Commands (Disconnect id release)) s vs = has_id id vs
-concerns (Commands (Donate block used lrn cic)) s vs = false
-concerns (Commands (Assign block holder lrn cic)) s vs = false
-concerns (Commands (Release block)) s vs = subject_eq s (Block block)
-concerns (Acknowledges id attempt) s vs = has_id id vs
 
 neither : (b c : Bool) → (b || c) ≡ false → (b ≡ false) × (c ≡ false)
 neither true c none = cc

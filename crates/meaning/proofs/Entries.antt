@@ -16,7 +16,8 @@ use Rattle.meaning.specs.Refusals.{is_number}
 use Rattle.meaning.proofs.Accepted.{AcceptedCommand}
 use Rattle.meaning.specs.Sound.{is_block, AreSound}
 use Rattle.meaning.proofs.Unique.{Respects, RespectsEach, KeepsBeside, changed-sound, changed-sound_by_status, by_status, respect_each, StatusRespects, StatusesRespect, keeps, leaves, closed_outcome}
-use Rattle.meaning.proofs.Elsewhere.{has_id, of_id-elsewhere}
+use Rattle.meaning.specs.Concerns.{has_id}
+use Rattle.meaning.proofs.Elsewhere.{of_id-elsewhere}
 use Rattle.meaning.proofs.Ids.{AreGiven, version_of_id_is, of_id-respects, keeps_each, same_id, same_subject}
 
 -- ---- from what status to what

@@ -18,7 +18,8 @@ use Rattle.meaning.specs.Refusals.{Requests, refusal}
 use Rattle.meaning.specs.Machine.{IsHistory}
 use Rattle.meaning.specs.Laws.{ForceIsRouted}
 use Rattle.meaning.proofs.Accepted.{AcceptedCommand, accepted_command}
-use Rattle.meaning.proofs.Elsewhere.{has_id, of_id-elsewhere}
+use Rattle.meaning.specs.Concerns.{has_id}
+use Rattle.meaning.proofs.Elsewhere.{of_id-elsewhere}
 use Rattle.meaning.proofs.Minutes.{LeavesEach}
 use Rattle.meaning.proofs.Ids.{AreGiven, same_id}
 use Rattle.meaning.proofs.Entries.{named_test, is_active-is}

@@ -18,7 +18,7 @@ use Rattle.meaning.proofs.Accepted.{accepted_command}
 use Rattle.meaning.specs.Sound.{is_block, AreSound}
 use Rattle.meaning.proofs.Unique.{changed-sound_by_status, judged_for-sound}
 use Rattle.meaning.proofs.Ids.{AreGiven, AreGiven-append, KeepsIds, changed-AreGiven, fresh, given-after, id_among-from, id_among-given}
-use Rattle.meaning.proofs.Elsewhere.{has_id}
+use Rattle.meaning.specs.Concerns.{has_id}
 use Rattle.meaning.proofs.Entries.{activate-respects, conflict-respects, remove-respects, cancel-respects, old_cancellation-respects, new_cancellation-respects, acknowledge-respects, register-respects, old_create-respects, new_create-respects, disconnect-sound, release-sound, all_keep}
 use Rattle.meaning.proofs.Made.{HasRoom, made-sound, old_create-room, new_create-room, assign-room}
 use Rattle.meaning.proofs.Donated.{donate-room}

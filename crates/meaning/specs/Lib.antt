@@ -17,3 +17,4 @@ pub mod Theorems
 pub mod Examples
 pub mod Views
 pub mod RefusalNumbers
+pub mod Concerns

@@ -7,7 +7,7 @@ use Rattle.numbers.specs.Subjects.{Subject, subject_eq}
 use Rattle.meaning.specs.Versions.{Version, in_force, is_open, version_with, version_in_force, open_version}
 use Rattle.meaning.specs.Reading.{State, record_now}
 use Rattle.meaning.specs.Content.{Content, VersionRow, row_of, of_subject, subject_if}
-use Rattle.meaning.proofs.Elsewhere.{has_id}
+use Rattle.meaning.specs.Concerns.{has_id}
 use Rattle.meaning.proofs.Ids.{AreGiven, same_id}
 use Rattle.meaning.proofs.Entered.{given_now}
 use Rattle.meaning.proofs.Orderly.{no_two_active}

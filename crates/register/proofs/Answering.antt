@@ -14,7 +14,8 @@ use Rattle.meaning.specs.Sound.{NoneOpen, AreSound}
 use Rattle.meaning.specs.Judge.{is_over}
 use Rattle.meaning.specs.Laws.{IsQuiet}
 use Rattle.meaning.specs.Content.{BroadcastRow, stored_broadcast, stored_wait, is_nonempty}
-use Rattle.meaning.proofs.Elsewhere.{has_id, of_id-elsewhere}
+use Rattle.meaning.specs.Concerns.{has_id}
+use Rattle.meaning.proofs.Elsewhere.{of_id-elsewhere}
 use Rattle.meaning.proofs.Minutes.{changed_at-same}
 use Rattle.meaning.proofs.Ids.{AreGiven, same_id}
 use Rattle.meaning.proofs.Entered.{version_with-changed, version_with-other, changed_at-map_where, brings_none}

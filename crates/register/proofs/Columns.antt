@@ -11,7 +11,7 @@ use Rattle.meaning.specs.History.{made_by}
 use Rattle.meaning.specs.Reading.{State, record_now}
 use Rattle.meaning.specs.Sound.{NoneInForce, OneInForce, NoneOpen, AreSound}
 use Rattle.meaning.specs.Content.{Content, VersionRow, row_of, of_subject, subject_if}
-use Rattle.meaning.proofs.Elsewhere.{has_id}
+use Rattle.meaning.specs.Concerns.{has_id}
 use Rattle.meaning.proofs.Ids.{AreGiven, same_id}
 use Rattle.meaning.proofs.Entered.{sound_now, given_now}
 use Rattle.meaning.proofs.Shown.{row_shows, some_is}

@@ -16,7 +16,8 @@ use Rattle.meaning.specs.Machine.{accepted, IsHistory}
 use Rattle.meaning.specs.Content.{Content, VersionRow, BroadcastRow, ClockRow, Shows, row_of, of_subject, stored_broadcast, stored_wait, broadcast_with}
 use Rattle.meaning.proofs.Minutes.{LeavesEach, changed_at-same}
 use Rattle.meaning.proofs.Settling.{newborn}
-use Rattle.meaning.proofs.Elsewhere.{has_id, concerns, after-elsewhere}
+use Rattle.meaning.specs.Concerns.{has_id, concerns}
+use Rattle.meaning.proofs.Elsewhere.{after-elsewhere}
 use Rattle.meaning.proofs.Ids.{same_id, fresh}
 use Rattle.meaning.proofs.Shown.{own}
 use Rattle.meaning.proofs.Entered.{judged-now, subject_eq-refl, given_now}

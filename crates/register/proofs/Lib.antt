@@ -24,3 +24,4 @@ pub mod Answering
 pub mod Acknowledged
 pub mod Receipts
 pub mod Unfailing
+pub mod Untouched

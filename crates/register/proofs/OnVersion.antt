@@ -16,7 +16,7 @@ use Rattle.meaning.specs.Content.{Content, ClockRow, BlockRow, Shows, Represents
 use Rattle.meaning.specs.Due.{NothingIsDue}
 use Rattle.meaning.proofs.Settling.{caught_up-quiet}
 use Rattle.meaning.proofs.Ids.{same_subject}
-use Rattle.meaning.proofs.Elsewhere.{has_id, concerns}
+use Rattle.meaning.specs.Concerns.{has_id, concerns}
 use Rattle.meaning.proofs.Represented.{same_rows_show}
 use Rattle.meaning.proofs.Entered.{entered-elsewhere, next_id-same, sound_now, none_elsewhere, none_with, found_is}
 use Rattle.settle.specs.Changes.{Changes, IsChanged, AreOfVersion, put_row}

@@ -16,7 +16,7 @@ use Rattle.meaning.specs.Content.{Content, VersionRow, BroadcastRow, BlockRow, C
 use Rattle.meaning.specs.Due.{NothingIsDue}
 use Rattle.meaning.proofs.Settling.{caught_up-quiet}
 use Rattle.meaning.proofs.Represented.{same_rows_show}
-use Rattle.meaning.proofs.Elsewhere.{concerns}
+use Rattle.meaning.specs.Concerns.{concerns}
 use Rattle.meaning.proofs.Entered.{entered-elsewhere, next_id-same, next_id-below, sound_now}
 use Rattle.settle.specs.Changes.{IsChanged, no_changes}
 use Rattle.register.specs.Answers.{Stands, AnswersAs}

@@ -15,7 +15,7 @@ use Rattle.meaning.specs.Refusals.{Requests}
 use Rattle.meaning.specs.Machine.{accepted}
 use Rattle.meaning.specs.Content.{Content, VersionRow, BroadcastRow, ClockRow, Shows, row_of, of_subject, stored_broadcast, stored_wait, broadcast_with}
 use Rattle.meaning.proofs.Settling.{newborn}
-use Rattle.meaning.proofs.Elsewhere.{has_id}
+use Rattle.meaning.specs.Concerns.{has_id}
 use Rattle.meaning.proofs.Ids.{AreGiven, same_id}
 use Rattle.meaning.proofs.Shown.{own, some_is}
 use Rattle.meaning.proofs.Entered.{judged-now, subject_eq-refl, version_with-changed, version_with-other, changed_at-map_where, brings_none}

@@ -13,6 +13,6 @@ mod serving;
 mod view;
 
 pub use command::{Command, Reply};
-pub use laws::law_of_new_stores;
+pub use laws::{law_of_new_stores, law_of_untouched_rows};
 pub use register::{OpenFault, Register};
 pub use view::{Answer, VersionView};

@@ -3,7 +3,7 @@ use crate::desk::{WINDOWS, desk, hear};
 use crate::first_port::first_port;
 use meaning::Refusal;
 use numbers::{Spid, Tn};
-use register::{Answer, OpenFault, Register, law_of_new_stores};
+use register::{Answer, OpenFault, Register, law_of_new_stores, law_of_untouched_rows};
 use std::alloc::Global;
 use std::test::Fail;
 use store::MemoryStore;
@@ -70,6 +70,7 @@ fn other_windows_are_refused_and_the_store_handed_back(rt: HostRuntime) -> Resul
 }
 
 #[test]
-fn the_law_returns(_rt: HostRuntime) {
+fn the_laws_return(_rt: HostRuntime) {
     law_of_new_stores();
+    law_of_untouched_rows();
 }
