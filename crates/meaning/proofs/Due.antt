@@ -24,11 +24,11 @@ use Rattle.meaning.proofs.Entered.{given_now}
 
 -- ---- each id once
 
-abbrev AreApart : List Version → Type 0
+abbrev pub AreApart : List Version → Type 0
 AreApart [] = ⊤
 AreApart (v ∷ vs) = (has_id v.id vs ≡ false) × AreApart vs
 
-given_apart : (made : List Subject) (s : Subject) (vs : List Version) → AreGiven made s vs → AreApart vs
+pub given_apart : (made : List Subject) (s : Subject) (vs : List Version) → AreGiven made s vs → AreApart vs
 given_apart made s [] given = tt
 given_apart made s (v ∷ vs) given = (given.1, given_apart made s vs given.2)
 
@@ -68,7 +68,7 @@ judged_apart w from zero r apart = apart
 judged_apart w from (suc n) r apart =
     judged_apart w from n r (changed_apart (suc (from + n)) (judged_version w (judged_for w from n r).carriers (suc (from + n))) (judged_version-id w (judged_for w from n r).carriers (suc (from + n))) (judged_for w from n r).versions apart)
 
-caught_up_apart : (w : Windows) (now : ℕ) (r : Record) → AreApart (caught_up w now r).versions → AreApart r.versions
+pub caught_up_apart : (w : Windows) (now : ℕ) (r : Record) → AreApart (caught_up w now r).versions → AreApart r.versions
 unfolding judge
 caught_up_apart w now r apart =
     changed_apart 0 (judged_version w r.carriers 0) (judged_version-id w r.carriers 0) r.versions (judged_apart w 0 (now - 0) (judge w 0 r) apart)

@@ -20,3 +20,4 @@ pub mod Answered
 pub mod Creates
 pub mod Recipients
 pub mod Tended
+pub mod Firing

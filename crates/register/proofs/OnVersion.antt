@@ -17,7 +17,7 @@ use Rattle.meaning.specs.Due.{NothingIsDue}
 use Rattle.meaning.proofs.Settling.{caught_up-quiet}
 use Rattle.meaning.proofs.Ids.{same_subject}
 use Rattle.meaning.specs.Concerns.{has_id, concerns}
-use Rattle.meaning.proofs.Represented.{same_rows_show}
+use Rattle.meaning.proofs.Represented.{same_rows_show, reached_now}
 use Rattle.meaning.proofs.Entered.{entered-elsewhere, next_id-same, sound_now, none_elsewhere, none_with, found_is}
 use Rattle.settle.specs.Changes.{Changes, IsChanged, AreOfVersion, put_row}
 use Rattle.settle.proofs.OneVersion.{untouched_where}
@@ -28,7 +28,7 @@ pub due_lags : (c : Content) (st : State) → IsHistory st.windows st.history st
 due_lags c st history due s = record {
   kept = record_now st s;
   shows = due.shows s;
-  sound = sound_now st history s;
+  reached = reached_now st history s;
   catches_up = caught_up-quiet st.windows st.now (record_now st s) (due.quiet s);
 }
 

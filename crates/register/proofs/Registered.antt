@@ -16,10 +16,10 @@ use Rattle.meaning.specs.Reading.{State, InForce, record_now, is_carrier, all_in
 use Rattle.meaning.specs.Refusals.{Requests, refusal, tests, first_that_holds, npac}
 use Rattle.meaning.specs.Machine.{Registered, accepted, IsHistory}
 use Rattle.meaning.specs.Changes.{joined_by}
-use Rattle.meaning.specs.Sound.{AreSound}
-use Rattle.meaning.specs.Content.{Content, BlockRow, ClockRow, Shows, Represents, ClockShows, broadcast_with}
+use Rattle.meaning.specs.Content.{IsReached, Content, BlockRow, ClockRow, Shows, Represents, ClockShows, broadcast_with}
 use Rattle.meaning.proofs.Settling.{caught_up-quiet}
-use Rattle.meaning.proofs.Entered.{next_id-same, sound_now}
+use Rattle.meaning.proofs.Represented.{reached_now}
+use Rattle.meaning.proofs.Entered.{next_id-same}
 use Rattle.meaning.proofs.Recipients.{among-with_number, broadcast_known}
 use Rattle.settle.specs.Changes.{IsChanged}
 use Rattle.register.specs.Answers.{Stands, AnswersAs}
@@ -262,7 +262,7 @@ module _ (old new : Content) (caller spid : ℕ) (clock : ClockRow) (clock_is : 
       subjects = λ t. record {
         kept = joined_record spid (record_now st t);
         shows = shows t;
-        sound = subst (λ (r : Record). AreSound t r.versions) (the_record t) (sound_now after_it history_after t);
+        reached = subst (IsReached st.windows t) (the_record t) (reached_now after_it history_after t);
         catches_up = caught_up-quiet st.windows st.now (joined_record spid (record_now st t)) (quiet t) ∙ sym (the_record t);
       };
     };

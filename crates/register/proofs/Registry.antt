@@ -15,9 +15,9 @@ use Rattle.meaning.specs.Machine.{LrnAdded, CodeOpened, accepted}
 use Rattle.meaning.specs.Content.{Content, VersionRow, BroadcastRow, BlockRow, ClockRow, BroadcastKey, WaitKey, Shows, Represents, ClockShows, SameRows, of_subject}
 use Rattle.meaning.specs.Due.{NothingIsDue}
 use Rattle.meaning.proofs.Settling.{caught_up-quiet}
-use Rattle.meaning.proofs.Represented.{same_rows_show}
+use Rattle.meaning.proofs.Represented.{same_rows_show, reached_now}
 use Rattle.meaning.specs.Concerns.{concerns}
-use Rattle.meaning.proofs.Entered.{entered-elsewhere, next_id-same, next_id-below, sound_now}
+use Rattle.meaning.proofs.Entered.{entered-elsewhere, next_id-same, next_id-below}
 use Rattle.settle.specs.Changes.{IsChanged, no_changes}
 use Rattle.register.specs.Answers.{Stands, AnswersAs}
 use Rattle.register.proofs.Composed.{answers_accepted}
@@ -72,7 +72,7 @@ module _ (st : State) (old new : Content) (caller : ℕ) (request : Request) (st
         subjects = λ t. record {
           kept = record_now st t;
           shows = same_rows_show st.windows t old new (record_now st t) (same_rows t) (stands.due.shows t);
-          sound = sound_now st stands.represents.history t;
+          reached = reached_now st stands.represents.history t;
           catches_up = caught_up-quiet st.windows st.now (record_now st t) (stands.due.quiet t) ∙ sym (same_record t);
         };
       };
