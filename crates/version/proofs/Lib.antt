@@ -3,3 +3,4 @@ pub mod Changed
 pub mod Made
 pub mod Refused
 pub mod CreateRefused
+pub mod Fired

@@ -3,3 +3,4 @@ pub mod Deadlines
 pub mod Activation
 pub mod Creates
 pub mod Facts
+pub mod Firing

@@ -5,6 +5,7 @@ mod acknowledgement;
 mod activation;
 mod create;
 mod deadline;
+mod firing;
 mod phase;
 #[cfg(test)]
 mod tests;

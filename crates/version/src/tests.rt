@@ -1,6 +1,6 @@
 //! Each public function called once, on one port of a number.
 use crate::{Create, CreateFacts, Created, Creator, Phase, Version};
-use meaning::{Action, Refusal, Status};
+use meaning::{Action, Refusal, Side, Status};
 use numbers::{Lrn, Minute, Routing, Spid, Tn};
 use std::test::Fail;
 use windows::{Window, Windows};
@@ -113,5 +113,46 @@ fn an_activation_is_completed(rt: HostRuntime) -> Result<(), Fail> {
     let active = sent.completed(minute(5003)?);
     assert_eq!(rt; active, sent.entering(Status::Active, minute(5003)?));
     assert_eq!(rt; active.deadline(&WINDOWS), None);
+    Ok(())
+}
+
+#[test]
+fn minutes_end_what_waits(rt: HostRuntime) -> Result<(), Fail> {
+    let both = second()?;
+    let end = minute(9000)?;
+    let fired = |status, is_acknowledged| {
+        let before = both.entering(status, minute(8000)?);
+        Ok::<Version, Fail>(before.fired(end, is_acknowledged))
+    };
+    let cases = [
+        (Status::Pending, false, Status::Canceled),
+        (Status::Conflict, false, Status::Canceled),
+        (
+            Status::CancelPending(Side::OldProvider),
+            false,
+            Status::Conflict,
+        ),
+        (
+            Status::CancelPending(Side::NewProvider),
+            false,
+            Status::Canceled,
+        ),
+        (
+            Status::Sending(Action::Create),
+            true,
+            Status::PartialFailure,
+        ),
+        (Status::Sending(Action::Create), false, Status::Failed),
+        (Status::Sending(Action::Delete), true, Status::Old),
+        (Status::Sending(Action::Delete), false, Status::Active),
+    ];
+    for (status, is_acknowledged, after) in cases {
+        assert_eq!(rt; fired(status, is_acknowledged)?, both.entering(after, end));
+    }
+    let planned = both.entering(Status::DisconnectPending(end), minute(8000)?);
+    assert_eq!(rt;
+        planned.fired(end, false),
+        both.sending(Action::Delete, end)
+    );
     Ok(())
 }
