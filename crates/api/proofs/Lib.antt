@@ -14,5 +14,8 @@ mod OnceLemmas
 mod PathLemmas
 mod Phrases
 mod RefusalLemmas
+mod Risen
 mod StepLemmas
+mod StorageLemmas
+mod StorageRuns
 mod WholeRefusals

@@ -1,5 +1,5 @@
 -- What the machine answers, and what refusals mean for a state.
-use Rattle.std.proofs.Common.{◌≡◌, ◌⊎◌, ℕ, ◌<◌, List, length, Option, Some, None, Result, Ok, Err, OnOk, OnErr, IsSomeAnd, true, inl, inr, refl, ap, sym, subst, ◌∙◌, arith}
+use Rattle.std.proofs.Common.{◌≡◌, ◌⊎◌, ℕ, ◌<◌, ◌≤◌, List, length, Option, Some, None, Result, Ok, Err, OnOk, OnErr, IsSomeAnd, true, inl, inr, refl, ap, sym, subst, ◌∙◌, arith}
 use Rattle.meaning.specs.declared.refusal.Refusal.{Refusal}
 use Rattle.meaning.specs.declared.refusal.Refusal.TheVariants.{UnknownCarrier, NotAdmin, UnknownCode, CarrierTaken, CodeTaken, LrnTaken, BadLrn, InPool, WrongOld, NotFound, NotYours, Busy, WrongStatus, DuePast, DueMismatch, NotConcurred, BeforeDue, ConflictSpent, TooLate, TooEarly, Protected, Contaminated, OpenPorts, BlockTaken, NotQueued, OutOfOrder, ClockBack, Full, Storage, NoMemory}
 use Rattle.meaning.specs.RefusalNumbers.{number_of}
@@ -9,6 +9,7 @@ use Rattle.meaning.specs.History.{Commands}
 use Rattle.meaning.specs.Reading.{State, InForce, all_in_force}
 use Rattle.meaning.specs.Refusals.{Input, Question, Requests, Asks, Knows, Query, AllInForce, refusal, tests}
 use Rattle.meaning.specs.Machine.{Reply, Refused as MachineRefused, Moved, Registered, LrnAdded, CodeOpened, Shown, Donated, Known, Fetched, Answered, Rows, Awaited, Found, Answer, out, next, unless_refused, refused_or, reply_of, accepted}
+use Rattle.settle.specs.Reads.{HasRisen}
 use Rattle.register.specs.Answers.{Stands, AnswersAs}
 use Rattle.register.specs.Calls.{refused_with}
 use Rattle.api.specs.declared.fault.Failure.{Failure}
@@ -25,6 +26,7 @@ use Rattle.serde_json.specs.Data.{Data}
 use Rattle.api.specs.declared.message.Request.{Request}
 use Rattle.api.specs.declared.paths.Route.{Route}
 use Rattle.api.proofs.RefusalLemmas.{text_by_number}
+use Rattle.api.proofs.Risen.{risen_since}
 
 -- ---- a question changes nothing
 
@@ -60,37 +62,44 @@ pub never_refused : (st : State) (k : ℕ) → ¬ (MachineRefused k ≡ out st (
 unfolding out tests
 never_refused st k e = cc
 
-pub rows_short : (r : Refusal) (old new : Content) → AnswersAs old new (Asks 0 AllInForce) (refused_with (number_of r)) → (st : State) → Stands old st → IsShort r
-rows_short UnknownCarrier old new h st s = absurd (never_refused st 1 (h st s).0)
-rows_short NotAdmin old new h st s = absurd (never_refused st 2 (h st s).0)
-rows_short UnknownCode old new h st s = absurd (never_refused st 3 (h st s).0)
-rows_short CarrierTaken old new h st s = absurd (never_refused st 4 (h st s).0)
-rows_short CodeTaken old new h st s = absurd (never_refused st 5 (h st s).0)
-rows_short LrnTaken old new h st s = absurd (never_refused st 6 (h st s).0)
-rows_short BadLrn old new h st s = absurd (never_refused st 7 (h st s).0)
-rows_short InPool old new h st s = absurd (never_refused st 8 (h st s).0)
-rows_short WrongOld old new h st s = absurd (never_refused st 9 (h st s).0)
-rows_short NotFound old new h st s = absurd (never_refused st 10 (h st s).0)
-rows_short NotYours old new h st s = absurd (never_refused st 11 (h st s).0)
-rows_short Busy old new h st s = absurd (never_refused st 12 (h st s).0)
-rows_short WrongStatus old new h st s = absurd (never_refused st 13 (h st s).0)
-rows_short DuePast old new h st s = absurd (never_refused st 14 (h st s).0)
-rows_short DueMismatch old new h st s = absurd (never_refused st 15 (h st s).0)
-rows_short NotConcurred old new h st s = absurd (never_refused st 16 (h st s).0)
-rows_short BeforeDue old new h st s = absurd (never_refused st 17 (h st s).0)
-rows_short ConflictSpent old new h st s = absurd (never_refused st 18 (h st s).0)
-rows_short TooLate old new h st s = absurd (never_refused st 19 (h st s).0)
-rows_short TooEarly old new h st s = absurd (never_refused st 20 (h st s).0)
-rows_short Protected old new h st s = absurd (never_refused st 21 (h st s).0)
-rows_short Contaminated old new h st s = absurd (never_refused st 22 (h st s).0)
-rows_short OpenPorts old new h st s = absurd (never_refused st 23 (h st s).0)
-rows_short BlockTaken old new h st s = absurd (never_refused st 24 (h st s).0)
-rows_short NotQueued old new h st s = absurd (never_refused st 25 (h st s).0)
-rows_short OutOfOrder old new h st s = absurd (never_refused st 26 (h st s).0)
-rows_short ClockBack old new h st s = absurd (never_refused st 27 (h st s).0)
-rows_short Full old new h st s = absurd (never_refused st 28 (h st s).0)
-rows_short Storage old new h st s = inl refl
-rows_short NoMemory old new h st s = inr refl
+-- a call answers that the device fails only where the count of its failures rose
+abbrev pub BlamesRightly : (from to : ℕ) → (old : Content) → Refusal → Type 0
+BlamesRightly from to old r = (st : State) → Stands old st → r ≡ Storage → HasRisen from to
+
+pub blames_since : (from between to : ℕ) (old mid : Content) (r : Refusal) → from ≤ between → between ≤ to → ((st : State) → Stands old st → Stands mid st) → BlamesRightly between to mid r → BlamesRightly from to old r
+blames_since from between to old mid r before behind same blames = λ st s e. risen_since from between to before behind (blames st (same st s) e)
+
+pub rows_short : (r : Refusal) (from to : ℕ) (old new : Content) → AnswersAs old new (Asks 0 AllInForce) (refused_with (number_of r)) → BlamesRightly from to old r → (st : State) → Stands old st → IsShort from to r
+rows_short UnknownCarrier from to old new h blames st s = absurd (never_refused st 1 (h st s).0)
+rows_short NotAdmin from to old new h blames st s = absurd (never_refused st 2 (h st s).0)
+rows_short UnknownCode from to old new h blames st s = absurd (never_refused st 3 (h st s).0)
+rows_short CarrierTaken from to old new h blames st s = absurd (never_refused st 4 (h st s).0)
+rows_short CodeTaken from to old new h blames st s = absurd (never_refused st 5 (h st s).0)
+rows_short LrnTaken from to old new h blames st s = absurd (never_refused st 6 (h st s).0)
+rows_short BadLrn from to old new h blames st s = absurd (never_refused st 7 (h st s).0)
+rows_short InPool from to old new h blames st s = absurd (never_refused st 8 (h st s).0)
+rows_short WrongOld from to old new h blames st s = absurd (never_refused st 9 (h st s).0)
+rows_short NotFound from to old new h blames st s = absurd (never_refused st 10 (h st s).0)
+rows_short NotYours from to old new h blames st s = absurd (never_refused st 11 (h st s).0)
+rows_short Busy from to old new h blames st s = absurd (never_refused st 12 (h st s).0)
+rows_short WrongStatus from to old new h blames st s = absurd (never_refused st 13 (h st s).0)
+rows_short DuePast from to old new h blames st s = absurd (never_refused st 14 (h st s).0)
+rows_short DueMismatch from to old new h blames st s = absurd (never_refused st 15 (h st s).0)
+rows_short NotConcurred from to old new h blames st s = absurd (never_refused st 16 (h st s).0)
+rows_short BeforeDue from to old new h blames st s = absurd (never_refused st 17 (h st s).0)
+rows_short ConflictSpent from to old new h blames st s = absurd (never_refused st 18 (h st s).0)
+rows_short TooLate from to old new h blames st s = absurd (never_refused st 19 (h st s).0)
+rows_short TooEarly from to old new h blames st s = absurd (never_refused st 20 (h st s).0)
+rows_short Protected from to old new h blames st s = absurd (never_refused st 21 (h st s).0)
+rows_short Contaminated from to old new h blames st s = absurd (never_refused st 22 (h st s).0)
+rows_short OpenPorts from to old new h blames st s = absurd (never_refused st 23 (h st s).0)
+rows_short BlockTaken from to old new h blames st s = absurd (never_refused st 24 (h st s).0)
+rows_short NotQueued from to old new h blames st s = absurd (never_refused st 25 (h st s).0)
+rows_short OutOfOrder from to old new h blames st s = absurd (never_refused st 26 (h st s).0)
+rows_short ClockBack from to old new h blames st s = absurd (never_refused st 27 (h st s).0)
+rows_short Full from to old new h blames st s = absurd (never_refused st 28 (h st s).0)
+rows_short Storage from to old new h blames st s = inl (refl, blames st s refl)
+rows_short NoMemory from to old new h blames st s = inr refl
 
 -- ---- a registration
 
@@ -139,123 +148,129 @@ not_outgrown st caller c (Found in_force opened) count e counted x = x
 -- ---- what a refusal means
 
 -- the device or memory failed and nothing happened, or the machine refuses too
-abbrev Outcome : Refusal → State → Input → Content → Type 0
-Outcome r st input new =
-    (((failure_text (Refused r) ≡ refusal_text 29) ⊎ (failure_text (Refused r) ≡ refusal_text 30)) × Stands new st)
+abbrev Outcome : (from to : ℕ) → Refusal → State → Input → Content → Type 0
+Outcome from to r st input new =
+    ((((failure_text (Refused r) ≡ refusal_text 29) × HasRisen from to) ⊎ (failure_text (Refused r) ≡ refusal_text 30)) × Stands new st)
     ⊎ ((k : ℕ) × (out st input ≡ MachineRefused k) × (failure_text (Refused r) ≡ refusal_text k) × Stands new (next st input))
 
-outcome : (r : Refusal) (old new : Content) (input : Input) → AnswersAs old new input (refused_with (number_of r)) → (st : State) → Stands old st → Outcome r st input new
-outcome UnknownCarrier old new input h st s = inr (1, sym (h st s).0, text_by_number UnknownCarrier, (h st s).1)
-outcome NotAdmin old new input h st s = inr (2, sym (h st s).0, text_by_number NotAdmin, (h st s).1)
-outcome UnknownCode old new input h st s = inr (3, sym (h st s).0, text_by_number UnknownCode, (h st s).1)
-outcome CarrierTaken old new input h st s = inr (4, sym (h st s).0, text_by_number CarrierTaken, (h st s).1)
-outcome CodeTaken old new input h st s = inr (5, sym (h st s).0, text_by_number CodeTaken, (h st s).1)
-outcome LrnTaken old new input h st s = inr (6, sym (h st s).0, text_by_number LrnTaken, (h st s).1)
-outcome BadLrn old new input h st s = inr (7, sym (h st s).0, text_by_number BadLrn, (h st s).1)
-outcome InPool old new input h st s = inr (8, sym (h st s).0, text_by_number InPool, (h st s).1)
-outcome WrongOld old new input h st s = inr (9, sym (h st s).0, text_by_number WrongOld, (h st s).1)
-outcome NotFound old new input h st s = inr (10, sym (h st s).0, text_by_number NotFound, (h st s).1)
-outcome NotYours old new input h st s = inr (11, sym (h st s).0, text_by_number NotYours, (h st s).1)
-outcome Busy old new input h st s = inr (12, sym (h st s).0, text_by_number Busy, (h st s).1)
-outcome WrongStatus old new input h st s = inr (13, sym (h st s).0, text_by_number WrongStatus, (h st s).1)
-outcome DuePast old new input h st s = inr (14, sym (h st s).0, text_by_number DuePast, (h st s).1)
-outcome DueMismatch old new input h st s = inr (15, sym (h st s).0, text_by_number DueMismatch, (h st s).1)
-outcome NotConcurred old new input h st s = inr (16, sym (h st s).0, text_by_number NotConcurred, (h st s).1)
-outcome BeforeDue old new input h st s = inr (17, sym (h st s).0, text_by_number BeforeDue, (h st s).1)
-outcome ConflictSpent old new input h st s = inr (18, sym (h st s).0, text_by_number ConflictSpent, (h st s).1)
-outcome TooLate old new input h st s = inr (19, sym (h st s).0, text_by_number TooLate, (h st s).1)
-outcome TooEarly old new input h st s = inr (20, sym (h st s).0, text_by_number TooEarly, (h st s).1)
-outcome Protected old new input h st s = inr (21, sym (h st s).0, text_by_number Protected, (h st s).1)
-outcome Contaminated old new input h st s = inr (22, sym (h st s).0, text_by_number Contaminated, (h st s).1)
-outcome OpenPorts old new input h st s = inr (23, sym (h st s).0, text_by_number OpenPorts, (h st s).1)
-outcome BlockTaken old new input h st s = inr (24, sym (h st s).0, text_by_number BlockTaken, (h st s).1)
-outcome NotQueued old new input h st s = inr (25, sym (h st s).0, text_by_number NotQueued, (h st s).1)
-outcome OutOfOrder old new input h st s = inr (26, sym (h st s).0, text_by_number OutOfOrder, (h st s).1)
-outcome ClockBack old new input h st s = inr (27, sym (h st s).0, text_by_number ClockBack, (h st s).1)
-outcome Full old new input h st s = inr (28, sym (h st s).0, text_by_number Full, (h st s).1)
-outcome Storage old new input h st s = inl (inl (text_by_number Storage), h st s)
-outcome NoMemory old new input h st s = inl (inr (text_by_number NoMemory), h st s)
+outcome : (r : Refusal) (from to : ℕ) (old new : Content) (input : Input) → AnswersAs old new input (refused_with (number_of r)) → BlamesRightly from to old r → (st : State) → Stands old st → Outcome from to r st input new
+outcome UnknownCarrier from to old new input h blames st s = inr (1, sym (h st s).0, text_by_number UnknownCarrier, (h st s).1)
+outcome NotAdmin from to old new input h blames st s = inr (2, sym (h st s).0, text_by_number NotAdmin, (h st s).1)
+outcome UnknownCode from to old new input h blames st s = inr (3, sym (h st s).0, text_by_number UnknownCode, (h st s).1)
+outcome CarrierTaken from to old new input h blames st s = inr (4, sym (h st s).0, text_by_number CarrierTaken, (h st s).1)
+outcome CodeTaken from to old new input h blames st s = inr (5, sym (h st s).0, text_by_number CodeTaken, (h st s).1)
+outcome LrnTaken from to old new input h blames st s = inr (6, sym (h st s).0, text_by_number LrnTaken, (h st s).1)
+outcome BadLrn from to old new input h blames st s = inr (7, sym (h st s).0, text_by_number BadLrn, (h st s).1)
+outcome InPool from to old new input h blames st s = inr (8, sym (h st s).0, text_by_number InPool, (h st s).1)
+outcome WrongOld from to old new input h blames st s = inr (9, sym (h st s).0, text_by_number WrongOld, (h st s).1)
+outcome NotFound from to old new input h blames st s = inr (10, sym (h st s).0, text_by_number NotFound, (h st s).1)
+outcome NotYours from to old new input h blames st s = inr (11, sym (h st s).0, text_by_number NotYours, (h st s).1)
+outcome Busy from to old new input h blames st s = inr (12, sym (h st s).0, text_by_number Busy, (h st s).1)
+outcome WrongStatus from to old new input h blames st s = inr (13, sym (h st s).0, text_by_number WrongStatus, (h st s).1)
+outcome DuePast from to old new input h blames st s = inr (14, sym (h st s).0, text_by_number DuePast, (h st s).1)
+outcome DueMismatch from to old new input h blames st s = inr (15, sym (h st s).0, text_by_number DueMismatch, (h st s).1)
+outcome NotConcurred from to old new input h blames st s = inr (16, sym (h st s).0, text_by_number NotConcurred, (h st s).1)
+outcome BeforeDue from to old new input h blames st s = inr (17, sym (h st s).0, text_by_number BeforeDue, (h st s).1)
+outcome ConflictSpent from to old new input h blames st s = inr (18, sym (h st s).0, text_by_number ConflictSpent, (h st s).1)
+outcome TooLate from to old new input h blames st s = inr (19, sym (h st s).0, text_by_number TooLate, (h st s).1)
+outcome TooEarly from to old new input h blames st s = inr (20, sym (h st s).0, text_by_number TooEarly, (h st s).1)
+outcome Protected from to old new input h blames st s = inr (21, sym (h st s).0, text_by_number Protected, (h st s).1)
+outcome Contaminated from to old new input h blames st s = inr (22, sym (h st s).0, text_by_number Contaminated, (h st s).1)
+outcome OpenPorts from to old new input h blames st s = inr (23, sym (h st s).0, text_by_number OpenPorts, (h st s).1)
+outcome BlockTaken from to old new input h blames st s = inr (24, sym (h st s).0, text_by_number BlockTaken, (h st s).1)
+outcome NotQueued from to old new input h blames st s = inr (25, sym (h st s).0, text_by_number NotQueued, (h st s).1)
+outcome OutOfOrder from to old new input h blames st s = inr (26, sym (h st s).0, text_by_number OutOfOrder, (h st s).1)
+outcome ClockBack from to old new input h blames st s = inr (27, sym (h st s).0, text_by_number ClockBack, (h st s).1)
+outcome Full from to old new input h blames st s = inr (28, sym (h st s).0, text_by_number Full, (h st s).1)
+outcome Storage from to old new input h blames st s = inl (inl (text_by_number Storage, blames st s refl), h st s)
+outcome NoMemory from to old new input h blames st s = inl (inr (text_by_number NoMemory), h st s)
 
-pub short_text : (r : Refusal) → IsShort r → (failure_text (Refused r) ≡ refusal_text 29) ⊎ (failure_text (Refused r) ≡ refusal_text 30)
-short_text r (inl e) = inl (ap (λ (t : Refusal). failure_text (Refused t)) e ∙ text_by_number Storage)
-short_text r (inr e) = inr (ap (λ (t : Refusal). failure_text (Refused t)) e ∙ text_by_number NoMemory)
+pub short_text : (r : Refusal) (from to : ℕ) → IsShort from to r → ((failure_text (Refused r) ≡ refusal_text 29) × HasRisen from to) ⊎ (failure_text (Refused r) ≡ refusal_text 30)
+short_text r from to (inl x) = inl (ap (λ (t : Refusal). failure_text (Refused t)) x.0 ∙ text_by_number Storage, x.1)
+short_text r from to (inr e) = inr (ap (λ (t : Refusal). failure_text (Refused t)) e ∙ text_by_number NoMemory)
 
 -- ---- commands and acknowledgements
 
 -- the machine took the input, or it was withheld
-abbrev pub Carried : (old new : Content) → Input → List ℕ → Type 0
-Carried old new input text = (st : State) → Stands old st → (after : State) × (Withholds st text after ⊎ Takes st input text after) × Stands new after
+abbrev pub Carried : (from to : ℕ) → (old new : Content) → Input → List ℕ → Type 0
+Carried from to old new input text = (st : State) → Stands old st → (after : State) × (Withholds from to st text after ⊎ Takes st input text after) × Stands new after
 
-carried_by : (r : Refusal) (st : State) (input : Input) (new : Content) → Outcome r st input new →
-    (after : State) × (Withholds st (failure_text (Refused r)) after ⊎ Takes st input (failure_text (Refused r)) after) × Stands new after
-carried_by r st input new (inl x) = (st, inl (x.0, refl), x.1)
-carried_by r st input new (inr x) = (next st input, inr (x.2 ∙ ap reply_text (sym x.1), refl), x.3)
+carried_by : (r : Refusal) (from to : ℕ) (st : State) (input : Input) (new : Content) → Outcome from to r st input new →
+    (after : State) × (Withholds from to st (failure_text (Refused r)) after ⊎ Takes st input (failure_text (Refused r)) after) × Stands new after
+carried_by r from to st input new (inl x) = (st, inl (x.0, refl), x.1)
+carried_by r from to st input new (inr x) = (next st input, inr (x.2 ∙ ap reply_text (sym x.1), refl), x.3)
 
-pub refused_carried : (r : Refusal) (old mid new : Content) (input : Input) → ((st : State) → Stands old st → Stands mid st) → AnswersAs mid new input (refused_with (number_of r)) → Carried old new input (failure_text (Refused r))
-refused_carried r old mid new input same h = λ st s. carried_by r st input new (outcome r mid new input h st (same st s))
+pub refused_carried : (r : Refusal) (from to : ℕ) (old new : Content) (input : Input) → AnswersAs old new input (refused_with (number_of r)) → BlamesRightly from to old r → Carried from to old new input (failure_text (Refused r))
+refused_carried r from to old new input h blames = λ st s. carried_by r from to st input new (outcome r from to old new input h blames st s)
 
-pub short_carried : (r : Refusal) (old new : Content) (input : Input) → ((st : State) → Stands old st → Stands new st) → ((st : State) → Stands old st → IsShort r) → Carried old new input (failure_text (Refused r))
-short_carried r old new input same short = λ st s. (st, inl (short_text r (short st s), refl), same st s)
+pub refused_then_carried : (r : Refusal) (from between to : ℕ) (old mid new : Content) (input : Input) → from ≤ between → between ≤ to → ((st : State) → Stands old st → Stands mid st) →
+    AnswersAs mid new input (refused_with (number_of r)) → BlamesRightly between to mid r → Carried from to old new input (failure_text (Refused r))
+refused_then_carried r from between to old mid new input before behind same h blames = λ st s.
+    refused_carried r from to mid new input h (blames_since from between to mid mid r before behind (λ x y. y) blames) st (same st s)
 
-pub taken_carried : (old new : Content) (input : Input) (reply : Reply) (text : List ℕ) → AnswersAs old new input (Some reply) → text ≡ reply_text reply → Carried old new input text
-taken_carried old new input reply text h e = λ st s. (next st input, inr (e ∙ ap reply_text (h st s).0, refl), (h st s).1)
+pub short_carried : (r : Refusal) (from to : ℕ) (old new : Content) (input : Input) → ((st : State) → Stands old st → Stands new st) → ((st : State) → Stands old st → IsShort from to r) → Carried from to old new input (failure_text (Refused r))
+short_carried r from to old new input same short = λ st s. (st, inl (short_text r from to (short st s), refl), same st s)
 
-pub reply_carried : {A : Type 0} (old mid new : Content) (caller : ℕ) (c : Command) (reply : Reply) (count : ℕ) (result : Result A Failure) (body : List ℕ) →
+pub taken_carried : (from to : ℕ) (old new : Content) (input : Input) (reply : Reply) (text : List ℕ) → AnswersAs old new input (Some reply) → text ≡ reply_text reply → Carried from to old new input text
+taken_carried from to old new input reply text h e = λ st s. (next st input, inr (e ∙ ap reply_text (h st s).0, refl), (h st s).1)
+
+pub reply_carried : {A : Type 0} (from to : ℕ) (old mid new : Content) (caller : ℕ) (c : Command) (reply : Reply) (count : ℕ) (result : Result A Failure) (body : List ℕ) →
     ((st : State) → Stands old st → Stands mid st) →
     ((st : State) → Stands old st → (spid : ℕ) → c ≡ RegisterCarrier spid → length (all_in_force st) ≡ count) →
     AnswersAs mid new (Requests caller (Commands c)) (Some reply) →
     OnOk result (success body ≡ reply_text reply) → OnErr result (Outgrows count reply) →
-    Carries old new caller (Orders c) (told result body)
-reply_carried old mid new caller c reply count (Ok done) body same counted h text more = λ st s.
+    Carries from to old new caller (Orders c) (told result body)
+reply_carried from to old mid new caller c reply count (Ok done) body same counted h text more = λ st s.
     (next st (Requests caller (Commands c)), inr (text ∙ ap reply_text (h st (same st s)).0, refl), (h st (same st s)).1)
-reply_carried old mid new caller c reply count (Err failure) body same counted h text more = λ st s.
+reply_carried from to old mid new caller c reply count (Err failure) body same counted h text more = λ st s.
     absurd (not_outgrown st caller c reply count (h st (same st s)).0 (counted st s) more)
 
 -- ---- queries
 
-query_known : (r : Refusal) (st : State) (caller : ℕ) (uri : List ℕ) (new : Content) → Outcome r st (Asks caller Knows) new →
-    (after : State) × (Withholds st (failure_text (Refused r)) after ⊎ (AnswersQuery st caller uri (failure_text (Refused r)) × (after ≡ st))) × Stands new after
-query_known r st caller uri new (inl x) = (st, inl (x.0, refl), x.1)
-query_known r st caller uri new (inr x) = (st, inr (inl (x.0, x.1, x.2), refl), stays new st caller Knows x.3)
+query_known : (r : Refusal) (from to : ℕ) (st : State) (caller : ℕ) (uri : List ℕ) (new : Content) → Outcome from to r st (Asks caller Knows) new →
+    (after : State) × (Withholds from to st (failure_text (Refused r)) after ⊎ (AnswersQuery st caller uri (failure_text (Refused r)) × (after ≡ st))) × Stands new after
+query_known r from to st caller uri new (inl x) = (st, inl (x.0, refl), x.1)
+query_known r from to st caller uri new (inr x) = (st, inr (inl (x.0, x.1, x.2), refl), stays new st caller Knows x.3)
 
-pub unknown_carried : (r : Refusal) (old new : Content) (caller : ℕ) (uri : List ℕ) → AnswersAs old new (Asks caller Knows) (refused_with (number_of r)) → Carries old new caller (Seeks uri) (failure_text (Refused r))
-unknown_carried r old new caller uri h = λ st s. query_known r st caller uri new (outcome r old new (Asks caller Knows) h st s)
+pub unknown_carried : (r : Refusal) (from to : ℕ) (old new : Content) (caller : ℕ) (uri : List ℕ) → AnswersAs old new (Asks caller Knows) (refused_with (number_of r)) → BlamesRightly from to old r → Carries from to old new caller (Seeks uri) (failure_text (Refused r))
+unknown_carried r from to old new caller uri h blames = λ st s. query_known r from to st caller uri new (outcome r from to old new (Asks caller Knows) h blames st s)
 
-pub numberless_carried : (fault : UriFault) (old new : Content) (caller : ℕ) (uri : List ℕ) → AnswersAs old new (Asks caller Knows) (Some Known) → ((tn : ℕ) → ¬ (HasNumber uri tn)) → Carries old new caller (Seeks uri) (failure_text (Uri fault))
-numberless_carried BadNumber old new caller uri h none = λ st s.
+pub numberless_carried : (fault : UriFault) (from to : ℕ) (old new : Content) (caller : ℕ) (uri : List ℕ) → AnswersAs old new (Asks caller Knows) (Some Known) → ((tn : ℕ) → ¬ (HasNumber uri tn)) → Carries from to old new caller (Seeks uri) (failure_text (Uri fault))
+numberless_carried BadNumber from to old new caller uri h none = λ st s.
     (st, inr (inr (inl (sym (h st s).0, none, refl)), refl), stays new st caller Knows (h st s).1)
 
-query_asked : (r : Refusal) (st : State) (caller : ℕ) (uri : List ℕ) (tn : ℕ) (new : Content) → HasNumber uri tn → out st (Asks caller Knows) ≡ Known → Outcome r st (Asks caller (Query tn)) new →
-    (after : State) × (Withholds st (failure_text (Refused r)) after ⊎ (AnswersQuery st caller uri (failure_text (Refused r)) × (after ≡ st))) × Stands new after
-query_asked r st caller uri tn new number known (inl x) = (st, inl (x.0, refl), x.1)
-query_asked r st caller uri tn new number known (inr x) =
+query_asked : (r : Refusal) (from to : ℕ) (st : State) (caller : ℕ) (uri : List ℕ) (tn : ℕ) (new : Content) → HasNumber uri tn → out st (Asks caller Knows) ≡ Known → Outcome from to r st (Asks caller (Query tn)) new →
+    (after : State) × (Withholds from to st (failure_text (Refused r)) after ⊎ (AnswersQuery st caller uri (failure_text (Refused r)) × (after ≡ st))) × Stands new after
+query_asked r from to st caller uri tn new number known (inl x) = (st, inl (x.0, refl), x.1)
+query_asked r from to st caller uri tn new number known (inr x) =
     (st, inr (inr (inr (known, (tn, number, x.2 ∙ ap (routed_text tn) (sym x.1)))), refl), stays new st caller (Query tn) x.3)
 
-pub refused_query_carried : (r : Refusal) (old mid new : Content) (caller : ℕ) (uri : List ℕ) (tn : ℕ) → HasNumber uri tn → AnswersAs old mid (Asks caller Knows) (Some Known) →
-    AnswersAs mid new (Asks caller (Query tn)) (refused_with (number_of r)) → Carries old new caller (Seeks uri) (failure_text (Refused r))
-refused_query_carried r old mid new caller uri tn number h k = λ st s.
-    query_asked r st caller uri tn new number (sym (h st s).0) (outcome r mid new (Asks caller (Query tn)) k st (stays mid st caller Knows (h st s).1))
+pub refused_query_carried : (r : Refusal) (from between to : ℕ) (old mid new : Content) (caller : ℕ) (uri : List ℕ) (tn : ℕ) → from ≤ between → between ≤ to → HasNumber uri tn → AnswersAs old mid (Asks caller Knows) (Some Known) →
+    AnswersAs mid new (Asks caller (Query tn)) (refused_with (number_of r)) → BlamesRightly between to mid r → Carries from to old new caller (Seeks uri) (failure_text (Refused r))
+refused_query_carried r from between to old mid new caller uri tn before behind number h k blames = λ st s.
+    query_asked r from to st caller uri tn new number (sym (h st s).0)
+    (outcome r from to mid new (Asks caller (Query tn)) k (blames_since from between to mid mid r before behind (λ x y. y) blames) st (stays mid st caller Knows (h st s).1))
 
-pub query_carried : (old mid new : Content) (caller : ℕ) (uri : List ℕ) (tn : ℕ) (a : Answer) (text : List ℕ) → HasNumber uri tn → AnswersAs old mid (Asks caller Knows) (Some Known) →
-    AnswersAs mid new (Asks caller (Query tn)) (Some (Answered a)) → text ≡ success (uri_text tn a) → Carries old new caller (Seeks uri) text
-query_carried old mid new caller uri tn a text number h k e = λ st s.
+pub query_carried : (from to : ℕ) (old mid new : Content) (caller : ℕ) (uri : List ℕ) (tn : ℕ) (a : Answer) (text : List ℕ) → HasNumber uri tn → AnswersAs old mid (Asks caller Knows) (Some Known) →
+    AnswersAs mid new (Asks caller (Query tn)) (Some (Answered a)) → text ≡ success (uri_text tn a) → Carries from to old new caller (Seeks uri) text
+query_carried from to old mid new caller uri tn a text number h k e = λ st s.
     let s1 : Stands mid st = stays mid st caller Knows (h st s).1 in
     let k1 = k st s1 in
     (st, inr (inr (inr (sym (h st s).0, (tn, number, e ∙ ap (routed_text tn) k1.0))), refl), stays new st caller (Query tn) k1.1)
 
 -- ---- messages
 
-pub calls_carried : (new : Content) (st : State) (route : Route) (caller : ℕ) (body : List ℕ) (d : Data) (asked : Asked) (text : List ℕ) → Some d ≡ json_of body → HasForm route d asked →
-    (after : State) × Answers st caller asked text after × Stands new after → (after : State) × Calls st route caller body text after × Stands new after
-calls_carried new st route caller body d asked text e form x =
+pub calls_carried : (from to : ℕ) (new : Content) (st : State) (route : Route) (caller : ℕ) (body : List ℕ) (d : Data) (asked : Asked) (text : List ℕ) → Some d ≡ json_of body → HasForm route d asked →
+    (after : State) × Answers from to st caller asked text after × Stands new after → (after : State) × Calls from to st route caller body text after × Stands new after
+calls_carried from to new st route caller body d asked text e form x =
     let asks : BodyAsks route body asked = subst (λ (o : Option Data). IsSomeAnd o (λ (given : Data). HasForm route given asked)) e form in
     (x.0, inr (inr (asked, asks, x.1)), x.2)
 
-pub calls_met : (new : Content) (st : State) (request : Request) (route : Route) (caller : Spid) (body text : List ℕ) → request.route ≡ Some route → request.is_post ≡ true → request.caller ≡ Some caller →
-    (after : State) × Calls st route caller.number body text after × Stands new after → (after : State) × Step st request body text after × Stands new after
-calls_met new st request route caller body text e f g x =
-    (x.0, record { met = rw (e, f, g) x.1 }, x.2)
+pub calls_met : (from to : ℕ) (new : Content) (st : State) (request : Request) (route : Route) (caller : Spid) (body text : List ℕ) → from ≤ to → request.route ≡ Some route → request.is_post ≡ true → request.caller ≡ Some caller →
+    (after : State) × Calls from to st route caller.number body text after × Stands new after → (after : State) × Step from to st request body text after × Stands new after
+calls_met from to new st request route caller body text rises e f g x =
+    (x.0, record { rises = rises; met = rw (e, f, g) x.1 }, x.2)
 
-pub step_told : (new : Content) (st : State) (request : Request) (body text said : List ℕ) → said ≡ text →
-    (after : State) × Step st request body text after × Stands new after → (after : State) × Step st request body said after × Stands new after
-step_told new st request body text said e x = (x.0, subst (λ (t : List ℕ). Step st request body t x.0) (sym e) x.1, x.2)
+pub step_told : (from to : ℕ) (new : Content) (st : State) (request : Request) (body text said : List ℕ) → said ≡ text →
+    (after : State) × Step from to st request body text after × Stands new after → (after : State) × Step from to st request body said after × Stands new after
+step_told from to new st request body text said e x = (x.0, subst (λ (t : List ℕ). Step from to st request body t x.0) (sym e) x.1, x.2)

@@ -1,5 +1,5 @@
 -- One message, and what it makes of a state.
-use Rattle.std.specs.Prelude.{◌≡◌, ◌⊎◌, ℕ, ◌<◌, List, [], length, ◌++◌, codes, Bool, true, false, Option, Some, None, IsSomeAnd, Result, Ok, Err}
+use Rattle.std.specs.Prelude.{◌≡◌, ◌⊎◌, ℕ, ◌<◌, ◌≤◌, List, [], length, ◌++◌, codes, Bool, true, false, Option, Some, None, IsSomeAnd, Result, Ok, Err}
 use Rattle.numbers.specs.Digits.{IsTn}
 use Rattle.numbers.specs.Texts.{tn_text}
 use Rattle.numbers.specs.declared.spid.Spid.{Spid}
@@ -10,6 +10,7 @@ use Rattle.meaning.specs.History.{Commands, Acknowledges}
 use Rattle.meaning.specs.Reading.{State}
 use Rattle.meaning.specs.Refusals.{Input, Requests, Asks, Knows, Query}
 use Rattle.meaning.specs.Machine.{Reply, Refused, Moved, Registered, LrnAdded, CodeOpened, Shown, Donated, Known, Fetched, Answered, Rows, Awaited, Found, out, next}
+use Rattle.settle.specs.Reads.{HasRisen}
 use Rattle.register.specs.Answers.{Stands}
 use Rattle.api.specs.declared.fault.Failure.{Failure}
 use Rattle.api.specs.declared.fault.Failure.TheVariants.{Uri, Message}
@@ -68,24 +69,24 @@ abbrev pub told : {A : Type 0} → Result A Failure → (body : List ℕ) → Li
 told (Ok done) body = success body
 told (Err failure) body = failure_text failure
 
--- a call is refused for want of the device or of memory
-abbrev pub IsShort : Refusal → Type 0
-IsShort refusal = (refusal ≡ Storage) ⊎ (refusal ≡ NoMemory)
+-- a call is refused for want of memory; or for want of the device, where the count of its failures rose
+abbrev pub IsShort : (from to : ℕ) → Refusal → Type 0
+IsShort from to refusal = ((refusal ≡ Storage) × HasRisen from to) ⊎ (refusal ≡ NoMemory)
 
 -- a registration shows more than so many rows
 abbrev pub Outgrows : ℕ → Reply → Type 0
 Outgrows count (Registered spid rows) = count < length rows
 Outgrows count _ = ⊥
 
--- ---- what happens to a state
+-- ---- what happens to a state. From and to are the counts of the device's failures before a message and after it
 
 -- the answer of storage (29) or memory (30) that fails
 abbrev pub IsWithheld : List ℕ → Type 0
 IsWithheld text = (text ≡ refusal_text 29) ⊎ (text ≡ refusal_text 30)
 
--- storage or memory fails, and nothing has happened
-abbrev pub Withholds : State → (text : List ℕ) → (after : State) → Type 0
-Withholds st text after = IsWithheld text × (after ≡ st)
+-- storage fails, and the device failed meanwhile, or memory fails; and nothing has happened
+abbrev pub Withholds : (from to : ℕ) → State → (text : List ℕ) → (after : State) → Type 0
+Withholds from to st text after = (((text ≡ refusal_text 29) × HasRisen from to) ⊎ (text ≡ refusal_text 30)) × (after ≡ st)
 
 -- the message is refused, and nothing has happened
 abbrev pub Refuses : State → MessageFault → (text : List ℕ) → (after : State) → Type 0
@@ -108,10 +109,10 @@ AnswersQuery st caller uri text =
     ⊎ ((out st (Asks caller Knows) ≡ Known) × ((tn : ℕ) × HasNumber uri tn × (text ≡ routed_text tn (out st (Asks caller (Query tn))))))
 
 -- what a caller asks is answered, or withheld
-abbrev pub Answers : State → (caller : ℕ) → Asked → (text : List ℕ) → (after : State) → Type 0
-Answers st caller (Orders command) text after = Withholds st text after ⊎ Takes st (Requests caller (Commands command)) text after
-Answers st caller (Confirms id attempt) text after = Withholds st text after ⊎ Takes st (Requests caller (Acknowledges id attempt)) text after
-Answers st caller (Seeks uri) text after = Withholds st text after ⊎ (AnswersQuery st caller uri text × (after ≡ st))
+abbrev pub Answers : (from to : ℕ) → State → (caller : ℕ) → Asked → (text : List ℕ) → (after : State) → Type 0
+Answers from to st caller (Orders command) text after = Withholds from to st text after ⊎ Takes st (Requests caller (Commands command)) text after
+Answers from to st caller (Confirms id attempt) text after = Withholds from to st text after ⊎ Takes st (Requests caller (Acknowledges id attempt)) text after
+Answers from to st caller (Seeks uri) text after = Withholds from to st text after ⊎ (AnswersQuery st caller uri text × (after ≡ st))
 
 -- ---- messages
 
@@ -120,22 +121,24 @@ abbrev pub BodyAsks : Route → (body : List ℕ) → Asked → Type 0
 BodyAsks route body asked = IsSomeAnd (json_of body) (λ d. HasForm route d asked)
 
 -- a body that is of no form is refused; else what it asks is answered
-abbrev pub Calls : State → Route → (caller : ℕ) → (body text : List ℕ) → (after : State) → Type 0
-Calls st route caller body text after =
-    Withholds st text after
+abbrev pub Calls : (from to : ℕ) → State → Route → (caller : ℕ) → (body text : List ℕ) → (after : State) → Type 0
+Calls from to st route caller body text after =
+    Withholds from to st text after
     ⊎ (((asked : Asked) → ¬ (BodyAsks route body asked)) × Refuses st BadRequest text after)
-    ⊎ ((asked : Asked) × BodyAsks route body asked × Answers st caller asked text after)
+    ⊎ ((asked : Asked) × BodyAsks route body asked × Answers from to st caller asked text after)
 
 -- first the path is judged, then the method, then the caller, then the body
-abbrev pub Meets : State → Option Route → (is_post : Bool) → (caller : Option Spid) → (body text : List ℕ) → (after : State) → Type 0
-Meets st None is_post caller body text after = Refuses st NoPath text after
-Meets st (Some route) false caller body text after = Refuses st BadMethod text after
-Meets st (Some route) true None body text after = Refuses st BadRequest text after
-Meets st (Some route) true (Some caller) body text after = Calls st route caller.number body text after
+abbrev pub Meets : (from to : ℕ) → State → Option Route → (is_post : Bool) → (caller : Option Spid) → (body text : List ℕ) → (after : State) → Type 0
+Meets from to st None is_post caller body text after = Refuses st NoPath text after
+Meets from to st (Some route) false caller body text after = Refuses st BadMethod text after
+Meets from to st (Some route) true None body text after = Refuses st BadRequest text after
+Meets from to st (Some route) true (Some caller) body text after = Calls from to st route caller.number body text after
 
--- the message, whose head says the request, is answered by the text, and st becomes after
-pub record Step (st : State) (request : Request) (body text : List ℕ) (after : State) : Type 0 where
-  pub met : Meets st request.route request.is_post request.caller body text after
+-- the message, whose head says the request, is answered by the text, and st becomes after. The count of the device's failures
+-- never falls
+pub record Step (from to : ℕ) (st : State) (request : Request) (body text : List ℕ) (after : State) : Type 0 where
+  pub rises : from ≤ to
+  pub met : Meets from to st request.route request.is_post request.caller body text after
 
 -- one answer and one state after it, unless either is withheld
 abbrev pub IsOnce : (text said : List ℕ) → (after later : State) → Type 0
@@ -144,11 +147,17 @@ IsOnce text said after later = IsWithheld text ⊎ IsWithheld said ⊎ ((text �
 -- but for want of the device or of memory, a message has one answer and one state after it
 abbrev pub StepsOnce : Type 0
 StepsOnce =
-    (st : State) (request : Request) (body text said : List ℕ) (after later : State) →
-    Step st request body text after → Step st request body said later → IsOnce text said after later
+    (from to from' to' : ℕ) (st : State) (request : Request) (body text said : List ℕ) (after later : State) →
+    Step from to st request body text after → Step from' to' st request body said later → IsOnce text said after later
+
+-- the answer that storage fails (29) says that the device failed while its message was served, and that nothing has happened
+abbrev pub StorageTells : Type 0
+StorageTells =
+    (from to : ℕ) (st : State) (request : Request) (body : List ℕ) (after : State) →
+    Step from to st request body (refusal_text 29) after → HasRisen from to × (after ≡ st)
 
 -- ---- contents that stand for states
 
 -- whatever state the content stands for, what a caller asks is answered by the text, and the content stands for the state afterwards
-abbrev pub Carries : (old new : Content) → (caller : ℕ) → Asked → (text : List ℕ) → Type 0
-Carries old new caller asked text = (st : State) → Stands old st → (after : State) × Answers st caller asked text after × Stands new after
+abbrev pub Carries : (from to : ℕ) → (old new : Content) → (caller : ℕ) → Asked → (text : List ℕ) → Type 0
+Carries from to old new caller asked text = (st : State) → Stands old st → (after : State) × Answers from to st caller asked text after × Stands new after

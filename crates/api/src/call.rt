@@ -1,5 +1,5 @@
 //! Carrying out a message.
-ghost use Rattle.std.specs.Prelude.{◌≡◌, ◌⊎◌, ℕ, ◌+◌, ◌*◌, ◌<◌, List, Some, None, true, length, map, string_bytes, IfOk, IfErr, OnOk, OnErr};
+ghost use Rattle.std.specs.Prelude.{◌≡◌, ◌⊎◌, ℕ, ◌+◌, ◌*◌, ◌<◌, ◌≤◌, List, Some, None, true, length, map, string_bytes, IfOk, IfErr, OnOk, OnErr};
 ghost use Rattle.meaning.specs.Commands.{RegisterCarrier};
 ghost use Rattle.meaning.specs.Machine.{Shown};
 ghost use Rattle.meaning.specs.Reading.{State, all_in_force};
@@ -8,7 +8,8 @@ ghost use Rattle.register.specs.Calls.{command_of as command_seen, view_of, repl
 ghost use Rattle.api.specs.Failures.{failure_text};
 ghost use Rattle.api.specs.Forms.{Orders, Confirms, Seeks, asked_of};
 ghost use Rattle.api.specs.Rooms.{HasRoom, IsEmpty, IsWritten};
-ghost use Rattle.api.specs.Step.{Step, StepsOnce, Meets, Calls, Carries, HasNumber, IsShort, Outgrows, success, told, reply_text};
+ghost use Rattle.api.specs.Run.{StaysClear};
+ghost use Rattle.api.specs.Step.{Step, StepsOnce, StorageTells, Meets, Calls, Carries, HasNumber, IsShort, Outgrows, success, told, reply_text};
 ghost use Rattle.api.specs.Texts.{registered_text, view_text, uri_text};
 
 use crate::answer::Room;
@@ -29,7 +30,7 @@ use std::alloc::Global;
 // The path and the caller of a message: first its path, then its method, then its caller.
 fn judged(request: &Request) -> Result<(Route, Spid), MessageFault>
     ensures ok { IfOk result (λ found. (request.now.route ≡ Some found.0) × (request.now.is_post ≡ true) × (request.now.caller ≡ Some found.1)) }
-    ensures err { IfErr result (λ fault. (st : State) (body : List ℕ) → Meets st request.now.route request.now.is_post request.now.caller body (failure_text (Failure.Message fault)) st) }
+    ensures err { IfErr result (λ fault. (from to : ℕ) (st : State) (body : List ℕ) → Meets from to st request.now.route request.now.is_post request.now.caller body (failure_text (Failure.Message fault)) st) }
 {
     let Some(route) = request.route else {
         return Err(MessageFault::NoPath);
@@ -72,8 +73,8 @@ fn take_rows(room: &mut Room, count: usize) -> Result<(), Refusal>
     Ok(())
 }
 
-// The rows were counted before, and the room for so many was taken: more than those would be a fault of the
-// storage.
+// The rows were counted before, and the room for so many was taken. More than those never come: that refusal is
+// no message's answer.
 fn put_starting_rows(
     room: &mut Room,
     spid: Spid,
@@ -145,8 +146,9 @@ fn put_reply(room: &mut Room, reply: &Reply, count: usize) -> Result<(), Failure
 fn count_rows<S: Store>(register: &mut Register<S>) -> Result<usize, Refusal>
     ensures kept { S.IsUsable register.new.store → (st : State) → Stands (S.content register.old.store) st → Stands (S.content register.new.store) st }
     ensures usable { S.IsUsable register.new.store → S.IsUsable register.old.store }
+    ensures rises { S.failed register.old.store ≤ S.failed register.new.store }
     ensures count { IfOk result (λ count. S.IsUsable register.new.store → (st : State) → Stands (S.content register.old.store) st → length (all_in_force st) ≡ count) }
-    ensures short { IfErr result (λ refusal. S.IsUsable register.new.store → (st : State) → Stands (S.content register.old.store) st → IsShort refusal) }
+    ensures short { IfErr result (λ refusal. S.IsUsable register.new.store → (st : State) → Stands (S.content register.old.store) st → IsShort (S.failed register.old.store) (S.failed register.new.store) refusal) }
 {
     match register.in_force() {
         Ok(rows) => Ok(rows.len()),
@@ -167,9 +169,10 @@ fn prepare<S: Store>(
     ensures rows { IfOk result (λ count. HasRoom (64 + count * 64) room.new) }
     ensures kept { S.IsUsable register.new.store → (st : State) → Stands (S.content register.old.store) st → Stands (S.content register.new.store) st }
     ensures usable { S.IsUsable register.new.store → S.IsUsable register.old.store }
+    ensures rises { S.failed register.old.store ≤ S.failed register.new.store }
     ensures count { IfOk result (λ count. S.IsUsable register.new.store → (st : State) → Stands (S.content register.old.store) st →
         (spid : ℕ) → command_seen command.now ≡ RegisterCarrier spid → length (all_in_force st) ≡ count) }
-    ensures short { IfErr result (λ refusal. S.IsUsable register.new.store → (st : State) → Stands (S.content register.old.store) st → IsShort refusal) }
+    ensures short { IfErr result (λ refusal. S.IsUsable register.new.store → (st : State) → Stands (S.content register.old.store) st → IsShort (S.failed register.old.store) (S.failed register.new.store) refusal) }
 {
     match command {
         Command::RegisterCarrier { .. } => {
@@ -192,7 +195,8 @@ fn command<S: Store>(
     ensures ok { OnOk result (IsWritten room.new) }
     ensures room { HasRoom 512 room.new }
     ensures usable { S.IsUsable register.new.store → S.IsUsable register.old.store }
-    ensures carries { S.IsUsable register.new.store → Carries (S.content register.old.store) (S.content register.new.store) caller.number (Orders (command_seen command.now)) (told result (string_bytes room.new.body)) }
+    ensures rises { S.failed register.old.store ≤ S.failed register.new.store }
+    ensures carries { S.IsUsable register.new.store → Carries (S.failed register.old.store) (S.failed register.new.store) (S.content register.old.store) (S.content register.new.store) caller.number (Orders (command_seen command.now)) (told result (string_bytes room.new.body)) }
 {
     let count = match prepare(register, command, room) {
         Ok(count) => count,
@@ -216,7 +220,8 @@ fn acknowledge<S: Store>(
     ensures ok { OnOk result (IsWritten room.new) }
     ensures room { HasRoom 512 room.new }
     ensures usable { S.IsUsable register.new.store → S.IsUsable register.old.store }
-    ensures carries { S.IsUsable register.new.store → Carries (S.content register.old.store) (S.content register.new.store) caller.number (Confirms id attempt) (told result (string_bytes room.new.body)) }
+    ensures rises { S.failed register.old.store ≤ S.failed register.new.store }
+    ensures carries { S.IsUsable register.new.store → Carries (S.failed register.old.store) (S.failed register.new.store) (S.content register.old.store) (S.content register.new.store) caller.number (Confirms id attempt) (told result (string_bytes room.new.body)) }
 {
     match register.acknowledge(caller, id, attempt) {
         Ok(view) => {
@@ -239,7 +244,8 @@ fn query<S: Store>(
     ensures ok { OnOk result (IsWritten room.new) }
     ensures room { HasRoom 512 room.new }
     ensures usable { S.IsUsable register.new.store → S.IsUsable register.old.store }
-    ensures carries { S.IsUsable register.new.store → Carries (S.content register.old.store) (S.content register.new.store) caller.number (Seeks uri.now) (told result (string_bytes room.new.body)) }
+    ensures rises { S.failed register.old.store ≤ S.failed register.new.store }
+    ensures carries { S.IsUsable register.new.store → Carries (S.failed register.old.store) (S.failed register.new.store) (S.content register.old.store) (S.content register.new.store) caller.number (Seeks uri.now) (told result (string_bytes room.new.body)) }
 {
     if let Err(refusal) = register.knows(caller) {
         return Err(Failure::Refused(refusal));
@@ -268,7 +274,8 @@ fn carry_out<S: Store>(
     ensures ok { OnOk result (IsWritten room.new) }
     ensures room { HasRoom 512 room.new }
     ensures usable { S.IsUsable register.new.store → S.IsUsable register.old.store }
-    ensures carries { S.IsUsable register.new.store → Carries (S.content register.old.store) (S.content register.new.store) caller.number (asked_of call.now) (told result (string_bytes room.new.body)) }
+    ensures rises { S.failed register.old.store ≤ S.failed register.new.store }
+    ensures carries { S.IsUsable register.new.store → Carries (S.failed register.old.store) (S.failed register.new.store) (S.content register.old.store) (S.content register.new.store) caller.number (asked_of call.now) (told result (string_bytes room.new.body)) }
 {
     match call {
         Call::Command(asked) => command(register, caller, asked, room),
@@ -291,8 +298,9 @@ fn carry_out_body<S: Store>(
     ensures ok { OnOk result (IsWritten room.new) }
     ensures room { HasRoom 512 room.new }
     ensures usable { S.IsUsable register.new.store → S.IsUsable register.old.store }
+    ensures rises { S.failed register.old.store ≤ S.failed register.new.store }
     ensures calls { S.IsUsable register.new.store → (st : State) → Stands (S.content register.old.store) st →
-        (after : State) × Calls st route caller.number body.now (told result (string_bytes room.new.body)) after × Stands (S.content register.new.store) after }
+        (after : State) × Calls (S.failed register.old.store) (S.failed register.new.store) st route caller.number body.now (told result (string_bytes room.new.body)) after × Stands (S.content register.new.store) after }
 {
     let value = match json(alloc, body) {
         Ok(Some(value)) => value,
@@ -317,8 +325,9 @@ fn reply<S: Store>(
     ensures ok { OnOk result (IsWritten room.new) }
     ensures room { HasRoom 512 room.new }
     ensures usable { S.IsUsable register.new.store → S.IsUsable register.old.store }
+    ensures rises { S.failed register.old.store ≤ S.failed register.new.store }
     ensures step { S.IsUsable register.new.store → (st : State) → Stands (S.content register.old.store) st →
-        (after : State) × Step st request.now body.now (told result (string_bytes room.new.body)) after × Stands (S.content register.new.store) after }
+        (after : State) × Step (S.failed register.old.store) (S.failed register.new.store) st request.now body.now (told result (string_bytes room.new.body)) after × Stands (S.content register.new.store) after }
 {
     match judged(request) {
         Ok((route, caller)) => carry_out_body(alloc, register, route, caller, body, room),
@@ -354,6 +363,12 @@ pub fn message_steps_once()
     ensures { StepsOnce }
 {}
 
+/// The answer that storage fails says that the device failed while its message was served.
+pub fn storage_tells_of_a_failure()
+    ensures step { StorageTells }
+    ensures run { StaysClear }
+{}
+
 /// Carries out a message and writes its answer. All memory of the answer is taken before the message is
 /// carried out.
 pub fn put_answer<S: Store>(
@@ -366,8 +381,9 @@ pub fn put_answer<S: Store>(
     requires room { HasRoom 512 room.old }
     ensures room { HasRoom 512 room.new }
     ensures usable { S.IsUsable register.new.store → S.IsUsable register.old.store }
+    ensures rises { S.failed register.old.store ≤ S.failed register.new.store }
     ensures step { S.IsUsable register.new.store → (st : State) → Stands (S.content register.old.store) st →
-        (after : State) × Step st request.now body.now (string_bytes room.new.text) after × Stands (S.content register.new.store) after }
+        (after : State) × Step (S.failed register.old.store) (S.failed register.new.store) st request.now body.now (string_bytes room.new.text) after × Stands (S.content register.new.store) after }
 {
     room.clear();
     match reply(alloc, register, request, body, room) {

@@ -1,5 +1,5 @@
 //! Serving the messages of a reader to a writer.
-ghost use Rattle.std.specs.Prelude.{◌≡◌, List, [], string_bytes, vec_len, IfOk, IfErr, IfSome};
+ghost use Rattle.std.specs.Prelude.{◌≡◌, ◌≤◌, List, [], string_bytes, vec_len, IfOk, IfErr, IfSome};
 ghost use Rattle.meaning.specs.Reading.{State};
 ghost use Rattle.register.specs.Answers.{Stands};
 ghost use Rattle.api.specs.Held.{held_bytes};
@@ -86,7 +86,8 @@ fn carry_out<S: Store, T: Ticks>(
     requires { HasRoom 512 room.old }
     ensures room { HasRoom 512 room.new }
     ensures usable { S.IsUsable register.new.store → S.IsUsable register.old.store }
-    ensures responds { S.IsUsable register.new.store → Responds (Next.Message request.now) body.now (string_bytes room.new.text) (S.content register.old.store) (S.content register.new.store) }
+    ensures rises { S.failed register.old.store ≤ S.failed register.new.store }
+    ensures responds { S.IsUsable register.new.store → Responds (S.failed register.old.store) (S.failed register.new.store) (Next.Message request.now) body.now (string_bytes room.new.text) (S.content register.old.store) (S.content register.new.store) }
 {
     let _ = ticks.next();
     put_answer(alloc, register, request, body, room);
@@ -105,7 +106,8 @@ fn respond<S: Store, T: Ticks>(
     ensures room { HasRoom 512 room.new }
     ensures end { result ≡ end_of next }
     ensures usable { S.IsUsable register.new.store → S.IsUsable register.old.store }
-    ensures responds { S.IsUsable register.new.store → Responds next body.now (string_bytes room.new.text) (S.content register.old.store) (S.content register.new.store) }
+    ensures rises { S.failed register.old.store ≤ S.failed register.new.store }
+    ensures responds { S.IsUsable register.new.store → Responds (S.failed register.old.store) (S.failed register.new.store) next body.now (string_bytes room.new.text) (S.content register.old.store) (S.content register.new.store) }
 {
     match next {
         Next::Message(request) => {
@@ -150,11 +152,12 @@ pub fn serve<S: Store, T: Ticks, R: Read, W: Write>(
     writer: &mut W,
 ) -> Result<Served, Fault>
     ensures served { S.IsUsable register.new.store → (st : State) → Stands (S.content register.old.store) st → IfOk result (λ served. IfSome (R.remaining reader.old) (λ input.
-        EndsAt served.end st (S.content register.new.store) input (W.contents writer.old) (W.contents writer.new) served.count)) }
+        EndsAt served.end (S.failed register.old.store) (S.failed register.new.store) st (S.content register.new.store) input (W.contents writer.old) (W.contents writer.new) served.count)) }
     ensures fault { S.IsUsable register.new.store → (st : State) → Stands (S.content register.old.store) st → IfErr result (λ fault. IfSome (R.remaining reader.old) (λ input.
-        FailsAt fault st (S.content register.new.store) input (W.contents writer.old) (W.contents writer.new))) }
+        FailsAt fault (S.failed register.old.store) (S.failed register.new.store) st (S.content register.new.store) input (W.contents writer.old) (W.contents writer.new))) }
     ensures state { S.IsUsable register.new.store → (st : State) → Stands (S.content register.old.store) st → (after : State) × Stands (S.content register.new.store) after }
     ensures usable { S.IsUsable register.new.store → S.IsUsable register.old.store }
+    ensures rises { S.failed register.old.store ≤ S.failed register.new.store }
 {
     let Some((mut held, mut room, router)) = buffers(alloc) else {
         return Err(Fault::Memory(0));

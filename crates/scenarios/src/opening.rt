@@ -1,6 +1,7 @@
 //! Opening a store, and opening it again.
 use crate::desk::{WINDOWS, desk, hear};
 use crate::first_port::first_port;
+use api::{body_asks_once, cuts_of_the_input, message_steps_once, storage_tells_of_a_failure};
 use meaning::Refusal;
 use numbers::{Spid, Tn};
 use register::{Answer, OpenFault, Register, law_of_new_stores, law_of_untouched_rows};
@@ -73,4 +74,8 @@ fn other_windows_are_refused_and_the_store_handed_back(rt: HostRuntime) -> Resul
 fn the_laws_return(_rt: HostRuntime) {
     law_of_new_stores();
     law_of_untouched_rows();
+    cuts_of_the_input();
+    body_asks_once();
+    message_steps_once();
+    storage_tells_of_a_failure();
 }

@@ -19,7 +19,7 @@ use Rattle.numbers.proofs.SubjectKeys.{subject_key-exact}
 use Rattle.meaning.specs.Content.{VersionRow}
 use Rattle.store.specs.Maps.{map_of}
 use Rattle.store.specs.Lists.{is_subject, has_subject}
-use Rattle.store.specs.Tables.{AreVersionsIndexed, HasVersion, SubjectVersion, subject_version_of, subject_version_cmp}
+use Rattle.store.specs.Tables.{AreVersionsIndexed, HasVersion, SubjectVersion, subject_version, subject_version_of, subject_version_cmp}
 use Rattle.store.specs.declared.keys.SubjectVersion.{SubjectVersion as SubjectVersionCode}
 use Rattle.store.proofs.Maps.{get-map_of}
 use Rattle.store.proofs.Orders.{subject_version_total, subject_version_exact, is_some-option_map, version_at}
@@ -67,7 +67,7 @@ both true q e f = f
 both false q e f = e
 
 pub none-has : (column : VersionRow → Option Subject) (versions : BTreeMap ℕ VersionRow) (index : BTreeMap SubjectVersionCode (Unit {0})) (s : SubjectCode) →
-    AreVersionsIndexed column (map_of {R = nat_cmp} (λ k. k) (λ row. row) versions) index →
+    AreVersionsIndexed subject_version_cmp subject_version_of (λ id row. option_map (subject_version id) (column row)) (map_of {R = nat_cmp} (λ k. k) (λ row. row) versions) index →
     find (λ e. has_subject column (subject_of s) (tree.get nat_cmp versions e.0.id))
     (entries_between (on subject_version_of subject_version_cmp) (Included (record { subject = s; id = 0 })) (Included (record { subject = s; id = 18446744073709551615 })) index.entries) ≡ None →
     (id : ℕ) (row : VersionRow) → get (map_of {R = nat_cmp} (λ k. k) (λ row. row) versions) id ≡ Some row → column row ≢ Some (subject_of s)
@@ -89,4 +89,4 @@ none-has column versions index s indexed none id row at has =
     none
   where
     there : HasVersion index (subject_of s) id
-    there = indexed id row (subject_of s) at has
+    there = indexed id row (subject_version id (subject_of s)) at (ap (option_map (subject_version id)) has)

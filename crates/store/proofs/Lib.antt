@@ -1,9 +1,11 @@
 pub mod Maps
 pub mod Orders
+pub mod IndexKeys
 pub mod Forgotten
 pub mod Lists
 pub mod Changed
 pub mod Undone
 pub mod Registry
 pub mod Found
+pub mod Due
 pub mod Listed

@@ -29,7 +29,7 @@ use Rattle.settle.specs.declared.rows.WaitKey.{WaitKey as WaitKeyCode}
 use Rattle.settle.specs.Views.{spid_of, wait_key_of}
 use Rattle.settle.specs.Reads.{AreInForce, AreWaitsAbout, IsRouted, IsWaiting, HoldsOnce, download_cmp}
 use Rattle.store.specs.Lists.{is_subject, routed, waiting}
-use Rattle.store.specs.Tables.{content_of, AreIndexed, HasVersion, HasWait, SubjectWait, subject_version_of, subject_version_cmp, subject_wait_of, subject_wait_cmp, wait_about}
+use Rattle.store.specs.Tables.{content_of, AreIndexed, HasVersion, HasWait, SubjectWait, subject_version, subject_version_of, subject_version_cmp, subject_wait_of, subject_wait_cmp, wait_about}
 use Rattle.store.specs.declared.tables.Tables.{Tables}
 use Rattle.store.specs.declared.keys.SubjectVersion.{SubjectVersion as SubjectVersionCode}
 use Rattle.store.specs.declared.keys.SubjectWait.{SubjectWait as SubjectWaitCode}
@@ -185,7 +185,7 @@ in_force-is t found rest indexed ordered so_far end =
     let all : map seen found ≡ filter_map (λ e. routes t e.0) t.holds.entries = sym (append-nil (map seen found)) ∙ ap (λ r. map seen found ++ filter_map (λ e. routes t e.0) r) (sym end) ∙ so_far in
     record {
       each = λ s routing is.
-          let here : HasVersion t.holds s is.0 = indexed.0 is.0 is.1 s is.2 is.3 in
+          let here : HasVersion t.holds s is.0 = indexed.0 is.0 is.1 (subject_version is.0 s) is.2 (ap (option_map (subject_version is.0)) is.3) in
           let q = entry-of subject_version_of (λ (u : Unit {0}). u) subject_version_total subject_version_exact t.holds (record { subject = s; id = is.0 }) here.1 in
           let m = found-listed (routes t) (is_at (on subject_version_of subject_version_cmp q.0)) (λ p. ◌≡◌ {A = Subject × Routing} p (s, routing))
           (λ k tie.
@@ -253,7 +253,7 @@ waits_about-are t carrier subject lo hi found rest part indexed ordered low high
     record {
       each = λ minute id attempt is.
           let key : WaitKey = record { carrier = carrier.number; minute = minute; id = id; attempt = attempt } in
-          let here : HasWait t.waits_about key (subject_of subject) = indexed.2 key (subject_of subject) is in
+          let here : HasWait t.waits_about key (subject_of subject) = indexed.3 key (subject_of subject) is in
           let q = entry-of subject_wait_of (λ (u : Unit {0}). u) subject_wait_total subject_wait_exact t.waits_about (wait_about key (subject_of subject)) here.1 in
           let m = found-listed listed (is_at (on subject_wait_of subject_wait_cmp q.0)) (λ d. (d.minute.number ≡ minute) × (d.id ≡ id) × (d.attempt ≡ attempt))
           (λ k tie.

@@ -20,6 +20,7 @@ use Rattle.store.specs.Tables.{content_of, IsKept}
 use Rattle.store.specs.declared.tables.Tables.{Tables}
 use Rattle.store.proofs.Maps.{same_map_of, set_map_of, still_there, back}
 use Rattle.store.proofs.Orders.{broadcast_total, broadcast_exact}
+use Rattle.store.proofs.Undone.{all-kept}
 
 pub on-err : {V E : Type 0} {P : Type 0} (r : Result V E) → P → OnErr r P
 on-err (Ok v) p = tt
@@ -30,9 +31,7 @@ on-err (Err e) p = p
 pub carrier-same : (old : Tables) (m : BTreeMap Spid (Unit {0})) → IsSame (on spid_of nat_cmp) old.carriers m → IsKept old (record old { carriers = m })
 carrier-same old m same = record {
   content = ap (λ x. record (content_of old) { carriers = x }) (same_map_of spid_of (λ (u : Unit {0}). u) nat_cmp_total nat_cmp-IsAntisymmetric old.carriers m same);
-  holds = λ s id had. had;
-  opens = λ s id had. had;
-  waits_about = λ k s had. had;
+  keeps = all-kept old;
 }
 
 pub carrier-put : (old : Tables) (m : BTreeMap Spid (Unit {0})) (key : Spid) (row : (Unit {0})) → IsSet (on spid_of nat_cmp) old.carriers m key (Some row) →
@@ -49,9 +48,7 @@ carrier-undone old next m n key row before was is kept again =
     let e : (content_of (record next { carriers = n })).carriers ≡ (content_of old).carriers = back spid_of (λ (u : Unit {0}). u) nat_cmp_total nat_cmp-IsAntisymmetric old.carriers m next.carriers n key (Some row) before was is (ap (λ (c : Content). c.carriers) kept.content) again in
     record {
       content = λ i. record (kept.content i) { carriers = e i };
-      holds = kept.holds;
-      opens = kept.opens;
-      waits_about = kept.waits_about;
+      keeps = kept.keeps;
     }
 
 -- ---- lrns
@@ -59,9 +56,7 @@ carrier-undone old next m n key row before was is kept again =
 pub lrn-same : (old : Tables) (m : BTreeMap Lrn Spid) → IsSame (on lrn_of nat_cmp) old.lrns m → IsKept old (record old { lrns = m })
 lrn-same old m same = record {
   content = ap (λ x. record (content_of old) { lrns = x }) (same_map_of lrn_of spid_of nat_cmp_total nat_cmp-IsAntisymmetric old.lrns m same);
-  holds = λ s id had. had;
-  opens = λ s id had. had;
-  waits_about = λ k s had. had;
+  keeps = all-kept old;
 }
 
 pub lrn-put : (old : Tables) (m : BTreeMap Lrn Spid) (key : Lrn) (row : Spid) → IsSet (on lrn_of nat_cmp) old.lrns m key (Some row) →
@@ -78,9 +73,7 @@ lrn-undone old next m n key row before was is kept again =
     let e : (content_of (record next { lrns = n })).lrns ≡ (content_of old).lrns = back lrn_of spid_of nat_cmp_total nat_cmp-IsAntisymmetric old.lrns m next.lrns n key (Some row) before was is (ap (λ (c : Content). c.lrns) kept.content) again in
     record {
       content = λ i. record (kept.content i) { lrns = e i };
-      holds = kept.holds;
-      opens = kept.opens;
-      waits_about = kept.waits_about;
+      keeps = kept.keeps;
     }
 
 -- ---- codes
@@ -88,9 +81,7 @@ lrn-undone old next m n key row before was is kept again =
 pub code-same : (old : Tables) (m : BTreeMap CodeId Spid) → IsSame (on code_of nat_cmp) old.codes m → IsKept old (record old { codes = m })
 code-same old m same = record {
   content = ap (λ x. record (content_of old) { codes = x }) (same_map_of code_of spid_of nat_cmp_total nat_cmp-IsAntisymmetric old.codes m same);
-  holds = λ s id had. had;
-  opens = λ s id had. had;
-  waits_about = λ k s had. had;
+  keeps = all-kept old;
 }
 
 pub code-put : (old : Tables) (m : BTreeMap CodeId Spid) (key : CodeId) (row : Spid) → IsSet (on code_of nat_cmp) old.codes m key (Some row) →
@@ -107,9 +98,7 @@ code-undone old next m n key row before was is kept again =
     let e : (content_of (record next { codes = n })).codes ≡ (content_of old).codes = back code_of spid_of nat_cmp_total nat_cmp-IsAntisymmetric old.codes m next.codes n key (Some row) before was is (ap (λ (c : Content). c.codes) kept.content) again in
     record {
       content = λ i. record (kept.content i) { codes = e i };
-      holds = kept.holds;
-      opens = kept.opens;
-      waits_about = kept.waits_about;
+      keeps = kept.keeps;
     }
 
 -- ---- blocks
@@ -117,9 +106,7 @@ code-undone old next m n key row before was is kept again =
 pub block-same : (old : Tables) (m : BTreeMap BlockId BlockRow) → IsSame (on block_of nat_cmp) old.blocks m → IsKept old (record old { blocks = m })
 block-same old m same = record {
   content = ap (λ x. record (content_of old) { blocks = x }) (same_map_of block_of block_row_of nat_cmp_total nat_cmp-IsAntisymmetric old.blocks m same);
-  holds = λ s id had. had;
-  opens = λ s id had. had;
-  waits_about = λ k s had. had;
+  keeps = all-kept old;
 }
 
 pub block-put : (old : Tables) (m : BTreeMap BlockId BlockRow) (key : BlockId) (row : BlockRow) → IsSet (on block_of nat_cmp) old.blocks m key (Some row) →
@@ -136,9 +123,7 @@ block-undone old next m n key row before was is kept again =
     let e : (content_of (record next { blocks = n })).blocks ≡ (content_of old).blocks = back block_of block_row_of nat_cmp_total nat_cmp-IsAntisymmetric old.blocks m next.blocks n key (Some row) before was is (ap (λ (c : Content). c.blocks) kept.content) again in
     record {
       content = λ i. record (kept.content i) { blocks = e i };
-      holds = kept.holds;
-      opens = kept.opens;
-      waits_about = kept.waits_about;
+      keeps = kept.keeps;
     }
 
 -- ---- broadcasts
@@ -146,9 +131,7 @@ block-undone old next m n key row before was is kept again =
 pub broadcast-same : (old : Tables) (m : BTreeMap BroadcastKey Broadcast) → IsSame (on broadcast_key_of broadcast_cmp) old.broadcasts m → IsKept old (record old { broadcasts = m })
 broadcast-same old m same = record {
   content = ap (λ x. record (content_of old) { broadcasts = x }) (same_map_of broadcast_key_of broadcast_row_of broadcast_total broadcast_exact old.broadcasts m same);
-  holds = λ s id had. had;
-  opens = λ s id had. had;
-  waits_about = λ k s had. had;
+  keeps = all-kept old;
 }
 
 pub broadcast-put : (old : Tables) (m : BTreeMap BroadcastKey Broadcast) (key : BroadcastKey) (row : Broadcast) → IsSet (on broadcast_key_of broadcast_cmp) old.broadcasts m key (Some row) →
@@ -165,7 +148,5 @@ broadcast-undone old next m n key row before was is kept again =
     let e : (content_of (record next { broadcasts = n })).broadcasts ≡ (content_of old).broadcasts = back broadcast_key_of broadcast_row_of broadcast_total broadcast_exact old.broadcasts m next.broadcasts n key (Some row) before was is (ap (λ (c : Content). c.broadcasts) kept.content) again in
     record {
       content = λ i. record (kept.content i) { broadcasts = e i };
-      holds = kept.holds;
-      opens = kept.opens;
-      waits_about = kept.waits_about;
+      keeps = kept.keeps;
     }

@@ -1,7 +1,7 @@
 -- What the tables of a store in memory contain.
-use Rattle.std.specs.Prelude.{◌≡◌, ◌<◌, ℕ, List, map, Option, Some, option_map, is_some, true, IfSome}
+use Rattle.std.specs.Prelude.{◌≡◌, ◌<◌, ℕ, List, map, Option, Some, option_map, is_some, true}
 use Rattle.std.specs.declared.cmp.Ordering.{Ordering}
-use Rattle.std.specs.Ordering.{nat_cmp, ordering_then}
+use Rattle.std.specs.Ordering.{nat_cmp, ordering_then, on}
 use Rattle.std.specs.BTreeMap.{BTreeMap}
 use Rattle.std.specs.FinMap.{FinMap, get}
 use Rattle.numbers.specs.Subjects.{Subject, subject_key}
@@ -16,8 +16,10 @@ use Rattle.numbers.specs.declared.ported.Subject.{Subject as SubjectCode}
 use Rattle.delivery.specs.declared.broadcast.Broadcast.{Broadcast}
 use Rattle.store.specs.declared.commit.VersionPut.{VersionPut}
 use Rattle.store.specs.declared.commit.WaitPut.{WaitPut}
-use Rattle.store.specs.Maps.{map_of, set}
+use Rattle.store.specs.Maps.{map_of, set, Has, Lacks, Keeps, KeepsOthers}
+use Rattle.store.specs.declared.keys.DueVersion.{DueVersion as DueVersionCode}
 use Rattle.store.specs.declared.keys.SubjectVersion.{SubjectVersion as SubjectVersionCode}
+use Rattle.store.specs.declared.keys.VersionKeys.{VersionKeys}
 use Rattle.store.specs.declared.keys.SubjectWait.{SubjectWait as SubjectWaitCode}
 use Rattle.store.specs.declared.tables.Tables.{Tables}
 
@@ -45,6 +47,23 @@ subject_version_cmp a b = ordering_then (nat_cmp (subject_key a.subject) (subjec
 
 abbrev pub subject_version_of : SubjectVersionCode → SubjectVersion
 subject_version_of k = record { subject = subject_of k.subject; id = k.id }
+
+abbrev pub subject_version : ℕ → Subject → SubjectVersion
+subject_version id s = record { subject = s; id = id }
+
+-- a version by its deadline
+pub record DueVersion : Type 0 where
+  pub minute : ℕ
+  pub id : ℕ
+
+abbrev pub due_version_cmp : DueVersion → DueVersion → Ordering
+due_version_cmp a b = ordering_then (nat_cmp a.minute b.minute) (nat_cmp a.id b.id)
+
+abbrev pub due_version_of : DueVersionCode → DueVersion
+due_version_of k = record { minute = k.minute.number; id = k.id }
+
+abbrev pub due_version : ℕ → (minute : ℕ) → DueVersion
+due_version id minute = record { minute = minute; id = id }
 
 -- a download by its carrier and its subject
 pub record SubjectWait : Type 0 where
@@ -82,15 +101,20 @@ IsWaitKey k = (k.minute < 1099511627776) × (k.id < 18446744073709551616) × (k.
 abbrev pub HasWait : BTreeMap SubjectWaitCode (Unit {0}) → WaitKey → Subject → Type 0
 HasWait index k s = IsWaitKey k × (is_some (get (waits_index index) (wait_about k s)) ≡ true)
 
-abbrev pub LacksVersion : BTreeMap SubjectVersionCode (Unit {0}) → Subject → ℕ → Type 0
-LacksVersion index s id = HasVersion index s id → ⊥
+-- the key of a version's row in each index, if it has one
+abbrev pub held_key : ℕ → VersionRow → Option SubjectVersion
+held_key id row = option_map (subject_version id) row.holds
 
-abbrev pub LacksWait : BTreeMap SubjectWaitCode (Unit {0}) → WaitKey → Subject → Type 0
-LacksWait index k s = HasWait index k s → ⊥
+abbrev pub opened_key : ℕ → VersionRow → Option SubjectVersion
+opened_key id row = option_map (subject_version id) row.opens
 
--- each version that has a subject in the column stands in the index under it. What the index has beside them is passed over
-abbrev pub AreVersionsIndexed : (VersionRow → Option Subject) → FinMap nat_cmp VersionRow → BTreeMap SubjectVersionCode (Unit {0}) → Type 0
-AreVersionsIndexed column versions index = (id : ℕ) (row : VersionRow) (s : Subject) → get versions id ≡ Some row → column row ≡ Some s → HasVersion index s id
+abbrev pub due_key : ℕ → VersionRow → Option DueVersion
+due_key id row = option_map (due_version id) row.deadline
+
+-- each version that has a key stands in the index under it. What the index has beside them is passed over
+abbrev pub AreVersionsIndexed : {K L : Type 0} (R : L → L → Ordering) → (K → L) → (ℕ → VersionRow → Option L) → FinMap nat_cmp VersionRow → BTreeMap K (Unit {0}) → Type 0
+AreVersionsIndexed {L = L} R f key versions index =
+    (id : ℕ) (row : VersionRow) (k : L) → get versions id ≡ Some row → key id row ≡ Some k → (id < 18446744073709551616) × (is_some (get (map_of {R = R} f (λ u. u) index) k) ≡ true)
 
 -- each download stands in the index under its subject
 abbrev pub AreWaitsIndexed : FinMap wait_cmp Subject → BTreeMap SubjectWaitCode (Unit {0}) → Type 0
@@ -99,23 +123,59 @@ AreWaitsIndexed waits index = (k : WaitKey) (s : Subject) → get waits k ≡ So
 -- whatever a look-up has to find, the indexes have
 abbrev pub AreIndexed : Tables → Type 0
 AreIndexed t =
-    AreVersionsIndexed (λ row. row.holds) (map_of (λ k. k) (λ row. row) t.versions) t.holds
-    × AreVersionsIndexed (λ row. row.opens) (map_of (λ k. k) (λ row. row) t.versions) t.opens
+    AreVersionsIndexed subject_version_cmp subject_version_of held_key (map_of (λ k. k) (λ row. row) t.versions) t.holds
+    × AreVersionsIndexed subject_version_cmp subject_version_of opened_key (map_of (λ k. k) (λ row. row) t.versions) t.opens
+    × AreVersionsIndexed due_version_cmp due_version_of due_key (map_of (λ k. k) (λ row. row) t.versions) t.deadlines
     × AreWaitsIndexed (map_of wait_key_of subject_of t.waits) t.waits_about
 
--- what an index had it has
-abbrev pub KeepsVersions : BTreeMap SubjectVersionCode (Unit {0}) → BTreeMap SubjectVersionCode (Unit {0}) → Type 0
-KeepsVersions old new = (s : Subject) (id : ℕ) → HasVersion old s id → HasVersion new s id
+-- what the indexes had they have
+abbrev pub KeepIndexes : Tables → Tables → Type 0
+KeepIndexes old new =
+    Keeps (on subject_version_of subject_version_cmp) old.holds new.holds
+    × Keeps (on subject_version_of subject_version_cmp) old.opens new.opens
+    × Keeps (on due_version_of due_version_cmp) old.deadlines new.deadlines
+    × Keeps (on subject_wait_of subject_wait_cmp) old.waits_about new.waits_about
 
--- what an index had it has, but for the subject's version
-abbrev pub KeepsOtherVersions : BTreeMap SubjectVersionCode (Unit {0}) → BTreeMap SubjectVersionCode (Unit {0}) → Option Subject → ℕ → Type 0
-KeepsOtherVersions old new subject id = (s : Subject) (i : ℕ) → HasVersion old s i → (subject ≡ Some s → i ≡ id → ⊥) → HasVersion new s i
+-- what the indexes had they have, but for these keys of a version
+abbrev pub KeepOtherVersions : VersionKeys → Tables → Tables → Type 0
+KeepOtherVersions keys old new =
+    KeepsOthers (on subject_version_of subject_version_cmp) old.holds new.holds keys.held
+    × KeepsOthers (on subject_version_of subject_version_cmp) old.opens new.opens keys.opened
+    × KeepsOthers (on due_version_of due_version_cmp) old.deadlines new.deadlines keys.due
+    × Keeps (on subject_wait_of subject_wait_cmp) old.waits_about new.waits_about
 
-abbrev pub KeepsWaits : BTreeMap SubjectWaitCode (Unit {0}) → BTreeMap SubjectWaitCode (Unit {0}) → Type 0
-KeepsWaits old new = (k : WaitKey) (s : Subject) → HasWait old k s → HasWait new k s
+-- what the indexes had they have, but for this key of a download
+abbrev pub KeepOtherWaits : Option SubjectWaitCode → Tables → Tables → Type 0
+KeepOtherWaits about old new =
+    Keeps (on subject_version_of subject_version_cmp) old.holds new.holds
+    × Keeps (on subject_version_of subject_version_cmp) old.opens new.opens
+    × Keeps (on due_version_of due_version_cmp) old.deadlines new.deadlines
+    × KeepsOthers (on subject_wait_of subject_wait_cmp) old.waits_about new.waits_about about
 
-abbrev pub KeepsOtherWaits : BTreeMap SubjectWaitCode (Unit {0}) → BTreeMap SubjectWaitCode (Unit {0}) → WaitKey → Option Subject → Type 0
-KeepsOtherWaits old new key subject = (k : WaitKey) (s : Subject) → HasWait old k s → (k ≡ key → subject ≡ Some s → ⊥) → HasWait new k s
+-- ---- a version's keys
+
+-- the keys of the row
+pub record AreKeysOf (id : ℕ) (row : VersionRow) (keys : VersionKeys) : Type 0 where
+  pub held : option_map subject_version_of keys.held ≡ held_key id row
+  pub opened : option_map subject_version_of keys.opened ≡ opened_key id row
+  pub due : option_map due_version_of keys.due ≡ due_key id row
+
+-- the indexes have them
+pub record HaveKeys (keys : VersionKeys) (t : Tables) : Type 0 where
+  pub held : Has (on subject_version_of subject_version_cmp) t.holds keys.held
+  pub opened : Has (on subject_version_of subject_version_cmp) t.opens keys.opened
+  pub due : Has (on due_version_of due_version_cmp) t.deadlines keys.due
+
+-- the indexes have none of them
+pub record LackKeys (keys : VersionKeys) (t : Tables) : Type 0 where
+  pub held : Lacks (on subject_version_of subject_version_cmp) t.holds keys.held
+  pub opened : Lacks (on subject_version_of subject_version_cmp) t.opens keys.opened
+  pub due : Lacks (on due_version_of due_version_cmp) t.deadlines keys.due
+
+-- nothing but these keys is taken away
+pub record AreKeysTaken (keys : VersionKeys) (old new : Tables) : Type 0 where
+  pub content : content_of new ≡ content_of old
+  pub keeps : KeepOtherVersions keys old new
 
 -- ---- one row put
 
@@ -128,43 +188,32 @@ with_wait c k s = record c { waits = set c.waits k s }
 -- the content is the same, and what the indexes had they have
 pub record IsKept (old new : Tables) : Type 0 where
   pub content : content_of new ≡ content_of old
-  pub holds : KeepsVersions old.holds new.holds
-  pub opens : KeepsVersions old.opens new.opens
-  pub waits_about : KeepsWaits old.waits_about new.waits_about
+  pub keeps : KeepIndexes old new
 
--- a version's row is put, and with it the keys of its subject, of which some were new
+-- a version's row is put, and with it its keys, of which some were new
 pub record IsVersionPut (id : ℕ) (row : VersionRow) (put : VersionPut) (old new : Tables) : Type 0 where
   pub content : content_of new ≡ with_version (content_of old) id (Some row)
   pub before : put.before ≡ get (content_of old).versions id
-  pub new_held : IfSome put.held (λ s. LacksVersion old.holds (subject_of s) id)
-  pub new_opened : IfSome put.opened (λ s. LacksVersion old.opens (subject_of s) id)
-  pub holds : KeepsVersions old.holds new.holds
-  pub opens : KeepsVersions old.opens new.opens
-  pub waits_about : KeepsWaits old.waits_about new.waits_about
+  pub are_new : LackKeys put.keys old
+  pub keeps : KeepIndexes old new
   pub indexed : AreIndexed new
 
 -- what was there before is there again
 pub record IsVersionBack (id : ℕ) (put : VersionPut) (old new : Tables) : Type 0 where
   pub content : content_of new ≡ with_version (content_of old) id put.before
-  pub holds : KeepsOtherVersions old.holds new.holds (option_map subject_of put.held) id
-  pub opens : KeepsOtherVersions old.opens new.opens (option_map subject_of put.opened) id
-  pub waits_about : KeepsWaits old.waits_about new.waits_about
+  pub keeps : KeepOtherVersions put.keys old new
 
 -- a download is put, and with it its key under its subject, which may have been new
 pub record IsWaitPut (key : WaitKey) (subject : Subject) (put : WaitPut) (old new : Tables) : Type 0 where
   pub content : content_of new ≡ with_wait (content_of old) key (Some subject)
   pub before : option_map subject_of put.before ≡ get (content_of old).waits key
-  pub new_about : IfSome put.about (λ s. LacksWait old.waits_about key (subject_of s))
-  pub holds : KeepsVersions old.holds new.holds
-  pub opens : KeepsVersions old.opens new.opens
-  pub waits_about : KeepsWaits old.waits_about new.waits_about
+  pub is_new : Lacks (on subject_wait_of subject_wait_cmp) old.waits_about put.about
+  pub keeps : KeepIndexes old new
   pub indexed : AreIndexed new
 
 pub record IsWaitBack (key : WaitKey) (put : WaitPut) (old new : Tables) : Type 0 where
   pub content : content_of new ≡ with_wait (content_of old) key (option_map subject_of put.before)
-  pub holds : KeepsVersions old.holds new.holds
-  pub opens : KeepsVersions old.opens new.opens
-  pub waits_about : KeepsOtherWaits old.waits_about new.waits_about key (option_map subject_of put.about)
+  pub keeps : KeepOtherWaits put.about old new
 
 -- ---- the changes from a table on: each function puts the rows of one table, and then those of the next ones
 

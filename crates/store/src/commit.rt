@@ -9,8 +9,10 @@ ghost use Rattle.settle.specs.Changes.{IsChanged, changes_of, no_changes};
 ghost use Rattle.store.specs.Tables.{content_of, AreIndexed, with_wait, from_waits, from_broadcasts, from_versions, from_block, from_code, from_lrn, from_carrier, IsKept, IsVersionPut, IsVersionBack, IsWaitPut, IsWaitBack, AreBroadcastsTaken, AreWaitsTaken};
 
 use crate::indexes::{
-    forget_version, forget_wait, put_about, put_subject, take_about, take_subject,
+    about, forget_version, forget_wait, put_key, put_version_keys, take_key, take_version_keys,
+    version_keys,
 };
+use crate::keys::{SubjectWait, VersionKeys};
 use crate::put::{put, put_back};
 use crate::tables::Tables;
 use delivery::Broadcast;
@@ -37,7 +39,7 @@ fn forget_version_before(tables: &mut Tables, id: u64, before: Option<VersionRow
     ensures indexed { AreIndexed tables.new }
 {
     if let Some(row) = before {
-        forget_version(tables, id, row.holds, row.opens);
+        forget_version(tables, id, &row);
     }
 }
 
@@ -85,11 +87,11 @@ fn finish(tables: &mut Tables, changes: &Changes)
 
 // ---- downloads
 
-/// What was at a download's key, and its subject if its key in the index is new.
+/// What was at a download's key, and its key in the index if that is new.
 #[derive(Clone, Copy)]
 pub struct WaitPut {
     pub before: Option<Subject>,
-    pub about: Option<Subject>,
+    pub about: Option<SubjectWait>,
 }
 
 fn put_wait(tables: &mut Tables, key: WaitKey, subject: Subject) -> Result<WaitPut, AllocError>
@@ -97,11 +99,11 @@ fn put_wait(tables: &mut Tables, key: WaitKey, subject: Subject) -> Result<WaitP
     ensures ok { IfOk result (λ put. IsWaitPut (wait_key_of key) (subject_of subject) put tables.old tables.new) }
     ensures err { OnErr result (IsKept tables.old tables.new) }
 {
-    let about = put_about(&mut tables.waits_about, key, subject)?;
+    let about = put_key(&mut tables.waits_about, Some(about(key, subject)))?;
     match put(&mut tables.waits, key, subject) {
         Ok(before) => Ok(WaitPut { before, about }),
         Err(refused) => {
-            take_about(&mut tables.waits_about, key, about);
+            take_key(&mut tables.waits_about, about);
             Err(refused)
         }
     }
@@ -112,7 +114,7 @@ fn put_back_wait(tables: &mut Tables, key: WaitKey, put: WaitPut)
     ensures { IsWaitBack (wait_key_of key) put tables.old tables.new }
 {
     put_back(&mut tables.waits, key, put.before);
-    take_about(&mut tables.waits_about, key, put.about);
+    take_key(&mut tables.waits_about, put.about);
 }
 
 fn put_waits(
@@ -169,12 +171,11 @@ fn put_broadcasts(
 
 // ---- versions
 
-/// What was at a version's id, and its subject where its key in an index is new.
+/// What was at a version's id, and those of the row's keys that are new in an index.
 #[derive(Drop)]
 pub struct VersionPut {
     pub before: Option<VersionRow>,
-    pub held: Option<Subject>,
-    pub opened: Option<Subject>,
+    pub keys: VersionKeys,
 }
 
 fn put_version(tables: &mut Tables, id: u64, row: &VersionRow) -> Result<VersionPut, AllocError>
@@ -182,23 +183,11 @@ fn put_version(tables: &mut Tables, id: u64, row: &VersionRow) -> Result<Version
     ensures ok { IfOk result (λ put. IsVersionPut id row.now put tables.old tables.new) }
     ensures err { OnErr result (IsKept tables.old tables.new) }
 {
-    let held = put_subject(&mut tables.holds, id, row.holds)?;
-    let opened = match put_subject(&mut tables.opens, id, row.opens) {
-        Ok(opened) => opened,
-        Err(refused) => {
-            take_subject(&mut tables.holds, id, held);
-            return Err(refused);
-        }
-    };
+    let keys = put_version_keys(tables, version_keys(id, row))?;
     match put(&mut tables.versions, id, row.copied()) {
-        Ok(before) => Ok(VersionPut {
-            before,
-            held,
-            opened,
-        }),
+        Ok(before) => Ok(VersionPut { before, keys }),
         Err(refused) => {
-            take_subject(&mut tables.holds, id, held);
-            take_subject(&mut tables.opens, id, opened);
+            take_version_keys(tables, keys);
             Err(refused)
         }
     }
@@ -209,8 +198,7 @@ fn put_back_version(tables: &mut Tables, id: u64, put: VersionPut)
     ensures { IsVersionBack id put tables.old tables.new }
 {
     put_back(&mut tables.versions, id, put.before);
-    take_subject(&mut tables.holds, id, put.held);
-    take_subject(&mut tables.opens, id, put.opened);
+    take_version_keys(tables, put.keys);
 }
 
 fn put_versions(

@@ -5,7 +5,8 @@ ghost use Rattle.store.specs.Tables.{content_of, AreIndexed};
 
 use crate::commit::commit;
 use crate::reads::{
-    carriers, in_force, open_broadcasts, open_version, version_in_force, waiters, waits_about,
+    carriers, in_force, least_due, open_broadcasts, open_version, version_in_force, waiters,
+    waits_about,
 };
 use crate::tables::Tables;
 use delivery::{Broadcast, DownloadKey};
@@ -94,6 +95,10 @@ impl Store for MemoryStore {
 
     fn open_version(&mut self, subject: Subject) -> Result<Option<NumberedRow>, StoreFault> {
         Ok(open_version(&self.tables, subject))
+    }
+
+    fn least_due(&mut self, now: Minute) -> Result<Option<NumberedRow>, StoreFault> {
+        Ok(least_due(&self.tables, now))
     }
 
     fn broadcast(&mut self, key: BroadcastKey) -> Result<Option<Broadcast>, StoreFault> {

@@ -1,8 +1,8 @@
-//! Rows found by their subject, and lists of rows.
+//! Rows found by their subject or their deadline, and lists of rows.
 ghost use Rattle.std.specs.Prelude.{◌≡◌, IfOk};
 ghost use Rattle.numbers.specs.Views.{subject_of};
 ghost use Rattle.settle.specs.Views.{spid_of};
-ghost use Rattle.settle.specs.Reads.{IsInForce, IsOpen, AreCarriers, AreWaiters, AreOpenBroadcasts, AreWaitsAbout, AreInForce};
+ghost use Rattle.settle.specs.Reads.{IsInForce, IsOpen, IsLeastDue, AreCarriers, AreWaiters, AreOpenBroadcasts, AreWaitsAbout, AreInForce};
 ghost use Rattle.store.specs.Tables.{content_of, AreIndexed};
 
 use crate::keys::{SubjectVersion, SubjectWait};
@@ -48,6 +48,27 @@ pub fn open_version(tables: &Tables, subject: Subject) -> Option<NumberedRow>
     for (key, _) in tables.opens.range(first..=last) {
         if let Some(row) = tables.versions.get(&key.id)
             && row.opens == Some(subject)
+        {
+            return Some(NumberedRow {
+                id: key.id,
+                row: row.copied(),
+            });
+        }
+    }
+    None
+}
+
+/// The version whose deadline is least, where that minute is not after `now`.
+pub fn least_due(tables: &Tables, now: Minute) -> Option<NumberedRow>
+    requires { AreIndexed tables.now }
+    ensures { IsLeastDue (content_of tables.now) now.number result }
+{
+    for (key, _) in tables.deadlines.iter() {
+        if key.minute > now {
+            return None;
+        }
+        if let Some(row) = tables.versions.get(&key.id)
+            && row.deadline == Some(key.minute)
         {
             return Some(NumberedRow {
                 id: key.id,

@@ -3,7 +3,7 @@ ghost use Rattle.std.specs.Prelude.{◌≡◌};
 ghost use Rattle.meaning.specs.Content.{empty_content};
 ghost use Rattle.store.specs.Tables.{content_of, AreIndexed};
 
-use crate::keys::{SubjectVersion, SubjectWait};
+use crate::keys::{DueVersion, SubjectVersion, SubjectWait};
 use delivery::Broadcast;
 use numbers::{BlockId, CodeId, Lrn, Spid, Subject};
 use settle::{BlockRow, BroadcastKey, ClockRow, VersionRow, WaitKey};
@@ -11,7 +11,7 @@ use std::alloc::Global;
 use std::collections::BTreeMap;
 
 /// The rows of a register, each table an ordered map, with the indexes by which versions and downloads
-/// are found by their subject.
+/// are found by their subject, and versions by their deadline.
 #[derive(Drop)]
 pub struct Tables {
     pub clock: Option<ClockRow>,
@@ -24,6 +24,8 @@ pub struct Tables {
     pub holds: BTreeMap<SubjectVersion, ()>,
     /// The open versions.
     pub opens: BTreeMap<SubjectVersion, ()>,
+    /// The versions whose status ends by itself, the one whose minute comes first at the head.
+    pub deadlines: BTreeMap<DueVersion, ()>,
     pub broadcasts: BTreeMap<BroadcastKey, Broadcast>,
     pub waits: BTreeMap<WaitKey, Subject>,
     pub waits_about: BTreeMap<SubjectWait, ()>,
@@ -44,6 +46,7 @@ impl Tables {
             versions: BTreeMap::new(alloc),
             holds: BTreeMap::new(alloc),
             opens: BTreeMap::new(alloc),
+            deadlines: BTreeMap::new(alloc),
             broadcasts: BTreeMap::new(alloc),
             waits: BTreeMap::new(alloc),
             waits_about: BTreeMap::new(alloc),

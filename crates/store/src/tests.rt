@@ -1,4 +1,4 @@
-//! A commit and each read. The same test runs with each allocation refused in turn: a commit that is
+//! A commit and each read. The same tests run with each allocation refused in turn: a commit that is
 //! refused leaves every read as it was.
 use super::MemoryStore;
 use delivery::Broadcast;
@@ -135,5 +135,56 @@ fn commits_and_reads(rt: HostRuntime) -> Result<(), Fail> {
         count
     );
     assert_eq!(rt; store.in_force().ok().ok_or("in force")?.len(), count);
+    Ok(())
+}
+
+fn minute(number: u64) -> Result<Minute, Fail> {
+    Ok(Minute::new(number).ok_or("minute")?)
+}
+
+// Versions of these ids, with these deadlines.
+fn deadlines(
+    alloc: Global,
+    sample: &Sample,
+    versions: &[(u64, Option<Minute>)],
+) -> Result<Changes, Fail> {
+    let mut changes = Changes::none(alloc);
+    for (id, deadline) in versions {
+        let mut row = row(sample);
+        row.deadline = *deadline;
+        changes.versions.push((*id, row))?;
+    }
+    Ok(changes)
+}
+
+// The id of the version whose deadline is least, where that minute is not after this one.
+fn least_due(store: &mut MemoryStore, now: u64) -> Result<Option<u64>, Fail> {
+    let least = store.least_due(minute(now)?).ok().ok_or("least due")?;
+    Ok(least.map(|version| version.id))
+}
+
+#[test]
+fn finds_the_least_deadline(rt: HostRuntime) -> Result<(), Fail> {
+    let alloc = rt.alloc();
+    let sample = make_sample()?;
+    let first = [
+        (1, Some(minute(30)?)),
+        (2, Some(minute(10)?)),
+        (3, Some(minute(20)?)),
+        (4, None),
+    ];
+    let mut store = MemoryStore::new(alloc);
+    let done = store.commit(&deadlines(alloc, &sample, &first)?).is_ok();
+    let second = if done { Some(2) } else { None };
+    assert_eq!(rt; least_due(&mut store, 9)?, None);
+    assert_eq!(rt; least_due(&mut store, 10)?, second);
+    assert_eq!(rt; least_due(&mut store, 1000)?, second);
+
+    // The second version is over, and a fifth comes.
+    let next = [(2, None), (5, Some(minute(40)?))];
+    let changed = store.commit(&deadlines(alloc, &sample, &next)?).is_ok();
+    let third = if done { Some(3) } else { Some(5) };
+    let least = if changed { third } else { second };
+    assert_eq!(rt; least_due(&mut store, 1000)?, least);
     Ok(())
 }

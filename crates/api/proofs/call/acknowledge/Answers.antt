@@ -1,4 +1,4 @@
-use Rattle.std.proofs.Common.{ap, Some}
+use Rattle.std.proofs.Common.{ap, Some, Err}
 use Rattle.meaning.specs.History.{Acknowledges}
 use Rattle.meaning.specs.Machine.{Shown}
 use Rattle.meaning.specs.Refusals.{Requests}
@@ -9,10 +9,10 @@ use Rattle.api.proofs.call.acknowledge.Goals as goal
 
 pub returns-in-Ok-clause-carries : goal.returns-in-Ok-clause-carries
 returns-in-Ok-clause-carries g c = λ u.
-    taken_carried (g.S.Store.content c.args.register.now.store) (g.S.Store.content c.acknowledge.new.self.store) (Requests c.args.caller.number (Acknowledges c.args.id c.args.attempt)) (Shown (Some (view_of c.in-Ok.view))) _
+    taken_carried (g.S.Store.failed c.args.register.now.store) (g.S.Store.failed c.acknowledge.new.self.store) (g.S.Store.content c.args.register.now.store) (g.S.Store.content c.acknowledge.new.self.store) (Requests c.args.caller.number (Acknowledges c.args.id c.args.attempt)) (Shown (Some (view_of c.in-Ok.view))) _
     (c.in-Ok.ensures.answers u) (ap success c.put_shown.ensures.body)
 
 pub returns-in-Err-clause-carries : goal.returns-in-Err-clause-carries
 returns-in-Err-clause-carries g c = λ u.
-    refused_carried c.in-Err.refusal (g.S.Store.content c.args.register.now.store) (g.S.Store.content c.args.register.now.store) (g.S.Store.content c.acknowledge.new.self.store) (Requests c.args.caller.number (Acknowledges c.args.id c.args.attempt))
-    (λ st s. s) (c.in-Err.ensures.answers u)
+    refused_carried c.in-Err.refusal (g.S.Store.failed c.args.register.now.store) (g.S.Store.failed c.acknowledge.new.self.store) (g.S.Store.content c.args.register.now.store) (g.S.Store.content c.acknowledge.new.self.store) (Requests c.args.caller.number (Acknowledges c.args.id c.args.attempt))
+    (c.in-Err.ensures.answers u) (λ st s e. c.in-Err.ensures.storage u st s (ap Err e))

@@ -11,5 +11,5 @@ returns-in-Err-clause-calls g c = λ u st s. (st, inl (inr (text_by_number NoMem
 
 pub returns-in-Some-clause-calls : goal.returns-in-Some-clause-calls
 returns-in-Some-clause-calls g c = λ u st s.
-    calls_carried (g.S.Store.content c.carry_out.new.register.store) st c.args.route c.args.caller.number c.args.body.now (view c.in-Ok-Some.value) (asked_of c.in-Some.call) _
+    calls_carried (g.S.Store.failed c.args.register.now.store) (g.S.Store.failed c.carry_out.new.register.store) (g.S.Store.content c.carry_out.new.register.store) st c.args.route c.args.caller.number c.args.body.now (view c.in-Ok-Some.value) (asked_of c.in-Some.call) _
     (sym (ap (option_map view) c.in-Ok-Some.field-0-is) ∙ c.in-Ok-Some.ensures) c.in-Some.ensures.some (c.carry_out.ensures.carries u st s)

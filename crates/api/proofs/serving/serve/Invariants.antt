@@ -1,4 +1,4 @@
-use Rattle.std.proofs.Common.{◌≡◌, vec_len}
+use Rattle.std.proofs.Common.{◌≡◌, ◌≤◌, vec_len}
 use Rattle.api.specs.Held.{input_left}
 use Rattle.api.specs.Rooms.{HasRoom}
 use Rattle.api.proofs.Going.{Progress}
@@ -8,5 +8,6 @@ abbrev pub invariant-loop-count : goal.invariant-loop-count
 invariant-loop-count g l =
     (vec_len l.held.bytes ≡ 8192) × HasRoom 512 l.room
     × (g.S.Store.IsUsable l.register.store → g.S.Store.IsUsable l.fn.register.store)
-    × (g.S.Store.IsUsable l.register.store → Progress (g.S.Store.content l.fn.register.store) (g.S.Store.content l.register.store)
+    × (g.S.Store.failed l.fn.register.store ≤ g.S.Store.failed l.register.store)
+    × (g.S.Store.IsUsable l.register.store → Progress (g.S.Store.failed l.fn.register.store) (g.S.Store.failed l.register.store) (g.S.Store.content l.fn.register.store) (g.S.Store.content l.register.store)
     (g.R.Read.remaining l.fn.reader) (input_left l.held (g.R.Read.remaining l.reader)) (g.W.Write.contents l.fn.writer) (g.W.Write.contents l.writer) l.count)

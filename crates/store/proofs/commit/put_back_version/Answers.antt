@@ -9,8 +9,7 @@ put_back-requires c = sym (ap is_some (version_at c.args.tables.now.versions c.a
 
 pub returns : goal.returns
 returns c = record {
-  content = ap (λ m. record (content_of c.args.tables.now) { versions = m }) (version_set c.args.tables.now.versions c.put_back.new.map c.args.id c.args.put.before c.put_back.ensures);
-  holds = c.take_subject.ensures;
-  opens = c.take_subject-2.ensures;
-  waits_about = λ k s had. had;
+  content = c.take_version_keys.ensures.content
+      ∙ ap (λ m. record (content_of c.args.tables.now) { versions = m }) (version_set c.args.tables.now.versions c.put_back.new.map c.args.id c.args.put.before c.put_back.ensures);
+  keeps = c.take_version_keys.ensures.keeps;
 }

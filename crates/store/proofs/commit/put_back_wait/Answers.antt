@@ -16,7 +16,5 @@ pub returns : goal.returns
 returns c = record {
   content = ap (λ m. record (content_of c.args.tables.now) { waits = m })
       (set_map_of wait_key_of subject_of wait_total wait_exact c.args.tables.now.waits c.put_back.new.map c.args.key c.args.put.before c.put_back.ensures);
-  holds = λ s id had. had;
-  opens = λ s id had. had;
-  waits_about = c.take_about.ensures;
+  keeps = (λ k had. had, λ k had. had, λ k had. had, c.take_key.ensures);
 }

@@ -7,7 +7,8 @@ use Rattle.store.proofs.tables.Tables.new.Goals as goal
 
 pub returns-clause-indexed : goal.returns-clause-indexed
 returns-clause-indexed c = (
-  λ id row s at has. absurd (no_entry nat_cmp (λ k. k) (λ row. row) c.new-5.result c.new-5.ensures.empty id row at),
-  λ id row s at has. absurd (no_entry nat_cmp (λ k. k) (λ row. row) c.new-5.result c.new-5.ensures.empty id row at),
-  λ k s at. absurd (no_entry wait_cmp wait_key_of subject_of c.new-9.result c.new-9.ensures.empty k s at),
+  λ id row k at has. absurd (no_entry nat_cmp (λ k. k) (λ row. row) c.new-5.result c.new-5.ensures.empty id row at),
+  λ id row k at has. absurd (no_entry nat_cmp (λ k. k) (λ row. row) c.new-5.result c.new-5.ensures.empty id row at),
+  λ id row k at has. absurd (no_entry nat_cmp (λ k. k) (λ row. row) c.new-5.result c.new-5.ensures.empty id row at),
+  λ k s at. absurd (no_entry wait_cmp wait_key_of subject_of c.new-10.result c.new-10.ensures.empty k s at),
 )

@@ -1,0 +1,268 @@
+-- The answer that storage fails is no answer of the machine, nor that of a message that is refused.
+use Rattle.std.proofs.Common.{◌≡◌, ◌≤◌, ◌<◌, ℕ, List, [], ◌∷◌, ◌++◌, length, get_or, decimal, codes, Bool, true, false, Option, Some, None, inl, inr, refl, ap, sym, subst, ◌∙◌, arith}
+use Rattle.std.specs.Prelude.{if◌then◌else◌, ⊤}
+use Rattle.itoa.proofs.Decimal.{decimal_two, pair}
+use Rattle.numbers.specs.declared.spid.Spid.{Spid}
+use Rattle.settle.specs.Reads.{HasRisen}
+use Rattle.meaning.specs.Commands.{Command, RegisterCarrier, RegisterRoutingNumber, OpenCode, OldProviderCreate, NewProviderCreate, Activate, PutInConflict, RemoveFromConflict, Cancel, OldProviderCancellationAcknowledge, NewProviderCancellationAcknowledge, Disconnect, Donate, Assign, Release}
+use Rattle.meaning.specs.History.{Commands, Acknowledges}
+use Rattle.meaning.specs.Machine.{Reply, Refused, Moved, Registered, LrnAdded, CodeOpened, Shown, Donated, Known, Fetched, Answered, Rows, Awaited, Found, out, accepted, refused_or, reply_of, answer_of}
+use Rattle.meaning.specs.Reading.{State}
+use Rattle.meaning.specs.Refusals.{Input, Requests, Asks, Knows, Query, refusal, tests, command_tests, first_that_holds}
+use Rattle.api.specs.Answer.{answer, refusal_body, phrase}
+use Rattle.api.specs.Failures.{failure_text}
+use Rattle.api.specs.Forms.{Asked, Orders, Confirms, Seeks}
+use Rattle.api.specs.RefusalTexts.{refusal_text}
+use Rattle.api.specs.Step.{Step, Meets, Calls, Answers, AnswersQuery, Withholds, Takes, success, reply_text, routed_text}
+use Rattle.api.specs.Texts.{registered_text, routing_number_text, opened_code_text, view_text, uri_text}
+use Rattle.api.specs.declared.fault.Failure.TheVariants.{Uri, Message}
+use Rattle.api.specs.declared.fault.MessageFault.TheVariants.{BadRequest, NoPath, BadMethod}
+use Rattle.api.specs.declared.fault.UriFault.TheVariants.{BadNumber}
+use Rattle.api.specs.declared.message.Request.{Request}
+use Rattle.api.specs.declared.paths.Route.{Route}
+
+-- the text is not that of storage
+abbrev Differs : List ℕ → Type 0
+Differs text = ¬ (text ≡ refusal_text 29)
+
+-- ---- texts are told apart by the first digit of the status, behind `HTTP/1.1 `
+
+abbrev class_of : List ℕ → ℕ
+class_of text = get_or text 9 0
+
+class_of_storage : class_of (refusal_text 29) ≡ 53
+unfolding refusal_text failure_text
+class_of_storage = refl
+
+by_class : (text : List ℕ) (digit : ℕ) → class_of text ≡ digit → digit < 53 → Differs text
+by_class text digit is below e =
+    let same : digit ≡ 53 = sym is ∙ ap class_of e ∙ class_of_storage in
+    omega (arith, same, below)
+
+succeeds : (body : List ℕ) → Differs (success body)
+unfolding success
+succeeds body = by_class (success body) 50 refl (omega arith)
+
+nothing : Differs []
+nothing = by_class [] 0 refl (omega arith)
+
+no_path : Differs (failure_text (Message NoPath))
+unfolding failure_text
+no_path = by_class (failure_text (Message NoPath)) 52 refl (omega arith)
+
+bad_method : Differs (failure_text (Message BadMethod))
+unfolding failure_text
+bad_method = by_class (failure_text (Message BadMethod)) 52 refl (omega arith)
+
+bad_request : Differs (failure_text (Message BadRequest))
+unfolding failure_text
+bad_request = by_class (failure_text (Message BadRequest)) 52 refl (omega arith)
+
+bad_number : Differs (failure_text (Uri BadNumber))
+unfolding failure_text
+bad_number = by_class (failure_text (Uri BadNumber)) 52 refl (omega arith)
+
+-- ---- those of status 503 by the second digit of the body's length
+
+abbrev digit_of : List ℕ → ℕ
+digit_of text = get_or text 83 0
+
+-- a refusal's body, with its number in digits
+abbrev with_digits : (name digits : List ℕ) → List ℕ
+with_digits name digits = codes "{\"error\":\"" ++ name ++ codes "\",\"number\":" ++ digits ++ codes "}"
+
+body_is : (name : List ℕ) (n : ℕ) → 10 ≤ n → n < 100 → refusal_body name n ≡ with_digits name (pair n)
+body_is name n low high = ap (with_digits name) (decimal_two n low high)
+
+digit_is : (body : List ℕ) (n : ℕ) → length body ≡ n → 10 ≤ n → n < 100 → digit_of (answer 503 body) ≡ get_or (pair n) 1 0
+unfolding phrase
+digit_is body n is low high = ap (λ (digits : List ℕ). get_or ((digits ++ codes "\r\n\r\n") ++ body) 1 0) (ap decimal is ∙ decimal_two n low high)
+
+digit_told : (name : List ℕ) (number n : ℕ) → 10 ≤ number → number < 100 → length (with_digits name (pair number)) ≡ n → 10 ≤ n → n < 100 → digit_of (answer 503 (refusal_body name number)) ≡ get_or (pair n) 1 0
+digit_told name number n low high is from to = digit_is (refusal_body name number) n (ap length (body_is name number low high) ∙ is) from to
+
+full_digit : digit_of (refusal_text 28) ≡ 56
+unfolding refusal_text failure_text
+full_digit = digit_told (codes "full") 28 28 (omega arith) (omega arith) refl (omega arith) (omega arith)
+
+storage_digit : digit_of (refusal_text 29) ≡ 49
+unfolding refusal_text failure_text
+storage_digit = digit_told (codes "storage") 29 31 (omega arith) (omega arith) refl (omega arith) (omega arith)
+
+memory_digit : digit_of (refusal_text 30) ≡ 51
+unfolding refusal_text failure_text
+memory_digit = digit_told (codes "no_memory") 30 33 (omega arith) (omega arith) refl (omega arith) (omega arith)
+
+by_digit : (text : List ℕ) (digit : ℕ) → digit_of text ≡ digit → 49 < digit → Differs text
+by_digit text digit is above e =
+    let same : digit ≡ 49 = sym is ∙ ap digit_of e ∙ storage_digit in
+    omega (arith, same, above)
+
+full : Differs (refusal_text 28)
+full = by_digit (refusal_text 28) 56 full_digit (omega arith)
+
+memory : Differs (refusal_text 30)
+memory = by_digit (refusal_text 30) 51 memory_digit (omega arith)
+
+-- ---- the machine's refusals
+
+-- the text of no test's number is that of storage
+abbrev AllDiffer : List (ℕ × Bool) → Type 0
+AllDiffer [] = ⊤
+AllDiffer (t ∷ ts) = Differs (refusal_text t.0) × AllDiffer ts
+
+same_number : (n k : ℕ) → Some n ≡ Some k → n ≡ k
+same_number n k e = cc
+
+none_is : (k : ℕ) → ¬ (None ≡ Some k)
+none_is k e = cc
+
+pick : (n k : ℕ) (holds : Bool) (rest : Option ℕ) → Differs (refusal_text n) → (rest ≡ Some k → Differs (refusal_text k)) → (if holds then Some n else rest) ≡ Some k → Differs (refusal_text k)
+pick n k true rest differs later e = subst (λ (m : ℕ). Differs (refusal_text m)) (same_number n k e) differs
+pick n k false rest differs later e = later e
+
+first_differs : (ts : List (ℕ × Bool)) → AllDiffer ts → (k : ℕ) → first_that_holds ts ≡ Some k → Differs (refusal_text k)
+first_differs [] all k e = absurd (none_is k e)
+first_differs (t ∷ ts) all k e = pick t.0 k t.1 (first_that_holds ts) all.0 (first_differs ts all.1 k) e
+
+by_number : (k : ℕ) → class_of (refusal_text k) ≡ 52 → Differs (refusal_text k)
+by_number k is = by_class (refusal_text k) 52 is (omega arith)
+
+commands_differ : (st : State) (caller : ℕ) (c : Command) → AllDiffer (command_tests st caller c)
+unfolding refusal_text failure_text
+commands_differ st caller c =
+    (by_number 1 refl, (by_number 2 refl, (by_number 3 refl, (by_number 4 refl, (by_number 5 refl, (by_number 6 refl, (by_number 7 refl, (by_number 8 refl, (by_number 9 refl, (by_number 10 refl, (by_number 11 refl, (by_number 12 refl, (by_number 13 refl, (by_number 14 refl, (by_number 15 refl, (by_number 16 refl, (by_number 17 refl, (by_number 18 refl, (by_number 19 refl, (by_number 20 refl, (by_number 21 refl, (by_number 22 refl, (by_number 23 refl, (by_number 24 refl, (full, tt)))))))))))))))))))))))))
+
+acknowledgements_differ : (st : State) (caller id attempt : ℕ) → AllDiffer (tests st (Requests caller (Acknowledges id attempt)))
+unfolding tests refusal_text failure_text
+acknowledgements_differ st caller id attempt = (by_number 1 refl, (by_number 10 refl, (by_number 25 refl, (by_number 26 refl, tt))))
+
+knowing_differs : (st : State) (caller : ℕ) → AllDiffer (tests st (Asks caller Knows))
+unfolding tests refusal_text failure_text
+knowing_differs st caller = (by_number 1 refl, tt)
+
+queries_differ : (st : State) (caller tn : ℕ) → AllDiffer (tests st (Asks caller (Query tn)))
+unfolding tests refusal_text failure_text
+queries_differ st caller tn = (by_number 1 refl, tt)
+
+all_differ : (st : State) (caller : ℕ) (c : Command) → AllDiffer (tests st (Requests caller (Commands c)))
+unfolding tests
+all_differ st caller c = commands_differ st caller c
+
+-- ---- the machine's replies
+
+-- the reply is of what was accepted
+abbrev Accepts : Reply → Type 0
+Accepts reply = (k : ℕ) → ¬ (reply ≡ Refused k)
+
+refused_by : (o : Option ℕ) (reply : Reply) (k : ℕ) → Accepts reply → refused_or o reply ≡ Refused k → o ≡ Some k
+refused_by None reply k accepts e = absurd (accepts k e)
+refused_by (Some n) reply k accepts e = cc
+
+reply_accepts : (st new : State) (caller : ℕ) (c : Command) → Accepts (reply_of st new caller c)
+reply_accepts st new caller (RegisterCarrier spid) k e = cc
+reply_accepts st new caller (RegisterRoutingNumber lrn) k e = cc
+reply_accepts st new caller (OpenCode code holder) k e = cc
+reply_accepts st new caller (OldProviderCreate tn old_provider new_provider due authorized) k e = cc
+reply_accepts st new caller (NewProviderCreate tn old_provider new_provider due lrn cic) k e = cc
+reply_accepts st new caller (Activate id) k e = cc
+reply_accepts st new caller (PutInConflict id) k e = cc
+reply_accepts st new caller (RemoveFromConflict id) k e = cc
+reply_accepts st new caller (Cancel id) k e = cc
+reply_accepts st new caller (OldProviderCancellationAcknowledge id) k e = cc
+reply_accepts st new caller (NewProviderCancellationAcknowledge id) k e = cc
+reply_accepts st new caller (Disconnect id release) k e = cc
+reply_accepts st new caller (Donate block used lrn cic) k e = cc
+reply_accepts st new caller (Assign block holder lrn cic) k e = cc
+reply_accepts st new caller (Release block) k e = cc
+
+machine_differs : (st : State) (input : Input) (k : ℕ) → Accepts (answer_of st (accepted st input) input) → AllDiffer (tests st input) → out st input ≡ Refused k → Differs (refusal_text k)
+unfolding out
+machine_differs st input k accepts all e = first_differs (tests st input) all k (refused_by (refusal st input) (answer_of st (accepted st input) input) k accepts e)
+
+reply_differs : (reply : Reply) → ((k : ℕ) → reply ≡ Refused k → Differs (refusal_text k)) → Differs (reply_text reply)
+reply_differs (Refused number) machine = machine number refl
+reply_differs (Shown (Some view)) machine = succeeds (view_text view)
+reply_differs (Shown None) machine = nothing
+reply_differs (Registered spid rows) machine = succeeds (registered_text spid rows)
+reply_differs (LrnAdded lrn spid) machine = succeeds (routing_number_text lrn spid)
+reply_differs (CodeOpened code spid) machine = succeeds (opened_code_text code spid)
+reply_differs (Moved now) machine = nothing
+reply_differs (Donated block ids) machine = nothing
+reply_differs Known machine = nothing
+reply_differs (Fetched downloads) machine = nothing
+reply_differs (Answered answered) machine = nothing
+reply_differs (Rows rows) machine = nothing
+reply_differs (Awaited subjects) machine = nothing
+reply_differs (Found in_force opened) machine = nothing
+
+routed_differs : (tn : ℕ) (reply : Reply) → ((k : ℕ) → reply ≡ Refused k → Differs (refusal_text k)) → Differs (routed_text tn reply)
+routed_differs tn (Refused number) machine = machine number refl
+routed_differs tn (Answered answered) machine = succeeds (uri_text tn answered)
+routed_differs tn (Shown view) machine = nothing
+routed_differs tn (Registered spid rows) machine = nothing
+routed_differs tn (LrnAdded lrn spid) machine = nothing
+routed_differs tn (CodeOpened code spid) machine = nothing
+routed_differs tn (Moved now) machine = nothing
+routed_differs tn (Donated block ids) machine = nothing
+routed_differs tn Known machine = nothing
+routed_differs tn (Fetched downloads) machine = nothing
+routed_differs tn (Rows rows) machine = nothing
+routed_differs tn (Awaited subjects) machine = nothing
+routed_differs tn (Found in_force opened) machine = nothing
+
+takes_differs : (st : State) (input : Input) (after : State) → ((k : ℕ) → out st input ≡ Refused k → Differs (refusal_text k)) → ¬ (Takes st input (refusal_text 29) after)
+takes_differs st input after machine x = reply_differs (out st input) machine (sym x.0)
+
+knows_accepts : (st : State) (caller : ℕ) → Accepts (answer_of st (accepted st (Asks caller Knows)) (Asks caller Knows))
+knows_accepts st caller k e = cc
+
+query_accepts : (st : State) (caller tn : ℕ) → Accepts (answer_of st (accepted st (Asks caller (Query tn))) (Asks caller (Query tn)))
+query_accepts st caller tn k e = cc
+
+shown_accepts : (st : State) (caller id attempt : ℕ) → Accepts (answer_of st (accepted st (Requests caller (Acknowledges id attempt))) (Requests caller (Acknowledges id attempt)))
+shown_accepts st caller id attempt k e = cc
+
+query_differs : (st : State) (caller : ℕ) (uri : List ℕ) → ¬ (AnswersQuery st caller uri (refusal_text 29))
+query_differs st caller uri (inl x) = machine_differs st (Asks caller Knows) x.0 (knows_accepts st caller) (knowing_differs st caller) x.1 (sym x.2)
+query_differs st caller uri (inr (inl x)) = bad_number (sym x.2)
+query_differs st caller uri (inr (inr x)) =
+    routed_differs x.1.0 (out st (Asks caller (Query x.1.0)))
+    (λ k. machine_differs st (Asks caller (Query x.1.0)) k (query_accepts st caller x.1.0) (queries_differ st caller x.1.0)) (sym x.1.2)
+
+-- ---- messages
+
+-- the device failed, and nothing has happened
+abbrev Tells : (from to : ℕ) → (st after : State) → Type 0
+Tells from to st after = HasRisen from to × (after ≡ st)
+
+withheld_tells : (from to : ℕ) (st after : State) → Withholds from to st (refusal_text 29) after → Tells from to st after
+withheld_tells from to st after (inl x, e) = (x.1, e)
+withheld_tells from to st after (inr x, e) = absurd (memory (sym x))
+
+answers_tell : (from to : ℕ) (st : State) (caller : ℕ) (asked : Asked) (after : State) → Answers from to st caller asked (refusal_text 29) after → Tells from to st after
+answers_tell from to st caller (Orders c) after (inl x) = withheld_tells from to st after x
+answers_tell from to st caller (Orders c) after (inr x) =
+    absurd (takes_differs st (Requests caller (Commands c)) after
+    (λ k. machine_differs st (Requests caller (Commands c)) k (reply_accepts st (accepted st (Requests caller (Commands c))) caller c) (all_differ st caller c)) x)
+answers_tell from to st caller (Confirms id attempt) after (inl x) = withheld_tells from to st after x
+answers_tell from to st caller (Confirms id attempt) after (inr x) =
+    absurd (takes_differs st (Requests caller (Acknowledges id attempt)) after
+    (λ k. machine_differs st (Requests caller (Acknowledges id attempt)) k (shown_accepts st caller id attempt) (acknowledgements_differ st caller id attempt)) x)
+answers_tell from to st caller (Seeks uri) after (inl x) = withheld_tells from to st after x
+answers_tell from to st caller (Seeks uri) after (inr x) = absurd (query_differs st caller uri x.0)
+
+calls_tell : (from to : ℕ) (st : State) (route : Route) (caller : ℕ) (body : List ℕ) (after : State) → Calls from to st route caller body (refusal_text 29) after → Tells from to st after
+calls_tell from to st route caller body after (inl x) = withheld_tells from to st after x
+calls_tell from to st route caller body after (inr (inl x)) = absurd (bad_request (sym x.1.0))
+calls_tell from to st route caller body after (inr (inr x)) = answers_tell from to st caller x.0 after x.2
+
+meets_tell : (from to : ℕ) (st : State) (route : Option Route) (is_post : Bool) (caller : Option Spid) (body : List ℕ) (after : State) →
+    Meets from to st route is_post caller body (refusal_text 29) after → Tells from to st after
+meets_tell from to st None is_post caller body after x = absurd (no_path (sym x.0))
+meets_tell from to st (Some route) false caller body after x = absurd (bad_method (sym x.0))
+meets_tell from to st (Some route) true None body after x = absurd (bad_request (sym x.0))
+meets_tell from to st (Some route) true (Some caller) body after x = calls_tell from to st route caller.number body after x
+
+pub storage_tells : (from to : ℕ) (st : State) (request : Request) (body : List ℕ) (after : State) → Step from to st request body (refusal_text 29) after → HasRisen from to × (after ≡ st)
+storage_tells from to st request body after x = meets_tell from to st request.route request.is_post request.caller body after x.met

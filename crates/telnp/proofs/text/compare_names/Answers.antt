@@ -1,0 +1,13 @@
+use Rattle.std.proofs.Common.{◌≡◌, ◌∙◌, ap, refl, rules}
+use Rattle.std.specs.Ordering.{nat_cmp}
+use Rattle.std.specs.Char.{to_ascii_lowercase}
+use Rattle.std.specs.Iterator.Adapters.{map_callee}
+use Rattle.std.proofs.lemmas.Iterator.{YieldsList-from_slice, YieldsList-from_map}
+use Rattle.std.proofs.lemmas.Iterator.Search.{cmp_from_yields_List}
+use Rattle.telnp.proofs.text.compare_names.Goals as goal
+
+pub returns : goal.returns
+returns c = cmp_from_yields_List (λ x y. y ≡ x) _ nat_cmp _ c.cmp.ensures.ran
+    (YieldsList-from_map _ to_ascii_lowercase (YieldsList-from_slice c.args.a.now cc) c.map.ensures.closure (λ x r q k. search rules))
+    (λ it e. YieldsList-from_map _ to_ascii_lowercase (YieldsList-from_slice c.args.b.now cc) (ap map_callee e ∙ c.map-2.ensures.closure) (λ x r q k. search rules))
+    (λ x y. refl)

@@ -1,0 +1,8 @@
+pub mod Bytes
+pub mod Grammar
+pub mod Uri
+pub mod Faults
+pub mod Numbers
+pub mod Answer
+pub mod Views
+pub mod Laws

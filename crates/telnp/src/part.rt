@@ -1,0 +1,88 @@
+//! A parameter of an answer.
+
+ghost use Rattle.std.specs.Prelude.{◌≡◌, ◌∷◌};
+ghost use Rattle.std.specs.Cmp.Lexicographic.{slice_cmp};
+ghost use Rattle.std.specs.Ordering.{nat_cmp};
+ghost use Rattle.telnp.specs.Answer.{rank};
+ghost use Rattle.telnp.specs.Grammar.{lower};
+
+use crate::parameter::name_of;
+use crate::text::{compare_names, same_name};
+use numbers::{Cic, Lrn};
+use std::alloc::AllocError;
+use std::cmp::Ordering;
+
+/// A parameter of an answer: one of the query's as it is written there, or one that is added.
+#[derive(Clone, Copy)]
+pub enum Part<'a> {
+    Written(&'a str),
+    Npdi,
+    RoutingNumber(Lrn),
+    Carrier(Cic),
+}
+
+impl<'a> Part<'a> {
+    ghost use Rattle.std.specs.Prelude.{◌≡◌, ◌++◌, OnOk, string_bytes};
+    ghost use Rattle.telnp.specs.Answer.{goes_before};
+    ghost use Rattle.telnp.specs.Grammar.{name_of};
+    ghost use Rattle.telnp.specs.Views.{part_text};
+
+    // The parameter's name.
+    fn name(&self) -> &str
+        ensures { result.now ≡ name_of (part_text self.now) }
+    {
+        match self {
+            Part::Written(text) => name_of(*text),
+            Part::Npdi => "npdi",
+            Part::RoutingNumber(_) => "rn",
+            Part::Carrier(_) => "cic",
+        }
+    }
+
+    /// Whether this parameter comes before another.
+    pub fn goes_before(&self, other: &Part) -> bool
+        ensures { result ≡ goes_before (part_text self.now) (part_text other.now) }
+    {
+        order_of(self.name(), other.name()) == Ordering::Less
+    }
+
+    /// Appends the parameter without the `;` in front of it.
+    pub fn write(&self, out: &mut String) -> Result<(), AllocError>
+        ensures { OnOk result (string_bytes out.new ≡ string_bytes out.old ++ part_text self.now) }
+    {
+        match self {
+            Part::Written(text) => out.push_str(*text),
+            Part::Npdi => out.push_str("npdi"),
+            Part::RoutingNumber(lrn) => {
+                out.push_str("rn=+1")?;
+                lrn.write(out)
+            }
+            Part::Carrier(cic) => {
+                out.push_str("cic=+1")?;
+                cic.write(out)
+            }
+        }
+    }
+}
+
+// The names that come first, and after them all others.
+fn rank(name: &str) -> u8
+    ensures { result ≡ rank name.now }
+{
+    if same_name(name, "ext") {
+        0
+    } else if same_name(name, "isub") {
+        1
+    } else if same_name(name, "phone-context") {
+        2
+    } else {
+        3
+    }
+}
+
+// How parameters of these names stand in an answer.
+fn order_of(a: &str, b: &str) -> Ordering
+    ensures { result ≡ slice_cmp nat_cmp (rank a.now ∷ lower a.now) (rank b.now ∷ lower b.now) }
+{
+    rank(a).cmp(&rank(b)).then(compare_names(a, b))
+}
