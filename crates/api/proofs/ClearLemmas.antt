@@ -1,14 +1,13 @@
--- A body asks one thing at most, and a URI has one number at most.
-use Rattle.std.proofs.Common.{◌≡◌, ℕ, ◌/◌, ◌%◌, ◌++◌, codes, List, Option, Some, None, true, get_or, drop, option_and_then, refl, ap, sym, ◌∙◌, arith}
+-- A body asks one thing at most.
+use Rattle.std.proofs.Common.{◌≡◌, ℕ, ◌/◌, ◌%◌, codes, List, Option, Some, None, true, get_or, option_and_then, refl, ap, sym, ◌∙◌, arith}
 use Rattle.serde_json.specs.Data.{Data, null, boolean, number, string, array, object}
 use Rattle.serde_json.specs.Find.{get, as_str}
-use Rattle.numbers.specs.Texts.{tn_text, spid_text}
+use Rattle.numbers.specs.Texts.{spid_text}
 use Rattle.numbers.proofs.DigitLemmas.{digits_of-injective}
 use Rattle.meaning.specs.Commands.{Command, RegisterCarrier, RegisterRoutingNumber, Activate}
 use Rattle.api.specs.declared.paths.Route.{Route}
 use Rattle.api.specs.declared.paths.Route.TheVariants.{Carriers, RoutingNumbers, Codes, OldProviderCreate as OldProviderPath, NewProviderCreate as NewProviderPath, Activate as ActivatePath, Acknowledge, Query}
 use Rattle.api.specs.Forms.{Asked, Orders, Seeks, text, whole, HasSpid, HasTn, HasLrn, HasCode, HasCic, HasCommand, HasOrder, HasValues, HasForm, is_left_out}
-use Rattle.api.specs.Step.{HasNumber}
 
 same_said : {A : Type 0} (given : Option A) (a b : A) → given ≡ Some a → given ≡ Some b → a ≡ b
 same_said given a b e f = cc
@@ -91,8 +90,3 @@ same_values ActivatePath d a b x y = same_order ActivatePath d a b x y
 
 pub same_form : (route : Route) (d : Data) (a b : Asked) → HasForm route d a → HasForm route d b → a ≡ b
 same_form route d a b h k = same_values route d a b h.values k.values
-
-pub same_uri_number : (uri : List ℕ) (m n : ℕ) → HasNumber uri m → HasNumber uri n → m ≡ n
-same_uri_number uri m n h k =
-    let e : codes "tel:+1" ++ tn_text m ≡ codes "tel:+1" ++ tn_text n = sym h.said ∙ k.said in
-    digits_of-injective 10 m n h.valid.0 k.valid.0 (ap (drop 6) e)

@@ -13,9 +13,11 @@ mod NumberLemmas
 mod OnceLemmas
 mod PathLemmas
 mod Phrases
+mod PlainLemmas
 mod RefusalLemmas
 mod Risen
 mod StepLemmas
 mod StorageLemmas
 mod StorageRuns
+mod UriLemmas
 mod WholeRefusals

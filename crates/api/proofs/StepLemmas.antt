@@ -1,5 +1,5 @@
 -- What the machine answers, and what refusals mean for a state.
-use Rattle.std.proofs.Common.{◌≡◌, ◌⊎◌, ℕ, ◌<◌, ◌≤◌, List, length, Option, Some, None, Result, Ok, Err, OnOk, OnErr, IsSomeAnd, true, inl, inr, refl, ap, sym, subst, ◌∙◌, arith}
+use Rattle.std.proofs.Common.{◌≡◌, ◌⊎◌, ℕ, ◌<◌, ◌≤◌, List, length, Option, Some, None, Result, Ok, Err, OnOk, OnErr, IfErr, IsSomeAnd, true, inl, inr, refl, ap, sym, subst, ◌∙◌, arith}
 use Rattle.meaning.specs.declared.refusal.Refusal.{Refusal}
 use Rattle.meaning.specs.declared.refusal.Refusal.TheVariants.{UnknownCarrier, NotAdmin, UnknownCode, CarrierTaken, CodeTaken, LrnTaken, BadLrn, InPool, WrongOld, NotFound, NotYours, Busy, WrongStatus, DuePast, DueMismatch, NotConcurred, BeforeDue, ConflictSpent, TooLate, TooEarly, Protected, Contaminated, OpenPorts, BlockTaken, NotQueued, OutOfOrder, ClockBack, Full, Storage, NoMemory}
 use Rattle.meaning.specs.RefusalNumbers.{number_of}
@@ -14,13 +14,14 @@ use Rattle.register.specs.Answers.{Stands, AnswersAs}
 use Rattle.register.specs.Calls.{refused_with}
 use Rattle.api.specs.declared.fault.Failure.{Failure}
 use Rattle.api.specs.declared.fault.Failure.TheVariants.{Refused, Uri}
-use Rattle.api.specs.declared.fault.UriFault.{UriFault}
-use Rattle.api.specs.declared.fault.UriFault.TheVariants.{BadNumber}
+use Rattle.telnp.specs.declared.fault.TelFault.{TelFault}
+use Rattle.telnp.specs.Answer.{Uri as TelUri}
+use Rattle.telnp.specs.Faults.{fault_of}
 use Rattle.api.specs.Failures.{failure_text}
 use Rattle.api.specs.Forms.{Asked, Orders, Seeks, HasForm, json_of}
 use Rattle.api.specs.RefusalTexts.{refusal_text}
-use Rattle.api.specs.Step.{Step, Calls, Answers, BodyAsks, IsShort, Outgrows, Withholds, Takes, HasNumber, AnswersQuery, Carries, success, told, reply_text, routed_text}
-use Rattle.api.specs.Texts.{uri_text}
+use Rattle.api.specs.Step.{Step, Calls, Answers, BodyAsks, IsShort, Outgrows, Withholds, Takes, IsUri, AsksFor, ComesBack, AnswersQuery, Carries, success, told, reply_text, routed_text}
+use Rattle.api.specs.Texts.{looked_up, uri_text}
 use Rattle.numbers.specs.declared.spid.Spid.{Spid}
 use Rattle.serde_json.specs.Data.{Data}
 use Rattle.api.specs.declared.message.Request.{Request}
@@ -235,28 +236,48 @@ query_known r from to st caller uri new (inr x) = (st, inr (inl (x.0, x.1, x.2),
 pub unknown_carried : (r : Refusal) (from to : ℕ) (old new : Content) (caller : ℕ) (uri : List ℕ) → AnswersAs old new (Asks caller Knows) (refused_with (number_of r)) → BlamesRightly from to old r → Carries from to old new caller (Seeks uri) (failure_text (Refused r))
 unknown_carried r from to old new caller uri h blames = λ st s. query_known r from to st caller uri new (outcome r from to old new (Asks caller Knows) h blames st s)
 
-pub numberless_carried : (fault : UriFault) (from to : ℕ) (old new : Content) (caller : ℕ) (uri : List ℕ) → AnswersAs old new (Asks caller Knows) (Some Known) → ((tn : ℕ) → ¬ (HasNumber uri tn)) → Carries from to old new caller (Seeks uri) (failure_text (Uri fault))
-numberless_carried BadNumber from to old new caller uri h none = λ st s.
-    (st, inr (inr (inl (sym (h st s).0, none, refl)), refl), stays new st caller Knows (h st s).1)
+pub faulty_carried : (fault : TelFault) (from to : ℕ) (old new : Content) (caller : ℕ) (uri : List ℕ) → AnswersAs old new (Asks caller Knows) (Some Known) → fault_of uri ≡ Some fault → Carries from to old new caller (Seeks uri) (failure_text (Uri fault))
+faulty_carried fault from to old new caller uri h e = λ st s.
+    (st, inr (inr (inl (sym (h st s).0, (fault, e, refl))), refl), stays new st caller Knows (h st s).1)
 
-query_asked : (r : Refusal) (from to : ℕ) (st : State) (caller : ℕ) (uri : List ℕ) (tn : ℕ) (new : Content) → HasNumber uri tn → out st (Asks caller Knows) ≡ Known → Outcome from to r st (Asks caller (Query tn)) new →
+query_asked : (r : Refusal) (from to : ℕ) (st : State) (caller : ℕ) (uri : List ℕ) (read : TelUri) (tn : ℕ) (new : Content) → IsUri uri read → AsksFor read tn → out st (Asks caller Knows) ≡ Known → Outcome from to r st (Asks caller (Query tn)) new →
     (after : State) × (Withholds from to st (failure_text (Refused r)) after ⊎ (AnswersQuery st caller uri (failure_text (Refused r)) × (after ≡ st))) × Stands new after
-query_asked r from to st caller uri tn new number known (inl x) = (st, inl (x.0, refl), x.1)
-query_asked r from to st caller uri tn new number known (inr x) =
-    (st, inr (inr (inr (known, (tn, number, x.2 ∙ ap (routed_text tn) (sym x.1)))), refl), stays new st caller (Query tn) x.3)
+query_asked r from to st caller uri read tn new parts asks known (inl x) = (st, inl (x.0, refl), x.1)
+query_asked r from to st caller uri read tn new parts asks known (inr x) =
+    (st, inr (inr (inr (known, (read, parts, inr (tn, asks, x.2 ∙ ap (routed_text read) (sym x.1))))), refl), stays new st caller (Query tn) x.3)
 
-pub refused_query_carried : (r : Refusal) (from between to : ℕ) (old mid new : Content) (caller : ℕ) (uri : List ℕ) (tn : ℕ) → from ≤ between → between ≤ to → HasNumber uri tn → AnswersAs old mid (Asks caller Knows) (Some Known) →
+pub refused_query_carried : (r : Refusal) (from between to : ℕ) (old mid new : Content) (caller : ℕ) (uri : List ℕ) (read : TelUri) (tn : ℕ) → from ≤ between → between ≤ to → IsUri uri read → AsksFor read tn → AnswersAs old mid (Asks caller Knows) (Some Known) →
     AnswersAs mid new (Asks caller (Query tn)) (refused_with (number_of r)) → BlamesRightly between to mid r → Carries from to old new caller (Seeks uri) (failure_text (Refused r))
-refused_query_carried r from between to old mid new caller uri tn before behind number h k blames = λ st s.
-    query_asked r from to st caller uri tn new number (sym (h st s).0)
+refused_query_carried r from between to old mid new caller uri read tn before behind parts asks h k blames = λ st s.
+    query_asked r from to st caller uri read tn new parts asks (sym (h st s).0)
     (outcome r from to mid new (Asks caller (Query tn)) k (blames_since from between to mid mid r before behind (λ x y. y) blames) st (stays mid st caller Knows (h st s).1))
 
-pub query_carried : (from to : ℕ) (old mid new : Content) (caller : ℕ) (uri : List ℕ) (tn : ℕ) (a : Answer) (text : List ℕ) → HasNumber uri tn → AnswersAs old mid (Asks caller Knows) (Some Known) →
-    AnswersAs mid new (Asks caller (Query tn)) (Some (Answered a)) → text ≡ success (uri_text tn a) → Carries from to old new caller (Seeks uri) text
-query_carried from to old mid new caller uri tn a text number h k e = λ st s.
+-- the body was written, or memory was wanting
+told_or_short : {A : Type 0} (result : Result A Failure) (body wanted : List ℕ) → OnOk result (body ≡ wanted) → IfErr result (λ failure. failure ≡ Refused NoMemory) → (told result body ≡ success wanted) ⊎ (told result body ≡ refusal_text 30)
+told_or_short (Ok done) body wanted same short = inl (ap success same)
+told_or_short (Err failure) body wanted same short = inr (ap failure_text short ∙ text_by_number NoMemory)
+
+answered_or_short : (from to : ℕ) (st : State) (caller : ℕ) (uri text said : List ℕ) (new : Content) → AnswersQuery st caller uri said → Stands new st → (text ≡ said) ⊎ (text ≡ refusal_text 30) →
+    (after : State) × (Withholds from to st text after ⊎ (AnswersQuery st caller uri text × (after ≡ st))) × Stands new after
+answered_or_short from to st caller uri text said new h s (inl e) = (st, inr (subst (λ (t : List ℕ). AnswersQuery st caller uri t) (sym e) h, refl), s)
+answered_or_short from to st caller uri text said new h s (inr e) = (st, inl (inr e, refl), s)
+
+pub unasked_carried : {A : Type 0} (from to : ℕ) (old new : Content) (caller : ℕ) (uri : List ℕ) (read : TelUri) (result : Result A Failure) (body : List ℕ) → IsUri uri read → ComesBack read → AnswersAs old new (Asks caller Knows) (Some Known) →
+    OnOk result (body ≡ uri_text uri) → IfErr result (λ failure. failure ≡ Refused NoMemory) → Carries from to old new caller (Seeks uri) (told result body)
+unasked_carried from to old new caller uri read result body parts back h same short = λ st s.
+    answered_or_short from to st caller uri (told result body) (success (uri_text uri)) new
+    (inr (inr (sym (h st s).0, (read, parts, inl (back, ap (λ (t : List ℕ). success (uri_text t)) (sym parts.same))))))
+    (stays new st caller Knows (h st s).1) (told_or_short result body (uri_text uri) same short)
+
+pub query_carried : {A : Type 0} (from to : ℕ) (old mid new : Content) (caller : ℕ) (uri : List ℕ) (read : TelUri) (tn : ℕ) (a : Answer) (result : Result A Failure) (body : List ℕ) → IsUri uri read → AsksFor read tn →
+    AnswersAs old mid (Asks caller Knows) (Some Known) → AnswersAs mid new (Asks caller (Query tn)) (Some (Answered a)) →
+    OnOk result (body ≡ uri_text (looked_up read a)) → IfErr result (λ failure. failure ≡ Refused NoMemory) → Carries from to old new caller (Seeks uri) (told result body)
+query_carried from to old mid new caller uri read tn a result body parts asks h k same short = λ st s.
     let s1 : Stands mid st = stays mid st caller Knows (h st s).1 in
     let k1 = k st s1 in
-    (st, inr (inr (inr (sym (h st s).0, (tn, number, e ∙ ap (routed_text tn) k1.0))), refl), stays new st caller (Query tn) k1.1)
+    answered_or_short from to st caller uri (told result body) (success (uri_text (looked_up read a))) new
+    (inr (inr (sym (h st s).0, (read, parts, inr (tn, asks, ap (routed_text read) k1.0)))))
+    (stays new st caller (Query tn) k1.1) (told_or_short result body (uri_text (looked_up read a)) same short)
 
 -- ---- messages
 

@@ -13,11 +13,12 @@ use Rattle.api.specs.Answer.{answer, refusal_body, phrase}
 use Rattle.api.specs.Failures.{failure_text}
 use Rattle.api.specs.Forms.{Asked, Orders, Confirms, Seeks}
 use Rattle.api.specs.RefusalTexts.{refusal_text}
-use Rattle.api.specs.Step.{Step, Meets, Calls, Answers, AnswersQuery, Withholds, Takes, success, reply_text, routed_text}
-use Rattle.api.specs.Texts.{registered_text, routing_number_text, opened_code_text, view_text, uri_text}
+use Rattle.api.specs.Step.{Step, Meets, Calls, Answers, AnswersQuery, AnswersUri, Withholds, Takes, success, reply_text, routed_text}
+use Rattle.api.specs.Texts.{registered_text, routing_number_text, opened_code_text, view_text, looked_up, uri_text}
 use Rattle.api.specs.declared.fault.Failure.TheVariants.{Uri, Message}
 use Rattle.api.specs.declared.fault.MessageFault.TheVariants.{BadRequest, NoPath, BadMethod}
-use Rattle.api.specs.declared.fault.UriFault.TheVariants.{BadNumber}
+use Rattle.telnp.specs.declared.fault.TelFault.{TelFault}
+use Rattle.telnp.specs.Answer.{Uri as TelUri}
 use Rattle.api.specs.declared.message.Request.{Request}
 use Rattle.api.specs.declared.paths.Route.{Route}
 
@@ -58,9 +59,9 @@ bad_request : Differs (failure_text (Message BadRequest))
 unfolding failure_text
 bad_request = by_class (failure_text (Message BadRequest)) 52 refl (omega arith)
 
-bad_number : Differs (failure_text (Uri BadNumber))
+bad_uri : (fault : TelFault) → Differs (failure_text (Uri fault))
 unfolding failure_text
-bad_number = by_class (failure_text (Uri BadNumber)) 52 refl (omega arith)
+bad_uri fault = by_class (failure_text (Uri fault)) 52 refl (omega arith)
 
 -- ---- those of status 503 by the second digit of the body's length
 
@@ -196,20 +197,20 @@ reply_differs (Rows rows) machine = nothing
 reply_differs (Awaited subjects) machine = nothing
 reply_differs (Found in_force opened) machine = nothing
 
-routed_differs : (tn : ℕ) (reply : Reply) → ((k : ℕ) → reply ≡ Refused k → Differs (refusal_text k)) → Differs (routed_text tn reply)
-routed_differs tn (Refused number) machine = machine number refl
-routed_differs tn (Answered answered) machine = succeeds (uri_text tn answered)
-routed_differs tn (Shown view) machine = nothing
-routed_differs tn (Registered spid rows) machine = nothing
-routed_differs tn (LrnAdded lrn spid) machine = nothing
-routed_differs tn (CodeOpened code spid) machine = nothing
-routed_differs tn (Moved now) machine = nothing
-routed_differs tn (Donated block ids) machine = nothing
-routed_differs tn Known machine = nothing
-routed_differs tn (Fetched downloads) machine = nothing
-routed_differs tn (Rows rows) machine = nothing
-routed_differs tn (Awaited subjects) machine = nothing
-routed_differs tn (Found in_force opened) machine = nothing
+routed_differs : (uri : TelUri) (reply : Reply) → ((k : ℕ) → reply ≡ Refused k → Differs (refusal_text k)) → Differs (routed_text uri reply)
+routed_differs uri (Refused number) machine = machine number refl
+routed_differs uri (Answered answered) machine = succeeds (uri_text (looked_up uri answered))
+routed_differs uri (Shown view) machine = nothing
+routed_differs uri (Registered spid rows) machine = nothing
+routed_differs uri (LrnAdded lrn spid) machine = nothing
+routed_differs uri (CodeOpened code spid) machine = nothing
+routed_differs uri (Moved now) machine = nothing
+routed_differs uri (Donated block ids) machine = nothing
+routed_differs uri Known machine = nothing
+routed_differs uri (Fetched downloads) machine = nothing
+routed_differs uri (Rows rows) machine = nothing
+routed_differs uri (Awaited subjects) machine = nothing
+routed_differs uri (Found in_force opened) machine = nothing
 
 takes_differs : (st : State) (input : Input) (after : State) → ((k : ℕ) → out st input ≡ Refused k → Differs (refusal_text k)) → ¬ (Takes st input (refusal_text 29) after)
 takes_differs st input after machine x = reply_differs (out st input) machine (sym x.0)
@@ -223,12 +224,16 @@ query_accepts st caller tn k e = cc
 shown_accepts : (st : State) (caller id attempt : ℕ) → Accepts (answer_of st (accepted st (Requests caller (Acknowledges id attempt))) (Requests caller (Acknowledges id attempt)))
 shown_accepts st caller id attempt k e = cc
 
+uri_differs : (st : State) (caller : ℕ) (uri : TelUri) → ¬ (AnswersUri st caller uri (refusal_text 29))
+uri_differs st caller uri (inl x) = succeeds (uri_text uri.text) (sym x.1)
+uri_differs st caller uri (inr x) =
+    routed_differs uri (out st (Asks caller (Query x.0)))
+    (λ k. machine_differs st (Asks caller (Query x.0)) k (query_accepts st caller x.0) (queries_differ st caller x.0)) (sym x.2)
+
 query_differs : (st : State) (caller : ℕ) (uri : List ℕ) → ¬ (AnswersQuery st caller uri (refusal_text 29))
 query_differs st caller uri (inl x) = machine_differs st (Asks caller Knows) x.0 (knows_accepts st caller) (knowing_differs st caller) x.1 (sym x.2)
-query_differs st caller uri (inr (inl x)) = bad_number (sym x.2)
-query_differs st caller uri (inr (inr x)) =
-    routed_differs x.1.0 (out st (Asks caller (Query x.1.0)))
-    (λ k. machine_differs st (Asks caller (Query x.1.0)) k (query_accepts st caller x.1.0) (queries_differ st caller x.1.0)) (sym x.1.2)
+query_differs st caller uri (inr (inl x)) = bad_uri x.1.0 (sym x.1.2)
+query_differs st caller uri (inr (inr x)) = uri_differs st caller x.1.0 x.1.2
 
 -- ---- messages
 

@@ -3,10 +3,12 @@ use Rattle.std.specs.Prelude.{ℕ, List, codes}
 use Rattle.meaning.specs.RefusalNumbers.{number_of}
 use Rattle.meaning.specs.declared.refusal.Refusal.{Refusal}
 use Rattle.meaning.specs.declared.refusal.Refusal.TheVariants.{UnknownCarrier, NotAdmin, UnknownCode, CarrierTaken, CodeTaken, LrnTaken, BadLrn, InPool, WrongOld, NotFound, NotYours, Busy, WrongStatus, DuePast, DueMismatch, NotConcurred, BeforeDue, ConflictSpent, TooLate, TooEarly, Protected, Contaminated, OpenPorts, BlockTaken, NotQueued, OutOfOrder, ClockBack, Full, Storage, NoMemory}
+use Rattle.telnp.specs.declared.fault.TelFault.{TelFault}
+use Rattle.telnp.specs.declared.fault.TelFault.TheVariants.{NotTel, BadNumber, BadParameter, ParameterTwice, LocalNumber, TooLong}
+use Rattle.telnp.specs.Faults.{fault_name}
 use Rattle.api.specs.Answer.{answer, refusal_body}
 use Rattle.api.specs.declared.fault.Failure.{Failure}
 use Rattle.api.specs.declared.fault.Failure.TheVariants.{Refused, Uri, Message}
-use Rattle.api.specs.declared.fault.UriFault.TheVariants.{BadNumber}
 use Rattle.api.specs.declared.fault.MessageFault.{MessageFault}
 use Rattle.api.specs.declared.fault.MessageFault.TheVariants.{BadRequest, NoPath, BadMethod, TooLarge, BadHead, CutBody}
 
@@ -98,19 +100,28 @@ message_status TooLarge = 413
 message_status BadHead = 400
 message_status CutBody = 400
 
+-- the faults of a query's URI, whose names are those of `telnp`
+abbrev pub fault_number : TelFault → ℕ
+fault_number NotTel = 31
+fault_number BadNumber = 32
+fault_number BadParameter = 33
+fault_number ParameterTwice = 34
+fault_number LocalNumber = 35
+fault_number TooLong = 36
+
 abbrev pub failure_name : Failure → List ℕ
 failure_name (Refused refusal) = refusal_name refusal
-failure_name (Uri BadNumber) = codes "bad_number"
+failure_name (Uri fault) = fault_name fault
 failure_name (Message fault) = message_name fault
 
 abbrev pub failure_number : Failure → ℕ
 failure_number (Refused refusal) = number_of refusal
-failure_number (Uri BadNumber) = 32
+failure_number (Uri fault) = fault_number fault
 failure_number (Message fault) = message_number fault
 
 abbrev pub failure_status : Failure → ℕ
 failure_status (Refused refusal) = refusal_status refusal
-failure_status (Uri BadNumber) = 400
+failure_status (Uri fault) = 400
 failure_status (Message fault) = message_status fault
 
 abbrev pub failure_body : Failure → List ℕ

@@ -7,6 +7,7 @@ pub mod Forms
 pub mod Front
 pub mod Head
 pub mod Held
+pub mod Plain
 pub mod RefusalTexts
 pub mod Rooms
 pub mod Run

@@ -1,7 +1,6 @@
 -- One message, and what it makes of a state.
-use Rattle.std.specs.Prelude.{◌≡◌, ◌⊎◌, ℕ, ◌<◌, ◌≤◌, List, [], length, ◌++◌, codes, Bool, true, false, Option, Some, None, IsSomeAnd, Result, Ok, Err}
+use Rattle.std.specs.Prelude.{◌≡◌, ◌⊎◌, ℕ, ◌<◌, ◌≤◌, List, [], length, codes, Bool, true, false, Option, Some, None, IsSomeAnd, Result, Ok, Err}
 use Rattle.numbers.specs.Digits.{IsTn}
-use Rattle.numbers.specs.Texts.{tn_text}
 use Rattle.numbers.specs.declared.spid.Spid.{Spid}
 use Rattle.meaning.specs.declared.refusal.Refusal.{Refusal}
 use Rattle.meaning.specs.declared.refusal.Refusal.TheVariants.{Storage, NoMemory}
@@ -12,18 +11,23 @@ use Rattle.meaning.specs.Refusals.{Input, Requests, Asks, Knows, Query}
 use Rattle.meaning.specs.Machine.{Reply, Refused, Moved, Registered, LrnAdded, CodeOpened, Shown, Donated, Known, Fetched, Answered, Rows, Awaited, Found, out, next}
 use Rattle.settle.specs.Reads.{HasRisen}
 use Rattle.register.specs.Answers.{Stands}
+use Rattle.telnp.specs.declared.fault.TelFault.{TelFault}
+use Rattle.telnp.specs.Answer.{Uri as TelUri}
+use Rattle.telnp.specs.Faults.{fault_of}
+use Rattle.telnp.specs.Grammar.{has_name}
+use Rattle.telnp.specs.Numbers.{HasTn}
+use Rattle.telnp.specs.Uri.{IsTelUri}
 use Rattle.api.specs.declared.fault.Failure.{Failure}
 use Rattle.api.specs.declared.fault.Failure.TheVariants.{Uri, Message}
 use Rattle.api.specs.declared.fault.MessageFault.{MessageFault}
 use Rattle.api.specs.declared.fault.MessageFault.TheVariants.{BadRequest, NoPath, BadMethod}
-use Rattle.api.specs.declared.fault.UriFault.TheVariants.{BadNumber}
 use Rattle.api.specs.declared.message.Request.{Request}
 use Rattle.api.specs.declared.paths.Route.{Route}
 use Rattle.api.specs.Answer.{answer}
 use Rattle.api.specs.Failures.{failure_text}
 use Rattle.api.specs.RefusalTexts.{refusal_text}
 use Rattle.api.specs.Forms.{Asked, Orders, Confirms, Seeks, HasForm, json_of}
-use Rattle.api.specs.Texts.{registered_text, routing_number_text, opened_code_text, view_text, uri_text}
+use Rattle.api.specs.Texts.{registered_text, routing_number_text, opened_code_text, view_text, looked_up, uri_text}
 
 -- ---- the answers to what was asked, byte for byte
 
@@ -48,21 +52,21 @@ reply_text (Rows rows) = []
 reply_text (Awaited subjects) = []
 reply_text (Found in_force opened) = []
 
--- the machine's reply to a query for a number
-abbrev pub routed_text : ℕ → Reply → List ℕ
-routed_text tn (Refused number) = refusal_text number
-routed_text tn (Answered answered) = success (uri_text tn answered)
-routed_text tn (Registered spid rows) = []
-routed_text tn (LrnAdded lrn spid) = []
-routed_text tn (CodeOpened code spid) = []
-routed_text tn (Shown view) = []
-routed_text tn (Moved now) = []
-routed_text tn (Donated block ids) = []
-routed_text tn Known = []
-routed_text tn (Fetched downloads) = []
-routed_text tn (Rows rows) = []
-routed_text tn (Awaited subjects) = []
-routed_text tn (Found in_force opened) = []
+-- the machine's reply to a query for the number of a URI
+abbrev pub routed_text : TelUri → Reply → List ℕ
+routed_text uri (Refused number) = refusal_text number
+routed_text uri (Answered answered) = success (uri_text (looked_up uri answered))
+routed_text uri (Registered spid rows) = []
+routed_text uri (LrnAdded lrn spid) = []
+routed_text uri (CodeOpened code spid) = []
+routed_text uri (Shown view) = []
+routed_text uri (Moved now) = []
+routed_text uri (Donated block ids) = []
+routed_text uri Known = []
+routed_text uri (Fetched downloads) = []
+routed_text uri (Rows rows) = []
+routed_text uri (Awaited subjects) = []
+routed_text uri (Found in_force opened) = []
 
 -- what is written for a call: a body for what was carried out, or why it was not
 abbrev pub told : {A : Type 0} → Result A Failure → (body : List ℕ) → List ℕ
@@ -96,17 +100,35 @@ Refuses st fault text after = (text ≡ failure_text (Message fault)) × (after 
 abbrev pub Takes : State → Input → (text : List ℕ) → (after : State) → Type 0
 Takes st input text after = (text ≡ reply_text (out st input)) × (after ≡ next st input)
 
--- the URI of a telephone number. Until the grammar of telephone URIs is whole, it is `tel:+1` and the number
-pub record HasNumber (uri : List ℕ) (tn : ℕ) : Type 0 where
-  pub valid : IsTn tn
-  pub said : uri ≡ codes "tel:+1" ++ tn_text tn
+-- ---- queries
 
--- a query: first its caller, then its URI, then its number
+-- the text is a tel URI of the grammar, with these parts
+pub record IsUri (text : List ℕ) (uri : TelUri) : Type 0 where
+  pub same : uri.text ≡ text
+  pub parts : IsTelUri text uri.number uri.parameters
+
+-- the register is not asked: the URI was looked up already, or its digits are not 1 and a telephone number
+abbrev pub ComesBack : TelUri → Type 0
+ComesBack uri = (has_name (codes "npdi") uri.parameters ≡ true) ⊎ ((tn : ℕ) → IsTn tn → ¬ (HasTn uri.number tn))
+
+-- the register is asked for this telephone number: the URI was not looked up yet, and its digits are 1 and the number's
+pub record AsksFor (uri : TelUri) (tn : ℕ) : Type 0 where
+  pub valid : IsTn tn
+  pub new : has_name (codes "npdi") uri.parameters ≡ false
+  pub said : HasTn uri.number tn
+
+-- a URI without a fault: its text comes back byte for byte, or its number's code is asked for
+abbrev pub AnswersUri : State → (caller : ℕ) → (uri : TelUri) → (text : List ℕ) → Type 0
+AnswersUri st caller uri text =
+    (ComesBack uri × (text ≡ success (uri_text uri.text)))
+    ⊎ ((tn : ℕ) × AsksFor uri tn × (text ≡ routed_text uri (out st (Asks caller (Query tn)))))
+
+-- a query: first its caller, then its URI, then its number's code
 abbrev pub AnswersQuery : State → (caller : ℕ) → (uri : List ℕ) → (text : List ℕ) → Type 0
 AnswersQuery st caller uri text =
     ((number : ℕ) × (out st (Asks caller Knows) ≡ Refused number) × (text ≡ refusal_text number))
-    ⊎ ((out st (Asks caller Knows) ≡ Known) × ((tn : ℕ) → ¬ (HasNumber uri tn)) × (text ≡ failure_text (Uri BadNumber)))
-    ⊎ ((out st (Asks caller Knows) ≡ Known) × ((tn : ℕ) × HasNumber uri tn × (text ≡ routed_text tn (out st (Asks caller (Query tn))))))
+    ⊎ ((out st (Asks caller Knows) ≡ Known) × ((fault : TelFault) × (fault_of uri ≡ Some fault) × (text ≡ failure_text (Uri fault))))
+    ⊎ ((out st (Asks caller Knows) ≡ Known) × ((read : TelUri) × IsUri uri read × AnswersUri st caller read text))
 
 -- what a caller asks is answered, or withheld
 abbrev pub Answers : (from to : ℕ) → State → (caller : ℕ) → Asked → (text : List ℕ) → (after : State) → Type 0

@@ -1,12 +1,12 @@
 -- The bodies of replies, byte for byte.
 use Rattle.std.specs.Prelude.{ℕ, List, [], ◌∷◌, ◌++◌, codes, decimal, Option, Some, None, option_map, option_and_then}
 use Rattle.std.specs.List.{flat_map}
-use Rattle.numbers.specs.Subjects.{Number}
 use Rattle.numbers.specs.Texts.{code_text, lrn_text, cic_text, spid_text, subject_text}
 use Rattle.numbers.specs.Routings.{Routing}
 use Rattle.meaning.specs.Statuses.{Status, Pending, Conflict, CancelPending, Sending, Active, PartialFailure, Failed, DisconnectPending, Old, Canceled}
 use Rattle.meaning.specs.Reading.{View, InForce, Phase, Initial, Final, Ended}
 use Rattle.meaning.specs.Machine.{Answer, Closed, Opened}
+use Rattle.telnp.specs.Answer.{Uri, answer_text}
 
 -- ---- the values of members
 
@@ -108,24 +108,12 @@ opened_code_text code spid = codes "{\"code\":\"" ++ code_text code ++ codes "\"
 
 -- ---- a query
 
--- the carrier code, if there is one
-abbrev pub carrier_code_text : Option ℕ → List ℕ
-carrier_code_text None = []
-carrier_code_text (Some cic) = codes ";cic=+1" ++ cic_text cic
+-- the text that answers a query for a URI, by the register's answer of its number: the text itself where the number's code
+-- is not opened
+abbrev pub looked_up : Uri → Answer → List ℕ
+looked_up uri Closed = uri.text
+looked_up uri (Opened routing) = answer_text uri routing
 
--- the routing number, if there is one
-abbrev pub routed_text : Option ℕ → List ℕ
-routed_text None = []
-routed_text (Some lrn) = codes ";rn=+1" ++ lrn_text lrn
-
--- a number of an opened code was looked up, and has a routing or none
-abbrev pub routing_text : Option Routing → List ℕ
-routing_text routing = carrier_code_text (cic_in routing) ++ codes ";npdi" ++ routed_text (lrn_in routing)
-
-abbrev pub looked_up_text : Answer → List ℕ
-looked_up_text Closed = []
-looked_up_text (Opened routing) = routing_text routing
-
--- a number's URI with its routing
-unfoldable pub uri_text : (tn : ℕ) → Answer → List ℕ
-uri_text tn answer = codes "{\"uri\":\"tel:+1" ++ subject_text (Number tn) ++ looked_up_text answer ++ codes "\"}"
+-- a URI between quotes. No byte of a tel URI has to be escaped
+unfoldable pub uri_text : List ℕ → List ℕ
+uri_text uri = codes "{\"uri\":\"" ++ uri ++ codes "\"}"

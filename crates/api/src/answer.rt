@@ -7,7 +7,7 @@ use crate::room::{put, put_number};
 use http::StatusCode;
 use std::alloc::{AllocError, Global};
 
-/// The room for every answer but those of everything in force.
+/// The room for every answer but those of everything in force and of queries.
 pub const SMALL_ROOM: usize = 512;
 
 /// The most that the head of an answer takes.

@@ -1,24 +1,26 @@
 //! Carrying out a message.
-ghost use Rattle.std.specs.Prelude.{◌≡◌, ◌⊎◌, ℕ, ◌+◌, ◌*◌, ◌<◌, ◌≤◌, List, Some, None, true, length, map, string_bytes, IfOk, IfErr, OnOk, OnErr};
+ghost use Rattle.std.specs.Prelude.{◌≡◌, ◌⊎◌, ℕ, ◌+◌, ◌*◌, ◌<◌, ◌≤◌, ◌^◌, List, Some, None, true, length, map, string_bytes, IfOk, IfErr, IfSome, IfNone, OnOk, OnErr};
 ghost use Rattle.meaning.specs.Commands.{RegisterCarrier};
 ghost use Rattle.meaning.specs.Machine.{Shown};
 ghost use Rattle.meaning.specs.Reading.{State, all_in_force};
 ghost use Rattle.register.specs.Answers.{Stands};
 ghost use Rattle.register.specs.Calls.{command_of as command_seen, view_of, reply_of, answer_of, in_force_of};
+ghost use Rattle.telnp.specs.Views.{uri_of};
 ghost use Rattle.api.specs.Failures.{failure_text};
 ghost use Rattle.api.specs.Forms.{Orders, Confirms, Seeks, asked_of};
+ghost use Rattle.api.specs.Plain.{AnswersArePlain};
 ghost use Rattle.api.specs.Rooms.{HasRoom, IsEmpty, IsWritten};
 ghost use Rattle.api.specs.Run.{StaysClear};
-ghost use Rattle.api.specs.Step.{Step, StepsOnce, StorageTells, Meets, Calls, Carries, HasNumber, IsShort, Outgrows, success, told, reply_text};
-ghost use Rattle.api.specs.Texts.{registered_text, view_text, uri_text};
+ghost use Rattle.api.specs.Step.{Step, StepsOnce, StorageTells, Meets, Calls, Carries, AsksFor, ComesBack, IsShort, Outgrows, success, told, reply_text};
+ghost use Rattle.api.specs.Texts.{registered_text, view_text, looked_up, uri_text};
 
 use crate::answer::Room;
-use crate::fault::{Failure, MessageFault, UriFault};
+use crate::fault::{Failure, MessageFault};
 use crate::forms::{Call, call_of, json};
 use crate::message::Request;
 use crate::paths::Route;
 use crate::reply::{
-    ROW_ROOM, put_failure, put_opened_code, put_registered, put_routing_number, put_uri,
+    ROW_ROOM, URI_ROOM, put_failure, put_opened_code, put_registered, put_routing_number, put_uri,
     put_version,
 };
 use meaning::Refusal;
@@ -26,6 +28,7 @@ use numbers::{Spid, Tn};
 use register::{Answer, Command, Register, Reply, VersionView};
 use settle::{RoutedRow, Store};
 use std::alloc::Global;
+use telnp::TelUri;
 
 // The path and the caller of a message: first its path, then its method, then its caller.
 fn judged(request: &Request) -> Result<(Route, Spid), MessageFault>
@@ -41,17 +44,6 @@ fn judged(request: &Request) -> Result<(Route, Spid), MessageFault>
     match request.caller {
         Some(caller) => Ok((route, caller)),
         None => Err(MessageFault::BadRequest),
-    }
-}
-
-// The number of a URI. Until the grammar of telephone URIs is whole, it is `tel:+1` and the number.
-fn number_of(uri: &str) -> Result<Tn, UriFault>
-    ensures ok { IfOk result (λ tn. HasNumber uri.now tn.number) }
-    ensures err { OnErr result ((tn : ℕ) → ¬ (HasNumber uri.now tn)) }
-{
-    match uri.strip_prefix("tel:+1") {
-        Some(number) => Tn::read(number).ok_or(UriFault::BadNumber),
-        None => Err(UriFault::BadNumber),
     }
 }
 
@@ -106,14 +98,43 @@ fn put_shown(room: &mut Room, view: &VersionView)
     put_version(&mut room.body, view);
 }
 
-fn put_routed(room: &mut Room, tn: Tn, answer: Answer)
+// Writes a URI, in room that is taken for it.
+fn put_text(room: &mut Room, uri: &str) -> Result<(), Failure>
     requires empty { IsEmpty room.old }
     requires room { HasRoom 512 room.old }
-    ensures written { IsWritten room.new }
+    ensures ok { OnOk result (IsWritten room.new) }
     ensures room { HasRoom 512 room.new }
-    ensures body { string_bytes room.new.body ≡ uri_text tn.number (answer_of answer) }
+    ensures body { OnOk result (string_bytes room.new.body ≡ uri_text uri.now) }
+    ensures short { IfErr result (λ failure. failure ≡ Failure.Refused Refusal.NoMemory) }
 {
-    put_uri(&mut room.body, tn, answer);
+    room.take(uri.len() + URI_ROOM)?;
+    put_uri(&mut room.body, uri);
+    Ok(())
+}
+
+// Writes what answers a query by a URI with this text, of whose number the register answered so.
+fn put_routed(
+    alloc: Global,
+    text: &str,
+    uri: &TelUri<'_>,
+    answer: Answer,
+    room: &mut Room,
+) -> Result<(), Failure>
+    requires same { (uri_of uri.now).text ≡ text.now }
+    requires empty { IsEmpty room.old }
+    requires room { HasRoom 512 room.old }
+    ensures ok { OnOk result (IsWritten room.new) }
+    ensures room { HasRoom 512 room.new }
+    ensures body { OnOk result (string_bytes room.new.body ≡ uri_text (looked_up (uri_of uri.now) (answer_of answer))) }
+    ensures short { IfErr result (λ failure. failure ≡ Failure.Refused Refusal.NoMemory) }
+{
+    match answer {
+        Answer::Closed => put_text(room, text),
+        Answer::Open(routing) => {
+            let found = uri.answer(alloc, routing)?;
+            put_text(room, found.as_str())
+        }
+    }
 }
 
 fn put_reply(room: &mut Room, reply: &Reply, count: usize) -> Result<(), Failure>
@@ -232,11 +253,23 @@ fn acknowledge<S: Store>(
     }
 }
 
+// The telephone number that the register is asked for: of a URI that was looked up already there is none.
+fn number_asked_for(uri: &TelUri<'_>) -> Option<Tn>
+    ensures some { IfSome result (λ tn. AsksFor (uri_of uri.now) tn.number) }
+    ensures none { IfNone result (ComesBack (uri_of uri.now)) }
+{
+    if uri.has_npdi() {
+        return None;
+    }
+    uri.tn()
+}
+
 // A query: first the caller, then its URI, then its number's code.
 fn query<S: Store>(
+    alloc: Global,
     register: &mut Register<S>,
     caller: Spid,
-    uri: &str,
+    text: &str,
     room: &mut Room,
 ) -> Result<(), Failure>
     requires empty { IsEmpty room.old }
@@ -245,25 +278,26 @@ fn query<S: Store>(
     ensures room { HasRoom 512 room.new }
     ensures usable { S.IsUsable register.new.store → S.IsUsable register.old.store }
     ensures rises { S.failed register.old.store ≤ S.failed register.new.store }
-    ensures carries { S.IsUsable register.new.store → Carries (S.failed register.old.store) (S.failed register.new.store) (S.content register.old.store) (S.content register.new.store) caller.number (Seeks uri.now) (told result (string_bytes room.new.body)) }
+    ensures carries { S.IsUsable register.new.store → Carries (S.failed register.old.store) (S.failed register.new.store) (S.content register.old.store) (S.content register.new.store) caller.number (Seeks text.now) (told result (string_bytes room.new.body)) }
 {
     if let Err(refusal) = register.knows(caller) {
         return Err(Failure::Refused(refusal));
     }
-    let tn = match number_of(uri) {
-        Ok(tn) => tn,
+    let uri = match TelUri::read(text) {
+        Ok(uri) => uri,
         Err(fault) => return Err(Failure::Uri(fault)),
     };
+    let Some(tn) = number_asked_for(&uri) else {
+        return put_text(room, text);
+    };
     match register.query(caller, tn) {
-        Ok(answer) => {
-            put_routed(room, tn, answer);
-            Ok(())
-        }
+        Ok(answer) => put_routed(alloc, text, &uri, answer, room),
         Err(refusal) => Err(Failure::Refused(refusal)),
     }
 }
 
 fn carry_out<S: Store>(
+    alloc: Global,
     register: &mut Register<S>,
     caller: Spid,
     call: &Call<'_>,
@@ -280,7 +314,7 @@ fn carry_out<S: Store>(
     match call {
         Call::Command(asked) => command(register, caller, asked, room),
         Call::Acknowledge { id, attempt } => acknowledge(register, caller, *id, *attempt, room),
-        Call::Query { uri } => query(register, caller, uri, room),
+        Call::Query { uri } => query(alloc, register, caller, uri, room),
     }
 }
 
@@ -308,7 +342,7 @@ fn carry_out_body<S: Store>(
         Err(_) => return Err(Failure::Refused(Refusal::NoMemory)),
     };
     match call_of(route, &value) {
-        Some(call) => carry_out(register, caller, &call, room),
+        Some(call) => carry_out(alloc, register, caller, &call, room),
         None => Err(Failure::Message(MessageFault::BadRequest)),
     }
 }
@@ -369,8 +403,13 @@ pub fn storage_tells_of_a_failure()
     ensures run { StaysClear }
 {}
 
+/// No byte of the URI that answers a query has to be escaped in JSON.
+pub fn uris_need_no_escape()
+    ensures { AnswersArePlain }
+{}
+
 /// Carries out a message and writes its answer. All memory of the answer is taken before the message is
-/// carried out.
+/// carried out; that of a query's, which changes nothing, behind its look-up.
 pub fn put_answer<S: Store>(
     alloc: Global,
     register: &mut Register<S>,

@@ -2,11 +2,13 @@
 ghost use Rattle.std.specs.Prelude.{◌≡◌, ◌≤◌, length};
 ghost use Rattle.meaning.specs.declared.refusal.Refusal.TheVariants.{NoMemory};
 ghost use Rattle.api.specs.declared.fault.Failure.TheVariants.{Refused, Uri, Message};
+ghost use Rattle.telnp.specs.Faults.{fault_name};
 ghost use Rattle.api.specs.Answer.{IsAnswered};
-ghost use Rattle.api.specs.Failures.{failure_name, failure_number, failure_status, message_name, message_status, refusal_name, refusal_status};
+ghost use Rattle.api.specs.Failures.{failure_name, failure_number, failure_status, fault_number, message_name, message_status, refusal_name, refusal_status};
 
 use meaning::Refusal;
 use std::alloc::AllocError;
+use telnp::TelFault;
 
 /// Why a message was not carried out.
 #[derive(Clone, Copy, Debug, PartialEq, Eq)]
@@ -36,17 +38,11 @@ impl MessageFault {
     }
 }
 
-/// Why the text of a query is no telephone number's URI.
-#[derive(Clone, Copy, Debug, PartialEq, Eq)]
-pub enum UriFault {
-    BadNumber = 32,
-}
-
 /// Why a message got no reply: by the register, its URI or its form.
 #[derive(Clone, Copy, Debug, PartialEq, Eq)]
 pub enum Failure {
     Refused(Refusal),
-    Uri(UriFault),
+    Uri(TelFault),
     Message(MessageFault),
 }
 
@@ -66,10 +62,10 @@ impl From<AllocError> for Failure {
     }
 }
 
-impl From<UriFault> for Failure {
+impl From<TelFault> for Failure {
     ghost from_gives = { λ fault failure. failure ≡ Uri fault };
 
-    fn from(fault: UriFault) -> Failure {
+    fn from(fault: TelFault) -> Failure {
         Failure::Uri(fault)
     }
 }
@@ -120,6 +116,27 @@ fn name_of(refusal: Refusal) -> &'static str
     }
 }
 
+#[tactic(auto, using(crate::proofs::UriLemmas::short_name))]
+fn name_of_uri_fault(fault: TelFault) -> &'static str
+    ensures text { result.now ≡ fault_name fault }
+    ensures short { length result.now ≤ 16 }
+{
+    fault.name()
+}
+
+fn number_of_uri_fault(fault: TelFault) -> u8
+    ensures { result ≡ fault_number fault }
+{
+    match fault {
+        TelFault::NotTel => 31,
+        TelFault::BadNumber => 32,
+        TelFault::BadParameter => 33,
+        TelFault::ParameterTwice => 34,
+        TelFault::LocalNumber => 35,
+        TelFault::TooLong => 36,
+    }
+}
+
 fn status_of(refusal: Refusal) -> u16
     ensures value { result ≡ refusal_status refusal }
     ensures answered { IsAnswered result }
@@ -152,7 +169,7 @@ impl Failure {
     {
         match self {
             Failure::Refused(refusal) => name_of(refusal),
-            Failure::Uri(UriFault::BadNumber) => "bad_number",
+            Failure::Uri(fault) => name_of_uri_fault(fault),
             Failure::Message(fault) => fault.name(),
         }
     }
@@ -163,7 +180,7 @@ impl Failure {
     {
         match self {
             Failure::Refused(refusal) => refusal.number(),
-            Failure::Uri(fault) => fault as u8,
+            Failure::Uri(fault) => number_of_uri_fault(fault),
             Failure::Message(fault) => fault as u8,
         }
     }

@@ -16,7 +16,7 @@ mod room;
 mod send;
 mod serving;
 
-pub use call::{message_steps_once, storage_tells_of_a_failure};
+pub use call::{message_steps_once, storage_tells_of_a_failure, uris_need_no_escape};
 pub use fault::MessageFault;
 pub use forms::body_asks_once;
 pub use message::cuts_of_the_input;

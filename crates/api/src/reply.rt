@@ -7,15 +7,15 @@ ghost use Rattle.numbers.specs.Views.{routing_of};
 ghost use Rattle.meaning.specs.Views.{status_of as status_seen};
 ghost use Rattle.meaning.specs.Reading.{release_of};
 ghost use Rattle.version.specs.Views.{routings_of, phase_seen};
-ghost use Rattle.register.specs.Calls.{view_of, in_force_of, answer_of};
+ghost use Rattle.register.specs.Calls.{view_of, in_force_of};
 ghost use Rattle.api.specs.Answer.{refusal_body};
 ghost use Rattle.api.specs.Failures.{failure_body};
-ghost use Rattle.api.specs.Texts.{cic_value, lrn_value, minute_value, phase_value, status_word, cic_in, lrn_in, counts_text, parties_text, times_text, standing_text, view_text, row_text, next_row_text, rows_text, registered_text, routing_number_text, opened_code_text, carrier_code_text, routing_text, looked_up_text, uri_text};
+ghost use Rattle.api.specs.Texts.{cic_value, lrn_value, minute_value, phase_value, status_word, cic_in, lrn_in, counts_text, parties_text, times_text, standing_text, view_text, row_text, next_row_text, rows_text, registered_text, routing_number_text, opened_code_text, uri_text};
 
 use crate::fault::Failure;
 use crate::room::{put, put_cic, put_code, put_lrn, put_minute, put_number, put_spid, put_subject};
 use meaning::{Action, Status};
-use numbers::{Cic, CodeId, Lrn, Routing, Spid, Subject, Tn};
+use numbers::{Cic, CodeId, Lrn, Routing, Spid};
 use register::VersionView;
 use settle::RoutedRow;
 use version::Phase;
@@ -299,56 +299,19 @@ pub fn put_registered(out: &mut String, spid: Spid, rows: &[RoutedRow])
     put(out, "\"}");
 }
 
-fn put_carrier_code(out: &mut String, cic: Option<Cic>)
-    requires { string_len out.old + 16 ≤ string_capacity out.old }
-    ensures bytes { string_bytes out.new ≡ string_bytes out.old ++ carrier_code_text (option_map (λ (c : CicSeen). c.number) cic) }
-    ensures len { string_len out.new ≤ string_len out.old + 16 }
-    ensures capacity { string_capacity out.old ≤ string_capacity out.new }
-{
-    if let Some(cic) = cic {
-        put(out, ";cic=+1");
-        put_cic(out, cic);
-    }
-}
+/// The most that the body of a query's answer takes beside its URI.
+pub const URI_ROOM: usize = 10;
 
-fn put_routing(out: &mut String, routing: Option<Routing>)
-    requires { string_len out.old + 48 ≤ string_capacity out.old }
-    ensures bytes { string_bytes out.new ≡ string_bytes out.old ++ routing_text (routings_of routing) }
-    ensures len { string_len out.new ≤ string_len out.old + 48 }
-    ensures capacity { string_capacity out.old ≤ string_capacity out.new }
-{
-    put_carrier_code(out, cic_of(routing));
-    put(out, ";npdi");
-    if let Some(lrn) = lrn_of(routing) {
-        put(out, ";rn=+1");
-        put_lrn(out, lrn);
-    }
-}
-
-// What was looked up of a number, where its code is opened.
-fn put_looked_up(out: &mut String, answer: register::Answer)
-    requires { string_len out.old + 48 ≤ string_capacity out.old }
-    ensures bytes { string_bytes out.new ≡ string_bytes out.old ++ looked_up_text (answer_of answer) }
-    ensures len { string_len out.new ≤ string_len out.old + 48 }
-    ensures capacity { string_capacity out.old ≤ string_capacity out.new }
-{
-    if let register::Answer::Open(routing) = answer {
-        put_routing(out, routing);
-    }
-}
-
-/// The body that answers a query for a number: its URI with the routing, where its code is opened
-/// (RFC 4694: `npdi` says that the number was looked up, `rn` is the routing number, `cic` the carrier's
-/// code).
+/// The body that answers a query with a tel URI. Its bytes are letters, digits and marks of the grammar, none of
+/// them a quote, a backslash or a control byte, so none has to be escaped (`uris_need_no_escape`).
 #[tactic(auto, unfolding(crate::specs::Texts::uri_text))]
-pub fn put_uri(out: &mut String, tn: Tn, answer: register::Answer)
-    requires { string_len out.old + 128 ≤ string_capacity out.old }
-    ensures bytes { string_bytes out.new ≡ string_bytes out.old ++ uri_text tn.number (answer_of answer) }
-    ensures len { string_len out.new ≤ string_len out.old + 128 }
+pub fn put_uri(out: &mut String, uri: &str)
+    requires { string_len out.old + length uri.now + 10 ≤ string_capacity out.old }
+    ensures bytes { string_bytes out.new ≡ string_bytes out.old ++ uri_text uri.now }
+    ensures len { string_len out.new ≤ string_len out.old + length uri.now + 10 }
     ensures capacity { string_capacity out.old ≤ string_capacity out.new }
 {
-    put(out, "{\"uri\":\"tel:+1");
-    put_subject(out, Subject::Number(tn));
-    put_looked_up(out, answer);
+    put(out, "{\"uri\":\"");
+    put(out, uri);
     put(out, "\"}");
 }

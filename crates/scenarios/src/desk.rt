@@ -55,3 +55,18 @@ pub fn answer(alloc: Global, status: &str, body: &str) -> Result<String, Fail> {
         "HTTP/1.1 {status}\r\ncontent-type: application/json\r\ncontent-length: {length}\r\n\r\n{body}"
     )?)
 }
+
+/// The answer of a refusal.
+pub fn refusal(alloc: Global, status: &str, name: &str, number: u8) -> Result<String, Fail> {
+    let body = format!(in alloc; "{{\"error\":\"{name}\",\"number\":{number}}}")?;
+    answer(alloc, status, body.as_str())
+}
+
+/// So many times a text.
+pub fn times(alloc: Global, text: &str, count: usize) -> Result<String, Fail> {
+    let mut all = String::new(alloc);
+    for _ in 0..count {
+        all.push_str(text)?;
+    }
+    Ok(all)
+}

@@ -14,4 +14,6 @@ mod opening;
 #[cfg(test)]
 mod ports;
 #[cfg(test)]
+mod queries;
+#[cfg(test)]
 mod retries;

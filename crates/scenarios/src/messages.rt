@@ -1,5 +1,5 @@
 //! The limits and the faults of messages.
-use crate::desk::{Heard, answer, desk, hear, message};
+use crate::desk::{Heard, answer, desk, hear, message, refusal, times};
 use crate::first_port::first_port;
 use api::{End, MessageFault, Served};
 use std::alloc::Global;
@@ -21,25 +21,11 @@ fn served(count: u64, end: End) -> Served {
     Served { count, end }
 }
 
-fn refusal(alloc: Global, status: &str, name: &str, number: u8) -> Result<String, Fail> {
-    let body = format!(in alloc; "{{\"error\":\"{name}\",\"number\":{number}}}")?;
-    answer(alloc, status, body.as_str())
-}
-
 // A query by the administrator, whose head has these lines besides.
 fn query_with(alloc: Global, lines: &str) -> Result<String, Fail> {
     Ok(format!(in alloc;
         "POST /query HTTP/1.1\r\nx-spid: NPAC\r\ncontent-length: 26\r\n{lines}\r\n{KNOWN}"
     )?)
-}
-
-// So many times a text.
-fn times(alloc: Global, text: &str, count: usize) -> Result<String, Fail> {
-    let mut all = String::new(alloc);
-    for _ in 0..count {
-        all.push_str(text)?;
-    }
-    Ok(all)
 }
 
 const BAD_HEAD: End = End::Refused(MessageFault::BadHead);

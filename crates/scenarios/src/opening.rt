@@ -1,7 +1,10 @@
 //! Opening a store, and opening it again.
 use crate::desk::{WINDOWS, desk, hear};
 use crate::first_port::first_port;
-use api::{body_asks_once, cuts_of_the_input, message_steps_once, storage_tells_of_a_failure};
+use api::{
+    body_asks_once, cuts_of_the_input, message_steps_once, storage_tells_of_a_failure,
+    uris_need_no_escape,
+};
 use meaning::Refusal;
 use numbers::{Spid, Tn};
 use register::{Answer, OpenFault, Register, law_of_new_stores, law_of_untouched_rows};
@@ -78,4 +81,5 @@ fn the_laws_return(_rt: HostRuntime) {
     body_asks_once();
     message_steps_once();
     storage_tells_of_a_failure();
+    uris_need_no_escape();
 }

@@ -1,5 +1,5 @@
 //! Ports one after the other, and what is refused on the way.
-use crate::desk::{answer, desk, hear, message};
+use crate::desk::{answer, desk, hear, message, refusal};
 use crate::first_port::FIRST_PORT;
 use register::Register;
 use std::alloc::Global;
@@ -7,7 +7,8 @@ use std::process::Abort;
 use std::test::Fail;
 use store::MemoryStore;
 
-type Said<'a> = (&'a str, &'a str, &'a str);
+/// A caller, a path and a body.
+pub type Said<'a> = (&'a str, &'a str, &'a str);
 
 const CREATE: &str = "/subscriptionVersionNewSP-Create";
 
@@ -17,8 +18,8 @@ const ACTIVATE: &str = "/subscriptionVersionActivate";
 
 const ACKNOWLEDGE: &str = "/downloads/acknowledge";
 
-// What is answered to one message.
-fn reply(
+/// What is answered to one message.
+pub fn reply(
     alloc: Global,
     register: &mut Register<MemoryStore>,
     said: Said<'_>,
@@ -41,8 +42,8 @@ fn say_all(
     Ok(())
 }
 
-// A register after the first port.
-fn after_the_first_port(alloc: Global) -> Result<Register<MemoryStore>, Fail> {
+/// A register after the first port.
+pub fn after_the_first_port(alloc: Global) -> Result<Register<MemoryStore>, Fail> {
     let mut register = desk(alloc)?;
     say_all(alloc, &mut register, &FIRST_PORT)?;
     Ok(register)
@@ -316,28 +317,16 @@ const REFUSED: [(&str, &str, &str, &str, &str, u8); 27] = [
         "not_queued",
         25,
     ),
+    ("AAAA", "/query", r#"{"uri":"sip:a"}"#, BAD, "not_tel", 31),
     (
         "AAAA",
         "/query",
-        r#"{"uri":"tel:+1202533123"}"#,
-        BAD,
-        "bad_number",
-        32,
-    ),
-    (
-        "AAAA",
-        "/query",
-        r#"{"uri":"TEL:+12025331234"}"#,
+        r#"{"uri":"tel:+abc"}"#,
         BAD,
         "bad_number",
         32,
     ),
 ];
-
-fn refusal(alloc: Global, status: &str, name: &str, number: u8) -> Result<String, Fail> {
-    let body = format!(in alloc; "{{\"error\":\"{name}\",\"number\":{number}}}")?;
-    answer(alloc, status, body.as_str())
-}
 
 type Refused<'a> = (&'a str, &'a str, &'a str, &'a str, &'a str, u8);
 
