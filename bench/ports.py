@@ -90,4 +90,5 @@ def main():
     print(f"time for twice as many: {times[1] / times[0]:.2f} times")
 
 
-main()
+if __name__ == "__main__":
+    main()
