@@ -1,10 +1,13 @@
-"""The stream of N ports and M queries of their numbers, and the time that the program takes for the queries alone."""
+"""N ports and M queries of their numbers on one connection, and the processor's time that the queries alone take."""
 import os
 import subprocess
 import sys
 import tempfile
 
-from ports import CARRIERS, PROGRAM, WINDOWS, message, opening, port, run
+from measure import rested
+from ports import CARRIERS, PROGRAM, WINDOWS, message, opening, port
+
+PORTS = (1_000, 10_000, 100_000)
 
 
 def number_of(place):
@@ -18,34 +21,43 @@ def queries(ports, many):
         yield message(CARRIERS[turn % 10], "/query", f'{{"uri":"{uri}"}}')
 
 
-def write_stream(path, ports, many):
-    with open(path, "w", newline="") as stream:
-        stream.writelines(opening())
-        for place in range(ports):
-            stream.writelines(port(place))
-        stream.writelines(queries(ports, many))
+def messages_of(ports):
+    yield from opening()
+    for place in range(ports):
+        yield from port(place)
 
 
-def check(path, many):
+def queries_a_second(ports, many, answers):
+    """Feeds the ports, lets the program come to rest, and then times the queries."""
+    asked = "".join(queries(ports, many)).encode()
+    with open(answers, "wb") as out:
+        program = subprocess.Popen([PROGRAM, "feed", "--windows", WINDOWS], stdin=subprocess.PIPE, stdout=out)
+        for text in messages_of(ports):
+            program.stdin.write(text.encode())
+        program.stdin.flush()
+        before = rested(program)
+        program.stdin.write(asked)
+        program.stdin.flush()
+        taken = rested(program) - before
+        program.stdin.close()
+        assert program.wait() == 0
+    check(answers, many)
+    return many / taken
+
+
+def check(answers, many):
     """Every query is answered with a routing number."""
-    with open(path, "rb") as stream:
-        program = subprocess.Popen([PROGRAM, "feed", "--windows", WINDOWS], stdin=stream, stdout=subprocess.PIPE)
-        routed = sum(line.count(b";npdi;rn=+120244") for line in program.stdout)
-    assert program.wait() == 0 and routed == many, (routed, many)
+    with open(answers, "rb") as out:
+        routed = sum(line.count(b";npdi;rn=+120244") for line in out)
+    assert routed == many, (routed, many)
 
 
 def main():
     many = int(sys.argv[1])
     speeds = []
     with tempfile.TemporaryDirectory() as folder:
-        alone, together = os.path.join(folder, "alone"), os.path.join(folder, "together")
-        for ports in (1_000, 10_000, 100_000):
-            write_stream(alone, ports, 0)
-            write_stream(together, ports, many)
-            check(together, many)
-            before = min(run(alone)[1] for _ in range(5))
-            after = min(run(together)[1] for _ in range(5))
-            speeds.append(many / (after - before))
+        for ports in PORTS:
+            speeds.append(max(queries_a_second(ports, many, os.path.join(folder, "answers")) for _ in range(3)))
             print(f"{ports} ported numbers: {speeds[-1]:,.0f} queries/s of processor time")
     print(f"the slowest has {min(speeds) / max(speeds):.2f} of the speed of the fastest")
 

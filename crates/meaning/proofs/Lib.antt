@@ -21,3 +21,9 @@ pub mod Creates
 pub mod Recipients
 pub mod Tended
 pub mod Firing
+pub mod Waiting
+pub mod Lagging
+pub mod Later
+pub mod Begun
+pub mod Rooms
+pub mod Reached

@@ -53,14 +53,14 @@ pub record AreKnown (cs : List ℕ) (b : Broadcast) : Type 0 where
   pub recipients : (k : ℕ) → is_among k b.recipients ≡ true → is_among k cs ≡ true
   pub acknowledged : (k : ℕ) → is_among k b.acknowledged ≡ true → is_among k cs ≡ true
 
-abbrev AllKnown : List ℕ → List Broadcast → Type 0
+abbrev pub AllKnown : List ℕ → List Broadcast → Type 0
 AllKnown cs [] = ⊤
 AllKnown cs (b ∷ bs) = AreKnown cs b × AllKnown cs bs
 
-abbrev IsKnown : List ℕ → Version → Type 0
+abbrev pub IsKnown : List ℕ → Version → Type 0
 IsKnown cs v = AllKnown cs v.broadcasts
 
-abbrev VersionsKnown : List ℕ → List Version → Type 0
+abbrev pub VersionsKnown : List ℕ → List Version → Type 0
 VersionsKnown cs [] = ⊤
 VersionsKnown cs (v ∷ vs) = IsKnown cs v × VersionsKnown cs vs
 
@@ -150,7 +150,7 @@ module _ (cs : List ℕ) where
   ended_known j v Old known = known
   ended_known j v Canceled known = known
 
-  judged_known : (w : Windows) (j : ℕ) (v : Version) → IsKnown cs v → IsKnown cs (judged_version w cs j v)
+  pub judged_known : (w : Windows) (j : ℕ) (v : Version) → IsKnown cs v → IsKnown cs (judged_version w cs j v)
   unfolding judged_version
   judged_known w j v known = if_known (is_over w j v v.status) _ _ (ended_known j v v.status known) known
 
@@ -158,7 +158,7 @@ module _ (cs : List ℕ) where
   retired_known b minute [] known = tt
   retired_known b minute (v ∷ vs) known = (if_known (b && in_force v) _ _ known.0 known.0, retired_known b minute vs known.1)
 
-  changed_known : (minute : ℕ) (change : Version → Version) → ((v : Version) → IsKnown cs v → IsKnown cs (change v)) → (vs : List Version) → VersionsKnown cs vs → VersionsKnown cs (changed_at minute change vs)
+  pub changed_known : (minute : ℕ) (change : Version → Version) → ((v : Version) → IsKnown cs v → IsKnown cs (change v)) → (vs : List Version) → VersionsKnown cs vs → VersionsKnown cs (changed_at minute change vs)
   changed_known minute change each [] known = tt
   changed_known minute change each (v ∷ vs) known = (each v known.0, retired_known _ minute (changed_at minute change vs) (changed_known minute change each vs known.1))
 
@@ -284,7 +284,7 @@ find_known cs test (x ∷ xs) b known found = go (find_known cs test xs b known.
     go later true e = subst (AreKnown cs) (same x b e) known.0
     go later false e = later e
 
-found_version : (cs : List ℕ) (test : Version → Bool) (vs : List Version) (v : Version) → VersionsKnown cs vs → find test vs ≡ Some v → IsKnown cs v
+pub found_version : (cs : List ℕ) (test : Version → Bool) (vs : List Version) (v : Version) → VersionsKnown cs vs → find test vs ≡ Some v → IsKnown cs v
 found_version cs test [] v known found = cc
 found_version cs test (u ∷ us) v known found = go (found_version cs test us v known.1) (test u) found
   where

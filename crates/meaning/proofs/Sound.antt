@@ -33,7 +33,7 @@ either_id : (b : Bool) (u v : Version) (id : ℕ) → u.id ≡ id → v.id ≡ i
 either_id true u v id e f = e
 either_id false u v id e f = f
 
-ended-id : (everyone : List ℕ) (j : ℕ) (v : Version) (status : Status) → (ended everyone j v status).id ≡ v.id
+pub ended-id : (everyone : List ℕ) (j : ℕ) (v : Version) (status : Status) → (ended everyone j v status).id ≡ v.id
 ended-id everyone j v Pending = refl
 ended-id everyone j v Conflict = refl
 ended-id everyone j v (CancelPending OldProvider) = refl
@@ -119,7 +119,7 @@ made_version-id id caller minute everyone donor (Commands (OldProviderCreate tn 
 made_version-id id caller minute everyone donor (Commands (OldProviderCreate tn old_provider new_provider due false)) = refl
 made_version-id id caller minute everyone donor _ = refl
 
-judge-given : (made : List Subject) (s : Subject) (w : Windows) (j : ℕ) (r : Record) → AreGiven made s r.versions → AreGiven made s (judge w j r).versions
+pub judge-given : (made : List Subject) (s : Subject) (w : Windows) (j : ℕ) (r : Record) → AreGiven made s r.versions → AreGiven made s (judge w j r).versions
 unfolding judge
 judge-given made s w j r given = changed-AreGiven made s j (judged_version w r.carriers j) r.versions (keeps_ids (judged_version w r.carriers j) (judged_version-id w r.carriers j) r.versions) given
 

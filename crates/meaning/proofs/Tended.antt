@@ -322,7 +322,7 @@ module _ (everyone : List ℕ) where
   ended_tended j v Old is at = is
   ended_tended j v Canceled is at = is
 
-  judged_tended : (w : Windows) (j : ℕ) (v : Version) → IsTended everyone v → IsTended everyone (judged_version w everyone j v)
+  pub judged_tended : (w : Windows) (j : ℕ) (v : Version) → IsTended everyone v → IsTended everyone (judged_version w everyone j v)
   unfolding judged_version
   judged_tended w j v is = if_tended everyone (is_over w j v v.status) (ended everyone j v v.status) v (ended_tended j v v.status is refl) is
 
@@ -332,7 +332,7 @@ module _ (everyone : List ℕ) where
   retired_tended b minute [] are = tt
   retired_tended b minute (v ∷ vs) are = (if_tended everyone (b && in_force v) (enters Old minute v) v (rests Old v refl are.0) are.0, retired_tended b minute vs are.1)
 
-  changed_tended : (minute : ℕ) (change : Version → Version) → ((v : Version) → IsTended everyone v → IsTended everyone (change v)) → (vs : List Version) → AreTended everyone vs → AreTended everyone (changed_at minute change vs)
+  pub changed_tended : (minute : ℕ) (change : Version → Version) → ((v : Version) → IsTended everyone v → IsTended everyone (change v)) → (vs : List Version) → AreTended everyone vs → AreTended everyone (changed_at minute change vs)
   changed_tended minute change each [] are = tt
   changed_tended minute change each (v ∷ vs) are =
       (each v are.0, retired_tended (not (in_force v) && in_force (change v)) minute (changed_at minute change vs) (changed_tended minute change each vs are.1))

@@ -4,14 +4,22 @@ use crate::parse::{Line, Subcommand, Usage, parse};
 use api::{End, NoTicks, Options, Served, serve};
 use register::Register;
 use std::alloc::Global;
-use std::fs;
-use std::io::{Read, Write};
+use std::io::{ErrorKind, Read, Write};
 use std::rt::Files;
+use std::{fs, io};
 use store::MemoryStore;
 use windows::{WindowFault, Windows};
 
+// Why a file was not read.
+fn read_fault(error: io::Error) -> Fault {
+    match error.kind() {
+        ErrorKind::OutOfMemory => Fault::NoMemory,
+        _ => Fault::Read,
+    }
+}
+
 fn windows_at<T: Files + AllocGlobal>(rt: &T, path: &str) -> Result<Windows, Fault> {
-    let bytes = fs::read(rt, path).map_err(|_| Fault::Read)?;
+    let bytes = fs::read(rt, path).map_err(read_fault)?;
     match str::from_utf8(bytes.as_slice()) {
         Ok(text) => Windows::from_toml(rt.alloc(), text).map_err(Fault::Windows),
         Err(_) => Err(Fault::Windows(WindowFault::Syntax)),

@@ -9,24 +9,27 @@ use Rattle.meaning.specs.Changes.{enters, is_empty, acknowledged_by, retired, ch
 use Rattle.meaning.specs.Statuses.{Old}
 use Rattle.meaning.specs.Laws.{IsQuiet}
 use Rattle.meaning.specs.History.{Acknowledges, effect, after, meaning, donor_of, carriers, made_by}
-use Rattle.meaning.specs.Reading.{State, SubjectVersion, View, record_now, view_of}
+use Rattle.meaning.specs.Reading.{State, View, record_now, view_of}
 use Rattle.meaning.specs.Refusals.{Requests, refusal}
 use Rattle.meaning.specs.Machine.{IsHistory, Shown, accepted, answer_of}
-use Rattle.meaning.specs.Content.{Content, VersionRow, BroadcastRow, BlockRow, BroadcastKey, ClockRow, SameRows, Shows, Represents, row_of, of_subject, stored_broadcast, stored_wait, broadcast_with}
-use Rattle.meaning.specs.Due.{NothingIsDue}
+use Rattle.meaning.specs.Content.{Content, VersionRow, BroadcastRow, BlockRow, BroadcastKey, ClockRow, SameRows, Shows, Represents, Lags, row_of, of_subject, stored_broadcast, stored_wait, broadcast_with}
 use Rattle.meaning.proofs.Ids.{same_id, same_subject}
-use Rattle.meaning.proofs.Entered.{judged-now, given_now, sound_now, found_is, entered-elsewhere, none_elsewhere, none_with}
+use Rattle.meaning.proofs.Entered.{judged-now, given_now, sound_now, entered-elsewhere, none_elsewhere, none_with}
 use Rattle.meaning.proofs.Shown.{id_found, some_is, own, others}
-use Rattle.meaning.proofs.Represented.{same_rows_show}
+use Rattle.meaning.proofs.Lagging.{kept_free, no_version}
+use Rattle.meaning.proofs.Represented.{same_rows_lag}
 use Rattle.meaning.proofs.Tended.{IsTended, replay-tended, found_tended}
 use Rattle.meaning.proofs.Recipients.{AreKnown, broadcast_known}
 use Rattle.settle.specs.declared.rows.NumberedRow.{NumberedRow}
 use Rattle.settle.specs.Changes.{Changes, IsChanged, AreOfVersion, ArePutsOf, AreKeysOf, put_rows, take_rows, same_broadcast}
-use Rattle.settle.proofs.OneVersion.{untouched_where}
+use Rattle.settle.proofs.Aside.{lagging_aside}
+use Rattle.settle.specs.Settling.{IsSettled}
 use Rattle.register.specs.Answers.{Stands}
+use Rattle.register.specs.Settling.{LeavesOthers}
+use Rattle.register.proofs.Settled.{due_lags, leaves_but, of_id_found, wait_subject}
 use Rattle.register.specs.Acknowledging.{is_sending, is_last_of, answered_row, completed_if, by_row, retired_rows, own_rows, acknowledging, IsEarlier}
 use Rattle.register.proofs.Alone.{Held, held_of, held_row, in_force_read, one_in_force, found_by_id, found_alone, passes}
-use Rattle.register.proofs.OnVersion.{due_lags, acknowledge-names, clock_same, shown_is}
+use Rattle.register.proofs.OnVersion.{acknowledge-names, clock_same, shown_is}
 use Rattle.register.proofs.Sent.{among_keys}
 use Rattle.register.proofs.Queued.{IsAwaited, waiting-awaited, awaited-waiting}
 use Rattle.register.proofs.Answering.{same_truth, same_number, among-filtered, last_is, acknowledged_one, left_without, waiters_are, answered_one, row_was, stored_before, stored_after, waits_after, answered_all, acknowledged_is, other_broadcast, this_broadcast, takes_is, acknowledging-quiet, acknowledged_id, last-same, sends_create-open, never_retired, version_after, others_after}
@@ -41,17 +44,16 @@ and_both false q e = cc
 
 -- ---- who waits for it
 
-module _ (st : State) (old : Content) (stands : Stands old st) (caller : ℕ) (s : Subject) (minute id attempt : ℕ) (is : IsAwaited st caller s minute id attempt) where
+module _ (st : State) (old : Content) (stands : Stands old st) (caller : ℕ) (s : Subject) (due : IsSettled old st s) (minute id attempt : ℕ) (is : IsAwaited st caller s minute id attempt) where
   abbrev waiting : ℕ → Bool
   waiting k = is_some (get old.waits (record { carrier = k; minute = minute; id = id; attempt = attempt }))
 
   -- the wait of any carrier is for this broadcast
   same_wait-broadcast : (k : ℕ) (t : Subject) → get old.waits (record { carrier = k; minute = minute; id = id; attempt = attempt }) ≡ Some t → is_among k (waiters is.broadcast) ≡ true
   same_wait-broadcast k t e =
-      let other : IsAwaited st k t minute id attempt = waiting-awaited st old stands k t minute id attempt e in
-      let both : Some (record { subject = t; version = other.version }) ≡ Some (record { subject = s; version = is.version }) =
-      sym (found_is st stands.represents.history t id other.version other.found) ∙ found_is st stands.represents.history s id is.version is.found in
-      let same_version : other.version ≡ is.version = ap (λ (x : SubjectVersion). x.version) (some_is (record { subject = t; version = other.version }) (record { subject = s; version = is.version }) both) in
+      let its : t ≡ s = wait_subject st old stands.represents s id is.version is.found k minute attempt t e in
+      let other : IsAwaited st k s minute id attempt = waiting-awaited st old stands k s due minute id attempt (e ∙ ap (λ u. Some u) its) in
+      let same_version : other.version ≡ is.version = some_is other.version is.version (sym other.found ∙ is.found) in
       let same_one : other.broadcast ≡ is.broadcast = some_is other.broadcast is.broadcast (sym other.sent ∙ ap (λ (x : Version). find (λ b. b.attempt == attempt) x.broadcasts) same_version ∙ is.sent) in
       ap (λ x. is_among k (waiters x)) (sym same_one) ∙ other.waits
 
@@ -76,14 +78,14 @@ module _ (st : State) (old : Content) (stands : Stands old st) (caller : ℕ) (s
           let carrier : is_among k (keys old.carriers) ≡ true = among_keys old.carriers k ∙ stands.represents.carriers k ∙ known.recipients k recipient in
           let awaited : IsAwaited st k s minute id attempt =
           record { version = is.version; broadcast = is.broadcast; found = is.found; sent = is.sent; sent_at = is.sent_at; waits = ap (is_among k) (waiters_are caller is.broadcast is.waits) ∙ e } in
-          ap (λ b. b && waiting k) carrier ∙ ap is_some (awaited-waiting st old stands k s minute id attempt awaited)
+          ap (λ b. b && waiting k) carrier ∙ ap is_some (awaited-waiting st old stands k s due minute id attempt awaited)
 
   pub last_left : is_last_of old caller minute id attempt ≡ is_empty (unacknowledged (acknowledged_one caller is.broadcast))
   last_left = last_is caller (filter waiting (keys old.carriers)) (unacknowledged (acknowledged_one caller is.broadcast))
       (λ k. left_without caller is.broadcast k ∙ ap (λ b. b && not (caller == k)) (sym (waiting_are k)))
 
   shown_row : of_subject s (λ (x : BroadcastRow). x.subject) (get old.broadcasts (record { id = id; attempt = attempt })) ≡ Some (row_was caller is.broadcast is.waits s)
-  shown_row = (stands.due.shows s).broadcasts id attempt
+  shown_row = due.shows.broadcasts id attempt
       ∙ ap (λ o. option_and_then (stored_broadcast s) (option_and_then (λ (v : Version). find (λ b. b.attempt == attempt) v.broadcasts) o)) is.found
       ∙ ap (option_and_then (stored_broadcast s)) is.sent ∙ stored_before caller is.broadcast is.waits s
 
@@ -122,11 +124,11 @@ abbrev held_puts : Windows → (now : ℕ) → Option Held → List (ℕ × Vers
 held_puts w now None = []
 held_puts w now (Some h) = (h.id, row_of w h.row.subject (enters Old now (by_row h.row))) ∷ []
 
-pub retired_read : (st : State) (old : Content) (stands : Stands old st) (s : Subject) (takes_over : Bool) (earlier : Option NumberedRow) → IsEarlier takes_over old s earlier →
+pub retired_read : (st : State) (old : Content) (stands : Stands old st) (s : Subject) → IsSettled old st s → (takes_over : Bool) (earlier : Option NumberedRow) → IsEarlier takes_over old s earlier →
     retired_rows st.windows st.now earlier ≡ puts_of st.windows st.now s (the_replaced takes_over (record_now st s))
-retired_read st old stands s false earlier is = ap (retired_rows st.windows st.now) is
-retired_read st old stands s true earlier is =
-    by_code earlier ∙ ap (held_puts st.windows st.now) (in_force_read st old stands s earlier is) ∙ by_record (version_in_force (record_now st s))
+retired_read st old stands s due false earlier is = ap (retired_rows st.windows st.now) is
+retired_read st old stands s due true earlier is =
+    by_code earlier ∙ ap (held_puts st.windows st.now) (in_force_read st old stands s due earlier is) ∙ by_record (version_in_force (record_now st s))
   where
     by_code : (o : Option NumberedRow) → retired_rows st.windows st.now o ≡ held_puts st.windows st.now (option_map held_row o)
     by_code None = refl
@@ -174,7 +176,7 @@ none_passes test by (v ∷ vs) x none found = go (λ e f. none_passes test by vs
     go later false e f true g = ap test (sym (some_is v x g)) ∙ e
     go later false e f false g = later f g
 
-module _ (st : State) (old : Content) (stands : Stands old st) (s : Subject) where
+module _ (st : State) (old : Content) (stands : Stands old st) (s : Subject) (due : IsSettled old st s) where
   abbrev r : Record
   r = record_now st s
 
@@ -184,7 +186,7 @@ module _ (st : State) (old : Content) (stands : Stands old st) (s : Subject) whe
   -- the rows of the versions that were in force
   retired_shows : (takes_over : Bool) (k : ℕ) → of_subject s (λ (x : VersionRow). x.subject) (put_rows ◌==◌ (puts_of st.windows st.now s (the_replaced takes_over r)) k (get old.versions k))
       ≡ option_map (row_of st.windows s) (option_map (retired takes_over st.now) (version_with k r))
-  retired_shows false k = (stands.due.shows s).versions k ∙ ap (option_map (row_of st.windows s)) (sym (never_retired st.now (version_with k r)))
+  retired_shows false k = due.shows.versions k ∙ ap (option_map (row_of st.windows s)) (sym (never_retired st.now (version_with k r)))
   retired_shows true k = go (version_in_force r) refl
     where
       unmoved : ((x : Version) → version_with k r ≡ Some x → in_force x ≡ false) → (o : Option Version) → version_with k r ≡ o → option_map (retired true st.now) o ≡ o
@@ -192,7 +194,7 @@ module _ (st : State) (old : Content) (stands : Stands old st) (s : Subject) whe
       unmoved none (Some x) e = ap (λ b. Some (if b then enters Old st.now x else x)) (none x e)
 
       stay : ((x : Version) → version_with k r ≡ Some x → in_force x ≡ false) → of_subject s (λ (x : VersionRow). x.subject) (get old.versions k) ≡ option_map (row_of st.windows s) (option_map (retired true st.now) (version_with k r))
-      stay none = (stands.due.shows s).versions k ∙ ap (option_map (row_of st.windows s)) (sym (unmoved none (version_with k r) refl))
+      stay none = due.shows.versions k ∙ ap (option_map (row_of st.windows s)) (sym (unmoved none (version_with k r) refl))
 
       alone : (u : Version) → version_in_force r ≡ Some u → (u.id == k) ≡ false → (x : Version) → version_with k r ≡ Some x → (b : Bool) → in_force x ≡ b → b ≡ false
       alone u found apart x there false e = refl
@@ -219,7 +221,8 @@ module _ (st : State) (old : Content) (stands : Stands old st) (s : Subject) whe
   puts_apart takes_over id row x of_s t apart free k = all takes_over
     where
       gone : (j : ℕ) → version_with j (record_now st t) ≡ None → (j == k) ≡ true → of_subject t (λ (y : VersionRow). y.subject) (get old.versions k) ≡ None
-      gone j none e = (stands.due.shows t).versions k ∙ ap (option_map (row_of st.windows t)) (ap (λ n. version_with n (record_now st t)) (sym (same_id j k e)) ∙ none)
+      gone j none e = no_version st.windows old t (stands.represents.subjects t).kept (stands.represents.subjects t).shows k
+          (kept_free st.windows old st.now t (record_now st t) (stands.represents.subjects t) k (ap (λ n. version_with n (record_now st t)) (sym (same_id j k e)) ∙ none))
 
       own_last : (y : Bool) (there : Option VersionRow) → of_subject t (λ (z : VersionRow). z.subject) there ≡ of_subject t (λ (z : VersionRow). z.subject) (get old.versions k) →
           of_subject t (λ (z : VersionRow). z.subject) (put_rows ◌==◌ (own_rows y id row) k there) ≡ of_subject t (λ (z : VersionRow). z.subject) (get old.versions k)
@@ -274,7 +277,7 @@ one_version caller minute id attempt last s row of_s = record {
 
 -- ---- an acknowledgement
 
-module _ (st : State) (old new : Content) (stands : Stands old st) (caller : ℕ) (s : Subject) (minute id attempt : ℕ) (is : IsAwaited st caller s minute id attempt) (last : Bool)
+module _ (st : State) (old new : Content) (stands : Stands old st) (caller : ℕ) (s : Subject) (due : IsSettled old st s) (minute id attempt : ℕ) (is : IsAwaited st caller s minute id attempt) (last : Bool)
     (last_one : last ≡ is_last_of old caller minute id attempt) where
   abbrev the_version : Version
   the_version = is.version
@@ -286,7 +289,7 @@ module _ (st : State) (old new : Content) (stands : Stands old st) (caller : ℕ
   tended = found_tended (record_now st s).carriers (λ (u : Version). u.id == id) (record_now st s).versions is.version (replay-tended st.windows st.history st.now stands.represents.history s st.now) is.found
 
   is_left : last ≡ is_empty (unacknowledged (acknowledged_one caller is.broadcast))
-  is_left = last_one ∙ last_left st old stands caller s minute id attempt is
+  is_left = last_one ∙ last_left st old stands caller s due minute id attempt is
 
   abbrev completes : Bool
   completes = last && (is.version.attempt == attempt)
@@ -339,12 +342,12 @@ module _ (st : State) (old new : Content) (stands : Stands old st) (caller : ℕ
         none f = ap (λ b. the_replaced (b && sends_create is.version.status) (record_now st s)) f
 
         was : completes ≡ false → of_subject s (λ (x : VersionRow). x.subject) (get old.versions k) ≡ Some (row_of st.windows s finished)
-        was f = (stands.due.shows s).versions k ∙ ap (option_map (row_of st.windows s)) (ap (λ n. version_with n (record_now st s)) (sym (same_id id k e)) ∙ is.found)
+        was f = due.shows.versions k ∙ ap (option_map (row_of st.windows s)) (ap (λ n. version_with n (record_now st s)) (sym (same_id id k e)) ∙ is.found)
             ∙ sym (ap (λ b. Some (row_of st.windows s (completed_if b st.now (answered_all caller attempt st.now is.version)))) f)
     version_at k false e =
         ap (of_subject s (λ (x : VersionRow). x.subject)) (changed.versions k)
         ∙ ap (of_subject s (λ (x : VersionRow). x.subject)) (not_put st.windows st.now s id k (row_of st.windows s finished) completes (the_replaced takes_over (record_now st s)) (get old.versions k) e)
-        ∙ retired_shows st old stands s takes_over k
+        ∙ retired_shows st old stands s due takes_over k
         ∙ sym (ap (option_map (row_of st.windows s)) (miss k e))
 
     -- a version that becomes old keeps its broadcasts
@@ -385,7 +388,7 @@ module _ (st : State) (old new : Content) (stands : Stands old st) (caller : ℕ
     broadcast_at k a false e =
         ap (of_subject s (λ (y : BroadcastRow). y.subject)) (changed.broadcasts (record { id = k; attempt = a })
         ∙ taken_miss (record { id = id; attempt = attempt }) (record { id = k; attempt = a }) the_row (get old.broadcasts (record { id = k; attempt = a })) (last && not the_row.is_open) e)
-        ∙ (stands.due.shows s).broadcasts k a
+        ∙ due.shows.broadcasts k a
         ∙ sym (ap (option_and_then (stored_broadcast s)) (same_elsewhere k a (id == k) refl e))
 
     wait_at : (c m k a : ℕ) (x : Bool) → ((id == k) && (attempt == a)) ≡ x → of_subject s (λ t. t) (get new.waits (record { carrier = c; minute = m; id = k; attempt = a }))
@@ -406,11 +409,11 @@ module _ (st : State) (old new : Content) (stands : Stands old st) (caller : ℕ
         joined p q false z o f = cc
 
         was : of_subject s (λ t. t) (get old.waits (record { carrier = c; minute = m; id = k; attempt = a })) ≡ stored_wait s c m is.broadcast
-        was = (stands.due.shows s).waits c m k a ∙ ap (option_and_then (stored_wait s c m)) (at_key k a e (record_now st s)
+        was = due.shows.waits c m k a ∙ ap (option_and_then (stored_wait s c m)) (at_key k a e (record_now st s)
             ∙ ap (option_and_then (λ (v : Version). find (λ x. x.attempt == attempt) v.broadcasts)) is.found ∙ is.sent)
     wait_at c m k a false e =
         ap (of_subject s (λ t. t)) (changed.waits (record { carrier = c; minute = m; id = k; attempt = a }) ∙ off ((caller == c) && (minute == m)) (id == k) (attempt == a) (get old.waits (record { carrier = c; minute = m; id = k; attempt = a })) e)
-        ∙ (stands.due.shows s).waits c m k a
+        ∙ due.shows.waits c m k a
         ∙ sym (ap (option_and_then (stored_wait s c m)) (same_elsewhere k a (id == k) refl e))
       where
         off : (p y z : Bool) (o : Option Subject) → (y && z) ≡ false → (if (p && y) && z then None else o) ≡ o
@@ -442,12 +445,15 @@ module _ (st : State) (old new : Content) (stands : Stands old st) (caller : ℕ
           waits = changed.waits;
           clock = changed.clock;
         } in
-        let rest : SameRows t old middle = untouched_where st old middle (the_changes []) s id stands.due (one_version caller minute id attempt last s the_row refl) changed_rest t apart free in
+        let rest : SameRows t old middle = lagging_aside st old middle (the_changes []) s id (one_version caller minute id attempt last s the_row refl) changed_rest t (stands.represents.subjects t) apart free in
         record {
-          versions = λ k. ap (of_subject t (λ (x : VersionRow). x.subject)) (changed.versions k) ∙ puts_apart st old stands s takes_over id (row_of st.windows s finished) completes refl t apart free k;
+          versions = λ k. ap (of_subject t (λ (x : VersionRow). x.subject)) (changed.versions k) ∙ puts_apart st old stands s due takes_over id (row_of st.windows s finished) completes refl t apart free k;
           broadcasts = rest.broadcasts;
           waits = rest.waits;
         }
+
+    pub acknowledged-leaves : LeavesOthers old new st (Requests caller (Acknowledges id attempt))
+    acknowledged-leaves = leaves_but old new st (Requests caller (Acknowledges id attempt)) s (of_id_found st s id is.version is.found) other_rows
 
     module _ (none : refusal st (Requests caller (Acknowledges id attempt)) ≡ None) (clock : ClockRow) (clock_is : old.clock ≡ Some clock) where
       abbrev after_it : State
@@ -466,18 +472,12 @@ module _ (st : State) (old new : Content) (stands : Stands old st) (caller : ℕ
           (ap (λ (x : Record). option_map (λ (u : Version). u.id) (last_version x)) (acknowledged-record st caller id attempt s)
           ∙ last-same st.now id change (acknowledged_id caller attempt st.now) (record_now st s).versions)
 
-      shows_at : (t : Subject) (b : Bool) → subject_eq s t ≡ b → Shows st.windows new t (record_now after_it t)
-      shows_at t false e = subst (Shows st.windows new t) (sym (elsewhere t e)) (same_rows_show st.windows t old new (record_now st t) (other_rows t e) (stands.due.shows t))
-      shows_at t true e = subst (λ u. Shows st.windows new u (record_now after_it u)) (sym (same_subject s t e)) (subst (Shows st.windows new s) (sym (acknowledged-record st caller id attempt s)) own_shows)
-
-      quiet_at : (t : Subject) (b : Bool) → subject_eq s t ≡ b → IsQuiet st.windows st.now (record_now after_it t).versions
-      quiet_at t false e = subst (λ (x : Record). IsQuiet st.windows st.now x.versions) (sym (elsewhere t e)) (stands.due.quiet t)
-      quiet_at t true e = subst (λ u. IsQuiet st.windows st.now (record_now after_it u).versions) (sym (same_subject s t e))
+      lags_at : (t : Subject) (b : Bool) → subject_eq s t ≡ b → Lags st.windows new st.now t (record_now after_it t)
+      lags_at t false e = subst (Lags st.windows new st.now t) (sym (elsewhere t e)) (same_rows_lag st.windows st.now t old new (record_now st t) (other_rows t e) (stands.represents.subjects t))
+      lags_at t true e = subst (λ u. Lags st.windows new st.now u (record_now after_it u)) (sym (same_subject s t e))
+          (due_lags new after_it history_after s (subst (Shows st.windows new s) (sym (acknowledged-record st caller id attempt s)) own_shows)
           (subst (λ (x : Record). IsQuiet st.windows st.now x.versions) (sym (acknowledged-record st caller id attempt s))
-          (acknowledging-quiet st.windows st.now caller id attempt (record_now st s).versions (stands.due.quiet s)))
-
-      due_after : NothingIsDue new after_it
-      due_after = record { shows = λ t. shows_at t (subject_eq s t) refl; quiet = λ t. quiet_at t (subject_eq s t) refl }
+          (acknowledging-quiet st.windows st.now caller id attempt (record_now st s).versions due.quiet)))
 
       represents_after : Represents new after_it
       represents_after = record {
@@ -490,11 +490,11 @@ module _ (st : State) (old new : Content) (stands : Stands old st) (caller : ℕ
         codes = λ k. changed.codes k ∙ stands.represents.codes k;
         blocks = λ b. changed.blocks b ∙ stands.represents.blocks b
             ∙ sym (ap (λ o. option_map (λ donor. let row : BlockRow = record { donor = donor; last = o } in row) (donor_of b st.history)) (last_id b (subject_eq s (Block b)) refl));
-        subjects = due_lags new after_it history_after due_after;
+        subjects = λ t. lags_at t (subject_eq s t) refl;
       }
 
       pub acknowledged-stands : Stands new after_it
-      acknowledged-stands = record { represents = represents_after; due = due_after; written = ap is_some changed.clock ∙ stands.written }
+      acknowledged-stands = record { represents = represents_after; written = ap is_some changed.clock ∙ stands.written }
 
       pub acknowledged-answer : (view : View) → view ≡ view_of after_it (record { subject = s; version = finished }) → Shown (Some view) ≡ answer_of st after_it (Requests caller (Acknowledges id attempt))
       acknowledged-answer view seen =

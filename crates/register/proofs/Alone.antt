@@ -6,12 +6,14 @@ use Rattle.std.proofs.lemmas.Bool.Decides.{nat_tests}
 use Rattle.numbers.specs.Subjects.{Subject, subject_eq}
 use Rattle.meaning.specs.Versions.{Version, in_force, is_open, version_with, version_in_force, open_version}
 use Rattle.meaning.specs.Reading.{State, record_now}
-use Rattle.meaning.specs.Content.{Content, VersionRow, row_of, of_subject, subject_if}
+use Rattle.meaning.specs.Content.{Content, Shows, VersionRow, row_of, of_subject, subject_if}
 use Rattle.meaning.specs.Concerns.{has_id}
 use Rattle.meaning.proofs.Ids.{AreGiven, same_id}
 use Rattle.meaning.proofs.Entered.{given_now}
 use Rattle.meaning.proofs.Orderly.{no_two_active}
-use Rattle.meaning.proofs.Shown.{row_shows, id_found, some_is}
+use Rattle.meaning.proofs.Lagging.{column_subject, row_shown}
+use Rattle.meaning.proofs.Shown.{id_found, some_is}
+use Rattle.settle.specs.Settling.{IsSettled}
 use Rattle.settle.specs.Reads.{IsInForce, IsOpen}
 use Rattle.settle.specs.declared.rows.NumberedRow.{NumberedRow}
 use Rattle.register.specs.Answers.{Stands}
@@ -95,11 +97,11 @@ the_row : (row x : VersionRow) → (b : Bool) → (if b then Some row else None)
 the_row row x true e = e
 the_row row x false e = cc
 
-pub row_there : (st : State) (c : Content) → Stands c st → (s : Subject) (id : ℕ) (v : Version) → version_with id (record_now st s) ≡ Some v → get c.versions id ≡ Some (row_of st.windows s v)
-row_there st c stands s id v found = go (get c.versions id) refl
+pub row_there : (st : State) (c : Content) (s : Subject) → IsSettled c st s → (id : ℕ) (v : Version) → version_with id (record_now st s) ≡ Some v → get c.versions id ≡ Some (row_of st.windows s v)
+row_there st c s due id v found = go (get c.versions id) refl
   where
     shown : of_subject s (λ (x : VersionRow). x.subject) (get c.versions id) ≡ Some (row_of st.windows s v)
-    shown = (stands.due.shows s).versions id ∙ ap (option_map (row_of st.windows s)) found
+    shown = due.shows.versions id ∙ ap (option_map (row_of st.windows s)) found
 
     go : (o : Option VersionRow) → get c.versions id ≡ o → o ≡ Some (row_of st.windows s v)
     go None e = let never : None ≡ Some (row_of st.windows s v) = sym (ap (of_subject s (λ (x : VersionRow). x.subject)) e) ∙ shown in cc
@@ -118,7 +120,7 @@ held_of st s v = record { id = v.id; row = row_of st.windows s v }
 abbrev pub held_row : NumberedRow → Held
 held_row n = record { id = n.id; row = n.row }
 
-module _ (st : State) (c : Content) (stands : Stands c st) (s : Subject) (test : Subject → Version → Bool) (column : VersionRow → Option Subject)
+module _ (st : State) (c : Content) (stands : Stands c st) (s : Subject) (due : IsSettled c st s) (test : Subject → Version → Bool) (column : VersionRow → Option Subject)
     (column_is : (t : Subject) (v : Version) → column (row_of st.windows t v) ≡ subject_if (test t v) t)
     (one : length (filter (test s) (record_now st s).versions) ≤ 1) where
   holding : (t : Subject) (b : Bool) → subject_if b t ≡ Some s → (b ≡ true) × (t ≡ s)
@@ -128,7 +130,8 @@ module _ (st : State) (c : Content) (stands : Stands c st) (s : Subject) (test :
   pub row_is_held : (id : ℕ) (row : VersionRow) → get c.versions id ≡ Some row → column row ≡ Some s →
       (v : Version) × (find (test s) (record_now st s).versions ≡ Some v) × (version_with id (record_now st s) ≡ Some v) × (row ≡ row_of st.windows s v)
   row_is_held id row found holds =
-      let shown = row_shows st c id row stands.due found in
+      let same : row.subject ≡ s = column_subject st c stands.represents test column column_is id row s found holds in
+      let shown = row_shown st.windows c (record_now st row.subject) id row (subst (λ t. Shows st.windows c t (record_now st t)) (sym same) due.shows) found in
       let held = holding row.subject (test row.subject shown.0) (sym (column_is row.subject shown.0) ∙ ap column (sym shown.2) ∙ holds) in
       let there : version_with id (record_now st s) ≡ Some shown.0 = ap (λ t. version_with id (record_now st t)) (sym held.1) ∙ shown.1 in
       (shown.0, found_alone (test s) id (record_now st s).versions shown.0 there (ap (λ t. test t shown.0) (sym held.1) ∙ held.0) one, there, shown.2 ∙ ap (λ t. row_of st.windows t shown.0) held.1)
@@ -137,7 +140,7 @@ module _ (st : State) (c : Content) (stands : Stands c st) (s : Subject) (test :
   there None found absent = refl
   there (Some v) found absent =
       let by_id : version_with v.id (record_now st s) ≡ Some v = found_by_id (test s) _ s (record_now st s).versions v (given_now st stands.represents.history s) found in
-      absurd (absent v.id (row_of st.windows s v) (row_there st c stands s v.id v by_id)
+      absurd (absent v.id (row_of st.windows s v) (row_there st c s due v.id v by_id)
       (column_is s v ∙ ap (λ b. subject_if b s) (passes (test s) (record_now st s).versions v found)))
 
   pub none_held : ((id : ℕ) (row : VersionRow) → get c.versions id ≡ Some row → column row ≢ Some s) → find (test s) (record_now st s).versions ≡ None
@@ -152,11 +155,12 @@ module _ (st : State) (c : Content) (stands : Stands c st) (s : Subject) where
   pub one_open : length (filter (is_open s) (record_now st s).versions) ≤ 1
   one_open = (no_two_active st (record { windows = stands.represents.windows; history = stands.represents.history }) s).one_open
 
+module _ (st : State) (c : Content) (stands : Stands c st) (s : Subject) (due : IsSettled c st s) where
   -- the row that holds the subject is that of its version in force
   pub in_force_read : (o : Option NumberedRow) → IsInForce c s o → option_map held_row o ≡ option_map (held_of st s) (version_in_force (record_now st s))
-  in_force_read None absent = sym (ap (option_map (held_of st s)) (none_held st c stands s (λ t v. in_force v) (λ (x : VersionRow). x.holds) (λ t v. refl) one_in_force absent))
+  in_force_read None absent = sym (ap (option_map (held_of st s)) (none_held st c stands s due (λ t v. in_force v) (λ (x : VersionRow). x.holds) (λ t v. refl) (one_in_force st c stands s) absent))
   in_force_read (Some n) is =
-      let held = row_is_held st c stands s (λ t v. in_force v) (λ (x : VersionRow). x.holds) (λ t v. refl) one_in_force n.id n.row is.0 is.1 in
+      let held = row_is_held st c stands s due (λ t v. in_force v) (λ (x : VersionRow). x.holds) (λ t v. refl) (one_in_force st c stands s) n.id n.row is.0 is.1 in
       same_held n held.0 (id_found n.id (record_now st s).versions held.0 held.2) held.3 ∙ sym (ap (option_map (held_of st s)) held.1)
     where
       same_held : (n : NumberedRow) (v : Version) → v.id ≡ n.id → n.row ≡ row_of st.windows s v → Some (held_row n) ≡ Some (held_of st s v)
@@ -164,9 +168,9 @@ module _ (st : State) (c : Content) (stands : Stands c st) (s : Subject) where
 
   -- the row that has the subject open is that of its open version
   pub opened_read : (o : Option NumberedRow) → IsOpen c s o → option_map held_row o ≡ option_map (held_of st s) (open_version s (record_now st s))
-  opened_read None absent = sym (ap (option_map (held_of st s)) (none_held st c stands s is_open (λ (x : VersionRow). x.opens) (λ t v. refl) one_open absent))
+  opened_read None absent = sym (ap (option_map (held_of st s)) (none_held st c stands s due is_open (λ (x : VersionRow). x.opens) (λ t v. refl) (one_open st c stands s) absent))
   opened_read (Some n) is =
-      let held = row_is_held st c stands s is_open (λ (x : VersionRow). x.opens) (λ t v. refl) one_open n.id n.row is.0 is.1 in
+      let held = row_is_held st c stands s due is_open (λ (x : VersionRow). x.opens) (λ t v. refl) (one_open st c stands s) n.id n.row is.0 is.1 in
       same_held n held.0 (id_found n.id (record_now st s).versions held.0 held.2) held.3 ∙ sym (ap (option_map (held_of st s)) held.1)
     where
       same_held : (n : NumberedRow) (v : Version) → v.id ≡ n.id → n.row ≡ row_of st.windows s v → Some (held_row n) ≡ Some (held_of st s v)

@@ -10,13 +10,15 @@ use Rattle.meaning.specs.Versions.{Version, in_force, is_open, version_with}
 use Rattle.meaning.specs.History.{made_by}
 use Rattle.meaning.specs.Reading.{State, record_now}
 use Rattle.meaning.specs.Sound.{NoneInForce, OneInForce, NoneOpen, AreSound}
-use Rattle.meaning.specs.Content.{Content, VersionRow, row_of, of_subject, subject_if}
+use Rattle.meaning.specs.Content.{Content, Shows, VersionRow, row_of, of_subject, subject_if}
 use Rattle.meaning.specs.Concerns.{has_id}
 use Rattle.meaning.proofs.Ids.{AreGiven, same_id}
 use Rattle.meaning.proofs.Entered.{sound_now, given_now}
-use Rattle.meaning.proofs.Shown.{row_shows, some_is}
+use Rattle.meaning.proofs.Lagging.{column_subject, row_shown}
+use Rattle.meaning.proofs.Shown.{some_is}
 use Rattle.version.specs.declared.version.Version.{Version as VersionCode}
 use Rattle.version.specs.Views.{version_of}
+use Rattle.settle.specs.Settling.{IsSettled}
 use Rattle.settle.specs.Views.{version_row_of}
 use Rattle.register.specs.Answers.{Stands}
 use Rattle.register.specs.Serving.{IsIn, IsOpened, IsHeld}
@@ -134,7 +136,7 @@ has_subject true t s e = (refl, some_is t s e)
 has_subject false t s e = cc
 
 module _ (test : Subject → Version → Bool) (column : VersionRow → Option Subject) (is_column : (w : Windows) (s : Subject) (v : Version) → column (row_of w s v) ≡ subject_if (test s v) s)
-    (st : State) (c : Content) (s : Subject) (stands : Stands c st) (one : OnePasses (test s) (record_now st s).versions) where
+    (st : State) (c : Content) (s : Subject) (stands : Stands c st) (due : IsSettled c st s) (one : OnePasses (test s) (record_now st s).versions) where
   none_there : ((id : ℕ) (row : VersionRow) → get c.versions id ≡ Some row → column row ≡ Some s → ⊥) → find (test s) (record_now st s).versions ≡ None
   none_there none = go (find (test s) (record_now st s).versions) refl
     where
@@ -152,12 +154,13 @@ module _ (test : Subject → Version → Bool) (column : VersionRow → Option S
       go : (o : Option Version) → find (test s) (record_now st s).versions ≡ o → find (test s) (record_now st s).versions ≡ None
       go None e = e
       go (Some v) e = absurd (absent v e (get c.versions v.id) refl
-          ((stands.due.shows s).versions v.id ∙ ap (option_map (row_of st.windows s)) (found_by_id (made_by st.windows st.history) s (test s) (record_now st s).versions v (given_now st stands.represents.history s) e)))
+          (due.shows.versions v.id ∙ ap (option_map (row_of st.windows s)) (found_by_id (made_by st.windows st.history) s (test s) (record_now st s).versions v (given_now st stands.represents.history s) e)))
 
   one_there : (e : ℕ × VersionCode) → IsIn column c s (Some e) → IsFound st s (test s) (Some e)
   one_there e is =
+      let of_s : (version_row_of is.0).subject ≡ s = column_subject st c stands.represents test column (is_column st.windows) e.0 (version_row_of is.0) s is.1 is.2 in
       let shown : (v : Version) × (version_with e.0 (record_now st (version_row_of is.0).subject) ≡ Some v) × (version_row_of is.0 ≡ row_of st.windows (version_row_of is.0).subject v) =
-      row_shows st c e.0 (version_row_of is.0) stands.due is.1 in
+      row_shown st.windows c (record_now st (version_row_of is.0).subject) e.0 (version_row_of is.0) (subst (λ t. Shows st.windows c t (record_now st t)) (sym of_s) due.shows) is.1 in
       let both : (test (version_row_of is.0).subject shown.0 ≡ true) × ((version_row_of is.0).subject ≡ s) =
       has_subject (test (version_row_of is.0).subject shown.0) (version_row_of is.0).subject s (sym (is_column st.windows (version_row_of is.0).subject shown.0) ∙ sym (ap column shown.2) ∙ is.2) in
       let passes : test s shown.0 ≡ true = subst (λ t. test t shown.0 ≡ true) both.1 both.0 in
@@ -173,10 +176,10 @@ module _ (test : Subject → Version → Bool) (column : VersionRow → Option S
   by_column None is = none_there is
   by_column (Some e) is = one_there e is
 
-pub opened_is : (st : State) (c : Content) (s : Subject) (o : Option (ℕ × VersionCode)) → Stands c st → IsOpened c s o → IsFound st s (is_open s) o
-opened_is st c s o stands is = by_column (λ t v. is_open t v) (λ (row : VersionRow). row.opens) (λ w t v. refl) st c s stands
+pub opened_is : (st : State) (c : Content) (s : Subject) (o : Option (ℕ × VersionCode)) → Stands c st → IsSettled c st s → IsOpened c s o → IsFound st s (is_open s) o
+opened_is st c s o stands due is = by_column (λ t v. is_open t v) (λ (row : VersionRow). row.opens) (λ w t v. refl) st c s stands due
     (sound_open s (record_now st s).versions (sound_now st stands.represents.history s)) o is
 
-pub held_is : (st : State) (c : Content) (s : Subject) (o : Option VersionCode) → Stands c st → (held : IsHeld c s o) → IsFound st s in_force held.0
-held_is st c s o stands held = by_column (λ t v. in_force v) (λ (row : VersionRow). row.holds) (λ w t v. refl) st c s stands
+pub held_is : (st : State) (c : Content) (s : Subject) (o : Option VersionCode) → Stands c st → IsSettled c st s → (held : IsHeld c s o) → IsFound st s in_force held.0
+held_is st c s o stands due held = by_column (λ t v. in_force v) (λ (row : VersionRow). row.holds) (λ w t v. refl) st c s stands due
     (sound_in_force s (record_now st s).versions (sound_now st stands.represents.history s)) held.0 held.1

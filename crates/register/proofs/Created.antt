@@ -3,7 +3,7 @@ use Rattle.std.proofs.Common.{◌≡◌, ℕ, ◌+◌, ◌≤◌, Bool, true, fa
 use Rattle.std.specs.Prelude.{◌==◌, ◌^◌, ◌-◌, min, nat_lt, find, option_map, if◌then◌else◌, Result, Ok, Err, OnOk, OnErr, IfOk, IfErr}
 use Rattle.std.proofs.lemmas.Bool.Decides.{nat_tests}
 use Rattle.numbers.specs.Digits.{block_of}
-use Rattle.numbers.specs.Subjects.{Number, Block}
+use Rattle.numbers.specs.Subjects.{Subject, Number, Block}
 use Rattle.numbers.specs.Views.{subject_of}
 use Rattle.meaning.specs.declared.refusal.Refusal.{Refusal}
 use Rattle.meaning.specs.RefusalNumbers.{number_of}
@@ -30,12 +30,29 @@ use Rattle.version.specs.Creates.{command_by, command_of, create_refusal, lacks,
 use Rattle.version.specs.Facts.{Sees}
 use Rattle.settle.specs.Changes.{Changes, IsChanged}
 use Rattle.register.specs.declared.view.VersionView.{VersionView}
-use Rattle.register.specs.Answers.{Stands, AnswersAs}
+use Rattle.settle.specs.Settling.{IsSettled}
+use Rattle.register.specs.Answers.{Stands}
+use Rattle.register.specs.Settling.{AnswersSettled, AreSettled, is_of_number, settles_for}
 use Rattle.register.specs.Calls.{refused_with, replied, view_of as view_seen}
 use Rattle.register.specs.Serving.{AreRead, IsHeld, IsOpened}
 use Rattle.register.proofs.Composed.{answers_refused_same, answers_without}
 use Rattle.register.proofs.OnVersion.{LeavesRegistry}
+use Rattle.register.proofs.Settled.{number_of_number}
 use Rattle.register.proofs.FactsRead.{are_known, unknown_is, refused_by_facts}
+
+-- ---- the subjects that a create settles
+
+create_settles : (creator : Creator) (tn old_provider new_provider due : ℕ) (st : State) (s : Subject) →
+    settles_for (command_by creator tn old_provider new_provider due) st s ≡ is_of_number tn st s
+create_settles (OldProvider authorized) tn old_provider new_provider due st s = refl
+create_settles (NewProvider routing) tn old_provider new_provider due st s = refl
+
+pub create_settled : (old : Content) (st : State) (caller : ℕ) (c : CreateCode) → AreSettled old st (Requests caller (Commands (command_of c))) →
+    (s : Subject) → is_of_number c.tn.number st s ≡ true → IsSettled old st s
+create_settled old st caller c settled s is = settled s (create_settles c.creator c.tn.number c.old_provider.number c.new_provider.number c.due.number st s ∙ is)
+
+pub settles_number : (st : State) (c : CreateCode) → settles_for (command_of c) st (Number c.tn.number) ≡ true
+settles_number st c = create_settles c.creator c.tn.number c.old_provider.number c.new_provider.number c.due.number st (Number c.tn.number) ∙ number_of_number st c.tn.number
 
 -- ---- what was read, and refusals
 
@@ -62,15 +79,15 @@ has_read old first second caller c clock held opened block facts one two known c
 }
 
 pub refused_as : (st : State) (old : Content) (caller : ℕ) (c : CreateCode) (clock : ClockRow) (held : Option VersionCode) (opened : Option (ℕ × VersionCode)) (block : Option VersionCode) (facts : CreateFacts) →
-    HasRead old caller c clock held opened block facts → Stands old st → refusal st (Requests caller (Commands (command_of c))) ≡ create_refusal clock.windows clock.minute caller c facts
-refused_as st old caller c clock held opened block facts has stands =
-    refused_by_facts st old caller c clock held opened block facts stands has.known has.clock_is has.is_held has.is_opened has.is_block has.read
+    HasRead old caller c clock held opened block facts → Stands old st → AreSettled old st (Requests caller (Commands (command_of c))) → refusal st (Requests caller (Commands (command_of c))) ≡ create_refusal clock.windows clock.minute caller c facts
+refused_as st old caller c clock held opened block facts has stands settled =
+    refused_by_facts st old caller c clock held opened block facts stands (create_settled old st caller c settled) has.known has.clock_is has.is_held has.is_opened has.is_block has.read
 
 pub answers_create_refused : (old new : Content) (caller : ℕ) (c : CreateCode) (clock : ClockRow) (held : Option VersionCode) (opened : Option (ℕ × VersionCode)) (block : Option VersionCode) (facts : CreateFacts) (k : ℕ) →
     new ≡ old → HasRead old caller c clock held opened block facts → Some k ≡ create_refusal clock.windows clock.minute caller c facts →
-    AnswersAs old new (Requests caller (Commands (command_of c))) (refused_with k)
+    AnswersSettled old new (Requests caller (Commands (command_of c))) (refused_with k)
 answers_create_refused old new caller c clock held opened block facts k same has refused =
-    answers_refused_same old new (Requests caller (Commands (command_of c))) k same (λ st stands. refused_as st old caller c clock held opened block facts has stands ∙ sym refused)
+    answers_refused_same old new (Requests caller (Commands (command_of c))) k same (λ st stands settled. refused_as st old caller c clock held opened block facts has stands settled ∙ sym refused)
 
 pub first_refusal : (st : State) (caller : ℕ) (c : CreateCode) → unknown_carrier st (Requests caller (Commands (command_of c))) ≡ true → refusal st (Requests caller (Commands (command_of c))) ≡ Some 1
 unfolding tests
@@ -80,17 +97,17 @@ first_refusal st caller c unknown = go (unknown_carrier st (Requests caller (Com
     go true rest e = refl
     go false rest e = cc
 
-pub answers_create_unknown : (old new : Content) (caller : ℕ) (c : CreateCode) → new ≡ old → are_known old c caller ≡ false → AnswersAs old new (Requests caller (Commands (command_of c))) (refused_with 1)
+pub answers_create_unknown : (old new : Content) (caller : ℕ) (c : CreateCode) → new ≡ old → are_known old c caller ≡ false → AnswersSettled old new (Requests caller (Commands (command_of c))) (refused_with 1)
 answers_create_unknown old new caller c same unknown =
-    answers_refused_same old new (Requests caller (Commands (command_of c))) 1 same (λ st stands. first_refusal st caller c (unknown_is st old c caller stands unknown))
+    answers_refused_same old new (Requests caller (Commands (command_of c))) 1 same (λ st stands settled. first_refusal st caller c (unknown_is st old c caller stands unknown))
 
 -- ---- a version put
 
 -- by what the put answered
 pub by_result : {U : Type 0} (V : VersionView → Type 0) (changes : Changes) (old mid new : Content) (input : Input) (result : Result VersionView Refusal) → U →
     OnOk result (U → IsChanged changes mid new) → IfOk result V → OnErr result (U → new ≡ mid) → IfErr result (λ r. nat_lt (number_of r) 29 ≡ false) → mid ≡ old →
-    ((view : VersionView) → V view → IsChanged changes old new → AnswersAs old new input (Some (Shown (Some (view_seen view))))) →
-    AnswersAs old new input (replied (λ view. Shown (Some (view_seen view))) result)
+    ((view : VersionView) → V view → IsChanged changes old new → AnswersSettled old new input (Some (Shown (Some (view_seen view))))) →
+    AnswersSettled old new input (replied (λ view. Shown (Some (view_seen view))) result)
 by_result V changes old mid new input (Ok view) usable put views kept fault same each = each view views (subst (λ (m : Content). IsChanged changes m new) same (put usable))
 by_result V changes old mid new input (Err r) usable put views kept fault same each = answers_without old new input (number_of r) fault (kept usable ∙ same)
 

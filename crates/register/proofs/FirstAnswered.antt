@@ -20,16 +20,19 @@ use Rattle.version.specs.declared.create.Created.TheVariants.{First}
 use Rattle.version.specs.Views.{version_of, seen}
 use Rattle.version.specs.Creates.{command_of, create_refusal, lacks, answered_by, IsMade, IsCreated}
 use Rattle.settle.specs.Changes.{IsChanged}
-use Rattle.register.specs.Answers.{Stands, AnswersAs}
+use Rattle.settle.specs.Settling.{IsSettled}
+use Rattle.register.specs.Answers.{Stands}
+use Rattle.register.specs.Settling.{AnswersSettled, AreSettled, LeavesOthers}
 use Rattle.register.specs.Sending.{putting}
 use Rattle.register.proofs.Composed.{answers_accepted}
-use Rattle.register.proofs.OnVersion.{IsOnOne, clock_of, clock_is_of, on_version-stands, shown_is}
+use Rattle.register.proofs.OnVersion.{IsOnOne, clock_of, clock_is_of, on_version-stands, others_stay, shown_is}
 use Rattle.register.proofs.FactsRead.{facts_are}
 use Rattle.register.proofs.FirstCreate.{made-record, made-elsewhere, made-next_id, next_is_free, putting-are, made-shows, made-quiet, made-id, made-unsent, create-leaves, create-makes, create-concerns}
 use Rattle.register.proofs.SecondCreate.{lacking-open, create-carrier}
-use Rattle.register.proofs.Created.{HasRead, refused_as, create-registry, id_or, reply_by, none_answers, if_holds-none, first_created, itself, Views}
+use Rattle.register.proofs.Settled.{number_of_number, leaves_but}
+use Rattle.register.proofs.Created.{create_settled, settles_number, HasRead, refused_as, create-registry, id_or, reply_by, none_answers, if_holds-none, first_created, itself, Views}
 
-module _ (st : State) (old new : Content) (caller : ℕ) (c : CreateCode) (next : ClockRow) (stands : Stands old st)
+module _ (st : State) (old new : Content) (caller : ℕ) (c : CreateCode) (next : ClockRow) (stands : Stands old st) (due : IsSettled old st (Number c.tn.number))
     (none : refusal st (Requests caller (Commands (command_of c))) ≡ None)
     (lacking : holds_of (lacks c.creator c.old_provider.number c.new_provider.number) (open_version (Number c.tn.number) (record_now st (Number c.tn.number))) ≡ false)
     (next_is : next ≡ record { minute = st.now; next_id = next_id st.windows st.history + 1; windows = st.windows }) where
@@ -82,10 +85,15 @@ module _ (st : State) (old new : Content) (caller : ℕ) (c : CreateCode) (next 
         (made-shows st.windows s id made (record_now st s) (Some next) old new changed
         (made-id c.creator id caller st.now c.tn.number c.old_provider.number c.new_provider.number c.due.number (record_now st s).carriers (donor_of (assigned_block request) st.history))
         (made-unsent c.creator id caller st.now c.tn.number c.old_provider.number c.new_provider.number c.due.number (record_now st s).carriers (donor_of (assigned_block request) st.history))
-        (next_is_free st stands.represents.history s) (stands.due.shows s)) (
+        (next_is_free st stands.represents.history s) due.shows) (
           made-quiet st.windows stands.represents.windows c.creator id caller st.now c.tn.number c.old_provider.number c.new_provider.number c.due.number (record_now st s).carriers (donor_of (assigned_block request) st.history),
-          stands.due.quiet s,
+          due.quiet,
         )
+
+    first-leaves : LeavesOthers old new st (Requests caller request)
+    first-leaves = leaves_but old new st (Requests caller request) s (settles_number st c)
+        (others_stay st old new caller request s id (putting id st.windows s made (Some next)) first_record
+        (create-registry c.creator caller c.tn.number c.old_provider.number c.new_provider.number c.due.number) stands none on_one clock_after (putting-are id st.windows s made (Some next)) changed)
 
     in_front : version_with id (record_now after_it s) ≡ Some made
     in_front = ap (version_with id) record_is
@@ -104,25 +112,29 @@ pub answers_first : (old new : Content) (caller : ℕ) (c : CreateCode) (clock n
     HasRead old caller c clock held opened block facts → None ≡ create_refusal clock.windows clock.minute caller c facts → IsCreated clock.minute c (answered_by c facts.opened) (First m) →
     (clock.next_id ≤ limit → next ≡ record { minute = clock.minute; next_id = clock.next_id + 1; windows = clock.windows }) →
     IsChanged (putting clock.next_id clock.windows (subject_of m.subject) (seen m) (Some next)) old new → Views clock clock.next_id m view →
-    AnswersAs old new (Requests caller (Commands (command_of c))) (Some (Shown (Some view)))
+    AnswersSettled old new (Requests caller (Commands (command_of c))) (Some (Shown (Some view)))
 answers_first old new caller c clock next held opened block facts m view has accepts created next_is changed views =
     answers_accepted old new (Requests caller (Commands (command_of c))) (Shown (Some view)) each
   where
     first : (answered_by c facts.opened ≡ None) × IsMade clock.minute c m
     first = first_created clock.minute c (answered_by c facts.opened) m created
 
-    each : (st : State) → Stands old st → (refusal st (Requests caller (Commands (command_of c))) ≡ None)
+    each : (st : State) → Stands old st → AreSettled old st (Requests caller (Commands (command_of c))) → (refusal st (Requests caller (Commands (command_of c))) ≡ None)
         × (Shown (Some view) ≡ answer_of st (accepted st (Requests caller (Commands (command_of c)))) (Requests caller (Commands (command_of c))))
-        × Stands new (accepted st (Requests caller (Commands (command_of c))))
-    each st stands = (
+        × Stands new (accepted st (Requests caller (Commands (command_of c)))) × LeavesOthers old new st (Requests caller (Commands (command_of c)))
+    each st stands settled = (
       none,
-      first-answer st old new caller c next stands none lacking next_now change view
+      first-answer st old new caller c next stands due none lacking next_now change view
           (views (accepted st (Requests caller (Commands (command_of c)))) [] (sym now) (ap (λ (k : ClockRow). k.windows) (sym same_clock))
           ∙ ap (λ t. view_of (accepted st (Requests caller (Commands (command_of c)))) (record { subject = t; version = version_of clock.next_id [] m })) first.1.subject
           ∙ ap (λ x. view_of (accepted st (Requests caller (Commands (command_of c)))) (record { subject = Number c.tn.number; version = x })) version),
-      first-stands st old new caller c next stands none lacking next_now change,
+      first-stands st old new caller c next stands due none lacking next_now change,
+      first-leaves st old new caller c next stands due none lacking next_now change,
     )
       where
+        due : IsSettled old st (Number c.tn.number)
+        due = create_settled old st caller c settled (Number c.tn.number) (number_of_number st c.tn.number)
+
         same_clock : clock ≡ clock_of st
         same_clock = clock_is_of old st clock stands.represents has.clock_is
 
@@ -133,11 +145,11 @@ answers_first old new caller c clock next held opened block facts m view has acc
         the_id = ap (λ (k : ClockRow). k.next_id) same_clock
 
         none : refusal st (Requests caller (Commands (command_of c))) ≡ None
-        none = refused_as st old caller c clock held opened block facts has stands ∙ sym accepts
+        none = refused_as st old caller c clock held opened block facts has stands settled ∙ sym accepts
 
         lacking : holds_of (lacks c.creator c.old_provider.number c.new_provider.number) (open_version (Number c.tn.number) (record_now st (Number c.tn.number))) ≡ false
         lacking = none_answers c facts.opened (open_version (Number c.tn.number) (record_now st (Number c.tn.number)))
-            (facts_are st old caller c clock held opened block facts stands has.known has.clock_is has.is_held has.is_opened has.is_block has.read).opened first.0
+            (facts_are st old caller c clock held opened block facts stands (create_settled old st caller c settled) has.known has.clock_is has.is_held has.is_opened has.is_block has.read).opened first.0
 
         below : clock.next_id ≤ limit
         below = subst (λ k. k ≤ limit) (sym the_id) (next_id-below st.windows st.history st.now stands.represents.history)

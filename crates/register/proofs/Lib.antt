@@ -1,3 +1,4 @@
+pub mod Settled
 pub mod Composed
 pub mod OnVersion
 pub mod Sent
@@ -24,4 +25,6 @@ pub mod Answering
 pub mod Acknowledged
 pub mod Receipts
 pub mod Unfailing
-pub mod Untouched
+pub mod Before
+pub mod ClockMoved
+pub mod VersionShown

@@ -12,25 +12,15 @@ use Rattle.meaning.specs.Reading.{State, record_now, view_of}
 use Rattle.meaning.specs.Refusals.{Requests, refusal}
 use Rattle.meaning.specs.Machine.{IsHistory, Shown, accepted, shown}
 use Rattle.meaning.specs.Laws.{IsQuiet}
-use Rattle.meaning.specs.Content.{Content, ClockRow, BlockRow, Shows, Represents, Lags, ClockShows}
-use Rattle.meaning.specs.Due.{NothingIsDue}
-use Rattle.meaning.proofs.Settling.{caught_up-quiet}
+use Rattle.meaning.specs.Content.{Content, ClockRow, BlockRow, Shows, Represents, Lags, ClockShows, SameRows}
 use Rattle.meaning.proofs.Ids.{same_subject}
 use Rattle.meaning.specs.Concerns.{has_id, concerns}
-use Rattle.meaning.proofs.Represented.{same_rows_show, reached_now}
-use Rattle.meaning.proofs.Entered.{entered-elsewhere, next_id-same, sound_now, none_elsewhere, none_with, found_is}
+use Rattle.meaning.proofs.Represented.{same_rows_lag}
+use Rattle.meaning.proofs.Entered.{entered-elsewhere, next_id-same, none_elsewhere, none_with, found_is}
 use Rattle.settle.specs.Changes.{Changes, IsChanged, AreOfVersion, put_row}
-use Rattle.settle.proofs.OneVersion.{untouched_where}
+use Rattle.settle.proofs.Aside.{lagging_aside}
 use Rattle.register.specs.Answers.{Stands}
-
--- where the rows show the records as they are now, no subject lags
-pub due_lags : (c : Content) (st : State) → IsHistory st.windows st.history st.now → NothingIsDue c st → (s : Subject) → Lags st.windows c st.now s (record_now st s)
-due_lags c st history due s = record {
-  kept = record_now st s;
-  shows = due.shows s;
-  reached = reached_now st history s;
-  catches_up = caught_up-quiet st.windows st.now (record_now st s) (due.quiet s);
-}
+use Rattle.register.proofs.Settled.{due_lags}
 
 is_some-or : {A : Type 0} → (o p : Option A) → is_some p ≡ true → is_some (option_or o p) ≡ true
 is_some-or None p is = is
@@ -68,20 +58,16 @@ module _ (st : State) (old new : Content) (caller : ℕ) (request : Request) (s 
   pub history_after : IsHistory st.windows after_it.history st.now
   history_after = (omega arith, leaves.lines, none, stands.represents.history)
 
+  -- the rows of all other subjects stay
+  pub others_stay : (t : Subject) → subject_eq s t ≡ false → SameRows t old new
+  others_stay t apart = lagging_aside st old new changes s id are changed t (stands.represents.subjects t) apart (one.free t apart)
+
   -- what is left to show: the record of the subject after it, that nothing of it is over, and that its rows show it
   module _ (is : record_now after_it s ≡ r) (shows : Shows st.windows new s r) (quiet : IsQuiet st.windows st.now r.versions) where
-    shows_at : (t : Subject) (b : Bool) → subject_eq s t ≡ b → Shows st.windows new t (record_now after_it t)
-    shows_at t false e = subst (Shows st.windows new t) (sym (one.elsewhere t e))
-        (same_rows_show st.windows t old new (record_now st t) (untouched_where st old new changes s id stands.due are changed t e (one.free t e)) (stands.due.shows t))
-    shows_at t true e = subst (λ u. Shows st.windows new u (record_now after_it u)) (sym (same_subject s t e)) (subst (Shows st.windows new s) (sym is) shows)
-
-    quiet_at : (t : Subject) (b : Bool) → subject_eq s t ≡ b → IsQuiet st.windows st.now (record_now after_it t).versions
-    quiet_at t false e = subst (λ (x : Record). IsQuiet st.windows st.now x.versions) (sym (one.elsewhere t e)) (stands.due.quiet t)
-    quiet_at t true e = subst (λ u. IsQuiet st.windows st.now (record_now after_it u).versions) (sym (same_subject s t e))
-        (subst (λ (x : Record). IsQuiet st.windows st.now x.versions) (sym is) quiet)
-
-    due_after : NothingIsDue new after_it
-    due_after = record { shows = λ t. shows_at t (subject_eq s t) refl; quiet = λ t. quiet_at t (subject_eq s t) refl }
+    lags_at : (t : Subject) (b : Bool) → subject_eq s t ≡ b → Lags st.windows new st.now t (record_now after_it t)
+    lags_at t false e = subst (Lags st.windows new st.now t) (sym (one.elsewhere t e)) (same_rows_lag st.windows st.now t old new (record_now st t) (others_stay t e) (stands.represents.subjects t))
+    lags_at t true e = subst (λ u. Lags st.windows new st.now u (record_now after_it u)) (sym (same_subject s t e))
+        (due_lags new after_it history_after s (subst (Shows st.windows new s) (sym is) shows) (subst (λ (x : Record). IsQuiet st.windows st.now x.versions) (sym is) quiet))
 
     pub on_version-represents : Represents new after_it
     on_version-represents = record {
@@ -96,7 +82,7 @@ module _ (st : State) (old new : Content) (caller : ℕ) (request : Request) (s 
       blocks = λ b. changed.blocks b ∙ ap (λ o. put_row ◌==◌ o b (get old.blocks b)) are.block ∙ stands.represents.blocks b
           ∙ sym (ap (λ o. option_map (λ donor. let row : BlockRow = record { donor = donor; last = o } in row) (donor_of b st.history)) (one.last b))
           ∙ sym (ap (λ o. option_map (λ donor. let row : BlockRow = record { donor = donor; last = option_map (λ (u : Version). u.id) (last_version (record_now after_it (Block b))) } in row) (or_else o (donor_of b st.history))) (leaves.donor b));
-      subjects = due_lags new after_it history_after due_after;
+      subjects = λ t. lags_at t (subject_eq s t) refl;
     }
 
     -- a clock's row put, or the one that was there
@@ -104,7 +90,7 @@ module _ (st : State) (old new : Content) (caller : ℕ) (request : Request) (s 
     written = ap is_some changed.clock ∙ is_some-or changes.clock old.clock stands.written
 
     pub on_version-stands : Stands new after_it
-    on_version-stands = record { represents = on_version-represents; due = due_after; written = written }
+    on_version-stands = record { represents = on_version-represents; written = written }
 
 -- ---- requests on a version that is there
 

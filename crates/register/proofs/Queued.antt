@@ -12,13 +12,16 @@ use Rattle.meaning.specs.Refusals.{Requests, refusal, tests, first_that_holds, n
 use Rattle.meaning.specs.Content.{Content, VersionRow, of_subject, stored_wait, broadcast_with, row_of}
 use Rattle.meaning.proofs.Entered.{found_is, given_now}
 use Rattle.meaning.proofs.Ids.{same_id, same_subject, version_of_id_is}
-use Rattle.meaning.proofs.Shown.{id_found, some_is, own, no_row, row_shows}
+use Rattle.meaning.proofs.Lagging.{no_row_now}
+use Rattle.meaning.proofs.Shown.{id_found, some_is, own}
 use Rattle.meaning.proofs.Tended.{AreBelow, AreApart, replay-tended, found_tended}
 use Rattle.delivery.specs.declared.download.DownloadKey.{DownloadKey}
 use Rattle.delivery.specs.Queues.{IsKeyOf, is_key, is_earlier, has_earlier, is_missing, is_behind, key_refusal}
 use Rattle.delivery.proofs.Queues.{key_same, before_same}
 use Rattle.settle.specs.Reads.{IsWaiting, AreWaitsAbout}
+use Rattle.settle.specs.Settling.{IsSettled}
 use Rattle.register.specs.Answers.{Stands}
+use Rattle.register.proofs.Settled.{IdSettled, row_now, row_settled}
 
 -- ---- lists
 
@@ -225,11 +228,11 @@ module _ (st : State) (c : Content) (stands : Stands c st) (carrier : ℕ) where
   and_both false q e = cc
 
   -- by the rows of the subject
-  pub waiting-awaited : (s : Subject) (minute id attempt : ℕ) → IsWaiting c carrier s minute id attempt → IsAwaited st carrier s minute id attempt
-  waiting-awaited s minute id attempt is = go (version_with id (record_now st s)) refl shown
+  pub waiting-awaited : (s : Subject) → IsSettled c st s → (minute id attempt : ℕ) → IsWaiting c carrier s minute id attempt → IsAwaited st carrier s minute id attempt
+  waiting-awaited s due minute id attempt is = go (version_with id (record_now st s)) refl shown
     where
       shown : Some s ≡ option_and_then (stored_wait s carrier minute) (broadcast_with id attempt (record_now st s))
-      shown = sym (own s (λ t. t) s refl) ∙ ap (of_subject s (λ t. t)) (sym is) ∙ (stands.due.shows s).waits carrier minute id attempt
+      shown = sym (own s (λ t. t) s refl) ∙ ap (of_subject s (λ t. t)) (sym is) ∙ due.shows.waits carrier minute id attempt
 
       taken : (v : Version) → version_with id (record_now st s) ≡ Some v → (b : Broadcast) → find (λ x. x.attempt == attempt) v.broadcasts ≡ Some b → (k : Bool) →
           ((b.minute == minute) && is_among carrier (waiters b)) ≡ k → Some s ≡ (if k then Some s else None) → IsAwaited st carrier s minute id attempt
@@ -248,15 +251,15 @@ module _ (st : State) (c : Content) (stands : Stands c st) (carrier : ℕ) where
       go None found e = cc
       go (Some v) found e = of_version v found (find (λ x. x.attempt == attempt) v.broadcasts) refl e
 
-  pub awaited-waiting : (s : Subject) (minute id attempt : ℕ) → IsAwaited st carrier s minute id attempt → IsWaiting c carrier s minute id attempt
-  awaited-waiting s minute id attempt is = go (get c.waits (record { carrier = carrier; minute = minute; id = id; attempt = attempt })) refl
+  pub awaited-waiting : (s : Subject) → IsSettled c st s → (minute id attempt : ℕ) → IsAwaited st carrier s minute id attempt → IsWaiting c carrier s minute id attempt
+  awaited-waiting s due minute id attempt is = go (get c.waits (record { carrier = carrier; minute = minute; id = id; attempt = attempt })) refl
     where
       stored : stored_wait s carrier minute is.broadcast ≡ Some s
       stored = ap (λ m. if (m == minute) && is_among carrier (waiters is.broadcast) then Some s else None) is.sent_at
           ∙ ap (λ b. if b && is_among carrier (waiters is.broadcast) then Some s else None) (same_number minute) ∙ ap (λ b. if b then Some s else None) is.waits
 
       shown : of_subject s (λ t. t) (get c.waits (record { carrier = carrier; minute = minute; id = id; attempt = attempt })) ≡ Some s
-      shown = (stands.due.shows s).waits carrier minute id attempt
+      shown = due.shows.waits carrier minute id attempt
           ∙ ap (λ o. option_and_then (stored_wait s carrier minute) (option_and_then (λ (v : Version). find (λ x. x.attempt == attempt) v.broadcasts) o)) is.found
           ∙ ap (option_and_then (stored_wait s carrier minute)) is.sent ∙ stored
 
@@ -323,7 +326,7 @@ module _ (st : State) (c : Content) (stands : Stands c st) (carrier : ℕ) where
 
   -- ---- the downloads of one subject
 
-  module _ (s : Subject) (keys : List DownloadKey) (are : AreWaitsAbout c carrier s keys) where
+  module _ (s : Subject) (due : IsSettled c st s) (keys : List DownloadKey) (are : AreWaitsAbout c carrier s keys) where
     all_among : (P : DownloadKey → Type 0) (ks : List DownloadKey) → All P ks → (k : DownloadKey) → Among k ks → P k
     all_among P [] all k is = absurd is
     all_among P (x ∷ xs) all k (inl e) = subst P (sym e) (all 0 x (omega arith))
@@ -336,7 +339,7 @@ module _ (st : State) (c : Content) (stands : Stands c st) (carrier : ℕ) where
 
     -- each key's download stands in the queue
     pub key-awaited : (k : DownloadKey) → Among k keys → IsAwaited st carrier s k.minute.number k.id k.attempt
-    key-awaited k is = waiting-awaited s k.minute.number k.id k.attempt (all_among (λ d. IsWaiting c carrier s d.minute.number d.id d.attempt) keys are.only k is)
+    key-awaited k is = waiting-awaited s due k.minute.number k.id k.attempt (all_among (λ d. IsWaiting c carrier s d.minute.number d.id d.attempt) keys are.only k is)
 
     of_key : (k : DownloadKey) (is : IsAwaited st carrier s k.minute.number k.id k.attempt) → IsKeyOf s k (the_download s k.minute.number k.id k.attempt is)
     of_key k is = record { subject = refl; minute = is.sent_at; id = id_is s k.minute.number k.id k.attempt is; attempt = attempt_is s k.minute.number k.id k.attempt is }
@@ -350,7 +353,7 @@ module _ (st : State) (c : Content) (stands : Stands c st) (carrier : ℕ) where
     queued-key : (d : Download) → Among d (queue st carrier) → d.subject ≡ s → (k : DownloadKey) × Among k keys × IsKeyOf s k d
     queued-key d is of_it =
         let awaited : IsAwaited st carrier s d.minute d.id d.attempt = subst (λ t. IsAwaited st carrier t d.minute d.id d.attempt) of_it (queued-awaited d is) in
-        let key = are.each d.minute d.id d.attempt (awaited-waiting s d.minute d.id d.attempt awaited) in
+        let key = are.each d.minute d.id d.attempt (awaited-waiting s due d.minute d.id d.attempt awaited) in
         (key.0, contained keys key.0 key.1.0 key.1.1 key.1.2, record { subject = of_it; minute = sym key.2; id = sym key.3; attempt = sym key.4 })
 
     same_truth : (x y : Bool) → (x ≡ true → y ≡ true) → (y ≡ true → x ≡ true) → x ≡ y
@@ -432,13 +435,13 @@ module _ (old : Content) (caller id attempt : ℕ) (st : State) (stands : Stands
   pub refused_not_found : is_some (get old.carriers caller) ≡ true → get old.versions id ≡ None → refusal st (Requests caller (Acknowledges id attempt)) ≡ Some 10
   refused_not_found known none =
       acknowledgement_by_table st caller id attempt ∙ ap (λ b. acknowledgement_table st caller id attempt b (no_version st id)) (known_is true known)
-      ∙ ap (λ o. acknowledgement_table st caller id attempt true (is_none o)) (no_row st old id stands.due none)
+      ∙ ap (λ o. acknowledgement_table st caller id attempt true (is_none o)) (no_row_now st old stands.represents id none)
 
   -- by the downloads of the version's subject
-  pub refused_by_keys : (row : VersionRow) (keys : List DownloadKey) → is_some (get old.carriers caller) ≡ true → get old.versions id ≡ Some row → AreWaitsAbout old caller row.subject keys →
+  pub refused_by_keys : IdSettled old st id → (row : VersionRow) (keys : List DownloadKey) → is_some (get old.carriers caller) ≡ true → get old.versions id ≡ Some row → AreWaitsAbout old caller row.subject keys →
       refusal st (Requests caller (Acknowledges id attempt)) ≡ key_refusal keys id attempt
-  refused_by_keys row keys known found are =
-      let shown : (v : Version) × (version_with id (record_now st row.subject) ≡ Some v) × (row ≡ row_of st.windows row.subject v) = row_shows st old id row stands.due found in
+  refused_by_keys settled row keys known found are =
+      let shown : (v : Version) × (version_with id (record_now st row.subject) ≡ Some v) × (row ≡ row_of st.windows row.subject v) = row_now st old id row stands.represents settled found in
       acknowledgement_by_table st caller id attempt ∙ ap (λ b. acknowledgement_table st caller id attempt b (no_version st id)) (known_is true known)
       ∙ ap (λ o. acknowledgement_table st caller id attempt true (is_none o)) (found_is st stands.represents.history row.subject id shown.0 shown.1)
-      ∙ sym (keys_refused st old stands caller row.subject keys are id attempt shown.0 shown.1)
+      ∙ sym (keys_refused st old stands caller row.subject (row_settled st old id row stands.represents settled found) keys are id attempt shown.0 shown.1)

@@ -17,7 +17,7 @@ use Rattle.meaning.specs.Reading.{State, View, record_now, view_of}
 use Rattle.meaning.specs.Refusals.{Requests, refusal}
 use Rattle.meaning.specs.Machine.{Shown, accepted, answer_of}
 use Rattle.meaning.specs.Content.{Content, VersionRow, BroadcastRow, ClockRow, row_of}
-use Rattle.meaning.proofs.Shown.{row_shows, id_found, some_is}
+use Rattle.meaning.proofs.Shown.{id_found, some_is}
 use Rattle.version.specs.declared.version.Version.{Version as VersionCode}
 use Rattle.version.specs.Views.{version_of, seen, Becomes}
 use Rattle.delivery.specs.declared.download.DownloadKey.{DownloadKey}
@@ -28,7 +28,10 @@ use Rattle.settle.specs.declared.rows.VersionRow.TheInside.{Inside}
 use Rattle.settle.specs.Views.{version_row_of, spid_of}
 use Rattle.settle.specs.Reads.{AreWaitsAbout}
 use Rattle.settle.specs.Changes.{IsChanged}
-use Rattle.register.specs.Answers.{Stands, AnswersAs}
+use Rattle.settle.specs.Settling.{IsSettled}
+use Rattle.register.specs.Answers.{Stands}
+use Rattle.register.specs.Settling.{AnswersSettled, AreSettled, LeavesOthers}
+use Rattle.register.proofs.Settled.{IdSettled, row_now, row_settled}
 use Rattle.register.specs.Calls.{refused_with}
 use Rattle.register.specs.Acknowledging.{is_sending, answered_row, completed_if, by_row, retired_rows, own_rows, acknowledging, completes, are_only, IsEarlier, IsFound, all_changes}
 use Rattle.register.proofs.Composed.{answers_refused_same, answers_accepted}
@@ -36,7 +39,7 @@ use Rattle.register.proofs.OnVersion.{clock_of, clock_is_of}
 use Rattle.register.proofs.Activated.{row_version}
 use Rattle.register.proofs.Queued.{IsAwaited, found-awaited, refused_unknown, refused_not_found, refused_by_keys}
 use Rattle.register.proofs.Answering.{answered_all, row_was}
-use Rattle.register.proofs.Acknowledged.{broadcast_there, broadcast_read, retired_read, puts_of, the_replaced, acknowledged-stands, acknowledged-answer}
+use Rattle.register.proofs.Acknowledged.{broadcast_there, broadcast_read, retired_read, puts_of, the_replaced, acknowledged-stands, acknowledged-leaves, acknowledged-answer}
 
 -- ---- carriers of the code
 
@@ -89,36 +92,39 @@ rows_alone w minute (Some n) = refl
 
 -- ---- refusals
 
-pub answers_unknown : (old new : Content) (caller id attempt : ℕ) → new ≡ old → is_some (get old.carriers caller) ≡ false → AnswersAs old new (Requests caller (Acknowledges id attempt)) (refused_with 1)
+pub answers_unknown : (old new : Content) (caller id attempt : ℕ) → new ≡ old → is_some (get old.carriers caller) ≡ false → AnswersSettled old new (Requests caller (Acknowledges id attempt)) (refused_with 1)
 answers_unknown old new caller id attempt same unknown =
-    answers_refused_same old new (Requests caller (Acknowledges id attempt)) 1 same (λ st stands. refused_unknown old caller id attempt st stands unknown)
+    answers_refused_same old new (Requests caller (Acknowledges id attempt)) 1 same (λ st stands settled. refused_unknown old caller id attempt st stands unknown)
 
 pub answers_not_found : (old new : Content) (caller id attempt : ℕ) → new ≡ old → is_some (get old.carriers caller) ≡ true → get old.versions id ≡ None →
-    AnswersAs old new (Requests caller (Acknowledges id attempt)) (refused_with 10)
+    AnswersSettled old new (Requests caller (Acknowledges id attempt)) (refused_with 10)
 answers_not_found old new caller id attempt same known none =
-    answers_refused_same old new (Requests caller (Acknowledges id attempt)) 10 same (λ st stands. refused_not_found old caller id attempt st stands known none)
+    answers_refused_same old new (Requests caller (Acknowledges id attempt)) 10 same (λ st stands settled. refused_not_found old caller id attempt st stands known none)
 
 pub answers_by_keys : (old new : Content) (caller id attempt : ℕ) (row : VersionRow) (u : Inside) (keys : List DownloadKey) (k : ℕ) → new ≡ old → is_some (get old.carriers caller) ≡ true →
     get old.versions id ≡ Some row → version_row_of u ≡ row → AreWaitsAbout old caller (subject_of u.version.subject) keys → Some k ≡ key_refusal keys id attempt →
-    AnswersAs old new (Requests caller (Acknowledges id attempt)) (refused_with k)
+    AnswersSettled old new (Requests caller (Acknowledges id attempt)) (refused_with k)
 answers_by_keys old new caller id attempt row u keys k same known found is waits refused =
     answers_refused_same old new (Requests caller (Acknowledges id attempt)) k same
-    (λ st stands. refused_by_keys old caller id attempt st stands row keys known found (subst (λ s. AreWaitsAbout old caller s keys) (ap (λ (r : VersionRow). r.subject) is) waits) ∙ sym refused)
+    (λ st stands settled. refused_by_keys old caller id attempt st stands settled row keys known found (subst (λ s. AreWaitsAbout old caller s keys) (ap (λ (r : VersionRow). r.subject) is) waits) ∙ sym refused)
 
 -- a download that waits is of a broadcast that has a row
 pub never_missing : (old : Content) (caller id attempt : ℕ) (row : VersionRow) (u : Inside) (keys : List DownloadKey) (key : DownloadKey) →
     get old.versions id ≡ Some row → version_row_of u ≡ row → AreWaitsAbout old caller (subject_of u.version.subject) keys → find (is_key id attempt) keys ≡ Some key →
-    get old.broadcasts (record { id = id; attempt = attempt }) ≡ None → (st : State) → Stands old st → ⊥
-never_missing old caller id attempt row u keys key found is waits key_is absent st stands = broadcast_there st old stands caller row.subject key.minute.number id attempt awaited absent
+    get old.broadcasts (record { id = id; attempt = attempt }) ≡ None → (st : State) → Stands old st → IdSettled old st id → ⊥
+never_missing old caller id attempt row u keys key found is waits key_is absent st stands settled = broadcast_there st old stands caller row.subject due key.minute.number id attempt awaited absent
   where
     waits_about : AreWaitsAbout old caller row.subject keys
     waits_about = subst (λ s. AreWaitsAbout old caller s keys) (ap (λ (r : VersionRow). r.subject) is) waits
 
+    due : IsSettled old st row.subject
+    due = row_settled st old id row stands.represents settled found
+
     shown : (v : Version) × (version_with id (record_now st row.subject) ≡ Some v) × (row ≡ row_of st.windows row.subject v)
-    shown = row_shows st old id row stands.due found
+    shown = row_now st old id row stands.represents settled found
 
     awaited : IsAwaited st caller row.subject key.minute.number id attempt
-    awaited = (found-awaited st old stands caller row.subject keys waits_about id attempt shown.0 shown.1 key key_is).0
+    awaited = (found-awaited st old stands caller row.subject due keys waits_about id attempt shown.0 shown.1 key key_is).0
 
 -- ---- an acknowledgement
 
@@ -130,7 +136,7 @@ pub answers_acknowledged : (old new : Content) (caller id attempt : ℕ) (clock 
     Becomes (completed_if (completes u.version attempt last) clock.minute) u.version after →
     IsChanged (all_changes clock.windows clock.minute (record { carrier = caller; minute = key.minute.number; id = id; attempt = attempt }) u.version after broadcast last earlier) old new →
     ((st : State) (broadcasts : List Broadcast) → st.now ≡ clock.minute → st.windows ≡ clock.windows → view ≡ view_of st (record { subject = subject_of after.subject; version = version_of id broadcasts after })) →
-    AnswersAs old new (Requests caller (Acknowledges id attempt)) (Some (Shown (Some view)))
+    AnswersSettled old new (Requests caller (Acknowledges id attempt)) (Some (Shown (Some view)))
 answers_acknowledged old new caller id attempt clock row u keys key broadcast last earlier after view known clock_is found is waits accepts key_is there becomes changed views =
     answers_accepted old new (Requests caller (Acknowledges id attempt)) (Shown (Some view)) each
   where
@@ -140,23 +146,27 @@ answers_acknowledged old new caller id attempt clock row u keys key broadcast la
     waits_about : AreWaitsAbout old caller row.subject keys
     waits_about = subst (λ s. AreWaitsAbout old caller s keys) subject_is waits
 
-    each : (st : State) → Stands old st → (refusal st (Requests caller (Acknowledges id attempt)) ≡ None)
+    each : (st : State) → Stands old st → AreSettled old st (Requests caller (Acknowledges id attempt)) → (refusal st (Requests caller (Acknowledges id attempt)) ≡ None)
         × (Shown (Some view) ≡ answer_of st (accepted st (Requests caller (Acknowledges id attempt))) (Requests caller (Acknowledges id attempt)))
-        × Stands new (accepted st (Requests caller (Acknowledges id attempt)))
-    each st stands = (
+        × Stands new (accepted st (Requests caller (Acknowledges id attempt))) × LeavesOthers old new st (Requests caller (Acknowledges id attempt))
+    each st stands settled = (
       none,
-      acknowledged-answer st old new stands caller row.subject key.minute.number id attempt awaited last there.last change none clock clock_is view seen_view,
-      acknowledged-stands st old new stands caller row.subject key.minute.number id attempt awaited last there.last change none clock clock_is,
+      acknowledged-answer st old new stands caller row.subject due key.minute.number id attempt awaited last there.last change none clock clock_is view seen_view,
+      acknowledged-stands st old new stands caller row.subject due key.minute.number id attempt awaited last there.last change none clock clock_is,
+      acknowledged-leaves st old new stands caller row.subject due key.minute.number id attempt awaited last there.last change,
     )
       where
+        due : IsSettled old st row.subject
+        due = row_settled st old id row stands.represents settled found
+
         shown : (v : Version) × (version_with id (record_now st row.subject) ≡ Some v) × (row ≡ row_of st.windows row.subject v)
-        shown = row_shows st old id row stands.due found
+        shown = row_now st old id row stands.represents settled found
 
         none : refusal st (Requests caller (Acknowledges id attempt)) ≡ None
-        none = refused_by_keys old caller id attempt st stands row keys known found waits_about ∙ sym accepts
+        none = refused_by_keys old caller id attempt st stands settled row keys known found waits_about ∙ sym accepts
 
         awaited : IsAwaited st caller row.subject key.minute.number id attempt
-        awaited = (found-awaited st old stands caller row.subject keys waits_about id attempt shown.0 shown.1 key key_is).0
+        awaited = (found-awaited st old stands caller row.subject due keys waits_about id attempt shown.0 shown.1 key key_is).0
 
         row_is : row ≡ row_of st.windows row.subject awaited.version
         row_is = shown.2 ∙ ap (row_of st.windows row.subject) (some_is shown.0 awaited.version (sym shown.1 ∙ awaited.found))
@@ -207,7 +217,7 @@ answers_acknowledged old new caller id attempt clock row u keys key broadcast la
             ++ own_rows (last && (awaited.version.attempt == attempt)) id (row_of st.windows row.subject (completed_if (last && (awaited.version.attempt == attempt)) st.now (answered_all caller attempt st.now awaited.version)))
         versions_same =
             ap (λ ps. ps ++ own_rows (completes u.version attempt last) id (row_of st.windows (subject_of after.subject) (seen after)))
-            (retired_read st old stands row.subject ((last && (awaited.version.attempt == attempt)) && sends_create awaited.version.status) earlier replaced)
+            (retired_read st old stands row.subject due ((last && (awaited.version.attempt == attempt)) && sends_create awaited.version.status) earlier replaced)
             ∙ ap (λ b. puts_of st.windows st.now row.subject (the_replaced ((last && (awaited.version.attempt == attempt)) && sends_create awaited.version.status) (record_now st row.subject))
             ++ own_rows b id (row_of st.windows (subject_of after.subject) (seen after))) complete
             ∙ ap (λ r. puts_of st.windows st.now row.subject (the_replaced ((last && (awaited.version.attempt == attempt)) && sends_create awaited.version.status) (record_now st row.subject))
@@ -220,7 +230,7 @@ answers_acknowledged old new caller id attempt clock row u keys key broadcast la
             ap (λ b. answered_row (b && is_sending (status_of u.version.status)) broadcast) complete
             ∙ ap (λ t. answered_row ((last && (awaited.version.attempt == attempt)) && is_sending t) broadcast) same_status
             ∙ ap (answered_row ((last && (awaited.version.attempt == attempt)) && is_sending awaited.version.status))
-            (broadcast_read st old stands caller row.subject key.minute.number id attempt awaited broadcast there.stored)
+            (broadcast_read st old stands caller row.subject due key.minute.number id attempt awaited broadcast there.stored)
 
         change : IsChanged (acknowledging caller key.minute.number id attempt last
             (puts_of st.windows st.now row.subject (the_replaced ((last && (awaited.version.attempt == attempt)) && sends_create awaited.version.status) (record_now st row.subject))

@@ -10,7 +10,7 @@ use Rattle.numbers.specs.Subjects.{Subject, Block}
 use Rattle.meaning.specs.Commands.{RegisterCarrier}
 use Rattle.meaning.specs.Conditions.{limit}
 use Rattle.meaning.specs.Laws.{IsQuiet}
-use Rattle.meaning.specs.Versions.{Version, Record, Broadcast, is_among, with_number, last_version}
+use Rattle.meaning.specs.Versions.{Version, Broadcast, is_among, with_number, last_version}
 use Rattle.meaning.specs.History.{Entry, Commands, next_id, carriers, carrier_named, carrier_added, donor_of}
 use Rattle.meaning.specs.Reading.{State, InForce, record_now, is_carrier, all_in_force}
 use Rattle.meaning.specs.Refusals.{Requests, refusal, tests, first_that_holds, npac}
@@ -22,7 +22,9 @@ use Rattle.meaning.proofs.Represented.{reached_now}
 use Rattle.meaning.proofs.Entered.{next_id-same}
 use Rattle.meaning.proofs.Recipients.{among-with_number, broadcast_known}
 use Rattle.settle.specs.Changes.{IsChanged}
-use Rattle.register.specs.Answers.{Stands, AnswersAs}
+use Rattle.settle.specs.Settling.{IsSettled}
+use Rattle.register.specs.Answers.{Stands}
+use Rattle.register.specs.Settling.{AnswersSettled}
 use Rattle.register.specs.Joining.{joining}
 use Rattle.register.proofs.Composed.{answers_accepted}
 use Rattle.register.proofs.Joined.{joined_record, registered-record, joined-quiet, joined-shows}
@@ -199,7 +201,7 @@ module _ (old : Content) (caller spid : ℕ) where
 module _ (old new : Content) (caller spid : ℕ) (clock : ClockRow) (clock_is : old.clock ≡ Some clock)
     (changed : IsChanged (joining spid (filter (λ e. e.1.is_open) (entries old.broadcasts))) old new)
     (admin : (caller == npac) ≡ true) (free : (spid == npac || is_some (get old.carriers spid)) ≡ false) (room : nat_le 100 (length (keys old.carriers)) ≡ false)
-    (st : State) (stands : Stands old st) where
+    (st : State) (stands : Stands old st) (settled : (s : Subject) → IsSettled old st s) where
   abbrev after_it : State
   after_it = accepted st (Requests caller (Commands (RegisterCarrier spid)))
 
@@ -225,10 +227,10 @@ module _ (old new : Content) (caller spid : ℕ) (clock : ClockRow) (clock_is : 
   the_record s = registered-record st caller spid s
 
   shows : (s : Subject) → Shows st.windows new s (joined_record spid (record_now st s))
-  shows s = joined-shows st.windows s spid old new (record_now st s) changed (not_yet s) (stands.due.shows s)
+  shows s = joined-shows st.windows s spid old new (record_now st s) changed (not_yet s) (settled s).shows
 
   quiet : (s : Subject) → IsQuiet st.windows st.now (joined_record spid (record_now st s)).versions
-  quiet s = joined-quiet st.windows spid st.now (record_now st s).versions (stands.due.quiet s)
+  quiet s = joined-quiet st.windows spid st.now (record_now st s).versions (settled s).quiet
 
   history_after : IsHistory st.windows after_it.history st.now
   history_after = (omega arith, tt, accepts, stands.represents.history)
@@ -266,20 +268,17 @@ module _ (old new : Content) (caller spid : ℕ) (clock : ClockRow) (clock_is : 
         catches_up = caught_up-quiet st.windows st.now (joined_record spid (record_now st t)) (quiet t) ∙ sym (the_record t);
       };
     };
-    due = record {
-      shows = λ t. subst (Shows st.windows new t) (sym (the_record t)) (shows t);
-      quiet = λ t. subst (λ (r : Record). IsQuiet st.windows st.now r.versions) (sym (the_record t)) (quiet t);
-    };
     written = ap is_some changed.clock ∙ stands.written;
   }
 
 pub answers_registered : (old new : Content) (caller spid : ℕ) (clock : ClockRow) (rows : List InForce) → old.clock ≡ Some clock →
     IsChanged (joining spid (filter (λ e. e.1.is_open) (entries old.broadcasts))) old new →
     (caller == npac) ≡ true → (spid == npac || is_some (get old.carriers spid)) ≡ false → nat_le 100 (length (keys old.carriers)) ≡ false →
-    ((st : State) → Stands old st → rows ≡ all_in_force st) → AnswersAs old new (Requests caller (Commands (RegisterCarrier spid))) (Some (Registered spid rows))
+    ((st : State) → Stands old st → ((s : Subject) → IsSettled old st s) → rows ≡ all_in_force st) → AnswersSettled old new (Requests caller (Commands (RegisterCarrier spid))) (Some (Registered spid rows))
 answers_registered old new caller spid clock rows clock_is changed admin free room listed =
-    answers_accepted old new (Requests caller (Commands (RegisterCarrier spid))) (Registered spid rows) (λ st stands. (
+    answers_accepted old new (Requests caller (Commands (RegisterCarrier spid))) (Registered spid rows) (λ st stands settled. (
       carrier_accepted old caller spid admin free room st stands,
-      ap (λ xs. Registered spid xs) (listed st stands),
-      registered_stands old new caller spid clock clock_is changed admin free room st stands,
+      ap (λ xs. Registered spid xs) (listed st stands (λ s. settled s refl)),
+      registered_stands old new caller spid clock clock_is changed admin free room st stands (λ s. settled s refl),
+      λ t other. let never : true ≡ false = other in cc,
     ))

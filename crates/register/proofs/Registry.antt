@@ -6,20 +6,18 @@ use Rattle.std.proofs.lemmas.Bool.Decides.{nat_tests}
 use Rattle.numbers.specs.Subjects.{Subject, Block}
 use Rattle.meaning.specs.Commands.{RegisterRoutingNumber, OpenCode}
 use Rattle.meaning.specs.Conditions.{limit}
-use Rattle.meaning.specs.Laws.{IsQuiet}
-use Rattle.meaning.specs.Versions.{Version, Record, last_version, is_among}
+use Rattle.meaning.specs.Versions.{Version, last_version, is_among}
 use Rattle.meaning.specs.History.{Request, Commands, HasLines, next_id, carriers, donor_of, lrn_owner, code_holder, or_else, makes, donor_named}
 use Rattle.meaning.specs.Reading.{State, record_now, is_carrier}
 use Rattle.meaning.specs.Refusals.{Requests, refusal, tests, first_that_holds, npac}
 use Rattle.meaning.specs.Machine.{LrnAdded, CodeOpened, accepted}
-use Rattle.meaning.specs.Content.{Content, VersionRow, BroadcastRow, BlockRow, ClockRow, BroadcastKey, WaitKey, Shows, Represents, ClockShows, SameRows, of_subject}
-use Rattle.meaning.specs.Due.{NothingIsDue}
-use Rattle.meaning.proofs.Settling.{caught_up-quiet}
-use Rattle.meaning.proofs.Represented.{same_rows_show, reached_now}
+use Rattle.meaning.specs.Content.{Content, VersionRow, BroadcastRow, BlockRow, ClockRow, BroadcastKey, WaitKey, Lags, Represents, ClockShows, SameRows, of_subject}
+use Rattle.meaning.proofs.Represented.{same_rows_lag}
 use Rattle.meaning.specs.Concerns.{concerns}
 use Rattle.meaning.proofs.Entered.{entered-elsewhere, next_id-same, next_id-below}
 use Rattle.settle.specs.Changes.{IsChanged, no_changes}
-use Rattle.register.specs.Answers.{Stands, AnswersAs}
+use Rattle.register.specs.Answers.{Stands}
+use Rattle.register.specs.Settling.{AnswersSettled}
 use Rattle.register.proofs.Composed.{answers_accepted}
 
 -- ---- an entry that concerns no subject, and rows of the registry alone
@@ -38,17 +36,11 @@ module _ (st : State) (old new : Content) (caller : ℕ) (request : Request) (st
       (no_donor : (b : ℕ) → donor_named b caller request ≡ None)
       (carriers_are : (k : ℕ) → is_some (get new.carriers k) ≡ is_among k (carriers after_it.history))
       (lrns_are : (k : ℕ) → get new.lrns k ≡ lrn_owner k after_it.history) (codes_are : (k : ℕ) → get new.codes k ≡ code_holder k after_it.history) where
-    same_rows : (t : Subject) → SameRows t old new
+    pub same_rows : (t : Subject) → SameRows t old new
     same_rows t = record {
       versions = λ k. ap (of_subject t (λ (x : VersionRow). x.subject)) (versions k);
       broadcasts = λ k a. ap (of_subject t (λ (x : BroadcastRow). x.subject)) (broadcasts (record { id = k; attempt = a }));
       waits = λ c m k a. ap (of_subject t (λ u. u)) (waits (record { carrier = c; minute = m; id = k; attempt = a }));
-    }
-
-    still_due : NothingIsDue new after_it
-    still_due = record {
-      shows = λ t. subst (Shows st.windows new t) (sym (same_record t)) (same_rows_show st.windows t old new (record_now st t) (same_rows t) (stands.due.shows t));
-      quiet = λ t. subst (λ (r : Record). IsQuiet st.windows st.now r.versions) (sym (same_record t)) (stands.due.quiet t);
     }
 
     clock_at : (o : Option ClockRow) → ClockShows o st → old.clock ≡ o → ClockShows new.clock after_it
@@ -69,14 +61,8 @@ module _ (st : State) (old new : Content) (caller : ℕ) (request : Request) (st
         blocks = λ b. blocks b ∙ stands.represents.blocks b
             ∙ sym (ap (λ r. option_map (λ donor. let row : BlockRow = record { donor = donor; last = option_map (λ (u : Version). u.id) (last_version r) } in row) (donor_of b st.history)) (same_record (Block b)))
             ∙ sym (ap (λ o. option_map (λ donor. let row : BlockRow = record { donor = donor; last = option_map (λ (u : Version). u.id) (last_version (record_now after_it (Block b))) } in row) (or_else o (donor_of b st.history))) (no_donor b));
-        subjects = λ t. record {
-          kept = record_now st t;
-          shows = same_rows_show st.windows t old new (record_now st t) (same_rows t) (stands.due.shows t);
-          reached = reached_now st stands.represents.history t;
-          catches_up = caught_up-quiet st.windows st.now (record_now st t) (stands.due.quiet t) ∙ sym (same_record t);
-        };
+        subjects = λ t. subst (Lags st.windows new st.now t) (sym (same_record t)) (same_rows_lag st.windows st.now t old new (record_now st t) (same_rows t) (stands.represents.subjects t));
       };
-      due = still_due;
       written = ap is_some clock ∙ stands.written;
     }
 
@@ -115,9 +101,9 @@ module _ (old : Content) (caller lrn : ℕ) where
       ∙ ap (λ b. if b then Some 28 else None) (ids_left st old stands.represents)
 
 pub answers_lrn : (old new : Content) (caller lrn : ℕ) → is_some (get old.carriers caller) ≡ true → get old.lrns lrn ≡ None →
-    IsChanged (record no_changes { lrn = Some (lrn, caller) }) old new → AnswersAs old new (Requests caller (Commands (RegisterRoutingNumber lrn))) (Some (LrnAdded lrn caller))
+    IsChanged (record no_changes { lrn = Some (lrn, caller) }) old new → AnswersSettled old new (Requests caller (Commands (RegisterRoutingNumber lrn))) (Some (LrnAdded lrn caller))
 answers_lrn old new caller lrn known free changed =
-    answers_accepted old new (Requests caller (Commands (RegisterRoutingNumber lrn))) (LrnAdded lrn caller) (λ st stands. (
+    answers_accepted old new (Requests caller (Commands (RegisterRoutingNumber lrn))) (LrnAdded lrn caller) (λ st stands settled. (
       lrn_accepted old caller lrn known free st stands,
       refl,
       registry_stands st old new caller (Commands (RegisterRoutingNumber lrn)) stands refl (λ t. refl) tt (lrn_accepted old caller lrn known free st stands)
@@ -126,6 +112,12 @@ answers_lrn old new caller lrn known free changed =
           (λ k. ap is_some (changed.carriers k) ∙ stands.represents.carriers k)
           (λ k. changed.lrns k ∙ owner st stands k (lrn == k))
           (λ k. changed.codes k ∙ stands.represents.codes k),
+      λ t other. same_rows st old new caller (Commands (RegisterRoutingNumber lrn)) stands refl (λ t. refl) tt (lrn_accepted old caller lrn known free st stands)
+          (has_begun st caller (sym (stands.represents.carriers caller) ∙ known))
+          changed.versions changed.broadcasts changed.waits changed.blocks changed.clock (λ b. refl)
+          (λ k. ap is_some (changed.carriers k) ∙ stands.represents.carriers k)
+          (λ k. changed.lrns k ∙ owner st stands k (lrn == k))
+          (λ k. changed.codes k ∙ stands.represents.codes k) t,
     ))
   where
     owner : (st : State) → Stands old st → (k : ℕ) (b : Bool) → (if b then Some caller else get old.lrns k) ≡ or_else (if b then Some caller else None) (lrn_owner k st.history)
@@ -167,9 +159,9 @@ module _ (old : Content) (caller code spid : ℕ) where
       ∙ ap (λ b. if b then Some 28 else None) (ids_left st old stands.represents)
 
 pub answers_code : (old new : Content) (caller code spid : ℕ) → is_some (get old.carriers spid) ≡ true → (caller == npac) ≡ true → get old.codes code ≡ None →
-    IsChanged (record no_changes { code = Some (code, spid) }) old new → AnswersAs old new (Requests caller (Commands (OpenCode code spid))) (Some (CodeOpened code spid))
+    IsChanged (record no_changes { code = Some (code, spid) }) old new → AnswersSettled old new (Requests caller (Commands (OpenCode code spid))) (Some (CodeOpened code spid))
 answers_code old new caller code spid known admin free changed =
-    answers_accepted old new (Requests caller (Commands (OpenCode code spid))) (CodeOpened code spid) (λ st stands. (
+    answers_accepted old new (Requests caller (Commands (OpenCode code spid))) (CodeOpened code spid) (λ st stands settled. (
       code_accepted old caller code spid known admin free st stands,
       refl,
       registry_stands st old new caller (Commands (OpenCode code spid)) stands refl (λ t. refl) tt (code_accepted old caller code spid known admin free st stands)
@@ -178,6 +170,12 @@ answers_code old new caller code spid known admin free changed =
           (λ k. ap is_some (changed.carriers k) ∙ stands.represents.carriers k)
           (λ k. changed.lrns k ∙ stands.represents.lrns k)
           (λ k. changed.codes k ∙ holder st stands k (code == k)),
+      λ t other. same_rows st old new caller (Commands (OpenCode code spid)) stands refl (λ t. refl) tt (code_accepted old caller code spid known admin free st stands)
+          (has_begun st spid (sym (stands.represents.carriers spid) ∙ known))
+          changed.versions changed.broadcasts changed.waits changed.blocks changed.clock (λ b. refl)
+          (λ k. ap is_some (changed.carriers k) ∙ stands.represents.carriers k)
+          (λ k. changed.lrns k ∙ stands.represents.lrns k)
+          (λ k. changed.codes k ∙ holder st stands k (code == k)) t,
     ))
   where
     holder : (st : State) → Stands old st → (k : ℕ) (b : Bool) → (if b then Some spid else get old.codes k) ≡ or_else (if b then Some spid else None) (code_holder k st.history)

@@ -22,17 +22,20 @@ use Rattle.version.specs.declared.create.Created.TheVariants.{Second}
 use Rattle.version.specs.Views.{version_of, seen, Becomes}
 use Rattle.version.specs.Creates.{command_of, create_refusal, lacks, is_lacked, with_create, answered_by, IsCreated}
 use Rattle.settle.specs.Changes.{IsChanged}
-use Rattle.register.specs.Answers.{Stands, AnswersAs}
+use Rattle.settle.specs.Settling.{IsSettled}
+use Rattle.register.specs.Answers.{Stands}
+use Rattle.register.specs.Settling.{AnswersSettled, AreSettled, LeavesOthers}
 use Rattle.register.specs.Sending.{putting}
 use Rattle.register.proofs.Composed.{answers_accepted}
-use Rattle.register.proofs.OnVersion.{IsOnOne, clock_of, clock_is_of, on_version-stands, shown_is}
+use Rattle.register.proofs.OnVersion.{IsOnOne, clock_of, clock_is_of, on_version-stands, others_stay, shown_is}
 use Rattle.register.proofs.Columns.{opened_is, sound_open}
 use Rattle.register.proofs.FirstCreate.{putting-are, create-makes, create-concerns}
 use Rattle.register.proofs.SecondCreate.{one_of, lacking-open, with_create-id, with_create-broadcasts, second-record, changed-quiet, with_create-quiet, changed-shows}
 use Rattle.register.proofs.HasCreate.{replay-has_create, found_has_create}
-use Rattle.register.proofs.Created.{HasRead, refused_as, create-registry, id_or, reply_by, lacks_as, second_created, found_quiet, Views}
+use Rattle.register.proofs.Settled.{number_of_number, leaves_but}
+use Rattle.register.proofs.Created.{create_settled, settles_number, HasRead, refused_as, create-registry, id_or, reply_by, lacks_as, second_created, found_quiet, Views}
 
-module _ (st : State) (old new : Content) (caller : ℕ) (c : CreateCode) (id : ℕ) (v : Version) (clock : ClockRow) (stands : Stands old st) (clock_is : old.clock ≡ Some clock)
+module _ (st : State) (old new : Content) (caller : ℕ) (c : CreateCode) (id : ℕ) (v : Version) (clock : ClockRow) (stands : Stands old st) (due : IsSettled old st (Number c.tn.number)) (clock_is : old.clock ≡ Some clock)
     (none : refusal st (Requests caller (Commands (command_of c))) ≡ None)
     (opened : open_version (Number c.tn.number) (record_now st (Number c.tn.number)) ≡ Some v) (found : version_with id (record_now st (Number c.tn.number)) ≡ Some v)
     (lacking : lacks c.creator c.old_provider.number c.new_provider.number v ≡ true)
@@ -81,12 +84,17 @@ module _ (st : State) (old new : Content) (caller : ℕ) (c : CreateCode) (id : 
   second-stands : Stands new after_it
   second-stands = on_version-stands st old new caller request s id (putting id st.windows s (change v) None) second_record
       (create-registry c.creator caller c.tn.number c.old_provider.number c.new_provider.number c.due.number) stands none on_one clock_after (putting-are id st.windows s (change v) None) changed record_is
-      (changed-shows st.windows s id change (with_create-id c.creator st.now) v (with_create-broadcasts c.creator st.now v) (record_now st s) None old new changed found (stands.due.shows s))
+      (changed-shows st.windows s id change (with_create-id c.creator st.now) v (with_create-broadcasts c.creator st.now v) (record_now st s) None old new changed found due.shows)
       (changed-quiet st.windows st.now (made_by st.windows st.history) s id change (record_now st s).versions v (given_now st stands.represents.history s) found
       (with_create-quiet st.windows stands.represents.windows c.creator c.old_provider.number c.new_provider.number st.now v lacking
       (found_has_create (λ u. u.id == id) (record_now st s).versions v (replay-has_create st.windows st.history st.now stands.represents.history s st.now) found)
-      (found_quiet st.windows st.now (λ u. u.id == id) (record_now st s).versions v found (stands.due.quiet s)))
-      (stands.due.quiet s))
+      (found_quiet st.windows st.now (λ u. u.id == id) (record_now st s).versions v found due.quiet))
+      due.quiet)
+
+  second-leaves : LeavesOthers old new st (Requests caller request)
+  second-leaves = leaves_but old new st (Requests caller request) s (settles_number st c)
+      (others_stay st old new caller request s id (putting id st.windows s (change v) None) second_record
+      (create-registry c.creator caller c.tn.number c.old_provider.number c.new_provider.number c.due.number) stands none on_one clock_after (putting-are id st.windows s (change v) None) changed)
 
   second-answer : (view : View) → view ≡ view_of after_it (record { subject = s; version = change v }) → Shown (Some view) ≡ answer_of st after_it (Requests caller request)
   second-answer view is =
@@ -100,28 +108,32 @@ module _ (st : State) (old new : Content) (caller : ℕ) (c : CreateCode) (id : 
 pub answers_second : (old new : Content) (caller : ℕ) (c : CreateCode) (clock : ClockRow) (held : Option VersionCode) (id : ℕ) (u : VersionCode) (block : Option VersionCode) (facts : CreateFacts) (m : VersionCode) (view : View) →
     HasRead old caller c clock held (Some (id, u)) block facts → None ≡ create_refusal clock.windows clock.minute caller c facts → IsCreated clock.minute c (answered_by c facts.opened) (Second m) →
     IsChanged (putting id clock.windows (subject_of m.subject) (seen m) None) old new → Views clock id m view →
-    AnswersAs old new (Requests caller (Commands (command_of c))) (Some (Shown (Some view)))
+    AnswersSettled old new (Requests caller (Commands (command_of c))) (Some (Shown (Some view)))
 answers_second old new caller c clock held id u block facts m view has accepts created changed views =
     answers_accepted old new (Requests caller (Commands (command_of c))) (Shown (Some view)) each
   where
     second : (is_lacked c (seen u) ≡ true) × Becomes (with_create c.creator clock.minute) u m
     second = second_created clock.minute c u m (is_lacked c (seen u)) refl (subst (λ o. IsCreated clock.minute c (answered_by c o) (Second m)) has.read.opened created)
 
-    each : (st : State) → Stands old st → (refusal st (Requests caller (Commands (command_of c))) ≡ None)
+    each : (st : State) → Stands old st → AreSettled old st (Requests caller (Commands (command_of c))) → (refusal st (Requests caller (Commands (command_of c))) ≡ None)
         × (Shown (Some view) ≡ answer_of st (accepted st (Requests caller (Commands (command_of c)))) (Requests caller (Commands (command_of c))))
-        × Stands new (accepted st (Requests caller (Commands (command_of c))))
-    each st stands = (
+        × Stands new (accepted st (Requests caller (Commands (command_of c)))) × LeavesOthers old new st (Requests caller (Commands (command_of c)))
+    each st stands settled = (
       none,
-      second-answer st old new caller c id found.0 clock stands has.clock_is none found.1 found.2 lacking change view
+      second-answer st old new caller c id found.0 clock stands due has.clock_is none found.1 found.2 lacking change view
           (views (accepted st (Requests caller (Commands (command_of c)))) (with_create c.creator st.now found.0).broadcasts (sym now) (ap (λ (k : ClockRow). k.windows) (sym same_clock))
           ∙ ap (λ t. view_of (accepted st (Requests caller (Commands (command_of c)))) (record { subject = t; version = version_of id (with_create c.creator st.now found.0).broadcasts m })) subject
           ∙ ap (λ k. view_of (accepted st (Requests caller (Commands (command_of c)))) (record { subject = Number c.tn.number; version = version_of k (with_create c.creator st.now found.0).broadcasts m })) (sym (id_found id (record_now st (Number c.tn.number)).versions found.0 found.2))
           ∙ ap (λ x. view_of (accepted st (Requests caller (Commands (command_of c)))) (record { subject = Number c.tn.number; version = x })) version),
-      second-stands st old new caller c id found.0 clock stands has.clock_is none found.1 found.2 lacking change,
+      second-stands st old new caller c id found.0 clock stands due has.clock_is none found.1 found.2 lacking change,
+      second-leaves st old new caller c id found.0 clock stands due has.clock_is none found.1 found.2 lacking change,
     )
       where
+        due : IsSettled old st (Number c.tn.number)
+        due = create_settled old st caller c settled (Number c.tn.number) (number_of_number st c.tn.number)
+
         found : (v : Version) × (open_version (Number c.tn.number) (record_now st (Number c.tn.number)) ≡ Some v) × (version_with id (record_now st (Number c.tn.number)) ≡ Some v) × (version_of v.id v.broadcasts u ≡ v) × (subject_of u.subject ≡ Number c.tn.number)
-        found = opened_is st old (Number c.tn.number) (Some (id, u)) stands has.is_opened
+        found = opened_is st old (Number c.tn.number) (Some (id, u)) stands due has.is_opened
 
         same_clock : clock ≡ clock_of st
         same_clock = clock_is_of old st clock stands.represents has.clock_is
@@ -130,7 +142,7 @@ answers_second old new caller c clock held id u block facts m view has accepts c
         now = ap (λ (k : ClockRow). k.minute) same_clock
 
         none : refusal st (Requests caller (Commands (command_of c))) ≡ None
-        none = refused_as st old caller c clock held (Some (id, u)) block facts has stands ∙ sym accepts
+        none = refused_as st old caller c clock held (Some (id, u)) block facts has stands settled ∙ sym accepts
 
         lacking : lacks c.creator c.old_provider.number c.new_provider.number found.0 ≡ true
         lacking = lacks_as c u found.0 found.3 ∙ second.0

@@ -17,6 +17,7 @@ use Rattle.meaning.specs.Content.{Content, VersionRow, row_of, subject_if}
 use Rattle.meaning.proofs.Routed.{force_is_routed}
 use Rattle.settle.specs.Reads.{AreInForce, IsRouted, HoldsOnce}
 use Rattle.settle.specs.declared.rows.RoutedRow.{RoutedRow}
+use Rattle.settle.specs.Settling.{IsSettled}
 use Rattle.register.specs.Answers.{Stands}
 use Rattle.register.specs.Calls.{in_force_of}
 use Rattle.meaning.specs.Reading.{version_of_id}
@@ -314,7 +315,7 @@ mapped-to [] r k lt at = absurd (omega (arith, lt))
 mapped-to (q ∷ qs) r zero lt at = inl (ap in_force_of (sym at))
 mapped-to (q ∷ qs) r (suc k) lt at = inr (mapped-to qs r k (omega (arith, lt)) at)
 
-module _ (st : State) (c : Content) (stands : Stands c st) where
+module _ (st : State) (c : Content) (stands : Stands c st) (settled : (s : Subject) → IsSettled c st s) where
   alone : (s : Subject) (id other : ℕ) (v u : Version) → version_with id (record_now st s) ≡ Some v → version_with other (record_now st s) ≡ Some u → in_force v ≡ true → in_force u ≡ true → id ≡ other
   alone s id other v u found also force forces =
       let one : version_in_force (record_now st s) ≡ Some v = found_alone in_force id (record_now st s).versions v found force (one_in_force st c stands s) in
@@ -323,14 +324,14 @@ module _ (st : State) (c : Content) (stands : Stands c st) where
 
   holds_once : HoldsOnce c
   holds_once id other row next s there also holds held =
-      let a = row_is_held st c stands s (λ t v. in_force v) (λ (x : VersionRow). x.holds) (λ t v. refl) (one_in_force st c stands s) id row there holds in
-      let b = row_is_held st c stands s (λ t v. in_force v) (λ (x : VersionRow). x.holds) (λ t v. refl) (one_in_force st c stands s) other next also held in
+      let a = row_is_held st c stands s (settled s) (λ t v. in_force v) (λ (x : VersionRow). x.holds) (λ t v. refl) (one_in_force st c stands s) id row there holds in
+      let b = row_is_held st c stands s (settled s) (λ t v. in_force v) (λ (x : VersionRow). x.holds) (λ t v. refl) (one_in_force st c stands s) other next also held in
       sym (id_found id (record_now st s).versions a.0 a.2) ∙ ap (λ (x : Version). x.id) (some_is a.0 b.0 (sym a.1 ∙ b.1)) ∙ id_found other (record_now st s).versions b.0 b.2
 
   -- a row of the content is among those in force
   routed-listed : (s : Subject) (routing : Routing) → IsRouted c s routing → Among (record { subject = s; routing = Some routing }) (all_in_force st)
   routed-listed s routing is =
-      let held = row_is_held st c stands s (λ t v. in_force v) (λ (x : VersionRow). x.holds) (λ t v. refl) (one_in_force st c stands s) is.0 is.1 is.2 is.3 in
+      let held = row_is_held st c stands s (settled s) (λ t v. in_force v) (λ (x : VersionRow). x.holds) (λ t v. refl) (one_in_force st c stands s) is.0 is.1 is.2 is.3 in
       let force : in_force held.0 ≡ true = passes in_force (record_now st s).versions held.0 held.1 in
       let routed : held.0.routing ≡ Some routing = ap (λ (x : VersionRow). x.routing) (sym held.3) ∙ is.4 in
       let given : subject_of_id is.0 1 (made_by st.windows st.history) ≡ Some s = given_id is.0 held.0 (version_of_id_is st s is.0 held.0 (given_now st stands.represents.history s) held.2) in
@@ -370,7 +371,7 @@ module _ (st : State) (c : Content) (stands : Stands c st) where
         (
           row.id,
           row_of st.windows row.e.subject row.e.version,
-          row_there st c stands row.e.subject row.id row.e.version found,
+          row_there st c row.e.subject (settled row.e.subject) row.id row.e.version found,
           ap (λ b. subject_if b row.e.subject) row.force ∙ ap (λ t. Some t) its,
           routed.1,
         ),

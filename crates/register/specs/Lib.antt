@@ -1,4 +1,5 @@
 pub mod Answers
+pub mod Settling
 pub mod Calls
 pub mod Reads
 pub mod Opening

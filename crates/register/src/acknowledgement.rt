@@ -15,7 +15,8 @@ ghost use Rattle.meaning.specs.Windows.{Windows};
 ghost use Rattle.version.specs.Views.{Becomes, seen, windows_of};
 ghost use Rattle.settle.specs.Changes.{changes_of as changes_seen};
 ghost use Rattle.settle.specs.Views.{broadcast_row_of, wait_key_of};
-ghost use Rattle.register.specs.Answers.{Stands, AnswersAs};
+ghost use Rattle.register.specs.Answers.{Stands};
+ghost use Rattle.register.specs.Settling.{AnswersSettled, AreSettled};
 ghost use Rattle.register.specs.Calls.{view_of, replied};
 ghost use Rattle.register.specs.Acknowledging.{is_sending, are_only, is_last_of, answered_row, completed_if, completes, by_row, retired_rows, own_rows, acknowledging, all_changes, IsEarlier, IsFound, IsMissing};
 
@@ -234,9 +235,9 @@ pub fn acknowledge<S: Store>(
     id: u64,
     attempt: u64,
 ) -> Result<VersionView, Refusal>
-    ensures answers { S.IsUsable store.new → AnswersAs (S.content store.old) (S.content store.new) (Requests spid.number (Acknowledges id attempt)) (replied (λ view. Shown (Some (view_of view))) result) }
+    ensures answers { S.IsUsable store.new → AnswersSettled (S.content store.old) (S.content store.new) (Requests spid.number (Acknowledges id attempt)) (replied (λ view. Shown (Some (view_of view))) result) }
     ensures usable { S.IsUsable store.new → S.IsUsable store.old }
-    ensures storage { S.IsUsable store.new → (st : State) → Stands (S.content store.old) st → result ≡ Err Refusal.Storage → HasRisen (S.failed store.old) (S.failed store.new) }
+    ensures storage { S.IsUsable store.new → (st : State) → Stands (S.content store.old) st → AreSettled (S.content store.old) st (Requests spid.number (Acknowledges id attempt)) → result ≡ Err Refusal.Storage → HasRisen (S.failed store.old) (S.failed store.new) }
     ensures rises { S.failed store.old ≤ S.failed store.new }
 {
     if !store.carrier(spid)? {

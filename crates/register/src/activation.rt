@@ -5,7 +5,8 @@ ghost use Rattle.std.specs.Prelude.{Err, ◌≡◌, ◌≤◌};
 ghost use Rattle.meaning.specs.History.{Commands};
 ghost use Rattle.meaning.specs.Machine.{Shown};
 ghost use Rattle.meaning.specs.Refusals.{Requests};
-ghost use Rattle.register.specs.Answers.{Stands, AnswersAs};
+ghost use Rattle.register.specs.Answers.{Stands};
+ghost use Rattle.register.specs.Settling.{AnswersSettled, AreSettled};
 ghost use Rattle.register.specs.Calls.{view_of, replied};
 ghost use Rattle.meaning.specs.Commands.{Activate};
 ghost use Rattle.std.specs.Prelude.{Some, IfOk, map};
@@ -82,9 +83,9 @@ pub fn activate<S: Store>(
     caller: Spid,
     id: u64,
 ) -> Result<VersionView, Refusal>
-    ensures answers { S.IsUsable store.new → AnswersAs (S.content store.old) (S.content store.new) (Requests caller.number (Commands (Activate id))) (replied (λ view. Shown (Some (view_of view))) result) }
+    ensures answers { S.IsUsable store.new → AnswersSettled (S.content store.old) (S.content store.new) (Requests caller.number (Commands (Activate id))) (replied (λ view. Shown (Some (view_of view))) result) }
     ensures usable { S.IsUsable store.new → S.IsUsable store.old }
-    ensures storage { S.IsUsable store.new → (st : State) → Stands (S.content store.old) st → result ≡ Err Refusal.Storage → HasRisen (S.failed store.old) (S.failed store.new) }
+    ensures storage { S.IsUsable store.new → (st : State) → Stands (S.content store.old) st → AreSettled (S.content store.old) st (Requests caller.number (Commands (Activate id))) → result ≡ Err Refusal.Storage → HasRisen (S.failed store.old) (S.failed store.new) }
     ensures rises { S.failed store.old ≤ S.failed store.new }
 {
     if !store.carrier(caller)? {

@@ -13,7 +13,8 @@ ghost use Rattle.version.specs.Creates.{command_of};
 ghost use Rattle.version.specs.Views.{seen, version_of, windows_of};
 ghost use Rattle.settle.specs.Changes.{IsChanged, changes_of as changes_seen};
 ghost use Rattle.settle.specs.Views.{clock_row_of};
-ghost use Rattle.register.specs.Answers.{Stands, AnswersAs};
+ghost use Rattle.register.specs.Answers.{Stands};
+ghost use Rattle.register.specs.Settling.{AnswersSettled, AreSettled};
 ghost use Rattle.register.specs.Calls.{view_of, replied};
 ghost use Rattle.register.specs.Sending.{putting};
 ghost use Rattle.register.specs.Serving.{AreRead, is_lrn_good};
@@ -134,9 +135,9 @@ pub fn create<S: Store>(
     caller: Spid,
     create: &Create,
 ) -> Result<VersionView, Refusal>
-    ensures answers { S.IsUsable store.new → AnswersAs (S.content store.old) (S.content store.new) (Requests caller.number (Commands (command_of create.now))) (replied (λ view. Shown (Some (view_of view))) result) }
+    ensures answers { S.IsUsable store.new → AnswersSettled (S.content store.old) (S.content store.new) (Requests caller.number (Commands (command_of create.now))) (replied (λ view. Shown (Some (view_of view))) result) }
     ensures usable { S.IsUsable store.new → S.IsUsable store.old }
-    ensures storage { S.IsUsable store.new → (st : State) → Stands (S.content store.old) st → result ≡ Err Refusal.Storage → HasRisen (S.failed store.old) (S.failed store.new) }
+    ensures storage { S.IsUsable store.new → (st : State) → Stands (S.content store.old) st → AreSettled (S.content store.old) st (Requests caller.number (Commands (command_of create.now))) → result ≡ Err Refusal.Storage → HasRisen (S.failed store.old) (S.failed store.new) }
     ensures rises { S.failed store.old ≤ S.failed store.new }
 {
     if !are_carriers_known(store, caller, create)? {

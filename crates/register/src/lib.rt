@@ -3,6 +3,7 @@
 
 mod acknowledgement;
 mod activation;
+mod clock;
 mod command;
 mod create;
 mod laws;
@@ -10,9 +11,10 @@ mod query;
 mod register;
 mod registration;
 mod serving;
+mod settling;
 mod view;
 
 pub use command::{Command, Reply};
-pub use laws::{law_of_new_stores, law_of_untouched_rows};
+pub use laws::law_of_new_stores;
 pub use register::{OpenFault, Register};
 pub use view::{Answer, VersionView};

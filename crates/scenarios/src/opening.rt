@@ -7,7 +7,7 @@ use api::{
 };
 use meaning::Refusal;
 use numbers::{Spid, Tn};
-use register::{Answer, OpenFault, Register, law_of_new_stores, law_of_untouched_rows};
+use register::{Answer, OpenFault, Register, law_of_new_stores};
 use std::alloc::Global;
 use std::test::Fail;
 use store::MemoryStore;
@@ -76,7 +76,6 @@ fn other_windows_are_refused_and_the_store_handed_back(rt: HostRuntime) -> Resul
 #[test]
 fn the_laws_return(_rt: HostRuntime) {
     law_of_new_stores();
-    law_of_untouched_rows();
     cuts_of_the_input();
     body_asks_once();
     message_steps_once();

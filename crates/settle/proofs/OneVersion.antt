@@ -37,17 +37,17 @@ module _ {K R : Type 0} (same : K → K → Bool) (key : K → ℕ) (subject : R
       go later true e = later None (λ is. refl) ∙ sym (gone (sym (same_key a e) ∙ are.0))
       go later false e = later before gone
 
-  all-stay : (ks : List K) (ps : List (K × R)) → AreKeysOf key id ks → ArePutsOf key subject id s ps → (before : Option R) → (key k ≡ id → of_subject t subject before ≡ None) →
+  pub all-stay : (ks : List K) (ps : List (K × R)) → AreKeysOf key id ks → ArePutsOf key subject id s ps → (before : Option R) → (key k ≡ id → of_subject t subject before ≡ None) →
       of_subject t subject (take_rows same ks k (put_rows same ps k before)) ≡ of_subject t subject before
   all-stay ks ps taken put before gone = takes-stay ks taken (put_rows same ps k before) (λ is. puts-stay ps put before gone ∙ gone is) ∙ puts-stay ps put before gone
 
 -- ---- keys
 
-first-of : (p q : Bool) → (p && q) ≡ true → p ≡ true
+pub first-of : (p q : Bool) → (p && q) ≡ true → p ≡ true
 first-of true q e = refl
 first-of false q e = cc
 
-third-of : (x p q r : Bool) → (((x && p) && q) && r) ≡ true → q ≡ true
+pub third-of : (x p q r : Bool) → (((x && p) && q) && r) ≡ true → q ≡ true
 third-of true true true r e = refl
 third-of true true false r e = cc
 third-of true false q r e = cc

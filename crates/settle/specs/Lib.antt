@@ -3,3 +3,7 @@ pub mod Changes
 pub mod Reads
 pub mod Faults
 pub mod Closing
+pub mod Settling
+pub mod Firing
+pub mod Sending
+pub mod Fired

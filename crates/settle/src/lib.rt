@@ -2,9 +2,12 @@
 #![tactic(auto)]
 
 mod changes;
+mod firing;
 mod rows;
+mod settling;
 mod store;
 
 pub use changes::Changes;
 pub use rows::{BlockRow, BroadcastKey, ClockRow, NumberedRow, RoutedRow, VersionRow, WaitKey};
+pub use settling::{settle_all, settle_subject};
 pub use store::{Store, StoreFault};

@@ -13,7 +13,7 @@ use Rattle.delivery.specs.declared.download.DownloadKey.{DownloadKey}
 use Rattle.settle.specs.Views.{clock_row_of, broadcast_row_of}
 use Rattle.settle.specs.Reads.{AreWaitsAbout}
 use Rattle.settle.specs.Changes.{Changes, IsChanged}
-use Rattle.register.specs.Answers.{AnswersAs}
+use Rattle.register.specs.Settling.{AnswersSettled}
 use Rattle.register.specs.Calls.{view_of, replied}
 use Rattle.register.specs.Acknowledging.{completed_if, all_changes, IsFound}
 use Rattle.register.specs.declared.view.VersionView.{VersionView}
@@ -55,7 +55,7 @@ returns-in_err-download-clause-answers g c = λ usable.
     let clock = c.in_ok-clock.ensures.same row.0 in
     let carrier = c.in_ok-carrier.ensures.same clock.0 in
     let is : c.from_residual-in_err-download.result ≡ Err c.in_err-download.field-0.0 = search rules in
-    subst (λ (r : Result VersionView Refusal). AnswersAs (g.S.Store.content c.args.store.now) (g.S.Store.content c.waits_about.new.self) (Requests c.args.spid.number (Acknowledges c.args.id c.args.attempt)) (replied (λ view. Shown (Some (view_of view))) r)) (sym is)
+    subst (λ (r : Result VersionView Refusal). AnswersSettled (g.S.Store.content c.args.store.now) (g.S.Store.content c.waits_about.new.self) (Requests c.args.spid.number (Acknowledges c.args.id c.args.attempt)) (replied (λ view. Shown (Some (view_of view))) r)) (sym is)
     (answers_by_keys (g.S.Store.content c.args.store.now) (g.S.Store.content c.waits_about.new.self) c.args.spid.number c.args.id c.args.attempt c.in-Some-2.row c.row.inside c.deref.result.now (number_of c.in_err-download.field-0.0)
     (waiting.1 ∙ row.1 ∙ clock.1 ∙ carrier.1)
     (sym (c.in_ok-carrier.ensures.value clock.0) ∙ c.if-not-branch.false)
@@ -124,7 +124,7 @@ returns-clause-answers g c = λ usable.
     c.of.ensures
 
 pub returns-in_err-waiting-clause-storage : goal.returns-in_err-waiting-clause-storage
-returns-in_err-waiting-clause-storage g c = λ usable st stands said.
+returns-in_err-waiting-clause-storage g c = λ usable st stands settled said.
     let is : c.from_residual-in_err-waiting.result ≡ Err (refusal_of c.in_err-waiting.field-0.0) = search rules in
     let a = c.carrier.ensures.rises in
     let b = c.clock.ensures.rises in
@@ -133,7 +133,7 @@ returns-in_err-waiting-clause-storage g c = λ usable st stands said.
     (c.in_err-waiting.ensures.storage (ap Err (storage_by c.from_residual-in_err-waiting.result c.in_err-waiting.field-0.0 is said)))
 
 pub returns-in_err-found-clause-storage : goal.returns-in_err-found-clause-storage
-returns-in_err-found-clause-storage g c = λ usable st stands said.
+returns-in_err-found-clause-storage g c = λ usable st stands settled said.
     let is : c.from_residual-in_err-found.result ≡ Err (refusal_of c.in_err-found.field-0.0) = search rules in
     let a = c.carrier.ensures.rises in
     let b = c.clock.ensures.rises in
@@ -143,7 +143,7 @@ returns-in_err-found-clause-storage g c = λ usable st stands said.
     (c.in_err-found.ensures.storage (ap Err (storage_by c.from_residual-in_err-found.result c.in_err-found.field-0.0 is said)))
 
 pub returns-in_err-commit-clause-storage : goal.returns-in_err-commit-clause-storage
-returns-in_err-commit-clause-storage g c = λ usable st stands said.
+returns-in_err-commit-clause-storage g c = λ usable st stands settled said.
     let is : c.from_residual-in_err-commit.result ≡ Err (refusal_of c.in_err-commit.field-0.0) = search rules in
     let a = c.carrier.ensures.rises in
     let b = c.clock.ensures.rises in
@@ -154,7 +154,7 @@ returns-in_err-commit-clause-storage g c = λ usable st stands said.
     (c.in_err-commit.ensures.storage (ap Err (storage_by c.from_residual-in_err-commit.result c.in_err-commit.field-0.0 is said)))
 
 pub returns-in_default-3-clause-storage : goal.returns-in_default-3-clause-storage
-returns-in_default-3-clause-storage g c = λ usable st stands said.
+returns-in_default-3-clause-storage g c = λ usable st stands settled said.
     let waiting = c.in_ok-found.ensures.same usable in
     let row = c.in_ok-waiting.ensures.same waiting.0 in
     let clock = c.in_ok-row.ensures.same row.0 in
@@ -167,4 +167,4 @@ returns-in_default-3-clause-storage g c = λ usable st stands said.
     (subst (λ (keys : List DownloadKey). AreWaitsAbout (g.S.Store.content c.version.new.self) c.args.spid.number (subject_of c.row.inside.version.subject) keys) (sym c.deref.ensures.value) (c.in_ok-waiting.ensures.value waiting.0)))
     c.in_ok-download.ensures.found
     (ap (λ (m : Content). get m.broadcasts (record { id = c.args.id; attempt = c.args.attempt })) (sym (row.1 ∙ clock.1 ∙ carrier.1 ∙ start.1)) ∙ c.in_ok-found.ensures.missing usable (ap Ok c.in_default-3.is))
-    st stands)
+    st stands settled)

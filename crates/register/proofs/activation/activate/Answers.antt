@@ -8,7 +8,7 @@ use Rattle.meaning.specs.Machine.{Shown}
 use Rattle.meaning.specs.Refusals.{Requests}
 use Rattle.meaning.specs.Content.{Content}
 use Rattle.settle.specs.Views.{spid_of, clock_row_of}
-use Rattle.register.specs.Answers.{AnswersAs}
+use Rattle.register.specs.Settling.{AnswersSettled}
 use Rattle.register.specs.Calls.{view_of, replied}
 use Rattle.register.specs.Sending.{sending}
 use Rattle.register.specs.declared.view.VersionView.{VersionView}
@@ -44,7 +44,7 @@ returns-in_err-version-clause-answers g c = λ usable.
     let at_carrier = c.in_ok-clock.ensures.same at_clock.0 in
     let at_start = c.in_ok-carrier.ensures.same at_carrier.0 in
     let is : c.from_residual-in_err-version.result ≡ Err c.in_err-version.field-0.0 = search rules in
-    subst (λ (r : Result VersionView Refusal). AnswersAs (g.S.Store.content c.args.store.now) (g.S.Store.content c.version.new.self) (Requests c.args.caller.number (Commands (Activate c.args.id))) (replied (λ view. Shown (Some (view_of view))) r)) (sym is)
+    subst (λ (r : Result VersionView Refusal). AnswersSettled (g.S.Store.content c.args.store.now) (g.S.Store.content c.version.new.self) (Requests c.args.caller.number (Commands (Activate c.args.id))) (replied (λ view. Shown (Some (view_of view))) r)) (sym is)
     (answers_by_row (g.S.Store.content c.args.store.now) (g.S.Store.content c.version.new.self) c.args.caller.number c.args.id
     (clock_row_of c.in-Some.clock) c.in-Some-2.row c.row.inside (number_of c.in_err-version.field-0.0)
     (at_clock.1 ∙ at_carrier.1 ∙ at_start.1)
@@ -103,7 +103,7 @@ returns-clause-answers g c = λ usable.
     c.of.ensures
 
 pub returns-in_err-everyone-clause-storage : goal.returns-in_err-everyone-clause-storage
-returns-in_err-everyone-clause-storage g c = λ usable st stands said.
+returns-in_err-everyone-clause-storage g c = λ usable st stands settled said.
     let is : c.from_residual-in_err-everyone.result ≡ Err (refusal_of c.in_err-everyone.field-0.0) = search rules in
     let a = c.carrier.ensures.rises in
     let b = c.clock.ensures.rises in
@@ -113,7 +113,7 @@ returns-in_err-everyone-clause-storage g c = λ usable st stands said.
     (c.in_err-everyone.ensures.storage (ap Err (storage_by c.from_residual-in_err-everyone.result c.in_err-everyone.field-0.0 is said)))
 
 pub returns-in_err-commit-clause-storage : goal.returns-in_err-commit-clause-storage
-returns-in_err-commit-clause-storage g c = λ usable st stands said.
+returns-in_err-commit-clause-storage g c = λ usable st stands settled said.
     let is : c.from_residual-in_err-commit.result ≡ Err (refusal_of c.in_err-commit.field-0.0) = search rules in
     let a = c.carrier.ensures.rises in
     let b = c.clock.ensures.rises in

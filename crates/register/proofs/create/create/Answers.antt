@@ -12,7 +12,7 @@ use Rattle.version.specs.Views.{seen, windows_of}
 use Rattle.version.specs.Creates.{command_of, answered_by, IsCreated}
 use Rattle.settle.specs.Views.{clock_row_of}
 use Rattle.register.specs.declared.view.VersionView.{VersionView}
-use Rattle.register.specs.Answers.{AnswersAs}
+use Rattle.register.specs.Settling.{AnswersSettled}
 use Rattle.register.specs.Calls.{view_of, replied}
 use Rattle.register.specs.Sending.{putting}
 use Rattle.register.specs.Serving.{IsOpened, AreRead}
@@ -59,7 +59,7 @@ returns-in_err-version-clause-answers g c = λ usable.
     let at_known = c.in_ok-clock.ensures.same at_clock.0 in
     let at_start = c.in_ok-are_carriers_known.ensures.same at_known.0 in
     let is : c.from_residual-in_err-version.result ≡ Err c.in_err-version.field-0.0 = search rules in
-    subst (λ (r : Result VersionView Refusal). AnswersAs (g.S.Store.content c.args.store.now) (g.S.Store.content c.facts.new.store) (Requests c.args.caller.number (Commands (command_of c.args.create.now))) (replied (λ view. Shown (Some (view_of view))) r)) (sym is)
+    subst (λ (r : Result VersionView Refusal). AnswersSettled (g.S.Store.content c.args.store.now) (g.S.Store.content c.facts.new.store) (Requests c.args.caller.number (Commands (command_of c.args.create.now))) (replied (λ view. Shown (Some (view_of view))) r)) (sym is)
     (answers_create_refused (g.S.Store.content c.args.store.now) (g.S.Store.content c.facts.new.store) c.args.caller.number c.args.create.now (clock_row_of c.in-Some.clock)
     c.in_ok-row.row.in_force c.in_ok-row.row.opened c.in_ok-row.row.block_in_force c.in_ok-facts.facts (number_of c.in_err-version.field-0.0)
     (at_row.1 ∙ at_clock.1 ∙ at_known.1 ∙ at_start.1)
@@ -122,13 +122,13 @@ returns-in-Some-opened-clause-answers g c = λ usable.
     changed views)
 
 pub returns-in_err-version-clause-storage : goal.returns-in_err-version-clause-storage
-returns-in_err-version-clause-storage g c = λ usable st stands said.
+returns-in_err-version-clause-storage g c = λ usable st stands settled said.
     let is : c.from_residual-in_err-version.result ≡ Err c.in_err-version.field-0.0 = search rules in
     absurd (create_never (windows_of c.in-Some.clock.windows) c.in-Some.clock.minute.number c.args.caller.number c.args.create.now c.in_ok-facts.facts c.in_err-version.field-0.0
     c.in_err-version.ensures.refusal (same_refusal c.in_err-version.field-0.0 c.from_residual-in_err-version.result is said))
 
 pub returns-in-First-clause-storage : goal.returns-in-First-clause-storage
-returns-in-First-clause-storage g c = λ usable st stands said.
+returns-in-First-clause-storage g c = λ usable st stands settled said.
     let a = c.are_carriers_known.ensures.rises in
     let b = c.clock.ensures.rises in
     let d = c.read.ensures.rises in
@@ -137,7 +137,7 @@ returns-in-First-clause-storage g c = λ usable st stands said.
     (c.put_version.ensures.storage said)
 
 pub returns-in-Some-opened-clause-storage : goal.returns-in-Some-opened-clause-storage
-returns-in-Some-opened-clause-storage g c = λ usable st stands said.
+returns-in-Some-opened-clause-storage g c = λ usable st stands settled said.
     let a = c.are_carriers_known.ensures.rises in
     let b = c.clock.ensures.rises in
     let d = c.read.ensures.rises in

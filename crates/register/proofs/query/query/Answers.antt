@@ -6,6 +6,7 @@ use Rattle.meaning.specs.Content.{Content}
 use Rattle.meaning.specs.Refusals.{Asks, Query}
 use Rattle.settle.specs.Views.{spid_of}
 use Rattle.version.specs.Views.{routings_of}
+use Rattle.settle.specs.Settling.{IsSettled}
 use Rattle.register.specs.Answers.{Stands}
 use Rattle.register.proofs.Composed.{answers_refused_same, spid_there, spid_absent}
 use Rattle.register.proofs.Questions.{query_refused, answers_closed, answers_opened}
@@ -14,7 +15,7 @@ use Rattle.register.proofs.query.query.Goals as goal
 pub returns-then-not-branch-clause-answers : goal.returns-then-not-branch-clause-answers
 returns-then-not-branch-clause-answers g c = λ usable.
     answers_refused_same (g.S.Store.content c.args.store.now) (g.S.Store.content c.is_known.new.store) (Asks c.args.caller.number (Query c.args.tn.number)) 1 (c.in_ok-is_known.ensures.same usable).1
-    (λ st stands. query_refused (g.S.Store.content c.args.store.now) c.args.caller.number false (sym (c.in_ok-is_known.ensures.value usable) ∙ c.if-not-branch.true) st stands c.args.tn.number)
+    (λ st stands settled. query_refused (g.S.Store.content c.args.store.now) c.args.caller.number false (sym (c.in_ok-is_known.ensures.value usable) ∙ c.if-not-branch.true) st stands c.args.tn.number)
 
 pub returns-then-is_none-clause-answers : goal.returns-then-is_none-clause-answers
 returns-then-is_none-clause-answers g c = λ usable.
@@ -35,4 +36,5 @@ returns-clause-answers g c = λ usable.
     answers_opened (g.S.Store.content c.args.store.now) (g.S.Store.content c.routing_of.new.store) c.args.caller.number c.args.tn.number (routings_of c.in_ok-routing.routing)
     (sym (c.in_ok-is_known.ensures.value second.0) ∙ c.if-not-branch.false) (third.1 ∙ second.1 ∙ first.1)
     (spid_there c.in_ok-code.field-0 (get (g.S.Store.content c.args.store.now).codes (code_of c.args.tn.number)) value c.if-is_none.ensures)
-    (λ st stands. c.in_ok-routing.ensures.value usable st (subst (λ m. Stands m st) (sym (second.1 ∙ first.1)) stands))
+    (λ st stands settled. c.in_ok-routing.ensures.value usable st (subst (λ m. Stands m st) (sym (second.1 ∙ first.1)) stands)
+    (λ s is. subst (λ m. IsSettled m st s) (sym (second.1 ∙ first.1)) (settled s is)))

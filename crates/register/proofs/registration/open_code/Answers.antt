@@ -17,7 +17,7 @@ returns-then-not-branch-clause-answers g c = λ usable.
     let unknown : is_some (get (g.S.Store.content c.args.store.now).carriers c.args.spid.number) ≡ false = search rules in
     answers_refused_same (g.S.Store.content c.args.store.now) (g.S.Store.content c.carrier.new.self) (Requests c.args.caller.number (Commands (OpenCode c.args.code.number c.args.spid.number))) 1
     (c.in_ok-carrier.ensures.same usable).1
-    (code_unknown (g.S.Store.content c.args.store.now) c.args.caller.number c.args.code.number c.args.spid.number unknown)
+    (λ st stands settled. code_unknown (g.S.Store.content c.args.store.now) c.args.caller.number c.args.code.number c.args.spid.number unknown st stands)
 
 pub returns-then-ne-clause-answers : goal.returns-then-ne-clause-answers
 returns-then-ne-clause-answers g c = λ usable.
@@ -25,7 +25,7 @@ returns-then-ne-clause-answers g c = λ usable.
     let other : (c.args.caller.number == npac) ≡ false = search rules in
     answers_refused_same (g.S.Store.content c.args.store.now) (g.S.Store.content c.carrier.new.self) (Requests c.args.caller.number (Commands (OpenCode c.args.code.number c.args.spid.number))) 2
     (c.in_ok-carrier.ensures.same usable).1
-    (code_not_admin (g.S.Store.content c.args.store.now) c.args.caller.number c.args.code.number c.args.spid.number known other)
+    (λ st stands settled. code_not_admin (g.S.Store.content c.args.store.now) c.args.caller.number c.args.code.number c.args.spid.number known other st stands)
 
 pub returns-then-is_some-clause-answers : goal.returns-then-is_some-clause-answers
 returns-then-is_some-clause-answers g c = λ usable.
@@ -37,8 +37,8 @@ returns-then-is_some-clause-answers g c = λ usable.
     c.in_ok-code.ensures.value usable ∙ ap (λ (m : Content). get m.codes c.args.code.number) first.1 in
     answers_refused_same (g.S.Store.content c.args.store.now) (g.S.Store.content c.code.new.self) (Requests c.args.caller.number (Commands (OpenCode c.args.code.number c.args.spid.number))) 5
     (step.1 ∙ first.1)
-    (code_is_taken (g.S.Store.content c.args.store.now) c.args.caller.number c.args.code.number c.args.spid.number known admin
-    (spid_there c.in_ok-code.field-0 (get (g.S.Store.content c.args.store.now).codes c.args.code.number) value (search rules)))
+    (λ st stands settled. code_is_taken (g.S.Store.content c.args.store.now) c.args.caller.number c.args.code.number c.args.spid.number known admin
+    (spid_there c.in_ok-code.field-0 (get (g.S.Store.content c.args.store.now).codes c.args.code.number) value (search rules)) st stands)
 
 pub returns-in_err-commit-clause-answers : goal.returns-in_err-commit-clause-answers
 returns-in_err-commit-clause-answers g c = λ usable.

@@ -18,13 +18,13 @@ use Rattle.register.proofs.registration.register_carrier.Goals as goal
 pub returns-then-ne-clause-answers : goal.returns-then-ne-clause-answers
 returns-then-ne-clause-answers g c = λ usable.
     let other : (c.args.caller.number == npac) ≡ false = search rules in
-    answers_refused_same (g.S.Store.content c.args.store.now) (g.S.Store.content c.args.store.now) (Requests c.args.caller.number (Commands (RegisterCarrier c.args.spid.number))) 2 refl (carrier_not_admin (g.S.Store.content c.args.store.now) c.args.caller.number c.args.spid.number other)
+    answers_refused_same (g.S.Store.content c.args.store.now) (g.S.Store.content c.args.store.now) (Requests c.args.caller.number (Commands (RegisterCarrier c.args.spid.number))) 2 refl (λ st stands settled. carrier_not_admin (g.S.Store.content c.args.store.now) c.args.caller.number c.args.spid.number other st stands)
 
 pub returns-then-branch-clause-answers : goal.returns-then-branch-clause-answers
 returns-then-branch-clause-answers g c = λ usable.
     let admin : (c.args.caller.number == npac) ≡ true = search rules in
     answers_refused_same (g.S.Store.content c.args.store.now) (g.S.Store.content c.is_known.new.store) (Requests c.args.caller.number (Commands (RegisterCarrier c.args.spid.number))) 4 (c.in_ok-is_known.ensures.same usable).1
-    (carrier_is_taken (g.S.Store.content c.args.store.now) c.args.caller.number c.args.spid.number admin (sym (c.in_ok-is_known.ensures.value usable) ∙ c.if-branch.true))
+    (λ st stands settled. carrier_is_taken (g.S.Store.content c.args.store.now) c.args.caller.number c.args.spid.number admin (sym (c.in_ok-is_known.ensures.value usable) ∙ c.if-branch.true) st stands)
 
 pub returns-then-branch-2-clause-answers : goal.returns-then-branch-2-clause-answers
 returns-then-branch-2-clause-answers g c = λ usable.
@@ -32,8 +32,8 @@ returns-then-branch-2-clause-answers g c = λ usable.
     let second = c.in_ok-is_full.ensures.same usable in
     let first = c.in_ok-is_known.ensures.same second.0 in
     answers_refused_same (g.S.Store.content c.args.store.now) (g.S.Store.content c.is_full.new.store) (Requests c.args.caller.number (Commands (RegisterCarrier c.args.spid.number))) 28 (second.1 ∙ first.1)
-    (carriers_full (g.S.Store.content c.args.store.now) c.args.caller.number c.args.spid.number admin (sym (c.in_ok-is_known.ensures.value second.0) ∙ c.if-branch.false)
-    (sym (c.in_ok-is_full.ensures.value usable ∙ ap (λ (m : Content). nat_le 100 (length (keys m.carriers))) first.1) ∙ c.if-branch-2.true))
+    (λ st stands settled. carriers_full (g.S.Store.content c.args.store.now) c.args.caller.number c.args.spid.number admin (sym (c.in_ok-is_known.ensures.value second.0) ∙ c.if-branch.false)
+    (sym (c.in_ok-is_full.ensures.value usable ∙ ap (λ (m : Content). nat_le 100 (length (keys m.carriers))) first.1) ∙ c.if-branch-2.true) st stands)
 
 pub returns-in_err-rows-clause-answers : goal.returns-in_err-rows-clause-answers
 returns-in_err-rows-clause-answers g c = λ usable.
@@ -60,5 +60,5 @@ returns-clause-answers g c = λ usable.
     (subst (λ (m : Content). IsChanged (joining c.args.spid.number (filter (λ e. e.1.is_open) (entries m.broadcasts))) m (g.S.Store.content c.join.new.store)) last (c.in_ok-join.ensures.done usable))
     admin (sym (c.in_ok-is_known.ensures.value second.0) ∙ c.if-branch.false)
     (sym (c.in_ok-is_full.ensures.value third.0 ∙ ap (λ (m : Content). nat_le 100 (length (keys m.carriers))) first.1) ∙ c.if-branch-2.false)
-    (λ st stands. in_force_listed st (g.S.Store.content c.args.store.now) stands c.in_ok-rows.rows.items
+    (λ st stands settled. in_force_listed st (g.S.Store.content c.args.store.now) stands settled c.in_ok-rows.rows.items
     (subst (λ (m : Content). AreInForce m c.in_ok-rows.rows.items) middle (c.in_ok-rows.ensures.value before)))

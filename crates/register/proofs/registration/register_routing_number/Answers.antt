@@ -17,7 +17,7 @@ returns-then-not-branch-clause-answers g c = λ usable.
     let unknown : is_some (get (g.S.Store.content c.args.store.now).carriers c.args.caller.number) ≡ false = search rules in
     answers_refused_same (g.S.Store.content c.args.store.now) (g.S.Store.content c.carrier.new.self) (Requests c.args.caller.number (Commands (RegisterRoutingNumber c.args.lrn.number))) 1
     (c.in_ok-carrier.ensures.same usable).1
-    (lrn_unknown (g.S.Store.content c.args.store.now) c.args.caller.number c.args.lrn.number unknown)
+    (λ st stands settled. lrn_unknown (g.S.Store.content c.args.store.now) c.args.caller.number c.args.lrn.number unknown st stands)
 
 pub returns-then-is_some-clause-answers : goal.returns-then-is_some-clause-answers
 returns-then-is_some-clause-answers g c = λ usable.
@@ -28,8 +28,8 @@ returns-then-is_some-clause-answers g c = λ usable.
     c.in_ok-lrn.ensures.value usable ∙ ap (λ (m : Content). get m.lrns c.args.lrn.number) first.1 in
     answers_refused_same (g.S.Store.content c.args.store.now) (g.S.Store.content c.lrn.new.self) (Requests c.args.caller.number (Commands (RegisterRoutingNumber c.args.lrn.number))) 6
     (step.1 ∙ first.1)
-    (lrn_is_taken (g.S.Store.content c.args.store.now) c.args.caller.number c.args.lrn.number known
-    (spid_there c.in_ok-lrn.field-0 (get (g.S.Store.content c.args.store.now).lrns c.args.lrn.number) value (search rules)))
+    (λ st stands settled. lrn_is_taken (g.S.Store.content c.args.store.now) c.args.caller.number c.args.lrn.number known
+    (spid_there c.in_ok-lrn.field-0 (get (g.S.Store.content c.args.store.now).lrns c.args.lrn.number) value (search rules)) st stands)
 
 pub returns-in_err-commit-clause-answers : goal.returns-in_err-commit-clause-answers
 returns-in_err-commit-clause-answers g c = λ usable.

@@ -1,0 +1,74 @@
+"""The messages of a file, served by the built program with each allocation refused in turn."""
+import os
+import subprocess
+import sys
+import tempfile
+
+from ports import PROGRAM, WINDOWS
+
+NO_MEMORY = b'{"error":"no_memory","number":30}'
+
+
+def parts_of(text):
+    """Messages or answers, each a head and as many bytes as it says."""
+    parts = []
+    while text:
+        head, _, rest = text.partition(b"\r\n\r\n")
+        length = next((int(line.split(b":")[1]) for line in head.split(b"\r\n") if line.startswith(b"content-length:")), 0)
+        end = len(head) + 4 + length
+        parts.append(text[:end])
+        text = text[end:]
+    return parts
+
+
+class Served:
+    def __init__(self, shim, messages, place, count=None):
+        refused = {"LD_PRELOAD": shim, "REFUSED_AT": str(place), **({"REFUSED_COUNT": count} if count else {})}
+        ran = subprocess.run([PROGRAM, "feed", "--windows", WINDOWS], input=b"".join(messages), capture_output=True, env={**os.environ, **refused})
+        self.status, self.answers, self.error = ran.returncode, parts_of(ran.stdout), ran.stderr
+
+
+def is_refusal(answer):
+    return answer.endswith(NO_MEMORY)
+
+
+def outcome(shim, messages, answers, place):
+    """What became of the run in which this allocation was refused, or None where that is wrong."""
+    first = Served(shim, messages, place)
+    if first.status == 3 and not first.answers and not first.error:
+        return "ended before there was a place to tell it"
+    if first.status == 3:
+        told = first.error == b"npacd: no_memory\n" and first.answers == answers[:len(first.answers)]
+        return "ended" if told else None
+    if first.status != 0:
+        return None
+    refused = [turn for turn, answer in enumerate(first.answers) if is_refusal(answer)]
+    if not refused:
+        return "unharmed" if first.answers == answers else None
+    # the same once more, and the message that met it is sent a second time
+    turn = refused[0]
+    again = Served(shim, messages[:turn + 1] + messages[turn:], place)
+    wanted = answers[:turn] + [first.answers[turn]] + answers[turn:]
+    return "sent again" if again.status == 0 and again.answers == wanted else None
+
+
+def main():
+    with open(sys.argv[1], "rb") as file:
+        messages = parts_of(file.read())
+    with tempfile.TemporaryDirectory() as folder:
+        shim, count = os.path.join(folder, "shim.so"), os.path.join(folder, "count")
+        subprocess.run(["gcc", "-O2", "-shared", "-fPIC", "-o", shim, "bench/refused_memory.c"], check=True)
+        whole = Served(shim, messages, 0, count)
+        assert whole.status == 0 and len(whole.answers) == len(messages), whole.error
+        with open(count) as file:
+            places = int(file.read())
+        outcomes = {}
+        for place in range(1, places + 1):
+            became = outcome(shim, messages, whole.answers, place)
+            if became is None:
+                sys.exit(f"allocation {place}: wrong")
+            outcomes[became] = outcomes.get(became, 0) + 1
+    print(f"{len(messages)} messages, {places} allocations, each refused in turn: " + ", ".join(f"{many} {became}" for became, many in outcomes.items()))
+
+
+main()
