@@ -1,12 +1,11 @@
 -- What an acknowledgement answers and leaves, over contents.
-use Rattle.std.proofs.Common.{◌≡◌, ℕ, Bool, true, false, cond, not, ◌&&◌, List, [], ◌∷◌, ◌++◌, Option, Some, None, refl, ap, sym, ◌∙◌, subst, arith}
+use Rattle.std.proofs.Common.{◌≡◌, ℕ, Bool, true, false, not, ◌&&◌, List, [], ◌∷◌, ◌++◌, Option, Some, None, refl, ap, sym, ◌∙◌, subst, arith}
 use Rattle.std.specs.Prelude.{◌==◌, find, filter, is_some, option_map, option_and_then, if◌then◌else◌}
 use Rattle.std.specs.FinMap.{get, keys}
 use Rattle.numbers.specs.Subjects.{Subject, Block, subject_eq}
 use Rattle.meaning.specs.Windows.{Windows}
-use Rattle.meaning.specs.Versions.{Version, Record, in_force, is_open, sends_create, is_among, unacknowledged, waiters, version_with, version_in_force, last_version}
-use Rattle.meaning.specs.Changes.{enters, is_empty, acknowledged_by, retired, changed_at, of_id}
-use Rattle.meaning.specs.Statuses.{Old}
+use Rattle.meaning.specs.Versions.{Version, Record, in_force, is_open, sends_create, is_among, unacknowledged, waiters, version_with, last_version}
+use Rattle.meaning.specs.Changes.{is_empty, acknowledged_by, retired, changed_at, of_id}
 use Rattle.meaning.specs.Laws.{IsQuiet}
 use Rattle.meaning.specs.History.{Acknowledges, effect, after, meaning, donor_of, carriers, made_by}
 use Rattle.meaning.specs.Reading.{State, View, record_now, view_of}
@@ -15,32 +14,25 @@ use Rattle.meaning.specs.Machine.{IsHistory, Shown, accepted, answer_of}
 use Rattle.meaning.specs.Content.{Content, VersionRow, BroadcastRow, BlockRow, BroadcastKey, ClockRow, SameRows, Shows, Represents, Lags, row_of, of_subject, stored_broadcast, stored_wait, broadcast_with}
 use Rattle.meaning.proofs.Ids.{same_id, same_subject}
 use Rattle.meaning.proofs.Entered.{judged-now, given_now, sound_now, entered-elsewhere, none_elsewhere, none_with}
-use Rattle.meaning.proofs.Shown.{id_found, some_is, own, others}
-use Rattle.meaning.proofs.Lagging.{kept_free, no_version}
+use Rattle.meaning.proofs.Shown.{some_is, own, others}
 use Rattle.meaning.proofs.Represented.{same_rows_lag}
 use Rattle.meaning.proofs.Tended.{IsTended, replay-tended, found_tended}
 use Rattle.meaning.proofs.Recipients.{AreKnown, broadcast_known}
-use Rattle.settle.specs.declared.rows.NumberedRow.{NumberedRow}
 use Rattle.settle.specs.Changes.{Changes, IsChanged, AreOfVersion, ArePutsOf, AreKeysOf, put_rows, take_rows, same_broadcast}
 use Rattle.settle.proofs.Aside.{lagging_aside}
 use Rattle.settle.specs.Settling.{IsSettled}
 use Rattle.register.specs.Answers.{Stands}
 use Rattle.register.specs.Settling.{LeavesOthers}
 use Rattle.register.proofs.Settled.{due_lags, leaves_but, of_id_found, wait_subject}
-use Rattle.register.specs.Acknowledging.{is_sending, is_last_of, answered_row, completed_if, by_row, retired_rows, own_rows, acknowledging, IsEarlier}
-use Rattle.register.proofs.Alone.{Held, held_of, held_row, in_force_read, one_in_force, found_by_id, found_alone, passes}
+use Rattle.register.specs.Acknowledging.{is_sending, is_last_of, answered_row, completed_if, own_rows, acknowledging}
+use Rattle.register.proofs.Alone.{one_in_force}
 use Rattle.register.proofs.OnVersion.{acknowledge-names, clock_same, shown_is}
-use Rattle.register.proofs.Sent.{among_keys}
+use Rattle.settle.proofs.Tables.{same_broadcast_with}
+use Rattle.settle.proofs.Taking.{sends_create-open, retired_broadcasts, version_after, others_after}
+use Rattle.settle.proofs.KeptRows.{row_there, puts_of, the_replaced, replaced_row, put_last, none_apart, retired_apart, retired_shows}
+use Rattle.settle.proofs.Among.{and_both, among-filtered, same_truth, among_keys}
 use Rattle.register.proofs.Queued.{IsAwaited, waiting-awaited, awaited-waiting}
-use Rattle.register.proofs.Answering.{same_truth, same_number, among-filtered, last_is, acknowledged_one, left_without, waiters_are, answered_one, row_was, stored_before, stored_after, waits_after, answered_all, acknowledged_is, other_broadcast, this_broadcast, takes_is, acknowledging-quiet, acknowledged_id, last-same, sends_create-open, never_retired, version_after, others_after}
-
-impossible : {P : Type 0} → true ≡ false → P
-impossible e = cc
-
-and_both : (p q : Bool) → (p && q) ≡ true → (p ≡ true) × (q ≡ true)
-and_both true true e = (refl, refl)
-and_both true false e = cc
-and_both false q e = cc
+use Rattle.register.proofs.Answering.{last_is, acknowledged_one, left_without, waiters_are, answered_one, row_was, stored_before, stored_after, waits_after, answered_all, acknowledged_is, other_broadcast, this_broadcast, takes_is, acknowledging-quiet, acknowledged_id, last-same}
 
 -- ---- who waits for it
 
@@ -113,132 +105,29 @@ acknowledged-record st caller id attempt s =
 
 -- ---- rows put
 
-abbrev pub puts_of : Windows → (now : ℕ) → Subject → Option Version → List (ℕ × VersionRow)
-puts_of w now s None = []
-puts_of w now s (Some u) = (u.id, row_of w s (enters Old now u)) ∷ []
-
-abbrev pub the_replaced : Bool → Record → Option Version
-the_replaced takes_over r = if takes_over then version_in_force r else None
-
-abbrev held_puts : Windows → (now : ℕ) → Option Held → List (ℕ × VersionRow)
-held_puts w now None = []
-held_puts w now (Some h) = (h.id, row_of w h.row.subject (enters Old now (by_row h.row))) ∷ []
-
-pub retired_read : (st : State) (old : Content) (stands : Stands old st) (s : Subject) → IsSettled old st s → (takes_over : Bool) (earlier : Option NumberedRow) → IsEarlier takes_over old s earlier →
-    retired_rows st.windows st.now earlier ≡ puts_of st.windows st.now s (the_replaced takes_over (record_now st s))
-retired_read st old stands s due false earlier is = ap (retired_rows st.windows st.now) is
-retired_read st old stands s due true earlier is =
-    by_code earlier ∙ ap (held_puts st.windows st.now) (in_force_read st old stands s due earlier is) ∙ by_record (version_in_force (record_now st s))
-  where
-    by_code : (o : Option NumberedRow) → retired_rows st.windows st.now o ≡ held_puts st.windows st.now (option_map held_row o)
-    by_code None = refl
-    by_code (Some n) = refl
-
-    by_record : (o : Option Version) → held_puts st.windows st.now (option_map (held_of st s) o) ≡ puts_of st.windows st.now s o
-    by_record None = refl
-    by_record (Some u) = refl
-
--- one's own row, last
-own_put : (w : Windows) (now : ℕ) (s : Subject) (id k : ℕ) (row : VersionRow) (x : Bool) (o : Option Version) (before : Option VersionRow) → row.subject ≡ s → (id == k) ≡ true →
-    (x ≡ false → o ≡ None) → (x ≡ false → of_subject s (λ (r : VersionRow). r.subject) before ≡ Some row) →
-    of_subject s (λ (r : VersionRow). r.subject) (put_rows ◌==◌ (puts_of w now s o ++ own_rows x id row) k before) ≡ Some row
-own_put w now s id k row true None before of_s here none was = ap (λ b. of_subject s (λ (r : VersionRow). r.subject) (if b then Some row else before)) here ∙ own s (λ (r : VersionRow). r.subject) row of_s
-own_put w now s id k row true (Some u) before of_s here none was =
-    ap (λ b. of_subject s (λ (r : VersionRow). r.subject) (if b then Some row else (if u.id == k then Some (row_of w s (enters Old now u)) else before))) here ∙ own s (λ (r : VersionRow). r.subject) row of_s
-own_put w now s id k row false None before of_s here none was = was refl
-own_put w now s id k row false (Some u) before of_s here none was = let no : Some u ≡ None = none refl in cc
-
-not_put : (w : Windows) (now : ℕ) (s : Subject) (id k : ℕ) (row : VersionRow) (x : Bool) (o : Option Version) (before : Option VersionRow) → (id == k) ≡ false →
-    put_rows ◌==◌ (puts_of w now s o ++ own_rows x id row) k before ≡ put_rows ◌==◌ (puts_of w now s o) k before
-not_put w now s id k row true None before apart = ap (λ b. if b then Some row else before) apart
-not_put w now s id k row true (Some u) before apart = ap (λ b. if b then Some row else (if u.id == k then Some (row_of w s (enters Old now u)) else before)) apart
-not_put w now s id k row false None before apart = refl
-not_put w now s id k row false (Some u) before apart = refl
-
--- rows of another subject stay
-put_apart : (s t : Subject) (p : ℕ × VersionRow) (k : ℕ) (was now_there : Option VersionRow) → p.1.subject ≡ s → subject_eq s t ≡ false →
-    ((p.0 == k) ≡ true → of_subject t (λ (r : VersionRow). r.subject) was ≡ None) → of_subject t (λ (r : VersionRow). r.subject) now_there ≡ of_subject t (λ (r : VersionRow). r.subject) was →
-    of_subject t (λ (r : VersionRow). r.subject) (if p.0 == k then Some p.1 else now_there) ≡ of_subject t (λ (r : VersionRow). r.subject) was
-put_apart s t p k was now_there of_s apart gone same = go (p.0 == k) refl
-  where
-    go : (b : Bool) → (p.0 == k) ≡ b → of_subject t (λ (r : VersionRow). r.subject) (if b then Some p.1 else now_there) ≡ of_subject t (λ (r : VersionRow). r.subject) was
-    go true e = others s t (λ (r : VersionRow). r.subject) p.1 of_s apart ∙ sym (gone e)
-    go false e = same
-
--- ---- which versions become old
-
-none_passes : (test by : Version → Bool) (vs : List Version) (x : Version) → find test vs ≡ None → find by vs ≡ Some x → test x ≡ false
-none_passes test by [] x none found = cc
-none_passes test by (v ∷ vs) x none found = go (λ e f. none_passes test by vs x e f) (test v) refl none (by v) found
-  where
-    go : (find test vs ≡ None → find by vs ≡ Some x → test x ≡ false) → (b : Bool) → test v ≡ b → cond b (Some v) (find test vs) ≡ None → (d : Bool) → cond d (Some v) (find by vs) ≡ Some x → test x ≡ false
-    go later true e f d g = cc
-    go later false e f true g = ap test (sym (some_is v x g)) ∙ e
-    go later false e f false g = later f g
+-- one's own row, if it changes, comes last
+last_put : (w : Windows) (minute : ℕ) (s : Subject) (id k : ℕ) (row : VersionRow) (x : Bool) (o : Option Version) (before : Option VersionRow) →
+    put_rows ◌==◌ (puts_of w minute s o ++ own_rows x id row) k before ≡ (if x && (id == k) then Some row else put_rows ◌==◌ (puts_of w minute s o) k before)
+last_put w minute s id k row true o before = put_last w minute s id row o k before
+last_put w minute s id k row false None before = refl
+last_put w minute s id k row false (Some u) before = refl
 
 module _ (st : State) (old : Content) (stands : Stands old st) (s : Subject) (due : IsSettled old st s) where
-  abbrev r : Record
-  r = record_now st s
-
-  force_by_id : (u : Version) → version_in_force r ≡ Some u → version_with u.id r ≡ Some u
-  force_by_id u found = found_by_id in_force (made_by st.windows st.history) s r.versions u (given_now st stands.represents.history s) found
-
-  -- the rows of the versions that were in force
-  retired_shows : (takes_over : Bool) (k : ℕ) → of_subject s (λ (x : VersionRow). x.subject) (put_rows ◌==◌ (puts_of st.windows st.now s (the_replaced takes_over r)) k (get old.versions k))
-      ≡ option_map (row_of st.windows s) (option_map (retired takes_over st.now) (version_with k r))
-  retired_shows false k = due.shows.versions k ∙ ap (option_map (row_of st.windows s)) (sym (never_retired st.now (version_with k r)))
-  retired_shows true k = go (version_in_force r) refl
-    where
-      unmoved : ((x : Version) → version_with k r ≡ Some x → in_force x ≡ false) → (o : Option Version) → version_with k r ≡ o → option_map (retired true st.now) o ≡ o
-      unmoved none None e = refl
-      unmoved none (Some x) e = ap (λ b. Some (if b then enters Old st.now x else x)) (none x e)
-
-      stay : ((x : Version) → version_with k r ≡ Some x → in_force x ≡ false) → of_subject s (λ (x : VersionRow). x.subject) (get old.versions k) ≡ option_map (row_of st.windows s) (option_map (retired true st.now) (version_with k r))
-      stay none = due.shows.versions k ∙ ap (option_map (row_of st.windows s)) (sym (unmoved none (version_with k r) refl))
-
-      alone : (u : Version) → version_in_force r ≡ Some u → (u.id == k) ≡ false → (x : Version) → version_with k r ≡ Some x → (b : Bool) → in_force x ≡ b → b ≡ false
-      alone u found apart x there false e = refl
-      alone u found apart x there true e =
-          let same : x ≡ u = some_is x u (sym (found_alone in_force k r.versions x there e (one_in_force st old stands s)) ∙ found) in
-          impossible (sym (ap (λ (y : Version). y.id == k) (sym same) ∙ ap (λ n. n == k) (id_found k r.versions x there) ∙ same_number k) ∙ apart)
-
-      at : (u : Version) → version_in_force r ≡ Some u → (b : Bool) → (u.id == k) ≡ b →
-          of_subject s (λ (x : VersionRow). x.subject) (if b then Some (row_of st.windows s (enters Old st.now u)) else get old.versions k) ≡ option_map (row_of st.windows s) (option_map (retired true st.now) (version_with k r))
-      at u found true e =
-          own s (λ (x : VersionRow). x.subject) (row_of st.windows s (enters Old st.now u)) refl
-          ∙ sym (ap (λ o. option_map (row_of st.windows s) (option_map (retired true st.now) o)) (ap (λ n. version_with n r) (sym (same_id u.id k e)) ∙ force_by_id u found)
-          ∙ ap (λ b. Some (row_of st.windows s (if b then enters Old st.now u else u))) (passes in_force r.versions u found))
-      at u found false e = stay (λ x there. alone u found e x there (in_force x) refl)
-
-      go : (o : Option Version) → version_in_force r ≡ o → of_subject s (λ (x : VersionRow). x.subject) (put_rows ◌==◌ (puts_of st.windows st.now s o) k (get old.versions k))
-          ≡ option_map (row_of st.windows s) (option_map (retired true st.now) (version_with k r))
-      go None e = stay (λ x there. none_passes in_force (λ (y : Version). y.id == k) r.versions x e there)
-      go (Some u) e = at u e (u.id == k) refl
-
   -- rows of other subjects
-  puts_apart : (takes_over : Bool) (id : ℕ) (row : VersionRow) (x : Bool) → row.subject ≡ s → (t : Subject) → subject_eq s t ≡ false → version_with id (record_now st t) ≡ None → (k : ℕ) →
-      of_subject t (λ (y : VersionRow). y.subject) (put_rows ◌==◌ (puts_of st.windows st.now s (the_replaced takes_over r) ++ own_rows x id row) k (get old.versions k)) ≡ of_subject t (λ (y : VersionRow). y.subject) (get old.versions k)
-  puts_apart takes_over id row x of_s t apart free k = all takes_over
+  puts_apart : (takes_over : Bool) (id : ℕ) (v : Version) → version_with id (record_now st s) ≡ Some v → (row : VersionRow) (x : Bool) → row.subject ≡ s → (t : Subject) → subject_eq s t ≡ false → (k : ℕ) →
+      of_subject t (λ (y : VersionRow). y.subject) (put_rows ◌==◌ (puts_of st.windows st.now s (the_replaced takes_over (record_now st s)) ++ own_rows x id row) k (get old.versions k))
+      ≡ of_subject t (λ (y : VersionRow). y.subject) (get old.versions k)
+  puts_apart takes_over id v found row x of_s t apart k =
+      ap (of_subject t (λ (y : VersionRow). y.subject)) (last_put st.windows st.now s id k row x (the_replaced takes_over (record_now st s)) (get old.versions k)) ∙ go x (id == k) refl
     where
-      gone : (j : ℕ) → version_with j (record_now st t) ≡ None → (j == k) ≡ true → of_subject t (λ (y : VersionRow). y.subject) (get old.versions k) ≡ None
-      gone j none e = no_version st.windows old t (stands.represents.subjects t).kept (stands.represents.subjects t).shows k
-          (kept_free st.windows old st.now t (record_now st t) (stands.represents.subjects t) k (ap (λ n. version_with n (record_now st t)) (sym (same_id j k e)) ∙ none))
+      stay : of_subject t (λ (y : VersionRow). y.subject) (replaced_row st.windows st.now s (record_now st s) old takes_over k) ≡ of_subject t (λ (y : VersionRow). y.subject) (get old.versions k)
+      stay = retired_apart st.windows st.now s (made_by st.windows st.history) (record_now st s) old due.shows (given_now st stands.represents.history s) takes_over t apart k
 
-      own_last : (y : Bool) (there : Option VersionRow) → of_subject t (λ (z : VersionRow). z.subject) there ≡ of_subject t (λ (z : VersionRow). z.subject) (get old.versions k) →
-          of_subject t (λ (z : VersionRow). z.subject) (put_rows ◌==◌ (own_rows y id row) k there) ≡ of_subject t (λ (z : VersionRow). z.subject) (get old.versions k)
-      own_last true there same = put_apart s t (id, row) k (get old.versions k) there of_s apart (gone id free) same
-      own_last false there same = same
-
-      replaced : (o : Option Version) → version_in_force r ≡ o →
-          of_subject t (λ (y : VersionRow). y.subject) (put_rows ◌==◌ (puts_of st.windows st.now s o ++ own_rows x id row) k (get old.versions k)) ≡ of_subject t (λ (y : VersionRow). y.subject) (get old.versions k)
-      replaced None e = own_last x (get old.versions k) refl
-      replaced (Some u) e = own_last x (if u.id == k then Some (row_of st.windows s (enters Old st.now u)) else get old.versions k)
-          (put_apart s t (u.id, row_of st.windows s (enters Old st.now u)) k (get old.versions k) (get old.versions k) refl apart
-          (gone u.id (none_elsewhere st stands.represents.history s t u.id u (force_by_id u e) apart)) refl)
-
-      all : (b : Bool) → of_subject t (λ (y : VersionRow). y.subject) (put_rows ◌==◌ (puts_of st.windows st.now s (the_replaced b r) ++ own_rows x id row) k (get old.versions k)) ≡ of_subject t (λ (y : VersionRow). y.subject) (get old.versions k)
-      all true = replaced (version_in_force r) refl
-      all false = own_last x (get old.versions k) refl
+      go : (a b : Bool) → (id == k) ≡ b → of_subject t (λ (y : VersionRow). y.subject) (if a && b then Some row else replaced_row st.windows st.now s (record_now st s) old takes_over k) ≡ of_subject t (λ (y : VersionRow). y.subject) (get old.versions k)
+      go true true e = others s t (λ (y : VersionRow). y.subject) row of_s apart
+          ∙ sym (none_apart old s t apart id k (row_of st.windows s v) (row_there st.windows s old (record_now st s) due.shows id v found) refl e)
+      go true false e = stay
+      go false b e = stay
 
 -- ---- other tables
 
@@ -279,9 +168,6 @@ one_version caller minute id attempt last s row of_s = record {
 
 module _ (st : State) (old new : Content) (stands : Stands old st) (caller : ℕ) (s : Subject) (due : IsSettled old st s) (minute id attempt : ℕ) (is : IsAwaited st caller s minute id attempt) (last : Bool)
     (last_one : last ≡ is_last_of old caller minute id attempt) where
-  abbrev the_version : Version
-  the_version = is.version
-
   abbrev change : Version → Version
   change = acknowledged_by caller attempt st.now
 
@@ -332,36 +218,31 @@ module _ (st : State) (old new : Content) (stands : Stands old st) (caller : ℕ
 
   module _ (changed : IsChanged (the_changes the_puts) old new) where
     version_at : (k : ℕ) (b : Bool) → (id == k) ≡ b → of_subject s (λ (x : VersionRow). x.subject) (get new.versions k) ≡ option_map (row_of st.windows s) (version_with k (record_after st caller id attempt s))
-    version_at k true e =
-        ap (of_subject s (λ (x : VersionRow). x.subject)) (changed.versions k)
-        ∙ own_put st.windows st.now s id k (row_of st.windows s finished) completes (the_replaced takes_over (record_now st s)) (get old.versions k) refl e none was
-        ∙ ap (λ x. Some (row_of st.windows s x)) (sym change_is)
-        ∙ sym (ap (option_map (row_of st.windows s)) (ap (λ n. version_with n (record_after st caller id attempt s)) (sym (same_id id k e)) ∙ hit))
+    version_at k x e = ap (of_subject s (λ (y : VersionRow). y.subject)) (changed.versions k
+        ∙ last_put st.windows st.now s id k (row_of st.windows s finished) completes (the_replaced takes_over (record_now st s)) (get old.versions k)
+        ∙ ap (λ b. if completes && b then Some (row_of st.windows s finished) else replaced_row st.windows st.now s (record_now st s) old takes_over k) e) ∙ at x e
       where
-        none : completes ≡ false → the_replaced takes_over (record_now st s) ≡ None
-        none f = ap (λ b. the_replaced (b && sends_create is.version.status) (record_now st s)) f
+        mine : (id == k) ≡ true → (b : Bool) → completes ≡ b → of_subject s (λ (y : VersionRow). y.subject) (if b && true then Some (row_of st.windows s finished) else replaced_row st.windows st.now s (record_now st s) old (b && sends_create is.version.status) k) ≡ Some (row_of st.windows s finished)
+        mine f true g = own s (λ (y : VersionRow). y.subject) (row_of st.windows s finished) refl
+        mine f false g = due.shows.versions k ∙ ap (option_map (row_of st.windows s)) (ap (λ n. version_with n (record_now st s)) (sym (same_id id k f)) ∙ is.found)
+            ∙ sym (ap (λ b. Some (row_of st.windows s (completed_if b st.now (answered_all caller attempt st.now is.version)))) g)
 
-        was : completes ≡ false → of_subject s (λ (x : VersionRow). x.subject) (get old.versions k) ≡ Some (row_of st.windows s finished)
-        was f = due.shows.versions k ∙ ap (option_map (row_of st.windows s)) (ap (λ n. version_with n (record_now st s)) (sym (same_id id k e)) ∙ is.found)
-            ∙ sym (ap (λ b. Some (row_of st.windows s (completed_if b st.now (answered_all caller attempt st.now is.version)))) f)
-    version_at k false e =
-        ap (of_subject s (λ (x : VersionRow). x.subject)) (changed.versions k)
-        ∙ ap (of_subject s (λ (x : VersionRow). x.subject)) (not_put st.windows st.now s id k (row_of st.windows s finished) completes (the_replaced takes_over (record_now st s)) (get old.versions k) e)
-        ∙ retired_shows st old stands s due takes_over k
-        ∙ sym (ap (option_map (row_of st.windows s)) (miss k e))
+        never : (b : Bool) (o p : Option VersionRow) → (if b && false then o else p) ≡ p
+        never true o p = refl
+        never false o p = refl
 
-    -- a version that becomes old keeps its broadcasts
-    retired_broadcasts : (b : Bool) (a : ℕ) (o : Option Version) → option_and_then (λ (v : Version). find (λ x. x.attempt == a) v.broadcasts) (option_map (retired b st.now) o) ≡ option_and_then (λ (v : Version). find (λ x. x.attempt == a) v.broadcasts) o
-    retired_broadcasts b a None = refl
-    retired_broadcasts b a (Some v) = go (b && in_force v)
-      where
-        go : (x : Bool) → find (λ y. y.attempt == a) (if x then enters Old st.now v else v).broadcasts ≡ find (λ y. y.attempt == a) v.broadcasts
-        go true = refl
-        go false = refl
+        at : (b : Bool) → (id == k) ≡ b → of_subject s (λ (y : VersionRow). y.subject) (if completes && b then Some (row_of st.windows s finished) else replaced_row st.windows st.now s (record_now st s) old takes_over k)
+            ≡ option_map (row_of st.windows s) (version_with k (record_after st caller id attempt s))
+        at true f = mine f completes refl ∙ ap (λ u. Some (row_of st.windows s u)) (sym change_is)
+            ∙ sym (ap (option_map (row_of st.windows s)) (ap (λ n. version_with n (record_after st caller id attempt s)) (sym (same_id id k f)) ∙ hit))
+        at false f = ap (of_subject s (λ (y : VersionRow). y.subject)) (never completes (Some (row_of st.windows s finished)) (replaced_row st.windows st.now s (record_now st s) old takes_over k))
+            ∙ retired_shows st.windows st.now s (made_by st.windows st.history) (record_now st s) old due.shows (given_now st stands.represents.history s) (one_in_force st old stands s) takes_over k
+            ∙ sym (ap (option_map (row_of st.windows s)) (miss k f))
 
     -- all broadcasts but the one are the same
     same_elsewhere : (k a : ℕ) (x : Bool) → (id == k) ≡ x → (x && (attempt == a)) ≡ false → broadcast_with k a (record_after st caller id attempt s) ≡ broadcast_with k a (record_now st s)
-    same_elsewhere k a false e apart = ap (option_and_then (λ (v : Version). find (λ x. x.attempt == a) v.broadcasts)) (miss k e) ∙ retired_broadcasts takes_over a (version_with k (record_now st s))
+    same_elsewhere k a false e apart = same_broadcast_with (record_now st s) (record_after st caller id attempt s) k
+        (ap (option_map (λ (u : Version). u.broadcasts)) (miss k e) ∙ retired_broadcasts takes_over st.now (version_with k (record_now st s))) a
     same_elsewhere k a true e apart =
         ap (λ n. broadcast_with n a (record_after st caller id attempt s)) (sym (same_id id k e))
         ∙ ap (option_and_then (λ (v : Version). find (λ x. x.attempt == a) v.broadcasts)) hit
@@ -447,7 +328,7 @@ module _ (st : State) (old new : Content) (stands : Stands old st) (caller : ℕ
         } in
         let rest : SameRows t old middle = lagging_aside st old middle (the_changes []) s id (one_version caller minute id attempt last s the_row refl) changed_rest t (stands.represents.subjects t) apart free in
         record {
-          versions = λ k. ap (of_subject t (λ (x : VersionRow). x.subject)) (changed.versions k) ∙ puts_apart st old stands s due takes_over id (row_of st.windows s finished) completes refl t apart free k;
+          versions = λ k. ap (of_subject t (λ (x : VersionRow). x.subject)) (changed.versions k) ∙ puts_apart st old stands s due takes_over id is.version is.found (row_of st.windows s finished) completes refl t apart k;
           broadcasts = rest.broadcasts;
           waits = rest.waits;
         }

@@ -30,7 +30,7 @@ use Rattle.settle.specs.Settling.{IsSettled}
 use Rattle.register.specs.Answers.{Stands}
 use Rattle.register.specs.Settling.{AnswersSettled, AreSettled, LeavesOthers}
 use Rattle.register.specs.Calls.{refused_with}
-use Rattle.register.specs.Sending.{sending}
+use Rattle.settle.specs.Sending.{sending}
 use Rattle.register.proofs.Settled.{IdSettled, row_now, row_settled, leaves_but, of_id_found}
 use Rattle.register.proofs.Composed.{answers_refused_same, answers_accepted}
 use Rattle.register.proofs.OnVersion.{IsOnOne, others_stay, clock_of, clock_is_of, activate-leaves, activate-names, on_one, clock_same, on_version-stands, shown_is}

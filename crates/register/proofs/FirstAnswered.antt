@@ -23,7 +23,7 @@ use Rattle.settle.specs.Changes.{IsChanged}
 use Rattle.settle.specs.Settling.{IsSettled}
 use Rattle.register.specs.Answers.{Stands}
 use Rattle.register.specs.Settling.{AnswersSettled, AreSettled, LeavesOthers}
-use Rattle.register.specs.Sending.{putting}
+use Rattle.settle.specs.Sending.{putting}
 use Rattle.register.proofs.Composed.{answers_accepted}
 use Rattle.register.proofs.OnVersion.{IsOnOne, clock_of, clock_is_of, on_version-stands, others_stay, shown_is}
 use Rattle.register.proofs.FactsRead.{facts_are}

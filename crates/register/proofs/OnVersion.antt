@@ -105,9 +105,6 @@ activate-leaves caller id = record { carrier = refl; lrn = λ k. refl; code = λ
 pub activate-names : (id : ℕ) → NamesVersion id (Commands (Activate id))
 activate-names id = record { unmade = λ at. refl; elsewhere = λ t vs none. none }
 
-pub acknowledge-leaves : (caller id attempt : ℕ) → LeavesRegistry caller (Acknowledges id attempt)
-acknowledge-leaves caller id attempt = record { carrier = refl; lrn = λ k. refl; code = λ k. refl; donor = λ k. refl; lines = tt }
-
 pub acknowledge-names : (id attempt : ℕ) → NamesVersion id (Acknowledges id attempt)
 acknowledge-names id attempt = record { unmade = λ at. refl; elsewhere = λ t vs none. none }
 

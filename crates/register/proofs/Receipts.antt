@@ -8,11 +8,9 @@ use Rattle.numbers.specs.Views.{subject_of}
 use Rattle.numbers.specs.declared.spid.Spid.{Spid}
 use Rattle.meaning.specs.Views.{status_of}
 use Rattle.meaning.specs.declared.words.Outcome.TheVariants.{Open, SomeAcknowledged}
-use Rattle.meaning.specs.Statuses.{Old}
 use Rattle.meaning.specs.Windows.{Windows}
 use Rattle.meaning.specs.Versions.{Broadcast, Version, sends_create, version_with}
-use Rattle.meaning.specs.Changes.{enters}
-use Rattle.meaning.specs.History.{Acknowledges}
+use Rattle.meaning.specs.History.{Acknowledges, made_by}
 use Rattle.meaning.specs.Reading.{State, View, record_now, view_of}
 use Rattle.meaning.specs.Refusals.{Requests, refusal}
 use Rattle.meaning.specs.Machine.{Shown, accepted, answer_of}
@@ -33,13 +31,17 @@ use Rattle.register.specs.Answers.{Stands}
 use Rattle.register.specs.Settling.{AnswersSettled, AreSettled, LeavesOthers}
 use Rattle.register.proofs.Settled.{IdSettled, row_now, row_settled}
 use Rattle.register.specs.Calls.{refused_with}
-use Rattle.register.specs.Acknowledging.{is_sending, answered_row, completed_if, by_row, retired_rows, own_rows, acknowledging, completes, are_only, IsEarlier, IsFound, all_changes}
+use Rattle.settle.specs.Fired.{retired_rows, IsEarlier}
+use Rattle.register.specs.Acknowledging.{is_sending, answered_row, completed_if, own_rows, acknowledging, completes, are_only, IsFound, all_changes}
 use Rattle.register.proofs.Composed.{answers_refused_same, answers_accepted}
 use Rattle.register.proofs.OnVersion.{clock_of, clock_is_of}
 use Rattle.register.proofs.Activated.{row_version}
+use Rattle.meaning.proofs.Entered.{given_now}
+use Rattle.settle.proofs.KeptRows.{retired_read, puts_of, the_replaced}
+use Rattle.register.proofs.Alone.{one_in_force}
 use Rattle.register.proofs.Queued.{IsAwaited, found-awaited, refused_unknown, refused_not_found, refused_by_keys}
 use Rattle.register.proofs.Answering.{answered_all, row_was}
-use Rattle.register.proofs.Acknowledged.{broadcast_there, broadcast_read, retired_read, puts_of, the_replaced, acknowledged-stands, acknowledged-leaves, acknowledged-answer}
+use Rattle.register.proofs.Acknowledged.{broadcast_there, broadcast_read, acknowledged-stands, acknowledged-leaves, acknowledged-answer}
 
 -- ---- carriers of the code
 
@@ -77,14 +79,6 @@ answered_seen row after closes gives = go row.is_open refl row.any refl closes g
     go false e true f false gives = gives row.subject (one false true) 0 (with_both false true e f) ∙ sym (ap (answered_row false) (with_both false true e f))
     go false e false f true gives = gives row.subject (one false false) 0 (with_both false false e f) ∙ sym (ap (answered_row true) (with_both false false e f))
     go false e false f false gives = gives row.subject (one false false) 0 (with_both false false e f) ∙ sym (ap (answered_row false) (with_both false false e f))
-
--- the row of a version that becomes old
-pub retired_seen : (w : Windows) (minute : ℕ) (row : VersionRow) (u : Inside) (old : VersionCode) → version_row_of u ≡ row → Becomes (enters Old minute) u.version old →
-    row_of w (subject_of old.subject) (seen old) ≡ row_of w row.subject (enters Old minute (by_row row))
-retired_seen w minute row u old is becomes =
-    ap (λ t. row_of w (subject_of t) (seen old)) becomes.subject
-    ∙ ap (row_of w (subject_of u.version.subject)) (becomes.version 0 [])
-    ∙ ap (λ (r : VersionRow). row_of w r.subject (enters Old minute (by_row r))) is
 
 pub rows_alone : (w : Windows) (minute : ℕ) (o : Option NumberedRow) → retired_rows w minute o ≡ retired_rows w minute o ++ []
 rows_alone w minute None = refl
@@ -217,7 +211,8 @@ answers_acknowledged old new caller id attempt clock row u keys key broadcast la
             ++ own_rows (last && (awaited.version.attempt == attempt)) id (row_of st.windows row.subject (completed_if (last && (awaited.version.attempt == attempt)) st.now (answered_all caller attempt st.now awaited.version)))
         versions_same =
             ap (λ ps. ps ++ own_rows (completes u.version attempt last) id (row_of st.windows (subject_of after.subject) (seen after)))
-            (retired_read st old stands row.subject due ((last && (awaited.version.attempt == attempt)) && sends_create awaited.version.status) earlier replaced)
+            (retired_read st.windows st.now row.subject (made_by st.windows st.history) (record_now st row.subject) old due.shows (given_now st stands.represents.history row.subject)
+            (one_in_force st old stands row.subject) (λ t. ((stands.represents.subjects t).kept, (stands.represents.subjects t).shows)) ((last && (awaited.version.attempt == attempt)) && sends_create awaited.version.status) earlier replaced)
             ∙ ap (λ b. puts_of st.windows st.now row.subject (the_replaced ((last && (awaited.version.attempt == attempt)) && sends_create awaited.version.status) (record_now st row.subject))
             ++ own_rows b id (row_of st.windows (subject_of after.subject) (seen after))) complete
             ∙ ap (λ r. puts_of st.windows st.now row.subject (the_replaced ((last && (awaited.version.attempt == attempt)) && sends_create awaited.version.status) (record_now st row.subject))

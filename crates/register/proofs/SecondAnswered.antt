@@ -25,10 +25,11 @@ use Rattle.settle.specs.Changes.{IsChanged}
 use Rattle.settle.specs.Settling.{IsSettled}
 use Rattle.register.specs.Answers.{Stands}
 use Rattle.register.specs.Settling.{AnswersSettled, AreSettled, LeavesOthers}
-use Rattle.register.specs.Sending.{putting}
+use Rattle.settle.specs.Sending.{putting}
 use Rattle.register.proofs.Composed.{answers_accepted}
 use Rattle.register.proofs.OnVersion.{IsOnOne, clock_of, clock_is_of, on_version-stands, others_stay, shown_is}
-use Rattle.register.proofs.Columns.{opened_is, sound_open}
+use Rattle.settle.proofs.Passing.{sound_open}
+use Rattle.register.proofs.Columns.{opened_is}
 use Rattle.register.proofs.FirstCreate.{putting-are, create-makes, create-concerns}
 use Rattle.register.proofs.SecondCreate.{one_of, lacking-open, with_create-id, with_create-broadcasts, second-record, changed-quiet, with_create-quiet, changed-shows}
 use Rattle.register.proofs.HasCreate.{replay-has_create, found_has_create}

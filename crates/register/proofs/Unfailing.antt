@@ -1,5 +1,5 @@
 -- Storage is answered only where the device failed.
-use Rattle.std.proofs.Common.{arith, ◌≡◌, ◌≤◌, ℕ, Bool, true, false, List, [], ◌∷◌, Option, Some, None, refl, ap, sym, ◌∙◌, subst}
+use Rattle.std.proofs.Common.{◌≡◌, ℕ, Bool, true, false, List, [], ◌∷◌, Option, Some, None, refl, ap, sym, ◌∙◌, subst}
 use Rattle.std.specs.Prelude.{⊤, nat_lt, if◌then◌else◌, Result, Err}
 use Rattle.meaning.specs.declared.refusal.Refusal.{Refusal}
 use Rattle.meaning.specs.declared.refusal.Refusal.TheVariants.{NoMemory, Storage}
@@ -13,7 +13,6 @@ use Rattle.version.specs.declared.create.Create.{Create as CreateCode}
 use Rattle.version.specs.declared.create.CreateFacts.{CreateFacts}
 use Rattle.version.specs.declared.version.Version.{Version as VersionCode}
 use Rattle.settle.specs.Faults.{refusal_of}
-use Rattle.settle.specs.Reads.{HasRisen}
 use Rattle.settle.specs.declared.store.StoreFault.{StoreFault}
 use Rattle.settle.specs.declared.store.StoreFault.TheVariants.{Storage as StorageFault, NoMemory as NoMemoryFault}
 
@@ -24,10 +23,6 @@ storage_by result NoMemoryFault is said = let never : Err Storage ≡ Err NoMemo
 
 pub same_refusal : {A : Type 0} (r : Refusal) (result : Result A Refusal) → result ≡ Err r → result ≡ Err Storage → r ≡ Storage
 same_refusal r result is said = let same : Err r ≡ Err Storage = sym is ∙ said in cc
-
--- what rose after a call began rose in it
-pub risen_since : (was mid is : ℕ) → was ≤ mid → mid ≤ is → HasRisen mid is → HasRisen was is
-risen_since was mid is up on risen = grind arith
 
 -- ---- the machine's refusals have numbers below 29
 

@@ -2,7 +2,6 @@
 use Rattle.std.specs.Prelude.{◌≡◌, ℕ, Bool, true, false, not, ◌&&◌, ◌==◌, List, [], ◌∷◌, ◌++◌, filter, Option, Some, None, is_some, if◌then◌else◌}
 use Rattle.std.specs.List.{list_all}
 use Rattle.std.specs.FinMap.{get, keys}
-use Rattle.numbers.specs.Subjects.{Subject}
 use Rattle.numbers.specs.declared.spid.Spid.{Spid}
 use Rattle.meaning.specs.Statuses.{Status, Pending, Conflict, CancelPending, Sending, Active, PartialFailure, Failed, DisconnectPending, Old, Canceled}
 use Rattle.meaning.specs.Windows.{Windows}
@@ -11,10 +10,10 @@ use Rattle.meaning.specs.Views.{status_of}
 use Rattle.numbers.specs.Views.{subject_of}
 use Rattle.version.specs.declared.version.Version.{Version as VersionCode}
 use Rattle.version.specs.Views.{seen}
-use Rattle.meaning.specs.Changes.{enters, completed}
+use Rattle.meaning.specs.Changes.{completed}
 use Rattle.meaning.specs.Content.{Content, VersionRow, BroadcastRow, WaitKey, row_of}
 use Rattle.settle.specs.Changes.{Changes, no_changes}
-use Rattle.settle.specs.Reads.{IsInForce}
+use Rattle.settle.specs.Fired.{retired_rows, IsEarlier}
 use Rattle.settle.specs.declared.rows.NumberedRow.{NumberedRow}
 
 abbrev pub is_sending : Status → Bool
@@ -46,29 +45,6 @@ answered_row closes row = record row { is_open = row.is_open && not closes; any 
 abbrev pub completed_if : Bool → (minute : ℕ) → Version → Version
 completed_if completes minute v = if completes then completed v.status minute v else v
 
--- a version by its row, for what asks neither for its id nor for its broadcasts
-abbrev pub by_row : VersionRow → Version
-by_row row = record {
-  id = 0;
-  old_provider = row.old_provider;
-  new_provider = row.new_provider;
-  due = row.due;
-  routing = row.routing;
-  old_at = row.old_at;
-  new_at = row.new_at;
-  status = row.status;
-  since = row.since;
-  attempt = row.attempt;
-  spent = row.spent;
-  protective = row.protective;
-  broadcasts = [];
-}
-
--- the row of the version that was in force before, if there is one: it becomes old
-abbrev pub retired_rows : Windows → (minute : ℕ) → Option NumberedRow → List (ℕ × VersionRow)
-retired_rows w minute None = []
-retired_rows w minute (Some n) = (n.id, row_of w n.row.subject (enters Old minute (by_row n.row))) ∷ []
-
 abbrev pub own_rows : (completes : Bool) → (id : ℕ) → VersionRow → List (ℕ × VersionRow)
 own_rows completes id row = if completes then (id, row) ∷ [] else []
 
@@ -80,11 +56,6 @@ acknowledging carrier minute id attempt is_last versions row = record no_changes
   taken_broadcasts = if is_last && not row.is_open then record { id = id; attempt = attempt } ∷ [] else [];
   taken_waits = record { carrier = carrier; minute = minute; id = id; attempt = attempt } ∷ [];
 }
-
--- the version in force that is replaced, where one is
-abbrev pub IsEarlier : (takes_over : Bool) → Content → Subject → Option NumberedRow → Type 0
-IsEarlier true c s earlier = IsInForce c s earlier
-IsEarlier false c s earlier = earlier ≡ None
 
 -- the last acknowledgement of the version's newest attempt
 abbrev pub completes : VersionCode → (attempt : ℕ) → (is_last : Bool) → Bool

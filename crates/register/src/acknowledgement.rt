@@ -1,7 +1,7 @@
 //! Acknowledgements of downloads.
 ghost use Rattle.meaning.specs.Reading.{State};
 ghost use Rattle.settle.specs.Reads.{HasRisen};
-ghost use Rattle.std.specs.Prelude.{Err, Ok, None, ◌≡◌, ◌≤◌, ◌&&◌, ◌++◌, [], ◌∷◌, Some, IfOk, IfSome, OnOk};
+ghost use Rattle.std.specs.Prelude.{Err, Ok, None, ◌≡◌, ◌≤◌, ◌&&◌, ◌++◌, Some, IfOk, IfSome};
 ghost use Rattle.numbers.specs.Views.{subject_of};
 ghost use Rattle.meaning.specs.Content.{row_of};
 ghost use Rattle.meaning.specs.History.{Acknowledges};
@@ -9,16 +9,14 @@ ghost use Rattle.meaning.specs.Machine.{Shown};
 ghost use Rattle.meaning.specs.Refusals.{Requests};
 ghost use Rattle.meaning.specs.Versions.{sends_create};
 ghost use Rattle.meaning.specs.Views.{status_of};
-ghost use Rattle.meaning.specs.Changes.{enters};
-ghost use Rattle.meaning.specs.Statuses.{Old};
-ghost use Rattle.meaning.specs.Windows.{Windows};
 ghost use Rattle.version.specs.Views.{Becomes, seen, windows_of};
 ghost use Rattle.settle.specs.Changes.{changes_of as changes_seen};
+ghost use Rattle.settle.specs.Fired.{retired_rows};
 ghost use Rattle.settle.specs.Views.{broadcast_row_of, wait_key_of};
 ghost use Rattle.register.specs.Answers.{Stands};
 ghost use Rattle.register.specs.Settling.{AnswersSettled, AreSettled};
 ghost use Rattle.register.specs.Calls.{view_of, replied};
-ghost use Rattle.register.specs.Acknowledging.{is_sending, are_only, is_last_of, answered_row, completed_if, completes, by_row, retired_rows, own_rows, acknowledging, all_changes, IsEarlier, IsFound, IsMissing};
+ghost use Rattle.register.specs.Acknowledging.{is_sending, are_only, is_last_of, completed_if, completes, own_rows, acknowledging, all_changes, IsFound, IsMissing};
 
 use crate::view::VersionView;
 use delivery::{Broadcast, may_acknowledge};
@@ -26,6 +24,7 @@ use meaning::{Action, Refusal, Status};
 use numbers::{Minute, Spid};
 use settle::{
     BroadcastKey, Changes, ClockRow, NumberedRow, Store, StoreFault, VersionRow, WaitKey,
+    earlier_version, retire,
 };
 use std::alloc::{AllocError, Global};
 use version::Version;
@@ -93,24 +92,6 @@ fn is_last<S: Store>(store: &mut S, wait: WaitKey) -> Result<bool, StoreFault>
     Ok(are_only(wait.carrier, &carriers))
 }
 
-// The version that is in force until now, where this one takes its place.
-fn replaced<S: Store>(
-    store: &mut S,
-    version: &Version,
-    completes: bool,
-) -> Result<Option<NumberedRow>, StoreFault>
-    ensures value { S.IsUsable store.new → IfOk result (IsEarlier (completes && sends_create (status_of version.now.status)) (S.content store.old) (subject_of version.now.subject)) }
-    ensures same { S.IsUsable store.new → S.IsUsable store.old × (S.content store.new ≡ S.content store.old) }
-    ensures storage { result ≡ Err StoreFault.Storage → HasRisen (S.failed store.old) (S.failed store.new) }
-    ensures rises { S.failed store.old ≤ S.failed store.new }
-{
-    if takes_over(version, completes) {
-        store.version_in_force(version.subject)
-    } else {
-        Ok(None)
-    }
-}
-
 fn look_up<S: Store>(
     store: &mut S,
     wait: WaitKey,
@@ -130,31 +111,13 @@ fn look_up<S: Store>(
         return Ok(None);
     };
     let is_last = is_last(store, wait)?;
-    let earlier = replaced(store, version, completes(version, wait.attempt, is_last))?;
+    let takes_over = takes_over(version, completes(version, wait.attempt, is_last));
+    let earlier = earlier_version(store, takes_over, version.subject)?;
     Ok(Some(Found {
         broadcast,
         is_last,
         earlier,
     }))
-}
-
-fn put_version(
-    versions: &mut Vec<(u64, VersionRow)>,
-    id: u64,
-    version: &Version,
-    clock: &ClockRow,
-) -> Result<(), AllocError>
-    ensures { OnOk result (versions.new.items ≡ versions.old.items ++ (id, row_of (windows_of clock.now.windows) (subject_of version.now.subject) (seen version.now)) ∷ []) }
-{
-    versions.push((id, VersionRow::of(version, &clock.windows)))?;
-    Ok(())
-}
-
-// The version of a row once it is replaced.
-fn replaced_version(row: &VersionRow, minute: Minute) -> Version
-    ensures { (w : Windows) → row_of w (subject_of result.subject) (seen result) ≡ row_of w row.now.subject (enters Old minute.number (by_row row.now)) }
-{
-    row.version.entering(Status::Old, minute)
 }
 
 // The row of the version, where its status changes, and that of the version that it replaces.
@@ -168,13 +131,9 @@ fn versions_of(
 ) -> Result<Vec<(u64, VersionRow)>, AllocError>
     ensures { IfOk result (λ versions. versions.items ≡ retired_rows (windows_of clock.now.windows) clock.now.minute.number earlier.now ++ own_rows completes id (row_of (windows_of clock.now.windows) (subject_of version.now.subject) (seen version.now))) }
 {
-    let mut versions = Vec::new(alloc);
-    if let Some(replaced) = earlier {
-        let old = replaced_version(&replaced.row, clock.minute);
-        put_version(&mut versions, replaced.id, &old, clock)?;
-    }
+    let mut versions = retire(alloc, earlier, clock.minute, &clock.windows)?;
     if completes {
-        put_version(&mut versions, id, version, clock)?;
+        versions.push((id, VersionRow::of(version, &clock.windows)))?;
     }
     Ok(versions)
 }

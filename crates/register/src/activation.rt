@@ -1,7 +1,7 @@
 //! The activation of a version.
 ghost use Rattle.meaning.specs.Reading.{State};
 ghost use Rattle.settle.specs.Reads.{HasRisen};
-ghost use Rattle.std.specs.Prelude.{Err, ◌≡◌, ◌≤◌};
+ghost use Rattle.std.specs.Prelude.{Err, Some, ◌≡◌, ◌≤◌};
 ghost use Rattle.meaning.specs.History.{Commands};
 ghost use Rattle.meaning.specs.Machine.{Shown};
 ghost use Rattle.meaning.specs.Refusals.{Requests};
@@ -9,72 +9,12 @@ ghost use Rattle.register.specs.Answers.{Stands};
 ghost use Rattle.register.specs.Settling.{AnswersSettled, AreSettled};
 ghost use Rattle.register.specs.Calls.{view_of, replied};
 ghost use Rattle.meaning.specs.Commands.{Activate};
-ghost use Rattle.std.specs.Prelude.{Some, IfOk, map};
-ghost use Rattle.numbers.specs.Views.{subject_of};
-ghost use Rattle.version.specs.Views.{routings_of, seen, windows_of};
-ghost use Rattle.settle.specs.Changes.{changes_of as changes_seen};
-ghost use Rattle.settle.specs.Views.{spid_of};
-ghost use Rattle.register.specs.Sending.{sending, wait_of};
 
 use crate::view::VersionView;
-use delivery::Broadcast;
 use meaning::{Action, Refusal};
-use numbers::{Minute, Spid, Subject};
-use settle::{BroadcastKey, Changes, ClockRow, Store, VersionRow, WaitKey};
-use std::alloc::{AllocError, Global};
-use version::Version;
-
-// The downloads of a broadcast, one for each carrier.
-fn waits(
-    alloc: Global,
-    minute: Minute,
-    id: u64,
-    attempt: u64,
-    subject: Subject,
-    everyone: &[Spid],
-) -> Result<Vec<(WaitKey, Subject)>, AllocError>
-    ensures { IfOk result (λ waits. waits.items ≡ map (wait_of minute id attempt subject) everyone.now) }
-{
-    everyone
-        .iter()
-        .map(|carrier| (
-            WaitKey {
-                carrier: *carrier,
-                minute,
-                id,
-                attempt,
-            },
-            subject,
-        ))
-        .collect(alloc)
-}
-
-// The rows of a version that begins to send: its own, its broadcast's, and one for each carrier.
-fn changes_of(
-    alloc: Global,
-    id: u64,
-    version: &Version,
-    action: Action,
-    clock: &ClockRow,
-    everyone: &[Spid],
-) -> Result<Changes, AllocError>
-    ensures { IfOk result (λ changes. changes_seen changes ≡ sending id (windows_of clock.now.windows) clock.now.minute.number action (subject_of version.now.subject) (seen version.now) (routings_of version.now.routing) (map spid_of everyone.now)) }
-{
-    let attempt = version.attempt;
-    let minute = clock.minute;
-    let subject = version.subject;
-    let broadcast = Broadcast::send(minute, subject, action, version.routing);
-    let waits = waits(alloc, minute, id, attempt, subject, everyone)?;
-    let mut broadcasts = Vec::new(alloc);
-    broadcasts.push((BroadcastKey { id, attempt }, broadcast))?;
-    let mut versions = Vec::new(alloc);
-    versions.push((id, VersionRow::of(version, &clock.windows)))?;
-    let mut changes = Changes::none(alloc);
-    changes.versions = versions;
-    changes.broadcasts = broadcasts;
-    changes.waits = waits;
-    Ok(changes)
-}
+use numbers::Spid;
+use settle::{Store, begin_sending};
+use std::alloc::Global;
 
 /// The new provider activates a version: its broadcast begins.
 pub fn activate<S: Store>(
@@ -99,7 +39,16 @@ pub fn activate<S: Store>(
     };
     let version = row.version.activated(caller, clock.minute, &clock.windows)?;
     let everyone = store.carriers()?;
-    let changes = changes_of(alloc, id, &version, Action::Create, &clock, &everyone)?;
+    let action = Action::Create;
+    let changes = begin_sending(
+        alloc,
+        id,
+        &version,
+        action,
+        clock.minute,
+        &clock.windows,
+        &everyone,
+    )?;
     store.commit(&changes)?;
     Ok(VersionView::of(id, &version, clock.minute, &clock.windows))
 }

@@ -16,7 +16,7 @@ ghost use Rattle.settle.specs.Views.{clock_row_of};
 ghost use Rattle.register.specs.Answers.{Stands};
 ghost use Rattle.register.specs.Settling.{AnswersSettled, AreSettled};
 ghost use Rattle.register.specs.Calls.{view_of, replied};
-ghost use Rattle.register.specs.Sending.{putting};
+ghost use Rattle.settle.specs.Sending.{putting};
 ghost use Rattle.register.specs.Serving.{AreRead, is_lrn_good};
 
 use crate::serving::{NumberRow, server};

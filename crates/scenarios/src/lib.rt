@@ -2,6 +2,8 @@
 #![tactic(auto)]
 
 #[cfg(test)]
+mod counted;
+#[cfg(test)]
 mod desk;
 #[cfg(test)]
 mod failing;
@@ -17,3 +19,5 @@ mod ports;
 mod queries;
 #[cfg(test)]
 mod retries;
+#[cfg(test)]
+mod settling;

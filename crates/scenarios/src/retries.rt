@@ -1,6 +1,7 @@
 //! The first port where memory may be refused once: a message that met it is sent again.
 //!
-//! `bench/refused-memory` runs this test with each allocation refused in turn.
+//! `rt try --test --fail-alloc N` runs it with its N-th allocation refused; `bench/refused-memory` does the same
+//! to the built program, for every N.
 use crate::desk::WINDOWS;
 use crate::first_port::FIRST_PORT;
 use api::{End, Fault, NoTicks, Options, Served, serve};

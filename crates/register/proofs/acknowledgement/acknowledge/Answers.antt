@@ -18,7 +18,8 @@ use Rattle.register.specs.Calls.{view_of, replied}
 use Rattle.register.specs.Acknowledging.{completed_if, all_changes, IsFound}
 use Rattle.register.specs.declared.view.VersionView.{VersionView}
 use Rattle.register.specs.declared.acknowledgement.Found.{Found}
-use Rattle.register.proofs.Unfailing.{storage_by, risen_since}
+use Rattle.settle.proofs.Risen.{risen-since}
+use Rattle.register.proofs.Unfailing.{storage_by}
 use Rattle.settle.specs.Faults.{refusal_of}
 use Rattle.register.proofs.Composed.{answers_fault, answers_no_memory}
 use Rattle.register.proofs.Receipts.{never_missing, answers_unknown, answers_not_found, answers_by_keys, answers_acknowledged}
@@ -129,7 +130,7 @@ returns-in_err-waiting-clause-storage g c = λ usable st stands settled said.
     let a = c.carrier.ensures.rises in
     let b = c.clock.ensures.rises in
     let d = c.version.ensures.rises in
-    risen_since (g.S.Store.failed c.args.store.now) (g.S.Store.failed c.version.new.self) (g.S.Store.failed c.waits_about.new.self) (omega arith) c.waits_about.ensures.rises
+    risen-since (g.S.Store.failed c.args.store.now) (g.S.Store.failed c.version.new.self) (g.S.Store.failed c.waits_about.new.self) (omega arith) c.waits_about.ensures.rises
     (c.in_err-waiting.ensures.storage (ap Err (storage_by c.from_residual-in_err-waiting.result c.in_err-waiting.field-0.0 is said)))
 
 pub returns-in_err-found-clause-storage : goal.returns-in_err-found-clause-storage
@@ -139,7 +140,7 @@ returns-in_err-found-clause-storage g c = λ usable st stands settled said.
     let b = c.clock.ensures.rises in
     let d = c.version.ensures.rises in
     let e = c.waits_about.ensures.rises in
-    risen_since (g.S.Store.failed c.args.store.now) (g.S.Store.failed c.waits_about.new.self) (g.S.Store.failed c.look_up.new.store) (omega arith) c.look_up.ensures.rises
+    risen-since (g.S.Store.failed c.args.store.now) (g.S.Store.failed c.waits_about.new.self) (g.S.Store.failed c.look_up.new.store) (omega arith) c.look_up.ensures.rises
     (c.in_err-found.ensures.storage (ap Err (storage_by c.from_residual-in_err-found.result c.in_err-found.field-0.0 is said)))
 
 pub returns-in_err-commit-clause-storage : goal.returns-in_err-commit-clause-storage
@@ -150,7 +151,7 @@ returns-in_err-commit-clause-storage g c = λ usable st stands settled said.
     let d = c.version.ensures.rises in
     let e = c.waits_about.ensures.rises in
     let f = c.look_up.ensures.rises in
-    risen_since (g.S.Store.failed c.args.store.now) (g.S.Store.failed c.look_up.new.store) (g.S.Store.failed c.commit.new.self) (omega arith) c.commit.ensures.rises
+    risen-since (g.S.Store.failed c.args.store.now) (g.S.Store.failed c.look_up.new.store) (g.S.Store.failed c.commit.new.self) (omega arith) c.commit.ensures.rises
     (c.in_err-commit.ensures.storage (ap Err (storage_by c.from_residual-in_err-commit.result c.in_err-commit.field-0.0 is said)))
 
 pub returns-in_default-3-clause-storage : goal.returns-in_default-3-clause-storage

@@ -10,7 +10,7 @@ use Rattle.meaning.specs.Content.{Content}
 use Rattle.settle.specs.Views.{spid_of, clock_row_of}
 use Rattle.register.specs.Settling.{AnswersSettled}
 use Rattle.register.specs.Calls.{view_of, replied}
-use Rattle.register.specs.Sending.{sending}
+use Rattle.settle.specs.Sending.{sending}
 use Rattle.register.specs.declared.view.VersionView.{VersionView}
 use Rattle.meaning.specs.declared.refusal.Refusal.{Refusal}
 use Rattle.meaning.specs.declared.words.Action.TheVariants.{Create}
@@ -19,7 +19,8 @@ use Rattle.version.specs.Views.{routings_of, seen, windows_of}
 use Rattle.settle.specs.Faults.{refusal_of}
 use Rattle.settle.specs.Changes.{Changes, IsChanged}
 use Rattle.register.proofs.Composed.{answers_fault, answers_no_memory}
-use Rattle.register.proofs.Unfailing.{storage_by, risen_since}
+use Rattle.settle.proofs.Risen.{risen-since}
+use Rattle.register.proofs.Unfailing.{storage_by}
 use Rattle.register.proofs.Activated.{answers_unknown, answers_not_found, answers_by_row, answers_activated}
 use Rattle.register.proofs.activation.activate.Goals as goal
 
@@ -109,7 +110,7 @@ returns-in_err-everyone-clause-storage g c = λ usable st stands settled said.
     let b = c.clock.ensures.rises in
     let d = c.version.ensures.rises in
     let e = c.carriers.ensures.rises in
-    risen_since (g.S.Store.failed c.args.store.now) (g.S.Store.failed c.version.new.self) (g.S.Store.failed c.carriers.new.self) (omega arith) e
+    risen-since (g.S.Store.failed c.args.store.now) (g.S.Store.failed c.version.new.self) (g.S.Store.failed c.carriers.new.self) (omega arith) e
     (c.in_err-everyone.ensures.storage (ap Err (storage_by c.from_residual-in_err-everyone.result c.in_err-everyone.field-0.0 is said)))
 
 pub returns-in_err-commit-clause-storage : goal.returns-in_err-commit-clause-storage
@@ -119,5 +120,5 @@ returns-in_err-commit-clause-storage g c = λ usable st stands settled said.
     let b = c.clock.ensures.rises in
     let d = c.version.ensures.rises in
     let e = c.carriers.ensures.rises in
-    risen_since (g.S.Store.failed c.args.store.now) (g.S.Store.failed c.carriers.new.self) (g.S.Store.failed c.commit.new.self) (omega arith) c.commit.ensures.rises
+    risen-since (g.S.Store.failed c.args.store.now) (g.S.Store.failed c.carriers.new.self) (g.S.Store.failed c.commit.new.self) (omega arith) c.commit.ensures.rises
     (c.in_err-commit.ensures.storage (ap Err (storage_by c.from_residual-in_err-commit.result c.in_err-commit.field-0.0 is said)))

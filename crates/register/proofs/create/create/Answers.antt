@@ -14,9 +14,10 @@ use Rattle.settle.specs.Views.{clock_row_of}
 use Rattle.register.specs.declared.view.VersionView.{VersionView}
 use Rattle.register.specs.Settling.{AnswersSettled}
 use Rattle.register.specs.Calls.{view_of, replied}
-use Rattle.register.specs.Sending.{putting}
+use Rattle.settle.specs.Sending.{putting}
 use Rattle.register.specs.Serving.{IsOpened, AreRead}
-use Rattle.register.proofs.Unfailing.{create_never, same_refusal, risen_since}
+use Rattle.settle.proofs.Risen.{risen-since}
+use Rattle.register.proofs.Unfailing.{create_never, same_refusal}
 use Rattle.register.proofs.Composed.{answers_fault}
 use Rattle.register.proofs.Created.{has_read, one_more, Views, answers_create_refused, answers_create_unknown, by_result}
 use Rattle.register.proofs.FirstAnswered.{answers_first}
@@ -133,7 +134,7 @@ returns-in-First-clause-storage g c = λ usable st stands settled said.
     let b = c.clock.ensures.rises in
     let d = c.read.ensures.rises in
     let e = c.facts.ensures.rises in
-    risen_since (g.S.Store.failed c.args.store.now) (g.S.Store.failed c.facts.new.store) (g.S.Store.failed c.put_version.new.store) (omega arith) c.put_version.ensures.rises
+    risen-since (g.S.Store.failed c.args.store.now) (g.S.Store.failed c.facts.new.store) (g.S.Store.failed c.put_version.new.store) (omega arith) c.put_version.ensures.rises
     (c.put_version.ensures.storage said)
 
 pub returns-in-Some-opened-clause-storage : goal.returns-in-Some-opened-clause-storage
@@ -142,5 +143,5 @@ returns-in-Some-opened-clause-storage g c = λ usable st stands settled said.
     let b = c.clock.ensures.rises in
     let d = c.read.ensures.rises in
     let e = c.facts.ensures.rises in
-    risen_since (g.S.Store.failed c.args.store.now) (g.S.Store.failed c.facts.new.store) (g.S.Store.failed c.put_version-in-Some-opened.new.store) (omega arith) c.put_version-in-Some-opened.ensures.rises
+    risen-since (g.S.Store.failed c.args.store.now) (g.S.Store.failed c.facts.new.store) (g.S.Store.failed c.put_version-in-Some-opened.new.store) (omega arith) c.put_version-in-Some-opened.ensures.rises
     (c.put_version-in-Some-opened.ensures.storage said)
