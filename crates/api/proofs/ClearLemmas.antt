@@ -6,8 +6,8 @@ use Rattle.numbers.specs.Texts.{spid_text}
 use Rattle.numbers.proofs.DigitLemmas.{digits_of-injective}
 use Rattle.meaning.specs.Commands.{Command, RegisterCarrier, RegisterRoutingNumber, Activate}
 use Rattle.api.specs.declared.paths.Route.{Route}
-use Rattle.api.specs.declared.paths.Route.TheVariants.{Carriers, RoutingNumbers, Codes, OldProviderCreate as OldProviderPath, NewProviderCreate as NewProviderPath, Activate as ActivatePath, Acknowledge, Query}
-use Rattle.api.specs.Forms.{Asked, Orders, Seeks, text, whole, HasSpid, HasTn, HasLrn, HasCode, HasCic, HasCommand, HasOrder, HasValues, HasForm, is_left_out}
+use Rattle.api.specs.declared.paths.Route.TheVariants.{Carriers, Clock, RoutingNumbers, Codes, OldProviderCreate as OldProviderPath, NewProviderCreate as NewProviderPath, Activate as ActivatePath, Acknowledge, Query, Version}
+use Rattle.api.specs.Forms.{Asked, Orders, Seeks, Moves, text, whole, HasSpid, HasTn, HasLrn, HasCode, HasCic, HasCommand, HasOrder, HasValues, HasForm, is_left_out}
 
 same_said : {A : Type 0} (given : Option A) (a b : A) → given ≡ Some a → given ≡ Some b → a ≡ b
 same_said given a b e f = cc
@@ -74,6 +74,8 @@ same_command NewProviderPath d b c x y =
 same_command ActivatePath d b c x y = x.2 ∙ ap Activate (same_said (whole (codes "id") d) x.0 y.0 x.1 y.1) ∙ sym y.2
 same_command Acknowledge d b c x y = absurd x
 same_command Query d b c x y = absurd x
+same_command Clock d b c x y = absurd x
+same_command (Version id) d b c x y = absurd x
 
 same_order : (route : Route) (d : Data) (a b : Asked) → HasOrder route d a → HasOrder route d b → a ≡ b
 same_order route d a b x y = x.2 ∙ ap Orders (same_command route d x.0 y.0 x.1 y.1) ∙ sym y.2
@@ -81,6 +83,8 @@ same_order route d a b x y = x.2 ∙ ap Orders (same_command route d x.0 y.0 x.1
 same_values : (route : Route) (d : Data) (a b : Asked) → HasValues route d a → HasValues route d b → a ≡ b
 same_values Acknowledge d a b x y = x.4 ∙ rw (same_said (whole (codes "id") d) x.0 y.0 x.2 y.2, same_said (whole (codes "attempt") d) x.1 y.1 x.3 y.3) (sym y.4)
 same_values Query d a b x y = x.2 ∙ ap Seeks (same_said (text (codes "uri") d) x.0 y.0 x.1 y.1) ∙ sym y.2
+same_values Clock d a b x y = x.2 ∙ ap Moves (same_said (whole (codes "minute") d) x.0 y.0 x.1 y.1) ∙ sym y.2
+same_values (Version id) d a b x y = absurd x
 same_values Carriers d a b x y = same_order Carriers d a b x y
 same_values RoutingNumbers d a b x y = same_order RoutingNumbers d a b x y
 same_values Codes d a b x y = same_order Codes d a b x y

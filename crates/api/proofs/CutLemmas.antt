@@ -51,11 +51,11 @@ none_number n e = cc
 one_request : (h : RequestHead) (a b : Request) → IsRequestOf h a → IsRequestOf h b → a ≡ b
 one_request h a b x y =
     let route = x.route ∙ sym y.route in
-    let is_post = x.is_post ∙ sym y.is_post in
+    let method = x.method ∙ sym y.method in
     let caller = one_caller (values_of (codes "x-spid") h) a.caller b.caller x.caller y.caller in
     let size = some_number a.length b.length (sym x.length ∙ y.length) in
     let closes = x.closes ∙ sym y.closes in
-    λ i. record { route = route i; is_post = is_post i; caller = caller i; length = size i; closes = closes i }
+    λ i. record { route = route i; method = method i; caller = caller i; length = size i; closes = closes i }
 
 -- ---- one message
 

@@ -4,17 +4,20 @@ use Rattle.numbers.specs.declared.spid.Spid.{Spid}
 use Rattle.serde_json.specs.Data.{Data}
 use Rattle.meaning.specs.History.{Commands, Acknowledges}
 use Rattle.meaning.specs.Reading.{State}
-use Rattle.meaning.specs.Refusals.{Input, Requests, Asks, Knows, Query}
+use Rattle.meaning.specs.Refusals.{Input, Requests, Asks, Knows, ShowVersion, Query}
 use Rattle.meaning.specs.Machine.{Reply, Refused, Known, out}
 use Rattle.telnp.specs.declared.fault.TelFault.{TelFault}
 use Rattle.api.specs.declared.fault.Failure.TheVariants.{Uri}
 use Rattle.api.specs.declared.fault.MessageFault.{MessageFault}
 use Rattle.api.specs.declared.message.Request.{Request}
+use Rattle.api.specs.declared.paths.Method.{Method}
 use Rattle.api.specs.declared.paths.Route.{Route}
-use Rattle.api.specs.Forms.{Asked, Orders, Confirms, Seeks, HasForm, json_of}
+use Rattle.api.specs.declared.paths.Route.TheVariants.{Carriers, Clock, RoutingNumbers, Codes, OldProviderCreate, NewProviderCreate, Activate, Acknowledge, Query as QueryPath, Version}
+use Rattle.api.specs.Table.{takes, among_offered}
+use Rattle.api.specs.Forms.{Asked, Orders, Confirms, Seeks, Moves, Shows, HasForm, json_of}
 use Rattle.api.specs.Failures.{failure_text}
 use Rattle.api.specs.RefusalTexts.{refusal_text}
-use Rattle.api.specs.Step.{Step, Meets, Calls, Answers, AnswersQuery, AnswersUri, Refuses, Withholds, Takes, IsOnce, IsWithheld, routed_text}
+use Rattle.api.specs.Step.{Step, Meets, MeetsPath, Calls, PathAsks, Answers, AnswersMove, AnswersQuery, AnswersUri, Refuses, Withholds, WithholdsTick, Takes, IsOnce, IsWithheld, ticked, routed_text}
 use Rattle.telnp.specs.Answer.{Uri as TelUri}
 use Rattle.api.proofs.ClearLemmas.{same_form}
 use Rattle.api.proofs.UriLemmas.{faultless, not_asked, same_fault, same_uri, same_number as same_asked_number}
@@ -60,35 +63,79 @@ query_once st caller uri text said (inr (inr x)) (inr (inr y)) =
     let moved : AnswersUri st caller y.1.0 text = subst (λ (u : TelUri). AnswersUri st caller u text) e x.1.2 in
     uri_once st caller y.1.0 text said moved y.1.2
 
+move_once : (st : State) (caller minute : ℕ) (text said : List ℕ) (after later : State) → AnswersMove st caller minute text after → AnswersMove st caller minute said later → (text ≡ said) × (after ≡ later)
+move_once st caller minute text said after later (inl x) (inl y) = (x.1.0 ∙ sym y.1.0, x.1.1 ∙ sym y.1.1)
+move_once st caller minute text said after later (inl x) (inr y) = absurd (y.0 x.0)
+move_once st caller minute text said after later (inr x) (inl y) = absurd (x.0 y.0)
+move_once st caller minute text said after later (inr x) (inr y) = (x.1 ∙ sym y.1, x.2 ∙ sym y.2)
+
 answers_once : (from to from' to' : ℕ) (st : State) (caller : ℕ) (asked : Asked) (text said : List ℕ) (after later : State) → Answers from to st caller asked text after → Answers from' to' st caller asked said later → IsOnce text said after later
 answers_once from to from' to' st caller (Orders command) text said after later x y = takes_once from to from' to' st (Requests caller (Commands command)) text said after later x y
 answers_once from to from' to' st caller (Confirms id attempt) text said after later x y = takes_once from to from' to' st (Requests caller (Acknowledges id attempt)) text said after later x y
 answers_once from to from' to' st caller (Seeks uri) text said after later (inl x) y = inl (withheld from to st text after x)
 answers_once from to from' to' st caller (Seeks uri) text said after later (inr x) (inl y) = inr (inl (withheld from' to' st said later y))
 answers_once from to from' to' st caller (Seeks uri) text said after later (inr x) (inr y) = inr (inr (query_once st caller uri text said x.0 y.0, x.1 ∙ sym y.1))
+answers_once from to from' to' st caller (Moves minute) text said after later (inl x) y = inl (withheld from to st text after x)
+answers_once from to from' to' st caller (Moves minute) text said after later (inr x) (inl y) = inr (inl (withheld from' to' st said later y))
+answers_once from to from' to' st caller (Moves minute) text said after later (inr x) (inr y) = inr (inr (move_once st caller minute text said after later x y))
+answers_once from to from' to' st caller (Shows id) text said after later x y = takes_once from to from' to' st (Asks caller (ShowVersion id)) text said after later x y
 
 same_asked : (route : Route) (read : Option Data) (a b : Asked) → IsSomeAnd read (λ (d : Data). HasForm route d a) → IsSomeAnd read (λ (d : Data). HasForm route d b) → a ≡ b
 same_asked route None a b x y = absurd x
 same_asked route (Some d) a b x y = same_form route d a b x y
 
-calls_once : (from to from' to' : ℕ) (st : State) (route : Route) (caller : ℕ) (body text said : List ℕ) (after later : State) → Calls from to st route caller body text after → Calls from' to' st route caller body said later → IsOnce text said after later
-calls_once from to from' to' st route caller body text said after later (inl x) y = inl (withheld from to st text after x)
-calls_once from to from' to' st route caller body text said after later (inr (inl x)) (inl y) = inr (inl (withheld from' to' st said later y))
-calls_once from to from' to' st route caller body text said after later (inr (inr x)) (inl y) = inr (inl (withheld from' to' st said later y))
-calls_once from to from' to' st route caller body text said after later (inr (inl x)) (inr (inl y)) = inr (inr (x.1.0 ∙ sym y.1.0, x.1.1 ∙ sym y.1.1))
-calls_once from to from' to' st route caller body text said after later (inr (inl x)) (inr (inr y)) = absurd (x.0 y.0 y.1)
-calls_once from to from' to' st route caller body text said after later (inr (inr x)) (inr (inl y)) = absurd (y.0 x.0 x.1)
-calls_once from to from' to' st route caller body text said after later (inr (inr x)) (inr (inr y)) =
-    let e : x.0 ≡ y.0 = same_asked route (json_of body) x.0 y.0 x.1 y.1 in
+some_number : (n m : ℕ) → Some n ≡ Some m → n ≡ m
+some_number n m e = cc
+
+-- a message on a path asks one thing at most
+asks_once : (route : Route) (body : List ℕ) (a b : Asked) → PathAsks route body a → PathAsks route body b → a ≡ b
+asks_once (Version number) body a b x y = x.3 ∙ ap Shows (some_number x.0 y.0 (sym x.1 ∙ y.1)) ∙ sym y.3
+asks_once Carriers body a b x y = same_asked Carriers (json_of body) a b x y
+asks_once Clock body a b x y = same_asked Clock (json_of body) a b x y
+asks_once RoutingNumbers body a b x y = same_asked RoutingNumbers (json_of body) a b x y
+asks_once Codes body a b x y = same_asked Codes (json_of body) a b x y
+asks_once OldProviderCreate body a b x y = same_asked OldProviderCreate (json_of body) a b x y
+asks_once NewProviderCreate body a b x y = same_asked NewProviderCreate (json_of body) a b x y
+asks_once Activate body a b x y = same_asked Activate (json_of body) a b x y
+asks_once Acknowledge body a b x y = same_asked Acknowledge (json_of body) a b x y
+asks_once QueryPath body a b x y = same_asked QueryPath (json_of body) a b x y
+
+calls_once : (from to from' to' : ℕ) (st : State) (IsAsked : Asked → Type 0) (caller : ℕ) (text said : List ℕ) (after later : State) → ((a b : Asked) → IsAsked a → IsAsked b → a ≡ b) →
+    Calls from to st IsAsked caller text after → Calls from' to' st IsAsked caller said later → IsOnce text said after later
+calls_once from to from' to' st IsAsked caller text said after later one (inl x) y = inl (withheld from to st text after x)
+calls_once from to from' to' st IsAsked caller text said after later one (inr (inl x)) (inl y) = inr (inl (withheld from' to' st said later y))
+calls_once from to from' to' st IsAsked caller text said after later one (inr (inr x)) (inl y) = inr (inl (withheld from' to' st said later y))
+calls_once from to from' to' st IsAsked caller text said after later one (inr (inl x)) (inr (inl y)) = inr (inr (x.1.0 ∙ sym y.1.0, x.1.1 ∙ sym y.1.1))
+calls_once from to from' to' st IsAsked caller text said after later one (inr (inl x)) (inr (inr y)) = absurd (x.0 y.0 y.1)
+calls_once from to from' to' st IsAsked caller text said after later one (inr (inr x)) (inr (inl y)) = absurd (y.0 x.0 x.1)
+calls_once from to from' to' st IsAsked caller text said after later one (inr (inr x)) (inr (inr y)) =
+    let e : x.0 ≡ y.0 = one x.0 y.0 x.1 y.1 in
     let moved : Answers from to st caller y.0 text after = subst (λ (a : Asked). Answers from to st caller a text after) e x.2 in
     answers_once from to from' to' st caller y.0 text said after later moved y.2
 
-met_once : (from to from' to' : ℕ) (st : State) (route : Option Route) (is_post : Bool) (caller : Option Spid) (body text said : List ℕ) (after later : State) →
-    Meets from to st route is_post caller body text after → Meets from' to' st route is_post caller body said later → IsOnce text said after later
-met_once from to from' to' st None is_post caller body text said after later x y = refuses_once st _ text said after later x y
-met_once from to from' to' st (Some route) false caller body text said after later x y = refuses_once st _ text said after later x y
-met_once from to from' to' st (Some route) true None body text said after later x y = refuses_once st _ text said after later x y
-met_once from to from' to' st (Some route) true (Some caller) body text said after later x y = calls_once from to from' to' st route caller.number body text said after later x y
+path_once : (from to from' to' : ℕ) (st : State) (route : Route) (has_method : Bool) (caller : Option Spid) (body text said : List ℕ) (after later : State) →
+    MeetsPath from to st route has_method caller body text after → MeetsPath from' to' st route has_method caller body said later → IsOnce text said after later
+path_once from to from' to' st route false caller body text said after later x y = refuses_once st _ text said after later x y
+path_once from to from' to' st route true None body text said after later x y = refuses_once st _ text said after later x y
+path_once from to from' to' st route true (Some caller) body text said after later x y = calls_once from to from' to' st (PathAsks route body) caller.number text said after later (asks_once route body) x y
 
-pub steps_once : (from to from' to' : ℕ) (st : State) (request : Request) (body text said : List ℕ) (after later : State) → Step from to st request body text after → Step from' to' st request body said later → IsOnce text said after later
-steps_once from to from' to' st request body text said after later x y = met_once from to from' to' st request.route request.is_post request.caller body text said after later x.met y.met
+met_once : (from to from' to' : ℕ) (st : State) (route : Option Route) (method : Method) (caller : Option Spid) (body text said : List ℕ) (after later : State) →
+    Meets from to st route method caller body text after → Meets from' to' st route method caller body said later → IsOnce text said after later
+met_once from to from' to' st None method caller body text said after later x y = refuses_once st _ text said after later x y
+met_once from to from' to' st (Some route) method caller body text said after later x y = path_once from to from' to' st route (takes route method) caller body text said after later x y
+
+tick_withheld : (from to : ℕ) (st : State) (tick : Option ℕ) (text : List ℕ) (after : State) → WithholdsTick from to st tick text after → IsWithheld text
+tick_withheld from to st None text after x = absurd x
+tick_withheld from to st (Some minute) text after x = withheld from to st text after x
+
+-- a message may meet its end at the minute that is handed in, or after it
+step_once : (tick : Option ℕ) (from to from' to' : ℕ) (st : State) (route : Option Route) (method : Method) (caller : Option Spid) (body text said : List ℕ) (after later : State) →
+    WithholdsTick from to st tick text after ⊎ Meets from to (ticked st tick) route method caller body text after →
+    WithholdsTick from' to' st tick said later ⊎ Meets from' to' (ticked st tick) route method caller body said later → IsOnce text said after later
+step_once tick from to from' to' st route method caller body text said after later (inl x) y = inl (tick_withheld from to st tick text after x)
+step_once tick from to from' to' st route method caller body text said after later (inr x) (inl y) = inr (inl (tick_withheld from' to' st tick said later y))
+step_once tick from to from' to' st route method caller body text said after later (inr x) (inr y) = met_once from to from' to' (ticked st tick) route method caller body text said after later x y
+
+pub steps_once : (offered : Bool) (tick : Option ℕ) (from to from' to' : ℕ) (st : State) (request : Request) (body text said : List ℕ) (after later : State) →
+    Step offered tick from to st request body text after → Step offered tick from' to' st request body said later → IsOnce text said after later
+steps_once offered tick from to from' to' st request body text said after later x y = step_once tick from to from' to' st (among_offered offered request.route) request.method request.caller body text said after later x.met y.met

@@ -10,7 +10,7 @@ use Rattle.matchit.specs.Rows.{RowsOf, param_token, catch_all_token}
 use Rattle.matchit.specs.Router.{RouteOf}
 use Rattle.matchit.specs.Seek.{first, seek, own, step, or_else, param_step, has_slash}
 use Rattle.api.specs.declared.paths.Route.{Route}
-use Rattle.api.specs.Table.{fixed, path_among, path_of, paths, table}
+use Rattle.api.specs.Table.{fixed, path_among, paths, table}
 
 abbrev are_bytes : List ℕ → Bool
 are_bytes [] = true
@@ -105,16 +105,15 @@ among_is [] target = refl
 among_is (p ∷ ps) target = among_by p ps target (bytes_eq p.0 target) (among_is ps target)
 
 table_fixed : AreFixed table
-table_fixed = (refl, (refl, (refl, (refl, (refl, (refl, (refl, (refl, tt))))))))
+table_fixed = (refl, (refl, (refl, (refl, (refl, (refl, (refl, (refl, (refl, tt)))))))))
 
-pub path_is : (target : List ℕ) → option_map (λ (r : RouteOf Route). r.value) (first table target) ≡ path_of target
-unfolding path_of
+pub path_is : (target : List ℕ) → option_map (λ (r : RouteOf Route). r.value) (first table target) ≡ path_among paths target
 path_is target = ap (option_map (λ (r : RouteOf Route). r.value)) (seek_is table target table_fixed) ∙ among_is paths target
 
-pub found_path : (target : List ℕ) (r : RouteOf Route) → first table target ≡ Some r → Some r.value ≡ path_of target
+pub found_path : (target : List ℕ) (r : RouteOf Route) → first table target ≡ Some r → Some r.value ≡ path_among paths target
 found_path target r e = sym (ap (option_map (λ (r : RouteOf Route). r.value)) e) ∙ path_is target
 
-pub no_path : (target : List ℕ) → first table target ≡ None → None ≡ path_of target
+pub no_path : (target : List ℕ) → first table target ≡ None → None ≡ path_among paths target
 no_path target e = sym (ap (option_map (λ (r : RouteOf Route). r.value)) e) ∙ path_is target
 
 -- what is no text is no path
@@ -132,8 +131,7 @@ not_among (p ∷ ps) target texts n = not_among_by p (path_among ps target) targ
 
 are_texts : AreTexts paths
 unfolding is_utf8 chars encode
-are_texts = (refl, (refl, (refl, (refl, (refl, (refl, (refl, (refl, tt))))))))
+are_texts = (refl, (refl, (refl, (refl, (refl, (refl, (refl, (refl, (refl, tt)))))))))
 
-pub no_text : (target : List ℕ) → ¬ (IsUtf8 target) → None ≡ path_of target
-unfolding path_of
+pub no_text : (target : List ℕ) → ¬ (IsUtf8 target) → None ≡ path_among paths target
 no_text target n = not_among paths target are_texts n

@@ -1,5 +1,7 @@
 -- What the machine answers, and what refusals mean for a state.
-use Rattle.std.proofs.Common.{◌≡◌, ◌⊎◌, ℕ, ◌<◌, ◌≤◌, List, length, Option, Some, None, Result, Ok, Err, OnOk, OnErr, IfErr, IsSomeAnd, true, inl, inr, refl, ap, sym, subst, ◌∙◌, arith}
+use Rattle.std.proofs.Common.{◌≡◌, ◌≢◌, ◌⊎◌, ℕ, ◌<◌, ◌≤◌, List, [], length, Bool, Option, Some, None, Result, Ok, Err, OnOk, OnErr, IfErr, IsSomeAnd, true, false, ◌∷◌, inl, inr, refl, ap, sym, subst, ◌∙◌, arith}
+use Rattle.std.proofs.lemmas.Bool.Decides.{nat_tests}
+use Rattle.std.specs.Prelude.{not, ◌==◌, nat_lt, if◌then◌else◌}
 use Rattle.meaning.specs.declared.refusal.Refusal.{Refusal}
 use Rattle.meaning.specs.declared.refusal.Refusal.TheVariants.{UnknownCarrier, NotAdmin, UnknownCode, CarrierTaken, CodeTaken, LrnTaken, BadLrn, InPool, WrongOld, NotFound, NotYours, Busy, WrongStatus, DuePast, DueMismatch, NotConcurred, BeforeDue, ConflictSpent, TooLate, TooEarly, Protected, Contaminated, OpenPorts, BlockTaken, NotQueued, OutOfOrder, ClockBack, Full, Storage, NoMemory}
 use Rattle.meaning.specs.RefusalNumbers.{number_of}
@@ -7,7 +9,7 @@ use Rattle.meaning.specs.Commands.{Command, RegisterCarrier, RegisterRoutingNumb
 use Rattle.meaning.specs.Content.{Content}
 use Rattle.meaning.specs.History.{Commands}
 use Rattle.meaning.specs.Reading.{State, InForce, all_in_force}
-use Rattle.meaning.specs.Refusals.{Input, Question, Requests, Asks, Knows, Query, AllInForce, refusal, tests}
+use Rattle.meaning.specs.Refusals.{Input, Question, Moment, Requests, Asks, Knows, Query, AllInForce, npac, refusal, tests}
 use Rattle.meaning.specs.Machine.{Reply, Refused as MachineRefused, Moved, Registered, LrnAdded, CodeOpened, Shown, Donated, Known, Fetched, Answered, Rows, Awaited, Found, Answer, out, next, unless_refused, refused_or, reply_of, accepted}
 use Rattle.settle.specs.Reads.{HasRisen}
 use Rattle.register.specs.Answers.{Stands, AnswersAs}
@@ -18,15 +20,19 @@ use Rattle.telnp.specs.declared.fault.TelFault.{TelFault}
 use Rattle.telnp.specs.Answer.{Uri as TelUri}
 use Rattle.telnp.specs.Faults.{fault_of}
 use Rattle.api.specs.Failures.{failure_text}
-use Rattle.api.specs.Forms.{Asked, Orders, Seeks, HasForm, json_of}
+use Rattle.api.specs.Forms.{Asked, Orders, Confirms, Seeks, Moves, Shows, HasForm, json_of}
 use Rattle.api.specs.RefusalTexts.{refusal_text}
-use Rattle.api.specs.Step.{Step, Calls, Answers, BodyAsks, IsShort, Outgrows, Withholds, Takes, IsUri, AsksFor, ComesBack, AnswersQuery, Carries, success, told, reply_text, routed_text}
-use Rattle.api.specs.Texts.{looked_up, uri_text}
+use Rattle.api.specs.Step.{Step, Meets, MeetsPath, Calls, Answers, AnswersMove, WithholdsTick, ticked, BodyAsks, NumberAsks, PathAsks, IsShort, Outgrows, Withholds, Takes, IsUri, AsksFor, ComesBack, AnswersQuery, Carries, success, told, reply_text, routed_text}
+use Rattle.api.specs.Texts.{looked_up, now_text, uri_text}
 use Rattle.numbers.specs.declared.spid.Spid.{Spid}
 use Rattle.serde_json.specs.Data.{Data}
 use Rattle.api.specs.declared.message.Request.{Request}
+use Rattle.api.specs.declared.paths.Method.{Method}
 use Rattle.api.specs.declared.paths.Route.{Route}
+use Rattle.api.specs.declared.paths.Route.TheVariants.{Carriers, Clock, RoutingNumbers, Codes, OldProviderCreate as OldProviderPath, NewProviderCreate as NewProviderPath, Activate as ActivatePath, Acknowledge, Query as QueryPath, Version}
+use Rattle.api.specs.Table.{takes, among_offered}
 use Rattle.api.proofs.RefusalLemmas.{text_by_number}
+use Rattle.std.proofs.Math.Nat.{le_trans}
 use Rattle.api.proofs.Risen.{risen_since}
 
 -- ---- a question changes nothing
@@ -279,19 +285,174 @@ query_carried from to old mid new caller uri read tn a result body parts asks h 
     (inr (inr (sym (h st s).0, (read, parts, inr (tn, asks, ap (routed_text read) k1.0)))))
     (stays new st caller (Query tn) k1.1) (told_or_short result body (uri_text (looked_up read a)) same short)
 
+-- ---- the clock
+
+pub is_npac : (n : ℕ) → not (n == npac) ≡ false → n ≡ npac
+is_npac n h = grind (arith, nat_tests, h)
+
+pub is_other : (n : ℕ) → not (n == npac) ≡ true → ¬ (n ≡ npac)
+is_other n h e = let same : not (npac == npac) ≡ true = subst (λ (m : ℕ). not (m == npac) ≡ true) e h in cc
+
+moved_by : (r : Refusal) (from to : ℕ) (st : State) (caller minute : ℕ) (new : Content) → caller ≡ npac → Outcome from to r st (Moment minute) new →
+    (after : State) × (Withholds from to st (failure_text (Refused r)) after ⊎ AnswersMove st caller minute (failure_text (Refused r)) after) × Stands new after
+moved_by r from to st caller minute new is (inl x) = (st, inl (x.0, refl), x.1)
+moved_by r from to st caller minute new is (inr x) = (next st (Moment minute), inr (inl (is, (x.2 ∙ ap reply_text (sym x.1), refl))), x.3)
+
+pub refused_move_carried : (r : Refusal) (from to : ℕ) (old new : Content) (caller minute : ℕ) → caller ≡ npac → AnswersAs old new (Moment minute) (refused_with (number_of r)) → BlamesRightly from to old r → Carries from to old new caller (Moves minute) (failure_text (Refused r))
+refused_move_carried r from to old new caller minute is h blames = λ st s. moved_by r from to st caller minute new is (outcome r from to old new (Moment minute) h blames st s)
+
+pub move_carried : (from to : ℕ) (old new : Content) (caller minute now : ℕ) (text : List ℕ) → caller ≡ npac → AnswersAs old new (Moment minute) (Some (Moved now)) → text ≡ success (now_text now) → Carries from to old new caller (Moves minute) text
+move_carried from to old new caller minute now text is h e = λ st s. (next st (Moment minute), inr (inl (is, (e ∙ ap reply_text (h st s).0, refl))), (h st s).1)
+
+pub stranger_carried : (from to : ℕ) (content : Content) (caller minute : ℕ) → ¬ (caller ≡ npac) → Carries from to content content caller (Moves minute) (failure_text (Refused NotAdmin))
+stranger_carried from to content caller minute other = λ st s. (st, inr (inr (other, text_by_number NotAdmin, refl)), s)
+
 -- ---- messages
 
 pub calls_carried : (from to : ℕ) (new : Content) (st : State) (route : Route) (caller : ℕ) (body : List ℕ) (d : Data) (asked : Asked) (text : List ℕ) → Some d ≡ json_of body → HasForm route d asked →
-    (after : State) × Answers from to st caller asked text after × Stands new after → (after : State) × Calls from to st route caller body text after × Stands new after
+    (after : State) × Answers from to st caller asked text after × Stands new after → (after : State) × Calls from to st (BodyAsks route body) caller text after × Stands new after
 calls_carried from to new st route caller body d asked text e form x =
     let asks : BodyAsks route body asked = subst (λ (o : Option Data). IsSomeAnd o (λ (given : Data). HasForm route given asked)) e form in
     (x.0, inr (inr (asked, asks, x.1)), x.2)
 
-pub calls_met : (from to : ℕ) (new : Content) (st : State) (request : Request) (route : Route) (caller : Spid) (body text : List ℕ) → from ≤ to → request.route ≡ Some route → request.is_post ≡ true → request.caller ≡ Some caller →
-    (after : State) × Calls from to st route caller.number body text after × Stands new after → (after : State) × Step from to st request body text after × Stands new after
-calls_met from to new st request route caller body text rises e f g x =
-    (x.0, record { rises = rises; met = rw (e, f, g) x.1 }, x.2)
+pub no_body : (body : List ℕ) → (length body == 0) ≡ true → body ≡ []
+no_body [] h = refl
+no_body (b ∷ bs) h = let x : ⊥ = grind (arith, nat_tests, h) in absurd x
 
-pub step_told : (from to : ℕ) (new : Content) (st : State) (request : Request) (body text said : List ℕ) → said ≡ text →
-    (after : State) × Step from to st request body text after × Stands new after → (after : State) × Step from to st request body said after × Stands new after
-step_told from to new st request body text said e x = (x.0, subst (λ (t : List ℕ). Step from to st request body t x.0) (sym e) x.1, x.2)
+pub number_carried : (from to : ℕ) (new : Content) (st : State) (number : Option ℕ) (id caller : ℕ) (body text : List ℕ) → number ≡ Some id → body ≡ [] →
+    (after : State) × Answers from to st caller (Shows id) text after × Stands new after → (after : State) × Calls from to st (NumberAsks number body) caller text after × Stands new after
+number_carried from to new st number id caller body text is bare x = (x.0, inr (inr (Shows id, (id, is, bare, refl), x.1)), x.2)
+
+-- on a path that ends in no number, the body asks
+pub path_carried : (from to : ℕ) (new : Content) (st : State) (route : Route) (caller : ℕ) (body text : List ℕ) → ((number : Option ℕ) → route ≢ Version number) →
+    (after : State) × Calls from to st (BodyAsks route body) caller text after × Stands new after → (after : State) × Calls from to st (PathAsks route body) caller text after × Stands new after
+path_carried from to new st Carriers caller body text other x = x
+path_carried from to new st Clock caller body text other x = x
+path_carried from to new st RoutingNumbers caller body text other x = x
+path_carried from to new st Codes caller body text other x = x
+path_carried from to new st OldProviderPath caller body text other x = x
+path_carried from to new st NewProviderPath caller body text other x = x
+path_carried from to new st ActivatePath caller body text other x = x
+path_carried from to new st Acknowledge caller body text other x = x
+path_carried from to new st QueryPath caller body text other x = x
+path_carried from to new st (Version number) caller body text other x = absurd (other number refl)
+
+pub calls_met : (offered : Bool) (from to : ℕ) (new : Content) (st : State) (request : Request) (route : Route) (caller : Spid) (body text : List ℕ) → from ≤ to → among_offered offered request.route ≡ Some route → takes route request.method ≡ true → request.caller ≡ Some caller →
+    (after : State) × Calls from to st (PathAsks route body) caller.number text after × Stands new after → (after : State) × Step offered None from to st request body text after × Stands new after
+calls_met offered from to new st request route caller body text rises e f g x =
+    (x.0, record { rises = rises; met = inr (rw (e, f, g) x.1) }, x.2)
+
+pub step_told : (offered : Bool) (from to : ℕ) (new : Content) (st : State) (request : Request) (body text said : List ℕ) → said ≡ text →
+    (after : State) × Step offered None from to st request body text after × Stands new after → (after : State) × Step offered None from to st request body said after × Stands new after
+step_told offered from to new st request body text said e x = (x.0, subst (λ (t : List ℕ). Step offered None from to st request body t x.0) (sym e) x.1, x.2)
+
+-- ---- the minute that is handed in
+
+-- what is withheld since the message began, and not since the clock moved
+withheld_since : (from between to : ℕ) (st : State) (text : List ℕ) (after : State) → from ≤ between → between ≤ to → Withholds between to st text after → Withholds from to st text after
+withheld_since from between to st text after before behind (inl x, e) = (inl (x.0, risen_since from between to before behind x.1), e)
+withheld_since from between to st text after before behind (inr x, e) = (inr x, e)
+
+or_since : {P : Type 0} (from between to : ℕ) (st : State) (text : List ℕ) (after : State) → from ≤ between → between ≤ to → Withholds between to st text after ⊎ P → Withholds from to st text after ⊎ P
+or_since from between to st text after before behind (inl x) = inl (withheld_since from between to st text after before behind x)
+or_since from between to st text after before behind (inr x) = inr x
+
+answers_since : (from between to : ℕ) (st : State) (caller : ℕ) (asked : Asked) (text : List ℕ) (after : State) → from ≤ between → between ≤ to → Answers between to st caller asked text after → Answers from to st caller asked text after
+answers_since from between to st caller (Orders c) text after before behind x = or_since from between to st text after before behind x
+answers_since from between to st caller (Confirms id attempt) text after before behind x = or_since from between to st text after before behind x
+answers_since from between to st caller (Seeks uri) text after before behind x = or_since from between to st text after before behind x
+answers_since from between to st caller (Moves minute) text after before behind x = or_since from between to st text after before behind x
+answers_since from between to st caller (Shows id) text after before behind x = or_since from between to st text after before behind x
+
+calls_since : (from between to : ℕ) (st : State) (IsAsked : Asked → Type 0) (caller : ℕ) (text : List ℕ) (after : State) → from ≤ between → between ≤ to → Calls between to st IsAsked caller text after → Calls from to st IsAsked caller text after
+calls_since from between to st IsAsked caller text after before behind (inl x) = inl (withheld_since from between to st text after before behind x)
+calls_since from between to st IsAsked caller text after before behind (inr (inl x)) = inr (inl x)
+calls_since from between to st IsAsked caller text after before behind (inr (inr x)) = inr (inr (x.0, x.1, answers_since from between to st caller x.0 text after before behind x.2))
+
+path_since : (from between to : ℕ) (st : State) (route : Route) (has_method : Bool) (caller : Option Spid) (body text : List ℕ) (after : State) → from ≤ between → between ≤ to →
+    MeetsPath between to st route has_method caller body text after → MeetsPath from to st route has_method caller body text after
+path_since from between to st route false caller body text after before behind x = x
+path_since from between to st route true None body text after before behind x = x
+path_since from between to st route true (Some caller) body text after before behind x = calls_since from between to st (PathAsks route body) caller.number text after before behind x
+
+meets_since : (from between to : ℕ) (st : State) (route : Option Route) (method : Method) (caller : Option Spid) (body text : List ℕ) (after : State) → from ≤ between → between ≤ to →
+    Meets between to st route method caller body text after → Meets from to st route method caller body text after
+meets_since from between to st None method caller body text after before behind x = x
+meets_since from between to st (Some route) method caller body text after before behind x = path_since from between to st route (takes route method) caller body text after before behind x
+
+met_since : (from between to : ℕ) (st : State) (tick : Option ℕ) (route : Option Route) (method : Method) (caller : Option Spid) (body text : List ℕ) (after : State) → from ≤ between → between ≤ to →
+    ⊥ ⊎ Meets between to (ticked st tick) route method caller body text after → WithholdsTick from to st tick text after ⊎ Meets from to (ticked st tick) route method caller body text after
+met_since from between to st tick route method caller body text after before behind (inl x) = absurd x
+met_since from between to st tick route method caller body text after before behind (inr x) = inr (meets_since from between to (ticked st tick) route method caller body text after before behind x)
+
+-- the clock moved, and then the message was carried out
+pub tick_then : (offered : Bool) (tick : Option ℕ) (from between to : ℕ) (old mid new : Content) (request : Request) (body text : List ℕ) → from ≤ between →
+    ((st : State) → Stands old st → Stands mid (ticked st tick)) →
+    ((st : State) → Stands mid st → (after : State) × Step offered None between to st request body text after × Stands new after) →
+    (st : State) → Stands old st → (after : State) × Step offered tick from to st request body text after × Stands new after
+tick_then offered tick from between to old mid new request body text before moved stepped st s =
+    let x = stepped (ticked st tick) (moved st s) in (
+      x.0,
+      record {
+        rises = le_trans before x.1.rises;
+        met = met_since from between to st tick (among_offered offered request.route) request.method request.caller body text x.0 before x.1.rises x.1.met;
+      },
+      x.2,
+    )
+
+-- the clock's move was withheld
+pub tick_withheld : (offered : Bool) (tick : Option ℕ) (from to : ℕ) (old new : Content) (request : Request) (body text said : List ℕ) → from ≤ to → said ≡ text →
+    ((st : State) → Stands old st → WithholdsTick from to st tick text st × Stands new st) →
+    (st : State) → Stands old st → (after : State) × Step offered tick from to st request body said after × Stands new after
+tick_withheld offered tick from to old new request body text said rises e short st s =
+    let x = short st s in
+    (st, record { rises = rises; met = inl (subst (λ (t : List ℕ). WithholdsTick from to st tick t st) (sym e) x.0) }, x.1)
+
+-- ---- the moves of the clock
+
+only_back : (back : Bool) (m k : ℕ) → MachineRefused k ≡ refused_or (if back then Some 27 else None) (Moved m) → k ≡ 27
+only_back true m k e = cc
+only_back false m k e = let x : ⊥ = cc in absurd x
+
+move_refused : (st : State) (m k : ℕ) → MachineRefused k ≡ out st (Moment m) → k ≡ 27
+unfolding out tests
+move_refused st m k e = only_back (nat_lt m st.now) m k e
+
+pub move_stands : (old new : Content) (minute : ℕ) (reply : Reply) → AnswersAs old new (Moment minute) (Some reply) → (st : State) → Stands old st → Stands new (next st (Moment minute))
+move_stands old new minute reply h st s = (h st s).1
+
+-- the device or memory failed, and nothing has happened
+abbrev WithholdsMove : (from to : ℕ) → Refusal → State → Content → Type 0
+WithholdsMove from to r st new = Withholds from to st (failure_text (Refused r)) st × Stands new st
+
+pub move_withheld : (r : Refusal) (from to : ℕ) (old new : Content) (minute : ℕ) → r ≢ ClockBack → AnswersAs old new (Moment minute) (refused_with (number_of r)) → BlamesRightly from to old r → (st : State) → Stands old st → WithholdsMove from to r st new
+move_withheld UnknownCarrier from to old new minute other h blames st s = let e : 1 ≡ 27 = move_refused st minute 1 (h st s).0 in absurd (omega (arith, e))
+move_withheld NotAdmin from to old new minute other h blames st s = let e : 2 ≡ 27 = move_refused st minute 2 (h st s).0 in absurd (omega (arith, e))
+move_withheld UnknownCode from to old new minute other h blames st s = let e : 3 ≡ 27 = move_refused st minute 3 (h st s).0 in absurd (omega (arith, e))
+move_withheld CarrierTaken from to old new minute other h blames st s = let e : 4 ≡ 27 = move_refused st minute 4 (h st s).0 in absurd (omega (arith, e))
+move_withheld CodeTaken from to old new minute other h blames st s = let e : 5 ≡ 27 = move_refused st minute 5 (h st s).0 in absurd (omega (arith, e))
+move_withheld LrnTaken from to old new minute other h blames st s = let e : 6 ≡ 27 = move_refused st minute 6 (h st s).0 in absurd (omega (arith, e))
+move_withheld BadLrn from to old new minute other h blames st s = let e : 7 ≡ 27 = move_refused st minute 7 (h st s).0 in absurd (omega (arith, e))
+move_withheld InPool from to old new minute other h blames st s = let e : 8 ≡ 27 = move_refused st minute 8 (h st s).0 in absurd (omega (arith, e))
+move_withheld WrongOld from to old new minute other h blames st s = let e : 9 ≡ 27 = move_refused st minute 9 (h st s).0 in absurd (omega (arith, e))
+move_withheld NotFound from to old new minute other h blames st s = let e : 10 ≡ 27 = move_refused st minute 10 (h st s).0 in absurd (omega (arith, e))
+move_withheld NotYours from to old new minute other h blames st s = let e : 11 ≡ 27 = move_refused st minute 11 (h st s).0 in absurd (omega (arith, e))
+move_withheld Busy from to old new minute other h blames st s = let e : 12 ≡ 27 = move_refused st minute 12 (h st s).0 in absurd (omega (arith, e))
+move_withheld WrongStatus from to old new minute other h blames st s = let e : 13 ≡ 27 = move_refused st minute 13 (h st s).0 in absurd (omega (arith, e))
+move_withheld DuePast from to old new minute other h blames st s = let e : 14 ≡ 27 = move_refused st minute 14 (h st s).0 in absurd (omega (arith, e))
+move_withheld DueMismatch from to old new minute other h blames st s = let e : 15 ≡ 27 = move_refused st minute 15 (h st s).0 in absurd (omega (arith, e))
+move_withheld NotConcurred from to old new minute other h blames st s = let e : 16 ≡ 27 = move_refused st minute 16 (h st s).0 in absurd (omega (arith, e))
+move_withheld BeforeDue from to old new minute other h blames st s = let e : 17 ≡ 27 = move_refused st minute 17 (h st s).0 in absurd (omega (arith, e))
+move_withheld ConflictSpent from to old new minute other h blames st s = let e : 18 ≡ 27 = move_refused st minute 18 (h st s).0 in absurd (omega (arith, e))
+move_withheld TooLate from to old new minute other h blames st s = let e : 19 ≡ 27 = move_refused st minute 19 (h st s).0 in absurd (omega (arith, e))
+move_withheld TooEarly from to old new minute other h blames st s = let e : 20 ≡ 27 = move_refused st minute 20 (h st s).0 in absurd (omega (arith, e))
+move_withheld Protected from to old new minute other h blames st s = let e : 21 ≡ 27 = move_refused st minute 21 (h st s).0 in absurd (omega (arith, e))
+move_withheld Contaminated from to old new minute other h blames st s = let e : 22 ≡ 27 = move_refused st minute 22 (h st s).0 in absurd (omega (arith, e))
+move_withheld OpenPorts from to old new minute other h blames st s = let e : 23 ≡ 27 = move_refused st minute 23 (h st s).0 in absurd (omega (arith, e))
+move_withheld BlockTaken from to old new minute other h blames st s = let e : 24 ≡ 27 = move_refused st minute 24 (h st s).0 in absurd (omega (arith, e))
+move_withheld NotQueued from to old new minute other h blames st s = let e : 25 ≡ 27 = move_refused st minute 25 (h st s).0 in absurd (omega (arith, e))
+move_withheld OutOfOrder from to old new minute other h blames st s = let e : 26 ≡ 27 = move_refused st minute 26 (h st s).0 in absurd (omega (arith, e))
+move_withheld ClockBack from to old new minute other h blames st s = absurd (other refl)
+move_withheld Full from to old new minute other h blames st s = let e : 28 ≡ 27 = move_refused st minute 28 (h st s).0 in absurd (omega (arith, e))
+move_withheld Storage from to old new minute other h blames st s = ((inl (text_by_number Storage, blames st s refl), refl), h st s)
+move_withheld NoMemory from to old new minute other h blames st s = ((inr (text_by_number NoMemory), refl), h st s)

@@ -1,5 +1,5 @@
 -- The answer that storage fails is no answer of the machine, nor that of a message that is refused.
-use Rattle.std.proofs.Common.{◌≡◌, ◌≤◌, ◌<◌, ℕ, List, [], ◌∷◌, ◌++◌, length, get_or, decimal, codes, Bool, true, false, Option, Some, None, inl, inr, refl, ap, sym, subst, ◌∙◌, arith}
+use Rattle.std.proofs.Common.{◌≡◌, ◌⊎◌, ◌≤◌, ◌<◌, ℕ, List, [], ◌∷◌, ◌++◌, length, get_or, decimal, codes, Bool, true, false, Option, Some, None, inl, inr, refl, ap, sym, subst, ◌∙◌, arith}
 use Rattle.std.specs.Prelude.{if◌then◌else◌, ⊤}
 use Rattle.itoa.proofs.Decimal.{decimal_two, pair}
 use Rattle.numbers.specs.declared.spid.Spid.{Spid}
@@ -8,19 +8,21 @@ use Rattle.meaning.specs.Commands.{Command, RegisterCarrier, RegisterRoutingNumb
 use Rattle.meaning.specs.History.{Commands, Acknowledges}
 use Rattle.meaning.specs.Machine.{Reply, Refused, Moved, Registered, LrnAdded, CodeOpened, Shown, Donated, Known, Fetched, Answered, Rows, Awaited, Found, out, accepted, refused_or, reply_of, answer_of}
 use Rattle.meaning.specs.Reading.{State}
-use Rattle.meaning.specs.Refusals.{Input, Requests, Asks, Knows, Query, refusal, tests, command_tests, first_that_holds}
+use Rattle.meaning.specs.Refusals.{Input, Moment, Requests, Asks, Knows, ShowVersion, Query, refusal, tests, command_tests, first_that_holds}
 use Rattle.api.specs.Answer.{answer, refusal_body, phrase}
 use Rattle.api.specs.Failures.{failure_text}
-use Rattle.api.specs.Forms.{Asked, Orders, Confirms, Seeks}
+use Rattle.api.specs.Forms.{Asked, Orders, Confirms, Seeks, Moves, Shows}
 use Rattle.api.specs.RefusalTexts.{refusal_text}
-use Rattle.api.specs.Step.{Step, Meets, Calls, Answers, AnswersQuery, AnswersUri, Withholds, Takes, success, reply_text, routed_text}
-use Rattle.api.specs.Texts.{registered_text, routing_number_text, opened_code_text, view_text, looked_up, uri_text}
+use Rattle.api.specs.Step.{Step, Meets, MeetsPath, Calls, Answers, AnswersMove, AnswersQuery, AnswersUri, Withholds, WithholdsTick, Takes, ticked, success, reply_text, routed_text}
+use Rattle.api.specs.Texts.{registered_text, routing_number_text, opened_code_text, now_text, view_text, looked_up, uri_text}
 use Rattle.api.specs.declared.fault.Failure.TheVariants.{Uri, Message}
 use Rattle.api.specs.declared.fault.MessageFault.TheVariants.{BadRequest, NoPath, BadMethod}
 use Rattle.telnp.specs.declared.fault.TelFault.{TelFault}
 use Rattle.telnp.specs.Answer.{Uri as TelUri}
 use Rattle.api.specs.declared.message.Request.{Request}
+use Rattle.api.specs.declared.paths.Method.{Method}
 use Rattle.api.specs.declared.paths.Route.{Route}
+use Rattle.api.specs.Table.{takes, among_offered}
 
 -- the text is not that of storage
 abbrev Differs : List ℕ → Type 0
@@ -146,6 +148,14 @@ queries_differ : (st : State) (caller tn : ℕ) → AllDiffer (tests st (Asks ca
 unfolding tests refusal_text failure_text
 queries_differ st caller tn = (by_number 1 refl, tt)
 
+moments_differ : (st : State) (minute : ℕ) → AllDiffer (tests st (Moment minute))
+unfolding tests refusal_text failure_text
+moments_differ st minute = (by_number 27 refl, tt)
+
+versions_differ : (st : State) (caller id : ℕ) → AllDiffer (tests st (Asks caller (ShowVersion id)))
+unfolding tests refusal_text failure_text
+versions_differ st caller id = (by_number 1 refl, (by_number 10 refl, tt))
+
 all_differ : (st : State) (caller : ℕ) (c : Command) → AllDiffer (tests st (Requests caller (Commands c)))
 unfolding tests
 all_differ st caller c = commands_differ st caller c
@@ -188,7 +198,7 @@ reply_differs (Shown None) machine = nothing
 reply_differs (Registered spid rows) machine = succeeds (registered_text spid rows)
 reply_differs (LrnAdded lrn spid) machine = succeeds (routing_number_text lrn spid)
 reply_differs (CodeOpened code spid) machine = succeeds (opened_code_text code spid)
-reply_differs (Moved now) machine = nothing
+reply_differs (Moved now) machine = succeeds (now_text now)
 reply_differs (Donated block ids) machine = nothing
 reply_differs Known machine = nothing
 reply_differs (Fetched downloads) machine = nothing
@@ -224,6 +234,20 @@ query_accepts st caller tn k e = cc
 shown_accepts : (st : State) (caller id attempt : ℕ) → Accepts (answer_of st (accepted st (Requests caller (Acknowledges id attempt))) (Requests caller (Acknowledges id attempt)))
 shown_accepts st caller id attempt k e = cc
 
+moved_accepts : (st : State) (minute : ℕ) → Accepts (answer_of st (accepted st (Moment minute)) (Moment minute))
+moved_accepts st minute k e = cc
+
+version_accepts : (st : State) (caller id : ℕ) → Accepts (answer_of st (accepted st (Asks caller (ShowVersion id))) (Asks caller (ShowVersion id)))
+version_accepts st caller id k e = cc
+
+not_admin : Differs (refusal_text 2)
+unfolding refusal_text failure_text
+not_admin = by_number 2 refl
+
+move_differs : (st : State) (caller minute : ℕ) (after : State) → ¬ (AnswersMove st caller minute (refusal_text 29) after)
+move_differs st caller minute after (inl x) = takes_differs st (Moment minute) after (λ k. machine_differs st (Moment minute) k (moved_accepts st minute) (moments_differ st minute)) x.1
+move_differs st caller minute after (inr x) = not_admin (sym x.1)
+
 uri_differs : (st : State) (caller : ℕ) (uri : TelUri) → ¬ (AnswersUri st caller uri (refusal_text 29))
 uri_differs st caller uri (inl x) = succeeds (uri_text uri.text) (sym x.1)
 uri_differs st caller uri (inr x) =
@@ -256,18 +280,36 @@ answers_tell from to st caller (Confirms id attempt) after (inr x) =
     (λ k. machine_differs st (Requests caller (Acknowledges id attempt)) k (shown_accepts st caller id attempt) (acknowledgements_differ st caller id attempt)) x)
 answers_tell from to st caller (Seeks uri) after (inl x) = withheld_tells from to st after x
 answers_tell from to st caller (Seeks uri) after (inr x) = absurd (query_differs st caller uri x.0)
+answers_tell from to st caller (Moves minute) after (inl x) = withheld_tells from to st after x
+answers_tell from to st caller (Moves minute) after (inr x) = absurd (move_differs st caller minute after x)
+answers_tell from to st caller (Shows id) after (inl x) = withheld_tells from to st after x
+answers_tell from to st caller (Shows id) after (inr x) =
+    absurd (takes_differs st (Asks caller (ShowVersion id)) after
+    (λ k. machine_differs st (Asks caller (ShowVersion id)) k (version_accepts st caller id) (versions_differ st caller id)) x)
 
-calls_tell : (from to : ℕ) (st : State) (route : Route) (caller : ℕ) (body : List ℕ) (after : State) → Calls from to st route caller body (refusal_text 29) after → Tells from to st after
-calls_tell from to st route caller body after (inl x) = withheld_tells from to st after x
-calls_tell from to st route caller body after (inr (inl x)) = absurd (bad_request (sym x.1.0))
-calls_tell from to st route caller body after (inr (inr x)) = answers_tell from to st caller x.0 after x.2
+calls_tell : (from to : ℕ) (st : State) (IsAsked : Asked → Type 0) (caller : ℕ) (after : State) → Calls from to st IsAsked caller (refusal_text 29) after → Tells from to st after
+calls_tell from to st IsAsked caller after (inl x) = withheld_tells from to st after x
+calls_tell from to st IsAsked caller after (inr (inl x)) = absurd (bad_request (sym x.1.0))
+calls_tell from to st IsAsked caller after (inr (inr x)) = answers_tell from to st caller x.0 after x.2
 
-meets_tell : (from to : ℕ) (st : State) (route : Option Route) (is_post : Bool) (caller : Option Spid) (body : List ℕ) (after : State) →
-    Meets from to st route is_post caller body (refusal_text 29) after → Tells from to st after
-meets_tell from to st None is_post caller body after x = absurd (no_path (sym x.0))
-meets_tell from to st (Some route) false caller body after x = absurd (bad_method (sym x.0))
-meets_tell from to st (Some route) true None body after x = absurd (bad_request (sym x.0))
-meets_tell from to st (Some route) true (Some caller) body after x = calls_tell from to st route caller.number body after x
+path_tells : (from to : ℕ) (st : State) (route : Route) (has_method : Bool) (caller : Option Spid) (body : List ℕ) (after : State) →
+    MeetsPath from to st route has_method caller body (refusal_text 29) after → Tells from to st after
+path_tells from to st route false caller body after x = absurd (bad_method (sym x.0))
+path_tells from to st route true None body after x = absurd (bad_request (sym x.0))
+path_tells from to st route true (Some caller) body after x = calls_tell from to st _ caller.number after x
 
-pub storage_tells : (from to : ℕ) (st : State) (request : Request) (body : List ℕ) (after : State) → Step from to st request body (refusal_text 29) after → HasRisen from to × (after ≡ st)
-storage_tells from to st request body after x = meets_tell from to st request.route request.is_post request.caller body after x.met
+meets_tell : (from to : ℕ) (st : State) (route : Option Route) (method : Method) (caller : Option Spid) (body : List ℕ) (after : State) →
+    Meets from to st route method caller body (refusal_text 29) after → Tells from to st after
+meets_tell from to st None method caller body after x = absurd (no_path (sym x.0))
+meets_tell from to st (Some route) method caller body after x = path_tells from to st route (takes route method) caller body after x
+
+-- at the minute that is handed in, or after it
+step_tells : (tick : Option ℕ) (from to : ℕ) (st : State) (route : Option Route) (method : Method) (caller : Option Spid) (body : List ℕ) (after : State) →
+    WithholdsTick from to st tick (refusal_text 29) after ⊎ Meets from to (ticked st tick) route method caller body (refusal_text 29) after → HasRisen from to × ((after ≡ st) ⊎ (after ≡ ticked st tick))
+step_tells None from to st route method caller body after (inl x) = absurd x
+step_tells (Some minute) from to st route method caller body after (inl x) = let told = withheld_tells from to st after x in (told.0, inl told.1)
+step_tells tick from to st route method caller body after (inr x) = let told = meets_tell from to (ticked st tick) route method caller body after x in (told.0, inr told.1)
+
+pub storage_tells : (offered : Bool) (tick : Option ℕ) (from to : ℕ) (st : State) (request : Request) (body : List ℕ) (after : State) →
+    Step offered tick from to st request body (refusal_text 29) after → HasRisen from to × ((after ≡ st) ⊎ (after ≡ ticked st tick))
+storage_tells offered tick from to st request body after x = step_tells tick from to st (among_offered offered request.route) request.method request.caller body after x.met

@@ -1,6 +1,5 @@
 -- What the input is cut into: messages, and what stands in place of one.
 use Rattle.std.specs.Prelude.{◌≡◌, ℕ, ◌<◌, ◌≤◌, List, [], ◌∷◌, ◌++◌, length, codes, Option, Some, None}
-use Rattle.std.specs.Str.{bytes_eq}
 use Rattle.httparse.specs.Grammar.{RequestHead}
 use Rattle.numbers.specs.Spids.{IsSpid}
 use Rattle.numbers.specs.Texts.{spid_text}
@@ -12,7 +11,7 @@ use Rattle.api.specs.declared.message.Next.{Next}
 use Rattle.api.specs.declared.message.Next.TheVariants.{Message, Refused}
 use Rattle.api.specs.Fields.{body_length, closes, values_of}
 use Rattle.api.specs.Head.{HasHead, IsBlank, IsBad}
-use Rattle.api.specs.Table.{path_of}
+use Rattle.api.specs.Table.{path_of, method_of}
 
 -- the provider that the bytes name
 abbrev pub IsNamed : List ℕ → Option Spid → Type 0
@@ -28,7 +27,7 @@ IsCaller (v ∷ w ∷ vs) caller = caller ≡ None
 -- what a head asks for
 pub record IsRequestOf (h : RequestHead) (request : Request) : Type 0 where
   pub route : request.route ≡ path_of h.target
-  pub is_post : request.is_post ≡ bytes_eq h.method (codes "POST")
+  pub method : request.method ≡ method_of h.method
   pub caller : IsCaller (values_of (codes "x-spid") h) request.caller
   pub length : body_length h ≡ Some request.length
   pub closes : request.closes ≡ closes h

@@ -1,5 +1,5 @@
 -- The forms of request bodies: what each asks.
-use Rattle.std.specs.Prelude.{◌≡◌, ℕ, ◌^◌, ◌&&◌, List, [], ◌∷◌, codes, Bool, true, false, nat_lt, if◌then◌else◌, Option, Some, None, option_and_then}
+use Rattle.std.specs.Prelude.{◌≡◌, ℕ, ◌&&◌, List, [], ◌∷◌, codes, Bool, true, false, if◌then◌else◌, Option, Some, None, option_and_then}
 use Rattle.std.specs.List.{list_any}
 use Rattle.std.specs.Str.{is_utf8, bytes_eq}
 use Rattle.serde_json.specs.Data.{Data, null, boolean, number, string, array, object, Members, no_members, member}
@@ -10,22 +10,27 @@ use Rattle.numbers.specs.Spids.{IsSpid}
 use Rattle.numbers.specs.Texts.{tn_text, code_text, lrn_text, cic_text, spid_text}
 use Rattle.meaning.specs.Commands.{Command, RegisterCarrier, RegisterRoutingNumber, OpenCode, OldProviderCreate, NewProviderCreate, Activate}
 use Rattle.register.specs.Calls.{command_of}
+use Rattle.api.specs.Table.{below_limit}
 use Rattle.api.specs.declared.paths.Route.{Route}
-use Rattle.api.specs.declared.paths.Route.TheVariants.{Carriers, RoutingNumbers, Codes, OldProviderCreate as OldProviderPath, NewProviderCreate as NewProviderPath, Activate as ActivatePath, Acknowledge, Query}
+use Rattle.api.specs.declared.paths.Route.TheVariants.{Carriers, Clock, RoutingNumbers, Codes, OldProviderCreate as OldProviderPath, NewProviderCreate as NewProviderPath, Activate as ActivatePath, Acknowledge, Query, Version}
 use Rattle.api.specs.declared.forms.Call.{Call}
-use Rattle.api.specs.declared.forms.Call.TheVariants.{Command as CommandCode, Acknowledge as AcknowledgeCode, Query as QueryCode}
+use Rattle.api.specs.declared.forms.Call.TheVariants.{Command as CommandCode, Acknowledge as AcknowledgeCode, Query as QueryCode, Clock as ClockCode}
 
--- what a message asks of the register: a command, the acknowledgement of an attempt, or where the number of a URI is routed
+-- what a message asks of the register: a command, the acknowledgement of an attempt, where the number of a URI is routed, that
+-- the clock moves to a minute, or that the version of an id is shown
 pub data Asked : Type 0 where
   Orders : (command : Command) → Asked
   Confirms : (id attempt : ℕ) → Asked
   Seeks : (uri : List ℕ) → Asked
+  Moves : (minute : ℕ) → Asked
+  Shows : (id : ℕ) → Asked
 
--- the same, as the code holds it
+-- what a body asks, as the code holds it
 abbrev pub asked_of : Call → Asked
 asked_of (CommandCode command) = Orders (command_of command)
 asked_of (AcknowledgeCode id attempt) = Confirms id attempt
 asked_of (QueryCode uri) = Seeks uri.now
+asked_of (ClockCode minute) = Moves minute.number
 
 -- the value that the bytes are as JSON
 abbrev pub json_of : List ℕ → Option Data
@@ -56,11 +61,10 @@ keys NewProviderPath = codes "cic" ∷ codes "due" ∷ codes "lrn" ∷ codes "ne
 keys ActivatePath = codes "id" ∷ []
 keys Acknowledge = codes "attempt" ∷ codes "id" ∷ []
 keys Query = codes "uri" ∷ []
+keys Clock = codes "minute" ∷ []
+keys (Version id) = []
 
 -- ---- what stands under a key
-
-abbrev pub below_limit : ℕ → Option ℕ
-below_limit n = if nat_lt n (2 ^ 40) then Some n else None
 
 -- a whole number below 2^40
 unfoldable pub whole : List ℕ → Data → Option ℕ
@@ -129,14 +133,18 @@ HasCommand NewProviderPath d c =
 HasCommand ActivatePath d c = (id : ℕ) × (whole (codes "id") d ≡ Some id) × (c ≡ Activate id)
 HasCommand Acknowledge d c = ⊥
 HasCommand Query d c = ⊥
+HasCommand Clock d c = ⊥
+HasCommand (Version id) d c = ⊥
 
 abbrev pub HasOrder : Route → Data → Asked → Type 0
 HasOrder route d asked = (c : Command) × HasCommand route d c × (asked ≡ Orders c)
 
--- a path's values
+-- a path's values. A version's has no body
 abbrev pub HasValues : Route → Data → Asked → Type 0
 HasValues Acknowledge d asked = (id : ℕ) × (attempt : ℕ) × (whole (codes "id") d ≡ Some id) × (whole (codes "attempt") d ≡ Some attempt) × (asked ≡ Confirms id attempt)
 HasValues Query d asked = (uri : List ℕ) × (text (codes "uri") d ≡ Some uri) × (asked ≡ Seeks uri)
+HasValues Clock d asked = (minute : ℕ) × (whole (codes "minute") d ≡ Some minute) × (asked ≡ Moves minute)
+HasValues (Version id) d asked = ⊥
 HasValues Carriers d asked = HasOrder Carriers d asked
 HasValues RoutingNumbers d asked = HasOrder RoutingNumbers d asked
 HasValues Codes d asked = HasOrder Codes d asked

@@ -16,3 +16,4 @@ pub mod Serving
 pub mod Step
 pub mod Table
 pub mod Texts
+pub mod Ticks

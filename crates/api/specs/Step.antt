@@ -7,7 +7,7 @@ use Rattle.meaning.specs.declared.refusal.Refusal.TheVariants.{Storage, NoMemory
 use Rattle.meaning.specs.Content.{Content}
 use Rattle.meaning.specs.History.{Commands, Acknowledges}
 use Rattle.meaning.specs.Reading.{State}
-use Rattle.meaning.specs.Refusals.{Input, Requests, Asks, Knows, Query}
+use Rattle.meaning.specs.Refusals.{Input, Moment, Requests, Asks, Knows, ShowVersion, Query, npac}
 use Rattle.meaning.specs.Machine.{Reply, Refused, Moved, Registered, LrnAdded, CodeOpened, Shown, Donated, Known, Fetched, Answered, Rows, Awaited, Found, out, next}
 use Rattle.settle.specs.Reads.{HasRisen}
 use Rattle.register.specs.Answers.{Stands}
@@ -22,12 +22,15 @@ use Rattle.api.specs.declared.fault.Failure.TheVariants.{Uri, Message}
 use Rattle.api.specs.declared.fault.MessageFault.{MessageFault}
 use Rattle.api.specs.declared.fault.MessageFault.TheVariants.{BadRequest, NoPath, BadMethod}
 use Rattle.api.specs.declared.message.Request.{Request}
+use Rattle.api.specs.declared.paths.Method.{Method}
 use Rattle.api.specs.declared.paths.Route.{Route}
+use Rattle.api.specs.declared.paths.Route.TheVariants.{Version}
 use Rattle.api.specs.Answer.{answer}
 use Rattle.api.specs.Failures.{failure_text}
 use Rattle.api.specs.RefusalTexts.{refusal_text}
-use Rattle.api.specs.Forms.{Asked, Orders, Confirms, Seeks, HasForm, json_of}
-use Rattle.api.specs.Texts.{registered_text, routing_number_text, opened_code_text, view_text, looked_up, uri_text}
+use Rattle.api.specs.Forms.{Asked, Orders, Confirms, Seeks, Moves, Shows, HasForm, json_of}
+use Rattle.api.specs.Table.{takes, among_offered}
+use Rattle.api.specs.Texts.{registered_text, routing_number_text, opened_code_text, now_text, view_text, looked_up, uri_text}
 
 -- ---- the answers to what was asked, byte for byte
 
@@ -35,7 +38,8 @@ use Rattle.api.specs.Texts.{registered_text, routing_number_text, opened_code_te
 unfoldable pub success : List ℕ → List ℕ
 success body = answer 200 body
 
--- the machine's reply to a command or an acknowledgement. The other replies are of inputs that no path asks for
+-- the machine's reply to a command, an acknowledgement, a moment of the clock or the question for a version. The other replies
+-- are of inputs that no path asks for, or a query's
 abbrev pub reply_text : Reply → List ℕ
 reply_text (Refused number) = refusal_text number
 reply_text (Registered spid rows) = success (registered_text spid rows)
@@ -43,7 +47,7 @@ reply_text (LrnAdded lrn spid) = success (routing_number_text lrn spid)
 reply_text (CodeOpened code spid) = success (opened_code_text code spid)
 reply_text (Shown (Some view)) = success (view_text view)
 reply_text (Shown None) = []
-reply_text (Moved now) = []
+reply_text (Moved now) = success (now_text now)
 reply_text (Donated block ids) = []
 reply_text Known = []
 reply_text (Fetched downloads) = []
@@ -130,11 +134,23 @@ AnswersQuery st caller uri text =
     ⊎ ((out st (Asks caller Knows) ≡ Known) × ((fault : TelFault) × (fault_of uri ≡ Some fault) × (text ≡ failure_text (Uri fault))))
     ⊎ ((out st (Asks caller Knows) ≡ Known) × ((read : TelUri) × IsUri uri read × AnswersUri st caller read text))
 
+-- ---- the clock
+
+-- the administrator moves it: the machine takes the moment. For another it stays, and that is refused with `not_admin`
+abbrev pub AnswersMove : State → (caller minute : ℕ) → (text : List ℕ) → (after : State) → Type 0
+AnswersMove st caller minute text after =
+    ((caller ≡ npac) × Takes st (Moment minute) text after)
+    ⊎ ((¬ (caller ≡ npac)) × (text ≡ refusal_text 2) × (after ≡ st))
+
+-- ---- what is asked
+
 -- what a caller asks is answered, or withheld
 abbrev pub Answers : (from to : ℕ) → State → (caller : ℕ) → Asked → (text : List ℕ) → (after : State) → Type 0
 Answers from to st caller (Orders command) text after = Withholds from to st text after ⊎ Takes st (Requests caller (Commands command)) text after
 Answers from to st caller (Confirms id attempt) text after = Withholds from to st text after ⊎ Takes st (Requests caller (Acknowledges id attempt)) text after
 Answers from to st caller (Seeks uri) text after = Withholds from to st text after ⊎ (AnswersQuery st caller uri text × (after ≡ st))
+Answers from to st caller (Moves minute) text after = Withholds from to st text after ⊎ AnswersMove st caller minute text after
+Answers from to st caller (Shows id) text after = Withholds from to st text after ⊎ Takes st (Asks caller (ShowVersion id)) text after
 
 -- ---- messages
 
@@ -142,41 +158,68 @@ Answers from to st caller (Seeks uri) text after = Withholds from to st text aft
 abbrev pub BodyAsks : Route → (body : List ℕ) → Asked → Type 0
 BodyAsks route body asked = IsSomeAnd (json_of body) (λ d. HasForm route d asked)
 
--- a body that is of no form is refused; else what it asks is answered
-abbrev pub Calls : (from to : ℕ) → State → Route → (caller : ℕ) → (body text : List ℕ) → (after : State) → Type 0
-Calls from to st route caller body text after =
+-- the path ends in a number, no body comes with it, and that version is asked for
+abbrev pub NumberAsks : Option ℕ → (body : List ℕ) → Asked → Type 0
+NumberAsks number body asked = (id : ℕ) × (number ≡ Some id) × (body ≡ []) × (asked ≡ Shows id)
+
+-- a message on the path asks this
+abbrev pub PathAsks : Route → (body : List ℕ) → Asked → Type 0
+PathAsks (Version number) body asked = NumberAsks number body asked
+PathAsks route body asked = BodyAsks route body asked
+
+-- a message that asks nothing is refused; else what it asks is answered
+abbrev pub Calls : (from to : ℕ) → State → (IsAsked : Asked → Type 0) → (caller : ℕ) → (text : List ℕ) → (after : State) → Type 0
+Calls from to st IsAsked caller text after =
     Withholds from to st text after
-    ⊎ (((asked : Asked) → ¬ (BodyAsks route body asked)) × Refuses st BadRequest text after)
-    ⊎ ((asked : Asked) × BodyAsks route body asked × Answers from to st caller asked text after)
+    ⊎ (((asked : Asked) → ¬ (IsAsked asked)) × Refuses st BadRequest text after)
+    ⊎ ((asked : Asked) × IsAsked asked × Answers from to st caller asked text after)
 
--- first the path is judged, then the method, then the caller, then the body
-abbrev pub Meets : (from to : ℕ) → State → Option Route → (is_post : Bool) → (caller : Option Spid) → (body text : List ℕ) → (after : State) → Type 0
-Meets from to st None is_post caller body text after = Refuses st NoPath text after
-Meets from to st (Some route) false caller body text after = Refuses st BadMethod text after
-Meets from to st (Some route) true None body text after = Refuses st BadRequest text after
-Meets from to st (Some route) true (Some caller) body text after = Calls from to st route caller.number body text after
+-- on a path, first the method is judged, then the caller, then what is asked
+abbrev pub MeetsPath : (from to : ℕ) → State → Route → (has_method : Bool) → (caller : Option Spid) → (body text : List ℕ) → (after : State) → Type 0
+MeetsPath from to st route false caller body text after = Refuses st BadMethod text after
+MeetsPath from to st route true None body text after = Refuses st BadRequest text after
+MeetsPath from to st route true (Some caller) body text after = Calls from to st (PathAsks route body) caller.number text after
 
--- the message, whose head says the request, is answered by the text, and st becomes after. The count of the device's failures
--- never falls
-pub record Step (from to : ℕ) (st : State) (request : Request) (body text : List ℕ) (after : State) : Type 0 where
+-- before all that the path is judged
+abbrev pub Meets : (from to : ℕ) → State → Option Route → Method → (caller : Option Spid) → (body text : List ℕ) → (after : State) → Type 0
+Meets from to st None method caller body text after = Refuses st NoPath text after
+Meets from to st (Some route) method caller body text after = MeetsPath from to st route (takes route method) caller body text after
+
+-- a minute that is handed in is a moment of the clock; one that is below the present minute changes nothing
+abbrev pub ticked : State → (tick : Option ℕ) → State
+ticked st None = st
+ticked st (Some minute) = next st (Moment minute)
+
+-- the clock's move to the minute that is handed in is withheld: the message is not carried out, and is answered with that
+abbrev pub WithholdsTick : (from to : ℕ) → State → (tick : Option ℕ) → (text : List ℕ) → (after : State) → Type 0
+WithholdsTick from to st None text after = ⊥
+WithholdsTick from to st (Some minute) text after = Withholds from to st text after
+
+-- the message, whose head says the request, is answered by the text, and st becomes after: first the clock moves to the minute
+-- that is handed in beside it, and then it is carried out. Offered says whether the clock's path is there. The count of the
+-- device's failures never falls
+pub record Step (offered : Bool) (tick : Option ℕ) (from to : ℕ) (st : State) (request : Request) (body text : List ℕ) (after : State) : Type 0 where
   pub rises : from ≤ to
-  pub met : Meets from to st request.route request.is_post request.caller body text after
+  pub met :
+      WithholdsTick from to st tick text after
+      ⊎ Meets from to (ticked st tick) (among_offered offered request.route) request.method request.caller body text after
 
 -- one answer and one state after it, unless either is withheld
 abbrev pub IsOnce : (text said : List ℕ) → (after later : State) → Type 0
 IsOnce text said after later = IsWithheld text ⊎ IsWithheld said ⊎ ((text ≡ said) × (after ≡ later))
 
--- but for want of the device or of memory, a message has one answer and one state after it
+-- but for want of the device or of memory, a message has one answer and one state after it, by the minute handed in
 abbrev pub StepsOnce : Type 0
 StepsOnce =
-    (from to from' to' : ℕ) (st : State) (request : Request) (body text said : List ℕ) (after later : State) →
-    Step from to st request body text after → Step from' to' st request body said later → IsOnce text said after later
+    (offered : Bool) (tick : Option ℕ) (from to from' to' : ℕ) (st : State) (request : Request) (body text said : List ℕ) (after later : State) →
+    Step offered tick from to st request body text after → Step offered tick from' to' st request body said later → IsOnce text said after later
 
--- the answer that storage fails (29) says that the device failed while its message was served, and that nothing has happened
+-- the answer that storage fails (29) says that the device failed while its message was served, and that nothing has happened but
+-- that the clock may have moved to the minute handed in
 abbrev pub StorageTells : Type 0
 StorageTells =
-    (from to : ℕ) (st : State) (request : Request) (body : List ℕ) (after : State) →
-    Step from to st request body (refusal_text 29) after → HasRisen from to × (after ≡ st)
+    (offered : Bool) (tick : Option ℕ) (from to : ℕ) (st : State) (request : Request) (body : List ℕ) (after : State) →
+    Step offered tick from to st request body (refusal_text 29) after → HasRisen from to × ((after ≡ st) ⊎ (after ≡ ticked st tick))
 
 -- ---- contents that stand for states
 

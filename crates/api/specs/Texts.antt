@@ -106,6 +106,12 @@ routing_number_text lrn spid = codes "{\"lrn\":\"" ++ lrn_text lrn ++ codes "\",
 unfoldable pub opened_code_text : (code spid : ℕ) → List ℕ
 opened_code_text code spid = codes "{\"code\":\"" ++ code_text code ++ codes "\",\"spid\":\"" ++ spid_text spid ++ codes "\"}"
 
+-- ---- the clock
+
+-- the minute that it is
+unfoldable pub now_text : ℕ → List ℕ
+now_text now = codes "{\"now\":" ++ decimal now ++ codes "}"
+
 -- ---- a query
 
 -- the text that answers a query for a URI, by the register's answer of its number: the text itself where the number's code

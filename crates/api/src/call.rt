@@ -1,5 +1,6 @@
 //! Carrying out a message.
-ghost use Rattle.std.specs.Prelude.{◌≡◌, ◌⊎◌, ℕ, ◌+◌, ◌*◌, ◌<◌, ◌≤◌, ◌^◌, List, Some, None, true, length, map, string_bytes, IfOk, IfErr, IfSome, IfNone, OnOk, OnErr};
+ghost use Rattle.std.specs.Prelude.{◌≡◌, ◌⊎◌, ℕ, ◌+◌, ◌*◌, ◌<◌, ◌≤◌, ◌^◌, List, Some, None, option_map, true, length, map, string_bytes, IfOk, IfErr, IfSome, IfNone, OnOk, OnErr};
+ghost use Rattle.numbers.specs.declared.minute.Minute.{Minute as MinuteSeen};
 ghost use Rattle.meaning.specs.Commands.{RegisterCarrier};
 ghost use Rattle.meaning.specs.Machine.{Shown};
 ghost use Rattle.meaning.specs.Reading.{State, all_in_force};
@@ -7,38 +8,39 @@ ghost use Rattle.register.specs.Answers.{Stands};
 ghost use Rattle.register.specs.Calls.{command_of as command_seen, view_of, reply_of, answer_of, in_force_of};
 ghost use Rattle.telnp.specs.Views.{uri_of};
 ghost use Rattle.api.specs.Failures.{failure_text};
-ghost use Rattle.api.specs.Forms.{Orders, Confirms, Seeks, asked_of};
+ghost use Rattle.api.specs.Forms.{Orders, Confirms, Seeks, Moves, Shows, asked_of};
 ghost use Rattle.api.specs.Plain.{AnswersArePlain};
 ghost use Rattle.api.specs.Rooms.{HasRoom, IsEmpty, IsWritten};
 ghost use Rattle.api.specs.Run.{StaysClear};
-ghost use Rattle.api.specs.Step.{Step, StepsOnce, StorageTells, Meets, Calls, Carries, AsksFor, ComesBack, IsShort, Outgrows, success, told, reply_text};
-ghost use Rattle.api.specs.Texts.{registered_text, view_text, looked_up, uri_text};
+ghost use Rattle.api.specs.Step.{Step, StepsOnce, StorageTells, Meets, Calls, BodyAsks, NumberAsks, PathAsks, WithholdsTick, ticked, Carries, AsksFor, ComesBack, IsShort, Outgrows, success, told, reply_text};
+ghost use Rattle.api.specs.Table.{takes as takes_method, among_offered};
+ghost use Rattle.api.specs.Texts.{registered_text, now_text, view_text, looked_up, uri_text};
 
 use crate::answer::Room;
 use crate::fault::{Failure, MessageFault};
 use crate::forms::{Call, call_of, json};
 use crate::message::Request;
-use crate::paths::Route;
+use crate::paths::{Route, offered, takes};
 use crate::reply::{
-    ROW_ROOM, URI_ROOM, put_failure, put_opened_code, put_registered, put_routing_number, put_uri,
-    put_version,
+    ROW_ROOM, URI_ROOM, put_failure, put_now, put_opened_code, put_registered, put_routing_number,
+    put_uri, put_version,
 };
 use meaning::Refusal;
-use numbers::{Spid, Tn};
+use numbers::{Minute, Spid, Tn};
 use register::{Answer, Command, Register, Reply, VersionView};
 use settle::{RoutedRow, Store};
 use std::alloc::Global;
 use telnp::TelUri;
 
 // The path and the caller of a message: first its path, then its method, then its caller.
-fn judged(request: &Request) -> Result<(Route, Spid), MessageFault>
-    ensures ok { IfOk result (λ found. (request.now.route ≡ Some found.0) × (request.now.is_post ≡ true) × (request.now.caller ≡ Some found.1)) }
-    ensures err { IfErr result (λ fault. (from to : ℕ) (st : State) (body : List ℕ) → Meets from to st request.now.route request.now.is_post request.now.caller body (failure_text (Failure.Message fault)) st) }
+fn judged(request: &Request, clock: bool) -> Result<(Route, Spid), MessageFault>
+    ensures ok { IfOk result (λ found. (among_offered clock request.now.route ≡ Some found.0) × (takes_method found.0 request.now.method ≡ true) × (request.now.caller ≡ Some found.1)) }
+    ensures err { IfErr result (λ fault. (from to : ℕ) (st : State) (body : List ℕ) → Meets from to st (among_offered clock request.now.route) request.now.method request.now.caller body (failure_text (Failure.Message fault)) st) }
 {
-    let Some(route) = request.route else {
+    let Some(route) = offered(request.route, clock) else {
         return Err(MessageFault::NoPath);
     };
-    if !request.is_post {
+    if !takes(route, request.method) {
         return Err(MessageFault::BadMethod);
     }
     match request.caller {
@@ -96,6 +98,16 @@ fn put_shown(room: &mut Room, view: &VersionView)
     ensures body { string_bytes room.new.body ≡ view_text (view_of view.now) }
 {
     put_version(&mut room.body, view);
+}
+
+fn put_moved(room: &mut Room, now: Minute)
+    requires empty { IsEmpty room.old }
+    requires room { HasRoom 512 room.old }
+    ensures written { IsWritten room.new }
+    ensures room { HasRoom 512 room.new }
+    ensures body { string_bytes room.new.body ≡ now_text now.number }
+{
+    put_now(&mut room.body, now);
 }
 
 // Writes a URI, in room that is taken for it.
@@ -296,6 +308,56 @@ fn query<S: Store>(
     }
 }
 
+// Moves the clock, for the administrator alone.
+fn move_clock<S: Store>(
+    register: &mut Register<S>,
+    caller: Spid,
+    minute: Minute,
+    room: &mut Room,
+) -> Result<(), Failure>
+    requires empty { IsEmpty room.old }
+    requires room { HasRoom 512 room.old }
+    ensures ok { OnOk result (IsWritten room.new) }
+    ensures room { HasRoom 512 room.new }
+    ensures usable { S.IsUsable register.new.store → S.IsUsable register.old.store }
+    ensures rises { S.failed register.old.store ≤ S.failed register.new.store }
+    ensures carries { S.IsUsable register.new.store → Carries (S.failed register.old.store) (S.failed register.new.store) (S.content register.old.store) (S.content register.new.store) caller.number (Moves minute.number) (told result (string_bytes room.new.body)) }
+{
+    if caller != Spid::NPAC {
+        return Err(Failure::Refused(Refusal::NotAdmin));
+    }
+    match register.clock(minute) {
+        Ok(now) => {
+            put_moved(room, now);
+            Ok(())
+        }
+        Err(refusal) => Err(Failure::Refused(refusal)),
+    }
+}
+
+fn show_version<S: Store>(
+    register: &mut Register<S>,
+    caller: Spid,
+    id: u64,
+    room: &mut Room,
+) -> Result<(), Failure>
+    requires empty { IsEmpty room.old }
+    requires room { HasRoom 512 room.old }
+    ensures ok { OnOk result (IsWritten room.new) }
+    ensures room { HasRoom 512 room.new }
+    ensures usable { S.IsUsable register.new.store → S.IsUsable register.old.store }
+    ensures rises { S.failed register.old.store ≤ S.failed register.new.store }
+    ensures carries { S.IsUsable register.new.store → Carries (S.failed register.old.store) (S.failed register.new.store) (S.content register.old.store) (S.content register.new.store) caller.number (Shows id) (told result (string_bytes room.new.body)) }
+{
+    match register.version(caller, id) {
+        Ok(view) => {
+            put_shown(room, &view);
+            Ok(())
+        }
+        Err(refusal) => Err(Failure::Refused(refusal)),
+    }
+}
+
 fn carry_out<S: Store>(
     alloc: Global,
     register: &mut Register<S>,
@@ -315,6 +377,7 @@ fn carry_out<S: Store>(
         Call::Command(asked) => command(register, caller, asked, room),
         Call::Acknowledge { id, attempt } => acknowledge(register, caller, *id, *attempt, room),
         Call::Query { uri } => query(alloc, register, caller, uri, room),
+        Call::Clock { minute } => move_clock(register, caller, *minute, room),
     }
 }
 
@@ -334,7 +397,7 @@ fn carry_out_body<S: Store>(
     ensures usable { S.IsUsable register.new.store → S.IsUsable register.old.store }
     ensures rises { S.failed register.old.store ≤ S.failed register.new.store }
     ensures calls { S.IsUsable register.new.store → (st : State) → Stands (S.content register.old.store) st →
-        (after : State) × Calls (S.failed register.old.store) (S.failed register.new.store) st route caller.number body.now (told result (string_bytes room.new.body)) after × Stands (S.content register.new.store) after }
+        (after : State) × Calls (S.failed register.old.store) (S.failed register.new.store) st (BodyAsks route body.now) caller.number (told result (string_bytes room.new.body)) after × Stands (S.content register.new.store) after }
 {
     let value = match json(alloc, body) {
         Ok(Some(value)) => value,
@@ -347,9 +410,57 @@ fn carry_out_body<S: Store>(
     }
 }
 
+// Shows the version of the number that a path ends in. What has no number, or a body, asks nothing.
+fn carry_out_number<S: Store>(
+    register: &mut Register<S>,
+    number: Option<u64>,
+    caller: Spid,
+    body: &[u8],
+    room: &mut Room,
+) -> Result<(), Failure>
+    requires empty { IsEmpty room.old }
+    requires room { HasRoom 512 room.old }
+    ensures ok { OnOk result (IsWritten room.new) }
+    ensures room { HasRoom 512 room.new }
+    ensures usable { S.IsUsable register.new.store → S.IsUsable register.old.store }
+    ensures rises { S.failed register.old.store ≤ S.failed register.new.store }
+    ensures calls { S.IsUsable register.new.store → (st : State) → Stands (S.content register.old.store) st →
+        (after : State) × Calls (S.failed register.old.store) (S.failed register.new.store) st (NumberAsks number body.now) caller.number (told result (string_bytes room.new.body)) after × Stands (S.content register.new.store) after }
+{
+    match number {
+        Some(id) if body.is_empty() => show_version(register, caller, id, room),
+        _ => Err(Failure::Message(MessageFault::BadRequest)),
+    }
+}
+
+// Carries out what a message asks on a path.
+fn carry_out_path<S: Store>(
+    alloc: Global,
+    register: &mut Register<S>,
+    route: Route,
+    caller: Spid,
+    body: &[u8],
+    room: &mut Room,
+) -> Result<(), Failure>
+    requires empty { IsEmpty room.old }
+    requires room { HasRoom 512 room.old }
+    ensures ok { OnOk result (IsWritten room.new) }
+    ensures room { HasRoom 512 room.new }
+    ensures usable { S.IsUsable register.new.store → S.IsUsable register.old.store }
+    ensures rises { S.failed register.old.store ≤ S.failed register.new.store }
+    ensures calls { S.IsUsable register.new.store → (st : State) → Stands (S.content register.old.store) st →
+        (after : State) × Calls (S.failed register.old.store) (S.failed register.new.store) st (PathAsks route body.now) caller.number (told result (string_bytes room.new.body)) after × Stands (S.content register.new.store) after }
+{
+    match route {
+        Route::Version(number) => carry_out_number(register, number, caller, body, room),
+        _ => carry_out_body(alloc, register, route, caller, body, room),
+    }
+}
+
 fn reply<S: Store>(
     alloc: Global,
     register: &mut Register<S>,
+    clock: bool,
     request: &Request,
     body: &[u8],
     room: &mut Room,
@@ -361,10 +472,10 @@ fn reply<S: Store>(
     ensures usable { S.IsUsable register.new.store → S.IsUsable register.old.store }
     ensures rises { S.failed register.old.store ≤ S.failed register.new.store }
     ensures step { S.IsUsable register.new.store → (st : State) → Stands (S.content register.old.store) st →
-        (after : State) × Step (S.failed register.old.store) (S.failed register.new.store) st request.now body.now (told result (string_bytes room.new.body)) after × Stands (S.content register.new.store) after }
+        (after : State) × Step clock None (S.failed register.old.store) (S.failed register.new.store) st request.now body.now (told result (string_bytes room.new.body)) after × Stands (S.content register.new.store) after }
 {
-    match judged(request) {
-        Ok((route, caller)) => carry_out_body(alloc, register, route, caller, body, room),
+    match judged(request, clock) {
+        Ok((route, caller)) => carry_out_path(alloc, register, route, caller, body, room),
         Err(fault) => Err(Failure::Message(fault)),
     }
 }
@@ -408,11 +519,34 @@ pub fn uris_need_no_escape()
     ensures { AnswersArePlain }
 {}
 
-/// Carries out a message and writes its answer. All memory of the answer is taken before the message is
-/// carried out; that of a query's, which changes nothing, behind its look-up.
+/// Moves the clock to the minute that is handed in, if there is one. One below the present minute is
+/// dropped.
+pub fn take_tick<S: Store>(register: &mut Register<S>, tick: Option<Minute>) -> Result<(), Refusal>
+    ensures usable { S.IsUsable register.new.store → S.IsUsable register.old.store }
+    ensures rises { S.failed register.old.store ≤ S.failed register.new.store }
+    ensures moved { OnOk result (S.IsUsable register.new.store → (st : State) → Stands (S.content register.old.store) st → Stands (S.content register.new.store) (ticked st (option_map (λ (m : MinuteSeen). m.number) tick))) }
+    ensures short { IfErr result (λ refusal. S.IsUsable register.new.store → (st : State) → Stands (S.content register.old.store) st →
+        WithholdsTick (S.failed register.old.store) (S.failed register.new.store) st (option_map (λ (m : MinuteSeen). m.number) tick) (failure_text (Failure.Refused refusal)) st × Stands (S.content register.new.store) st) }
+{
+    let Some(minute) = tick else {
+        return Ok(());
+    };
+    let Err(refusal) = register.clock(minute) else {
+        return Ok(());
+    };
+    match refusal {
+        Refusal::ClockBack => Ok(()),
+        _ => Err(refusal),
+    }
+}
+
+/// Carries out a message, with no minute handed in, and writes its answer. All memory of the answer is
+/// taken before the message is carried out; that of a query's, which changes nothing, behind its look-up.
+/// `clock` says whether the clock's path is there.
 pub fn put_answer<S: Store>(
     alloc: Global,
     register: &mut Register<S>,
+    clock: bool,
     request: &Request,
     body: &[u8],
     room: &mut Room,
@@ -422,10 +556,10 @@ pub fn put_answer<S: Store>(
     ensures usable { S.IsUsable register.new.store → S.IsUsable register.old.store }
     ensures rises { S.failed register.old.store ≤ S.failed register.new.store }
     ensures step { S.IsUsable register.new.store → (st : State) → Stands (S.content register.old.store) st →
-        (after : State) × Step (S.failed register.old.store) (S.failed register.new.store) st request.now body.now (string_bytes room.new.text) after × Stands (S.content register.new.store) after }
+        (after : State) × Step clock None (S.failed register.old.store) (S.failed register.new.store) st request.now body.now (string_bytes room.new.text) after × Stands (S.content register.new.store) after }
 {
     room.clear();
-    match reply(alloc, register, request, body, room) {
+    match reply(alloc, register, clock, request, body, room) {
         Ok(()) => put_success(room),
         Err(failure) => put_refused(room, failure),
     }

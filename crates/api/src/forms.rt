@@ -18,12 +18,13 @@ use serde_json::{Category, Map, Value};
 use std::alloc::{AllocError, Global};
 use version::{Create, Creator};
 
-/// What a message asks of the register.
+/// What a body asks of the register.
 #[derive(Clone, Copy, Debug)]
 pub enum Call<'a> {
     Command(Command),
     Acknowledge { id: u64, attempt: u64 },
     Query { uri: &'a str },
+    Clock { minute: Minute },
 }
 
 /// The JSON value of a body, or `None` where it is no JSON.
@@ -172,6 +173,8 @@ fn keys_of(route: Route) -> &'static [&'static str]
         Route::Activate => &["id"],
         Route::Acknowledge => &["attempt", "id"],
         Route::Query => &["uri"],
+        Route::Clock => &["minute"],
+        Route::Version(_) => &[],
     }
 }
 
@@ -265,7 +268,7 @@ fn command_of(route: Route, value: &Value) -> Option<Command>
         Route::OldProviderCreate => old_provider_create(value),
         Route::NewProviderCreate => new_provider_create(value),
         Route::Activate => activate(value),
-        Route::Acknowledge | Route::Query => None,
+        Route::Acknowledge | Route::Query | Route::Clock | Route::Version(_) => None,
     }
 }
 
@@ -288,6 +291,15 @@ fn query_of(value: &Value) -> Option<Call<'_>>
     })
 }
 
+fn clock_of(value: &Value) -> Option<Call<'_>>
+    ensures some { IfSome result (λ call. HasValues Route.Clock (view value.now) (asked_of call)) }
+    ensures none { IfNone result ((asked : Asked) → ¬ (HasValues Route.Clock (view value.now) asked)) }
+{
+    Some(Call::Clock {
+        minute: minute_at(value, "minute")?,
+    })
+}
+
 // What the values of an object ask on a path.
 fn values_of(route: Route, value: &Value) -> Option<Call<'_>>
     ensures some { IfSome result (λ call. HasValues route (view value.now) (asked_of call)) }
@@ -296,6 +308,7 @@ fn values_of(route: Route, value: &Value) -> Option<Call<'_>>
     match route {
         Route::Acknowledge => acknowledgement_of(value),
         Route::Query => query_of(value),
+        Route::Clock => clock_of(value),
         _ => Some(Call::Command(command_of(route, value)?)),
     }
 }

@@ -12,7 +12,7 @@ use crate::fault::MessageFault;
 use crate::front::{Front, next_head};
 use crate::head::{Found, heads_of_the_input, read_head};
 use crate::held::Held;
-use crate::paths::{Route, route_of};
+use crate::paths::{Method, Route, method_of, route_of};
 use httparse::spans::{HeaderSpan, RequestSpans};
 use matchit::Router;
 use numbers::Spid;
@@ -27,7 +27,7 @@ pub const BODY_LIMIT: u64 = 1_048_576;
 pub struct Request {
     /// The path, if it is one.
     pub route: Option<Route>,
-    pub is_post: bool,
+    pub method: Method,
     /// The caller, where `x-spid` names one once.
     pub caller: Option<Spid>,
     /// The length of the body.
@@ -92,7 +92,7 @@ fn request_of(
     }
     Ok(Request {
         route: route_of(router, spans.path.of(held)),
-        is_post: spans.method.of(held) == b"POST".as_slice(),
+        method: method_of(spans.method.of(held)),
         caller: caller_of(held, head.caller),
         length: head.body as usize,
         closes: head.closes,

@@ -10,12 +10,12 @@ ghost use Rattle.version.specs.Views.{routings_of, phase_seen};
 ghost use Rattle.register.specs.Calls.{view_of, in_force_of};
 ghost use Rattle.api.specs.Answer.{refusal_body};
 ghost use Rattle.api.specs.Failures.{failure_body};
-ghost use Rattle.api.specs.Texts.{cic_value, lrn_value, minute_value, phase_value, status_word, cic_in, lrn_in, counts_text, parties_text, times_text, standing_text, view_text, row_text, next_row_text, rows_text, registered_text, routing_number_text, opened_code_text, uri_text};
+ghost use Rattle.api.specs.Texts.{cic_value, lrn_value, minute_value, phase_value, status_word, cic_in, lrn_in, counts_text, parties_text, times_text, standing_text, view_text, row_text, next_row_text, rows_text, registered_text, routing_number_text, opened_code_text, now_text, uri_text};
 
 use crate::fault::Failure;
 use crate::room::{put, put_cic, put_code, put_lrn, put_minute, put_number, put_spid, put_subject};
 use meaning::{Action, Status};
-use numbers::{Cic, CodeId, Lrn, Routing, Spid};
+use numbers::{Cic, CodeId, Lrn, Minute, Routing, Spid};
 use register::VersionView;
 use settle::RoutedRow;
 use version::Phase;
@@ -231,6 +231,19 @@ pub fn put_opened_code(out: &mut String, code: CodeId, spid: Spid)
     put(out, "\",\"spid\":\"");
     put_spid(out, spid);
     put(out, "\"}");
+}
+
+/// The body that shows the minute that it is.
+#[tactic(auto, unfolding(crate::specs::Texts::now_text))]
+pub fn put_now(out: &mut String, now: Minute)
+    requires { string_len out.old + 64 ≤ string_capacity out.old }
+    ensures bytes { string_bytes out.new ≡ string_bytes out.old ++ now_text now.number }
+    ensures len { string_len out.new ≤ string_len out.old + 64 }
+    ensures capacity { string_capacity out.old ≤ string_capacity out.new }
+{
+    put(out, "{\"now\":");
+    put_minute(out, now);
+    put(out, "}");
 }
 
 // One row in force.

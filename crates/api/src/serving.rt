@@ -1,14 +1,16 @@
 //! Serving the messages of a reader to a writer.
-ghost use Rattle.std.specs.Prelude.{◌≡◌, ◌≤◌, List, [], string_bytes, vec_len, IfOk, IfErr, IfSome};
+ghost use Rattle.std.specs.Prelude.{◌≡◌, ◌≤◌, ℕ, List, [], Option, Some, None, option_map, string_bytes, vec_len, IfOk, IfErr, IfSome};
+ghost use Rattle.numbers.specs.declared.minute.Minute.{Minute as MinuteSeen};
 ghost use Rattle.meaning.specs.Reading.{State};
 ghost use Rattle.register.specs.Answers.{Stands};
 ghost use Rattle.api.specs.Held.{held_bytes};
 ghost use Rattle.api.specs.Rooms.{HasRoom};
 ghost use Rattle.api.specs.Serving.{EndsAt, FailsAt, Responds, end_of};
 ghost use Rattle.api.specs.Table.{table};
+ghost use Rattle.api.specs.Ticks.{HandsIn};
 
 use crate::answer::Room;
-use crate::call::{put_answer, put_refused};
+use crate::call::{put_answer, put_refused, take_tick};
 use crate::fault::{Failure, MessageFault};
 use crate::held::Held;
 use crate::message::{Next, NextFault, Request, next_message};
@@ -27,8 +29,12 @@ const FIELD_LIMIT: usize = 64;
 
 /// What hands in the machine's minute.
 pub trait Ticks {
+    // the minutes that it hands in from here on, one at each call, where they are known
+    ghost told: { Self → Option (List (Option ℕ)) } = { λ _. None };
+
     /// The minute before the next message is carried out, if there is one.
-    fn next(&mut self) -> Option<Minute>;
+    fn next(&mut self) -> Option<Minute>
+        ensures { HandsIn (told self.old) (option_map (λ (m : MinuteSeen). m.number) result) (told self.new) };
 }
 
 /// No minute is ever handed in.
@@ -36,6 +42,8 @@ pub trait Ticks {
 pub struct NoTicks;
 
 impl Ticks for NoTicks {
+    ghost told = { λ _. Some [] };
+
     fn next(&mut self) -> Option<Minute> {
         None
     }
@@ -78,6 +86,7 @@ pub enum Fault {
 fn carry_out<S: Store, T: Ticks>(
     alloc: Global,
     register: &mut Register<S>,
+    clock: bool,
     ticks: &mut T,
     request: &Request,
     body: &[u8],
@@ -87,16 +96,20 @@ fn carry_out<S: Store, T: Ticks>(
     ensures room { HasRoom 512 room.new }
     ensures usable { S.IsUsable register.new.store → S.IsUsable register.old.store }
     ensures rises { S.failed register.old.store ≤ S.failed register.new.store }
-    ensures responds { S.IsUsable register.new.store → Responds (S.failed register.old.store) (S.failed register.new.store) (Next.Message request.now) body.now (string_bytes room.new.text) (S.content register.old.store) (S.content register.new.store) }
+    ensures responds { S.IsUsable register.new.store → Responds clock (T.told ticks.old) (T.told ticks.new) (S.failed register.old.store) (S.failed register.new.store) (Next.Message request.now) body.now (string_bytes room.new.text) (S.content register.old.store) (S.content register.new.store) }
 {
-    let _ = ticks.next();
-    put_answer(alloc, register, request, body, room);
+    let tick = ticks.next();
+    match take_tick(register, tick) {
+        Ok(()) => put_answer(alloc, register, clock, request, body, room),
+        Err(refusal) => put_refused(room, Failure::Refused(refusal)),
+    }
 }
 
 // Writes the answer to what comes, and tells whether it is the last.
 fn respond<S: Store, T: Ticks>(
     alloc: Global,
     register: &mut Register<S>,
+    clock: bool,
     ticks: &mut T,
     next: Next,
     body: &[u8],
@@ -107,11 +120,11 @@ fn respond<S: Store, T: Ticks>(
     ensures end { result ≡ end_of next }
     ensures usable { S.IsUsable register.new.store → S.IsUsable register.old.store }
     ensures rises { S.failed register.old.store ≤ S.failed register.new.store }
-    ensures responds { S.IsUsable register.new.store → Responds (S.failed register.old.store) (S.failed register.new.store) next body.now (string_bytes room.new.text) (S.content register.old.store) (S.content register.new.store) }
+    ensures responds { S.IsUsable register.new.store → Responds clock (T.told ticks.old) (T.told ticks.new) (S.failed register.old.store) (S.failed register.new.store) next body.now (string_bytes room.new.text) (S.content register.old.store) (S.content register.new.store) }
 {
     match next {
         Next::Message(request) => {
-            carry_out(alloc, register, ticks, &request, body, room);
+            carry_out(alloc, register, clock, ticks, &request, body, room);
             if request.closes {
                 Some(End::Closed)
             } else {
@@ -140,6 +153,10 @@ fn buffers(alloc: Global) -> Option<(Held, Room, Router<Route>)>
 
 /// Serves the messages of a reader, one after the other, and writes their answers.
 ///
+/// A message takes the next minute of the ticks before it is carried out: the clock moves to it, unless it
+/// is below the present minute. Where that finds no memory, or the store fails, the message is answered so
+/// and is not carried out. A message that is refused with `BadHead`, `TooLarge` or `CutBody` takes none.
+///
 /// Each answer is handed to the writer before the next message is carried out. After a message that is
 /// refused with `BadHead`, `TooLarge` or `CutBody` nothing more is read. A read fault, or a buffer that
 /// finds no memory, means that the message at hand was not made.
@@ -147,14 +164,14 @@ pub fn serve<S: Store, T: Ticks, R: Read, W: Write>(
     alloc: Global,
     register: &mut Register<S>,
     ticks: &mut T,
-    _options: &Options,
+    options: &Options,
     reader: &mut R,
     writer: &mut W,
 ) -> Result<Served, Fault>
-    ensures served { S.IsUsable register.new.store → (st : State) → Stands (S.content register.old.store) st → IfOk result (λ served. IfSome (R.remaining reader.old) (λ input.
-        EndsAt served.end (S.failed register.old.store) (S.failed register.new.store) st (S.content register.new.store) input (W.contents writer.old) (W.contents writer.new) served.count)) }
-    ensures fault { S.IsUsable register.new.store → (st : State) → Stands (S.content register.old.store) st → IfErr result (λ fault. IfSome (R.remaining reader.old) (λ input.
-        FailsAt fault (S.failed register.old.store) (S.failed register.new.store) st (S.content register.new.store) input (W.contents writer.old) (W.contents writer.new))) }
+    ensures served { S.IsUsable register.new.store → (st : State) → Stands (S.content register.old.store) st → IfOk result (λ served. IfSome (R.remaining reader.old) (λ input. IfSome (T.told ticks.old) (λ minutes.
+        EndsAt served.end options.now.clock_route (S.failed register.old.store) (S.failed register.new.store) st (S.content register.new.store) input minutes (W.contents writer.old) (W.contents writer.new) served.count))) }
+    ensures fault { S.IsUsable register.new.store → (st : State) → Stands (S.content register.old.store) st → IfErr result (λ fault. IfSome (R.remaining reader.old) (λ input. IfSome (T.told ticks.old) (λ minutes.
+        FailsAt fault options.now.clock_route (S.failed register.old.store) (S.failed register.new.store) st (S.content register.new.store) input minutes (W.contents writer.old) (W.contents writer.new)))) }
     ensures state { S.IsUsable register.new.store → (st : State) → Stands (S.content register.old.store) st → (after : State) × Stands (S.content register.new.store) after }
     ensures usable { S.IsUsable register.new.store → S.IsUsable register.old.store }
     ensures rises { S.failed register.old.store ≤ S.failed register.new.store }
@@ -176,7 +193,15 @@ pub fn serve<S: Store, T: Ticks, R: Read, W: Write>(
             Err(NextFault::Read) => return Err(Fault::Read(count)),
             Err(NextFault::Memory) => return Err(Fault::Memory(count)),
         };
-        let end = respond(alloc, register, ticks, next, &body, &mut room);
+        let end = respond(
+            alloc,
+            register,
+            options.clock_route,
+            ticks,
+            next,
+            &body,
+            &mut room,
+        );
         match send_all(writer, room.text.as_bytes()) {
             Ok(()) => {}
             Err(_) => return Err(Fault::Write(count)),

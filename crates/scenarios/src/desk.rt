@@ -48,6 +48,11 @@ pub fn message(alloc: Global, caller: &str, path: &str, body: &str) -> Result<St
     )?)
 }
 
+/// A look at a path: a message without a body.
+pub fn look(alloc: Global, caller: &str, path: &str) -> Result<String, Fail> {
+    Ok(format!(in alloc; "GET {path} HTTP/1.1\r\nx-spid: {caller}\r\n\r\n")?)
+}
+
 /// An answer with its status line's code and phrase.
 pub fn answer(alloc: Global, status: &str, body: &str) -> Result<String, Fail> {
     let length = body.len();

@@ -12,6 +12,8 @@ mod first_port;
 #[cfg(test)]
 mod messages;
 #[cfg(test)]
+mod minutes;
+#[cfg(test)]
 mod opening;
 #[cfg(test)]
 mod ports;

@@ -64,7 +64,7 @@ fn heads_are_refused_by_their_form(rt: HostRuntime) -> Result<(), Fail> {
 
 type Refused<'a> = (&'a str, &'a str, &'a str, u8, bool);
 
-const REFUSED: [Refused<'static>; 14] = [
+const REFUSED: [Refused<'static>; 23] = [
     (
         "POST /query HTTP/1.1\r\ncontent-length: 1048577\r\n\r\n",
         "413 Payload Too Large",
@@ -115,10 +115,73 @@ const REFUSED: [Refused<'static>; 14] = [
         false,
     ),
     (
-        "POST /clock HTTP/1.1\r\n\r\n",
+        "GET /versions/ HTTP/1.1\r\n\r\n",
         "404 Not Found",
         "no_path",
         42,
+        false,
+    ),
+    (
+        "GET /versions/1/2 HTTP/1.1\r\n\r\n",
+        "404 Not Found",
+        "no_path",
+        42,
+        false,
+    ),
+    (
+        "GET /versions/1?2 HTTP/1.1\r\n\r\n",
+        "404 Not Found",
+        "no_path",
+        42,
+        false,
+    ),
+    (
+        "GET /clock HTTP/1.1\r\n\r\n",
+        "405 Method Not Allowed",
+        "bad_method",
+        43,
+        false,
+    ),
+    (
+        "POST /versions/1 HTTP/1.1\r\n\r\n",
+        "405 Method Not Allowed",
+        "bad_method",
+        43,
+        false,
+    ),
+    (
+        "POST /clock HTTP/1.1\r\n\r\n",
+        "400 Bad Request",
+        "bad_request",
+        41,
+        false,
+    ),
+    (
+        "GET /versions/1 HTTP/1.1\r\n\r\n",
+        "400 Bad Request",
+        "bad_request",
+        41,
+        false,
+    ),
+    (
+        "GET /versions/01 HTTP/1.1\r\nx-spid: AAAA\r\n\r\n",
+        "400 Bad Request",
+        "bad_request",
+        41,
+        false,
+    ),
+    (
+        "GET /versions/1099511627776 HTTP/1.1\r\nx-spid: AAAA\r\n\r\n",
+        "400 Bad Request",
+        "bad_request",
+        41,
+        false,
+    ),
+    (
+        "POST /clock HTTP/1.1\r\nx-spid: AAAA\r\ncontent-length: 14\r\n\r\n{\"minute\":120}",
+        "403 Forbidden",
+        "not_admin",
+        2,
         false,
     ),
     (

@@ -7,14 +7,17 @@ returns-in-Acknowledge-clause-none c = rw c.in-Acknowledge.is c.acknowledgement_
 pub returns-in-Query-clause-none : goal.returns-in-Query-clause-none
 returns-in-Query-clause-none c = rw c.in-Query.is c.query_of.ensures.none
 
+pub returns-in-Clock-clause-none : goal.returns-in-Clock-clause-none
+returns-in-Clock-clause-none c = rw c.in-Clock.is c.clock_of.ensures.none
+
 pub returns-in_ok-command_of-in_default : goal.returns-in_ok-command_of-in_default
 returns-in_ok-command_of-in_default c = record {
-  some = values_of_command _ _ _ c.in_default.not-Acknowledge c.in_default.not-Query c.in_ok-command_of-in_default.ensures.some;
+  some = values_of_command _ _ _ c.in_default.not-Acknowledge c.in_default.not-Query c.in_default.not-Clock c.in_ok-command_of-in_default.ensures.some;
   none = tt;
 }
 
 pub returns-in_err-command_of-in_default : goal.returns-in_err-command_of-in_default
 returns-in_err-command_of-in_default c = rw c.from_residual.ensures (record {
   some = tt;
-  none = no_values _ _ c.in_default.not-Acknowledge c.in_default.not-Query c.in_err-command_of-in_default.ensures.none;
+  none = no_values _ _ c.in_default.not-Acknowledge c.in_default.not-Query c.in_default.not-Clock c.in_err-command_of-in_default.ensures.none;
 })

@@ -1,11 +1,10 @@
 use Rattle.std.proofs.Common.{◌≡◌, ◌∙◌, sym, subst, List, ℕ, arith, string_bytes}
-use Rattle.std.specs.Prelude.{IfSome}
 use Rattle.std.proofs.Math.Nat.{le_refl, le_trans}
 use Rattle.std.specs.Io.KnownBytes.{Appends}
 use Rattle.api.specs.Held.{input_left}
 use Rattle.api.specs.Sending.{AppendsFront}
 use Rattle.api.specs.Serving.{AfterWhole, Responds}
-use Rattle.api.proofs.Going.{started, whole_of, ended, state_then, went_on, finished, partly}
+use Rattle.api.proofs.Going.{Known, started, whole_of, ended, state_then, went_on, finished, partly}
 use Rattle.api.proofs.serving.serve.Goals as goal
 
 pub loop-count-init : goal.loop-count-init
@@ -14,54 +13,54 @@ loop-count-init g c = (
   c.in-Some.ensures.room,
   λ usable. usable,
   le_refl _,
-  λ usable. started (g.S.Store.failed c.args.register.now.store) (g.S.Store.content c.args.register.now.store) _ (g.R.Read.remaining c.args.reader.now) (g.W.Write.contents c.args.writer.now) c.in-Some.ensures.empty,
+  λ usable. started c.args.options.now.clock_route (g.S.Store.failed c.args.register.now.store) (g.S.Store.content c.args.register.now.store) _ (g.R.Read.remaining c.args.reader.now) (g.W.Write.contents c.args.writer.now) (g.T.Ticks.told c.args.ticks.now) c.in-Some.ensures.empty,
 )
 
 pub returns-in-Ok-None-clause-served : goal.returns-in-Ok-None-clause-served
 returns-in-Ok-None-clause-served g c = λ usable.
-    ended (g.S.Store.failed c.args.register.now.store) (g.S.Store.failed c.loop-count.register.store) (g.S.Store.content c.args.register.now.store) (g.S.Store.content c.loop-count.register.store) (g.R.Read.remaining c.args.reader.now) (input_left c.loop-count.held (g.R.Read.remaining c.loop-count.reader))
-    (g.W.Write.contents c.args.writer.now) (g.W.Write.contents c.loop-count.writer) c.loop-count.count (c.loop-count.invariant.4 usable)
+    ended c.args.options.now.clock_route (g.S.Store.failed c.args.register.now.store) (g.S.Store.failed c.loop-count.register.store) (g.S.Store.content c.args.register.now.store) (g.S.Store.content c.loop-count.register.store) (g.R.Read.remaining c.args.reader.now) (input_left c.loop-count.held (g.R.Read.remaining c.loop-count.reader))
+    (g.W.Write.contents c.args.writer.now) (g.W.Write.contents c.loop-count.writer) (g.T.Ticks.told c.args.ticks.now) (g.T.Ticks.told c.loop-count.ticks) c.loop-count.count (c.loop-count.invariant.4 usable)
     (rw c.in-Ok-None.field-0-is at c.in-Ok-None.ensures.cut)
 
 pub returns-in-Err-Read-clause-fault : goal.returns-in-Err-Read-clause-fault
 returns-in-Err-Read-clause-fault g c = λ usable.
-    whole_of (g.S.Store.failed c.args.register.now.store) (g.S.Store.failed c.loop-count.register.store) (g.S.Store.content c.args.register.now.store) (g.S.Store.content c.loop-count.register.store) (g.R.Read.remaining c.args.reader.now) (input_left c.loop-count.held (g.R.Read.remaining c.loop-count.reader))
-    (g.W.Write.contents c.args.writer.now) (g.W.Write.contents c.loop-count.writer) c.loop-count.count (c.loop-count.invariant.4 usable)
+    whole_of c.args.options.now.clock_route (g.S.Store.failed c.args.register.now.store) (g.S.Store.failed c.loop-count.register.store) (g.S.Store.content c.args.register.now.store) (g.S.Store.content c.loop-count.register.store) (g.R.Read.remaining c.args.reader.now) (input_left c.loop-count.held (g.R.Read.remaining c.loop-count.reader))
+    (g.W.Write.contents c.args.writer.now) (g.W.Write.contents c.loop-count.writer) (g.T.Ticks.told c.args.ticks.now) (g.T.Ticks.told c.loop-count.ticks) c.loop-count.count (c.loop-count.invariant.4 usable)
 
 pub returns-in-Err-Memory-clause-fault : goal.returns-in-Err-Memory-clause-fault
 returns-in-Err-Memory-clause-fault g c = λ usable.
-    whole_of (g.S.Store.failed c.args.register.now.store) (g.S.Store.failed c.loop-count.register.store) (g.S.Store.content c.args.register.now.store) (g.S.Store.content c.loop-count.register.store) (g.R.Read.remaining c.args.reader.now) (input_left c.loop-count.held (g.R.Read.remaining c.loop-count.reader))
-    (g.W.Write.contents c.args.writer.now) (g.W.Write.contents c.loop-count.writer) c.loop-count.count (c.loop-count.invariant.4 usable)
+    whole_of c.args.options.now.clock_route (g.S.Store.failed c.args.register.now.store) (g.S.Store.failed c.loop-count.register.store) (g.S.Store.content c.args.register.now.store) (g.S.Store.content c.loop-count.register.store) (g.R.Read.remaining c.args.reader.now) (input_left c.loop-count.held (g.R.Read.remaining c.loop-count.reader))
+    (g.W.Write.contents c.args.writer.now) (g.W.Write.contents c.loop-count.writer) (g.T.Ticks.told c.args.ticks.now) (g.T.Ticks.told c.loop-count.ticks) c.loop-count.count (c.loop-count.invariant.4 usable)
 
 pub returns-in-Err-clause-fault : goal.returns-in-Err-clause-fault
 returns-in-Err-clause-fault g c = λ usable.
-    partly (g.S.Store.failed c.args.register.now.store) (g.S.Store.failed c.loop-count.register.store) (g.S.Store.content c.args.register.now.store) (g.S.Store.content c.loop-count.register.store) (g.R.Read.remaining c.args.reader.now) (input_left c.loop-count.held (g.R.Read.remaining c.loop-count.reader))
-    (g.W.Write.contents c.args.writer.now) (g.W.Write.contents c.loop-count.writer) c.loop-count.count (c.loop-count.invariant.4 (c.respond-end.ensures.usable usable))
-    (g.S.Store.failed c.respond-end.new.register.store) (g.S.Store.content c.respond-end.new.register.store) (input_left c.next_message.new.held (g.R.Read.remaining c.next_message.new.reader)) (g.W.Write.contents c.send_all.new.writer) c.in-Ok-Some.next c.next_message.new.body.items (string_bytes c.respond-end.new.room.text)
+    partly c.args.options.now.clock_route (g.S.Store.failed c.args.register.now.store) (g.S.Store.failed c.loop-count.register.store) (g.S.Store.content c.args.register.now.store) (g.S.Store.content c.loop-count.register.store) (g.R.Read.remaining c.args.reader.now) (input_left c.loop-count.held (g.R.Read.remaining c.loop-count.reader))
+    (g.W.Write.contents c.args.writer.now) (g.W.Write.contents c.loop-count.writer) (g.T.Ticks.told c.args.ticks.now) (g.T.Ticks.told c.loop-count.ticks) c.loop-count.count (c.loop-count.invariant.4 (c.respond-end.ensures.usable usable))
+    (g.S.Store.failed c.respond-end.new.register.store) (g.S.Store.content c.respond-end.new.register.store) (input_left c.next_message.new.held (g.R.Read.remaining c.next_message.new.reader)) (g.W.Write.contents c.send_all.new.writer) (g.T.Ticks.told c.respond-end.new.ticks) c.in-Ok-Some.next c.next_message.new.body.items (string_bytes c.respond-end.new.room.text)
     (rw c.in-Ok-Some.field-0-is at c.in-Ok-Some.ensures.cut)
-    (subst (λ (b : List ℕ). Responds (g.S.Store.failed c.loop-count.register.store) (g.S.Store.failed c.respond-end.new.register.store) c.in-Ok-Some.next b (string_bytes c.respond-end.new.room.text) (g.S.Store.content c.loop-count.register.store) (g.S.Store.content c.respond-end.new.register.store)) c.deref.ensures.value (c.respond-end.ensures.responds usable))
+    (subst (λ (b : List ℕ). Responds c.args.options.now.clock_route (g.T.Ticks.told c.loop-count.ticks) (g.T.Ticks.told c.respond-end.new.ticks) (g.S.Store.failed c.loop-count.register.store) (g.S.Store.failed c.respond-end.new.register.store) c.in-Ok-Some.next b (string_bytes c.respond-end.new.room.text) (g.S.Store.content c.loop-count.register.store) (g.S.Store.content c.respond-end.new.register.store)) c.deref.ensures.value (c.respond-end.ensures.responds usable))
     (subst (AppendsFront (g.W.Write.contents c.loop-count.writer) (g.W.Write.contents c.send_all.new.writer)) c.as_bytes.ensures.value c.in-Err.ensures.err)
 
 pub returns-in-Err-clause-state : goal.returns-in-Err-clause-state
 returns-in-Err-clause-state g c = λ usable.
-    state_then (g.S.Store.failed c.args.register.now.store) (g.S.Store.failed c.loop-count.register.store) (g.S.Store.content c.args.register.now.store) (g.S.Store.content c.loop-count.register.store) (g.R.Read.remaining c.args.reader.now) (input_left c.loop-count.held (g.R.Read.remaining c.loop-count.reader))
-    (g.W.Write.contents c.args.writer.now) (g.W.Write.contents c.loop-count.writer) c.loop-count.count (c.loop-count.invariant.4 (c.respond-end.ensures.usable usable))
-    (g.S.Store.failed c.respond-end.new.register.store) (g.S.Store.content c.respond-end.new.register.store) c.in-Ok-Some.next c.deref.result.now _ (c.respond-end.ensures.responds usable)
+    state_then c.args.options.now.clock_route (g.S.Store.failed c.args.register.now.store) (g.S.Store.failed c.loop-count.register.store) (g.S.Store.content c.args.register.now.store) (g.S.Store.content c.loop-count.register.store) (g.R.Read.remaining c.args.reader.now) (input_left c.loop-count.held (g.R.Read.remaining c.loop-count.reader))
+    (g.W.Write.contents c.args.writer.now) (g.W.Write.contents c.loop-count.writer) (g.T.Ticks.told c.args.ticks.now) (g.T.Ticks.told c.loop-count.ticks) c.loop-count.count (c.loop-count.invariant.4 (c.respond-end.ensures.usable usable))
+    (g.S.Store.failed c.respond-end.new.register.store) (g.S.Store.content c.respond-end.new.register.store) (g.T.Ticks.told c.respond-end.new.ticks) c.in-Ok-Some.next c.deref.result.now _ (c.respond-end.ensures.responds usable)
 
 pub returns-in-Some-end-clause-served : goal.returns-in-Some-end-clause-served
 returns-in-Some-end-clause-served g c = λ usable.
-    finished (g.S.Store.failed c.args.register.now.store) (g.S.Store.failed c.loop-count.register.store) (g.S.Store.content c.args.register.now.store) (g.S.Store.content c.loop-count.register.store) (g.R.Read.remaining c.args.reader.now) (input_left c.loop-count.held (g.R.Read.remaining c.loop-count.reader))
-    (g.W.Write.contents c.args.writer.now) (g.W.Write.contents c.loop-count.writer) c.loop-count.count (c.loop-count.invariant.4 (c.respond-end.ensures.usable usable))
-    (g.S.Store.failed c.respond-end.new.register.store) (g.S.Store.content c.respond-end.new.register.store) (input_left c.next_message.new.held (g.R.Read.remaining c.next_message.new.reader)) (g.W.Write.contents c.send_all.new.writer) c.in-Ok-Some.next c.in-Some-end.end c.next_message.new.body.items (string_bytes c.respond-end.new.room.text)
+    finished c.args.options.now.clock_route (g.S.Store.failed c.args.register.now.store) (g.S.Store.failed c.loop-count.register.store) (g.S.Store.content c.args.register.now.store) (g.S.Store.content c.loop-count.register.store) (g.R.Read.remaining c.args.reader.now) (input_left c.loop-count.held (g.R.Read.remaining c.loop-count.reader))
+    (g.W.Write.contents c.args.writer.now) (g.W.Write.contents c.loop-count.writer) (g.T.Ticks.told c.args.ticks.now) (g.T.Ticks.told c.loop-count.ticks) c.loop-count.count (c.loop-count.invariant.4 (c.respond-end.ensures.usable usable))
+    (g.S.Store.failed c.respond-end.new.register.store) (g.S.Store.content c.respond-end.new.register.store) (input_left c.next_message.new.held (g.R.Read.remaining c.next_message.new.reader)) (g.W.Write.contents c.send_all.new.writer) (g.T.Ticks.told c.respond-end.new.ticks) c.in-Ok-Some.next c.in-Some-end.end c.next_message.new.body.items (string_bytes c.respond-end.new.room.text)
     (sym c.respond-end.ensures.end ∙ c.in-Some-end.is) (rw c.in-Ok-Some.field-0-is at c.in-Ok-Some.ensures.cut)
-    (subst (λ (b : List ℕ). Responds (g.S.Store.failed c.loop-count.register.store) (g.S.Store.failed c.respond-end.new.register.store) c.in-Ok-Some.next b (string_bytes c.respond-end.new.room.text) (g.S.Store.content c.loop-count.register.store) (g.S.Store.content c.respond-end.new.register.store)) c.deref.ensures.value (c.respond-end.ensures.responds usable))
+    (subst (λ (b : List ℕ). Responds c.args.options.now.clock_route (g.T.Ticks.told c.loop-count.ticks) (g.T.Ticks.told c.respond-end.new.ticks) (g.S.Store.failed c.loop-count.register.store) (g.S.Store.failed c.respond-end.new.register.store) c.in-Ok-Some.next b (string_bytes c.respond-end.new.room.text) (g.S.Store.content c.loop-count.register.store) (g.S.Store.content c.respond-end.new.register.store)) c.deref.ensures.value (c.respond-end.ensures.responds usable))
     (subst (Appends (g.W.Write.contents c.loop-count.writer) (g.W.Write.contents c.send_all.new.writer)) c.as_bytes.ensures.value c.in-Ok.ensures.ok)
 
 pub returns-in-Some-end-clause-state : goal.returns-in-Some-end-clause-state
 returns-in-Some-end-clause-state g c = λ usable.
-    state_then (g.S.Store.failed c.args.register.now.store) (g.S.Store.failed c.loop-count.register.store) (g.S.Store.content c.args.register.now.store) (g.S.Store.content c.loop-count.register.store) (g.R.Read.remaining c.args.reader.now) (input_left c.loop-count.held (g.R.Read.remaining c.loop-count.reader))
-    (g.W.Write.contents c.args.writer.now) (g.W.Write.contents c.loop-count.writer) c.loop-count.count (c.loop-count.invariant.4 (c.respond-end.ensures.usable usable))
-    (g.S.Store.failed c.respond-end.new.register.store) (g.S.Store.content c.respond-end.new.register.store) c.in-Ok-Some.next c.deref.result.now _ (c.respond-end.ensures.responds usable)
+    state_then c.args.options.now.clock_route (g.S.Store.failed c.args.register.now.store) (g.S.Store.failed c.loop-count.register.store) (g.S.Store.content c.args.register.now.store) (g.S.Store.content c.loop-count.register.store) (g.R.Read.remaining c.args.reader.now) (input_left c.loop-count.held (g.R.Read.remaining c.loop-count.reader))
+    (g.W.Write.contents c.args.writer.now) (g.W.Write.contents c.loop-count.writer) (g.T.Ticks.told c.args.ticks.now) (g.T.Ticks.told c.loop-count.ticks) c.loop-count.count (c.loop-count.invariant.4 (c.respond-end.ensures.usable usable))
+    (g.S.Store.failed c.respond-end.new.register.store) (g.S.Store.content c.respond-end.new.register.store) (g.T.Ticks.told c.respond-end.new.ticks) c.in-Ok-Some.next c.deref.result.now _ (c.respond-end.ensures.responds usable)
 
 pub loop-count-preserved : goal.loop-count-preserved
 loop-count-preserved g c = (
@@ -70,17 +69,17 @@ loop-count-preserved g c = (
   λ usable. c.loop-count.invariant.2 (c.respond-end.ensures.usable usable),
   le_trans c.loop-count.invariant.3 c.respond-end.ensures.rises,
   λ usable.
-      went_on (g.S.Store.failed c.args.register.now.store) (g.S.Store.failed c.loop-count.register.store) (g.S.Store.content c.args.register.now.store) (g.S.Store.content c.loop-count.register.store) (g.R.Read.remaining c.args.reader.now) (input_left c.loop-count.held (g.R.Read.remaining c.loop-count.reader))
-      (g.W.Write.contents c.args.writer.now) (g.W.Write.contents c.loop-count.writer) c.loop-count.count (c.loop-count.invariant.4 (c.respond-end.ensures.usable usable))
-      (g.S.Store.failed c.respond-end.new.register.store) (g.S.Store.content c.respond-end.new.register.store) (input_left c.next_message.new.held (g.R.Read.remaining c.next_message.new.reader)) (g.W.Write.contents c.send_all.new.writer) c.in-Ok-Some.next c.next_message.new.body.items (string_bytes c.respond-end.new.room.text)
+      went_on c.args.options.now.clock_route (g.S.Store.failed c.args.register.now.store) (g.S.Store.failed c.loop-count.register.store) (g.S.Store.content c.args.register.now.store) (g.S.Store.content c.loop-count.register.store) (g.R.Read.remaining c.args.reader.now) (input_left c.loop-count.held (g.R.Read.remaining c.loop-count.reader))
+      (g.W.Write.contents c.args.writer.now) (g.W.Write.contents c.loop-count.writer) (g.T.Ticks.told c.args.ticks.now) (g.T.Ticks.told c.loop-count.ticks) c.loop-count.count (c.loop-count.invariant.4 (c.respond-end.ensures.usable usable))
+      (g.S.Store.failed c.respond-end.new.register.store) (g.S.Store.content c.respond-end.new.register.store) (input_left c.next_message.new.held (g.R.Read.remaining c.next_message.new.reader)) (g.W.Write.contents c.send_all.new.writer) (g.T.Ticks.told c.respond-end.new.ticks) c.in-Ok-Some.next c.next_message.new.body.items (string_bytes c.respond-end.new.room.text)
       (sym c.respond-end.ensures.end ∙ c.in_default-end.is) (rw c.in-Ok-Some.field-0-is at c.in-Ok-Some.ensures.cut)
-      (subst (λ (b : List ℕ). Responds (g.S.Store.failed c.loop-count.register.store) (g.S.Store.failed c.respond-end.new.register.store) c.in-Ok-Some.next b (string_bytes c.respond-end.new.room.text) (g.S.Store.content c.loop-count.register.store) (g.S.Store.content c.respond-end.new.register.store)) c.deref.ensures.value (c.respond-end.ensures.responds usable))
+      (subst (λ (b : List ℕ). Responds c.args.options.now.clock_route (g.T.Ticks.told c.loop-count.ticks) (g.T.Ticks.told c.respond-end.new.ticks) (g.S.Store.failed c.loop-count.register.store) (g.S.Store.failed c.respond-end.new.register.store) c.in-Ok-Some.next b (string_bytes c.respond-end.new.room.text) (g.S.Store.content c.loop-count.register.store) (g.S.Store.content c.respond-end.new.register.store)) c.deref.ensures.value (c.respond-end.ensures.responds usable))
       (subst (Appends (g.W.Write.contents c.loop-count.writer) (g.W.Write.contents c.send_all.new.writer)) c.as_bytes.ensures.value c.in-Ok.ensures.ok),
 )
 
 pub returns-clause-fault : goal.returns-clause-fault
 returns-clause-fault g c = λ usable st s.
     let last : c.loop-count.count ≡ 18446744073709551615 = omega (arith, c.loop-count-test.false, c.loop-count.auto.count-end) in
-    subst (λ k. IfSome (g.R.Read.remaining c.args.reader.now) (λ input. AfterWhole (g.S.Store.failed c.args.register.now.store) (g.S.Store.failed c.loop-count.register.store) st (g.S.Store.content c.loop-count.register.store) input (g.W.Write.contents c.args.writer.now) (g.W.Write.contents c.loop-count.writer) k)) last
-    (whole_of (g.S.Store.failed c.args.register.now.store) (g.S.Store.failed c.loop-count.register.store) (g.S.Store.content c.args.register.now.store) (g.S.Store.content c.loop-count.register.store) (g.R.Read.remaining c.args.reader.now) (input_left c.loop-count.held (g.R.Read.remaining c.loop-count.reader))
-    (g.W.Write.contents c.args.writer.now) (g.W.Write.contents c.loop-count.writer) c.loop-count.count (c.loop-count.invariant.4 usable) st s)
+    subst (λ k. Known (g.R.Read.remaining c.args.reader.now) (g.T.Ticks.told c.args.ticks.now) (λ input minutes. AfterWhole c.args.options.now.clock_route (g.S.Store.failed c.args.register.now.store) (g.S.Store.failed c.loop-count.register.store) st (g.S.Store.content c.loop-count.register.store) input minutes (g.W.Write.contents c.args.writer.now) (g.W.Write.contents c.loop-count.writer) k)) last
+    (whole_of c.args.options.now.clock_route (g.S.Store.failed c.args.register.now.store) (g.S.Store.failed c.loop-count.register.store) (g.S.Store.content c.args.register.now.store) (g.S.Store.content c.loop-count.register.store) (g.R.Read.remaining c.args.reader.now) (input_left c.loop-count.held (g.R.Read.remaining c.loop-count.reader))
+    (g.W.Write.contents c.args.writer.now) (g.W.Write.contents c.loop-count.writer) (g.T.Ticks.told c.args.ticks.now) (g.T.Ticks.told c.loop-count.ticks) c.loop-count.count (c.loop-count.invariant.4 usable) st s)

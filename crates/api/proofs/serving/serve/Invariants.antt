@@ -9,5 +9,5 @@ invariant-loop-count g l =
     (vec_len l.held.bytes ≡ 8192) × HasRoom 512 l.room
     × (g.S.Store.IsUsable l.register.store → g.S.Store.IsUsable l.fn.register.store)
     × (g.S.Store.failed l.fn.register.store ≤ g.S.Store.failed l.register.store)
-    × (g.S.Store.IsUsable l.register.store → Progress (g.S.Store.failed l.fn.register.store) (g.S.Store.failed l.register.store) (g.S.Store.content l.fn.register.store) (g.S.Store.content l.register.store)
-    (g.R.Read.remaining l.fn.reader) (input_left l.held (g.R.Read.remaining l.reader)) (g.W.Write.contents l.fn.writer) (g.W.Write.contents l.writer) l.count)
+    × (g.S.Store.IsUsable l.register.store → Progress l.fn.options.clock_route (g.S.Store.failed l.fn.register.store) (g.S.Store.failed l.register.store) (g.S.Store.content l.fn.register.store) (g.S.Store.content l.register.store)
+    (g.R.Read.remaining l.fn.reader) (g.T.Ticks.told l.fn.ticks) (input_left l.held (g.R.Read.remaining l.reader)) (g.W.Write.contents l.fn.writer) (g.W.Write.contents l.writer) (g.T.Ticks.told l.ticks) l.count)

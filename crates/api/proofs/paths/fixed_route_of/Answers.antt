@@ -1,7 +1,7 @@
 use Rattle.std.proofs.Common.{◌∙◌, sym, ap}
 use Rattle.matchit.specs.Seek.{first}
 use Rattle.api.proofs.PathLemmas.{found_path, no_path, no_text}
-use Rattle.api.proofs.paths.route_of.Goals as goal
+use Rattle.api.proofs.paths.fixed_route_of.Goals as goal
 
 pub returns-in-Ok-at : goal.returns-in-Ok-at
 returns-in-Ok-at c =

@@ -1,0 +1,24 @@
+use Rattle.std.proofs.Common.{ℕ, Option, option_map}
+use Rattle.numbers.specs.declared.minute.Minute.{Minute}
+use Rattle.api.proofs.StepLemmas.{tick_then, tick_withheld}
+use Rattle.api.proofs.serving.carry_out.Goals as goal
+
+-- the minute that was handed in
+abbrev minute_of : Option Minute → Option ℕ
+minute_of tick = option_map (λ (m : Minute). m.number) tick
+
+pub returns-in-Ok-clause-responds : goal.returns-in-Ok-clause-responds
+returns-in-Ok-clause-responds g c = λ u. (
+  minute_of c.next-tick.result,
+  c.next-tick.ensures,
+  tick_then c.args.clock (minute_of c.next-tick.result) (g.S.Store.failed c.args.register.now.store) (g.S.Store.failed c.take_tick.new.register.store) (g.S.Store.failed c.put_answer.new.register.store) (g.S.Store.content c.args.register.now.store) (g.S.Store.content c.take_tick.new.register.store) (g.S.Store.content c.put_answer.new.register.store) c.args.request.now c.args.body.now _
+      c.in-Ok.ensures.rises (c.in-Ok.ensures.moved (c.put_answer.ensures.usable u)) (c.put_answer.ensures.step u),
+)
+
+pub returns-in-Err-clause-responds : goal.returns-in-Err-clause-responds
+returns-in-Err-clause-responds g c = λ u. (
+  minute_of c.next-tick.result,
+  c.next-tick.ensures,
+  tick_withheld c.args.clock (minute_of c.next-tick.result) (g.S.Store.failed c.args.register.now.store) (g.S.Store.failed c.take_tick.new.register.store) (g.S.Store.content c.args.register.now.store) (g.S.Store.content c.take_tick.new.register.store) c.args.request.now c.args.body.now _ _
+      c.in-Err.ensures.rises c.put_refused.ensures.text (c.in-Err.ensures.short u),
+)

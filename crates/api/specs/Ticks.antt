@@ -1,0 +1,17 @@
+-- The minutes that are handed in, one beside each message.
+use Rattle.std.specs.Prelude.{◌≡◌, ℕ, List, [], ◌∷◌, Option, Some, None, ⊤}
+
+-- the first of those told, or no minute past their end
+abbrev pub first_tick : List (Option ℕ) → Option ℕ
+first_tick [] = None
+first_tick (tick ∷ ticks) = tick
+
+-- those told after it
+abbrev pub later_ticks : List (Option ℕ) → List (Option ℕ)
+later_ticks [] = []
+later_ticks (tick ∷ ticks) = ticks
+
+-- where they are told, the first is handed in, and the others are told afterwards
+abbrev pub HandsIn : (before : Option (List (Option ℕ))) → (tick : Option ℕ) → (behind : Option (List (Option ℕ))) → Type 0
+HandsIn None tick behind = ⊤
+HandsIn (Some ticks) tick behind = (tick ≡ first_tick ticks) × (behind ≡ Some (later_ticks ticks))
