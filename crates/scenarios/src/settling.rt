@@ -81,11 +81,11 @@ fn a_call_settles_what_it_reads_alone(rt: HostRuntime) -> Result<(), Fail> {
     assert_eq!(rt; shown.version.status, Status::Canceled);
     assert_eq!(rt; shown.version.since.number, 120);
     let (mut register, showed) = counted(alloc, register)?;
-    assert_eq!(rt; showed, before + 1);
+    assert_eq!(rt; showed, before.saturating_add(1));
     assert_eq!(rt; register.clock(minute(119)?), Err(Refusal::ClockBack));
     assert_eq!(rt; register.clock(minute(120)?), Ok(minute(120)?));
     let (mut register, stayed) = counted(alloc, register)?;
-    assert_eq!(rt; stayed, before + 1);
+    assert_eq!(rt; stayed, before.saturating_add(1));
     register.do_it(
         Spid::NPAC,
         &Command::RegisterCarrier {
@@ -93,6 +93,6 @@ fn a_call_settles_what_it_reads_alone(rt: HostRuntime) -> Result<(), Fail> {
         },
     )?;
     let (_register, settled) = counted(alloc, register)?;
-    assert_eq!(rt; settled, before + 1001);
+    assert_eq!(rt; settled, before.saturating_add(1001));
     Ok(())
 }
