@@ -23,3 +23,5 @@ mod queries;
 mod retries;
 #[cfg(test)]
 mod settling;
+#[cfg(test)]
+mod ticking;

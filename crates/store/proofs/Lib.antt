@@ -9,3 +9,4 @@ pub mod Registry
 pub mod Found
 pub mod Due
 pub mod Listed
+pub mod Rows

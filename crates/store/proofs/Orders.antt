@@ -1,20 +1,18 @@
 -- The tables' orders, and a row put or taken away in one of them.
-use Rattle.std.proofs.Common.{◌≡◌, ℕ, [], Option, Some, None, refl, ap, sym, ◌∙◌}
+use Rattle.std.proofs.Common.{◌≡◌, [], Option, Some, None, refl, ap, sym, ◌∙◌}
 use Rattle.std.specs.Prelude.{is_some, option_map}
 use Rattle.std.specs.declared.cmp.Ordering.{Ordering}
 use Rattle.std.specs.declared.cmp.Ordering.TheVariants.{Less, Equal, Greater}
 use Rattle.std.specs.Ordering.{nat_cmp, ordering_then}
 use Rattle.std.specs.Cmp.{IsTotalOrder, nat_cmp_total}
 use Rattle.std.proofs.lemmas.Cmp.{then_total, on_total}
-use Rattle.std.specs.BTreeMap as tree
 use Rattle.std.specs.BTreeMap.{BTreeMap}
 use Rattle.std.specs.FinMap.{get, get-empty, from_entries, IsAntisymmetric, nat_cmp-IsAntisymmetric}
 use Rattle.numbers.specs.Subjects.{subject_key}
 use Rattle.numbers.proofs.SubjectKeys.{subject_key-exact}
-use Rattle.meaning.specs.Content.{VersionRow, BroadcastKey, WaitKey, broadcast_cmp, wait_cmp}
-use Rattle.store.specs.Maps.{map_of, seen_entries, set, IsSet}
+use Rattle.meaning.specs.Content.{BroadcastKey, WaitKey, broadcast_cmp, wait_cmp}
+use Rattle.store.specs.Maps.{map_of, seen_entries}
 use Rattle.store.specs.Tables.{SubjectVersion, DueVersion, SubjectWait, subject_version_cmp, due_version_cmp, subject_wait_cmp}
-use Rattle.store.proofs.Maps.{get-map_of, set_map_of}
 
 -- ---- orders
 
@@ -87,14 +85,7 @@ subject_wait_exact a b e =
       attempt = nat_cmp-IsAntisymmetric a.attempt b.attempt r.1 i;
     }
 
--- ---- versions, which are seen as they are
-
-unmapped : {X : Type 0} (o : Option X) → option_map (λ x. x) o ≡ o
-unmapped None = refl
-unmapped (Some x) = refl
-
-pub version_at : (m : BTreeMap ℕ VersionRow) (id : ℕ) → get (map_of {R = nat_cmp} (λ k. k) (λ row. row) m) id ≡ tree.get nat_cmp m id
-version_at m id = get-map_of (λ k. k) (λ row. row) nat_cmp_total nat_cmp-IsAntisymmetric m id ∙ unmapped (tree.get nat_cmp m id)
+-- ---- entries
 
 -- an empty map has no entry
 pub no_entry : {K X L Y : Type 0} (R : L → L → Ordering) (f : K → L) (g : X → Y) (m : BTreeMap K X) → m.entries ≡ [] → (k : L) (v : Y) → get (map_of {R = R} f g m) k ≡ Some v → ⊥
@@ -106,8 +97,3 @@ no_entry R f g m none k v e =
 pub is_some-option_map : {X Y : Type 0} (g : X → Y) (o : Option X) → is_some (option_map g o) ≡ is_some o
 is_some-option_map g None = refl
 is_some-option_map g (Some x) = refl
-
--- a version put or taken away
-pub version_set : (m n : BTreeMap ℕ VersionRow) (id : ℕ) (w : Option VersionRow) → IsSet nat_cmp m n id w →
-    map_of {R = nat_cmp} (λ k. k) (λ row. row) n ≡ set (map_of {R = nat_cmp} (λ k. k) (λ row. row) m) id w
-version_set m n id w is = set_map_of (λ k. k) (λ row. row) nat_cmp_total nat_cmp-IsAntisymmetric m n id w is ∙ ap (set (map_of {R = nat_cmp} (λ k. k) (λ row. row) m) id) (unmapped w)

@@ -70,8 +70,8 @@ indexed-either old new (Ok v) was done refused = done
 indexed-either old new (Err e) was done refused = indexed-kept old new refused was
 
 -- the tables with a row put whose keys are there
-pub indexed-with_version : (t : Tables) (id : ℕ) (row : VersionRow) (keys : VersionKeys) (versions : BTreeMap ℕ VersionRow) → id < 18446744073709551616 →
-    map_of {R = nat_cmp} (λ k. k) (λ r. r) versions ≡ set (content_of t).versions id (Some row) → AreKeysOf id row keys → HaveKeys keys t → AreIndexed t → AreIndexed (record t { versions = versions })
+pub indexed-with_version : (t : Tables) (id : ℕ) (row : VersionRow) (keys : VersionKeys) (versions : FinMap nat_cmp VersionRow) → id < 18446744073709551616 →
+    versions ≡ set (content_of t).versions id (Some row) → AreKeysOf id row keys → HaveKeys keys t → AreIndexed t → AreIndexed (record t { versions = versions })
 indexed-with_version t id row keys versions small e of there indexed = (
   versions-with subject_version_of subject_version_total subject_version_exact held_key (content_of t).versions id row _ t.holds keys.held small e of.held there.held indexed.0,
   versions-with subject_version_of subject_version_total subject_version_exact opened_key (content_of t).versions id row _ t.opens keys.opened small e of.opened there.opened indexed.1,

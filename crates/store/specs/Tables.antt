@@ -29,7 +29,7 @@ content_of t = record {
   lrns = map_of lrn_of spid_of t.lrns;
   codes = map_of code_of spid_of t.codes;
   blocks = map_of block_of block_row_of t.blocks;
-  versions = map_of (λ k. k) (λ row. row) t.versions;
+  versions = t.versions;
   broadcasts = map_of broadcast_key_of broadcast_row_of t.broadcasts;
   waits = map_of wait_key_of subject_of t.waits;
   clock = option_map clock_row_of t.clock;
@@ -123,9 +123,9 @@ AreWaitsIndexed waits index = (k : WaitKey) (s : Subject) → get waits k ≡ So
 -- whatever a look-up has to find, the indexes have
 abbrev pub AreIndexed : Tables → Type 0
 AreIndexed t =
-    AreVersionsIndexed subject_version_cmp subject_version_of held_key (map_of (λ k. k) (λ row. row) t.versions) t.holds
-    × AreVersionsIndexed subject_version_cmp subject_version_of opened_key (map_of (λ k. k) (λ row. row) t.versions) t.opens
-    × AreVersionsIndexed due_version_cmp due_version_of due_key (map_of (λ k. k) (λ row. row) t.versions) t.deadlines
+    AreVersionsIndexed subject_version_cmp subject_version_of held_key t.versions t.holds
+    × AreVersionsIndexed subject_version_cmp subject_version_of opened_key t.versions t.opens
+    × AreVersionsIndexed due_version_cmp due_version_of due_key t.versions t.deadlines
     × AreWaitsIndexed (map_of wait_key_of subject_of t.waits) t.waits_about
 
 -- what the indexes had they have

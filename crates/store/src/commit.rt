@@ -184,8 +184,11 @@ fn put_version(tables: &mut Tables, id: u64, row: &VersionRow) -> Result<Version
     ensures err { OnErr result (IsKept tables.old tables.new) }
 {
     let keys = put_version_keys(tables, version_keys(id, row))?;
-    match put(&mut tables.versions, id, row.copied()) {
-        Ok(before) => Ok(VersionPut { before, keys }),
+    match tables.versions.put(id, row.copied()) {
+        Ok(before) => {
+            tables.guesses.note(row.holds, id);
+            Ok(VersionPut { before, keys })
+        }
         Err(refused) => {
             take_version_keys(tables, keys);
             Err(refused)
@@ -197,7 +200,7 @@ fn put_back_version(tables: &mut Tables, id: u64, put: VersionPut)
     requires { IsSome (get (content_of tables.old).versions id) }
     ensures { IsVersionBack id put tables.old tables.new }
 {
-    put_back(&mut tables.versions, id, put.before);
+    tables.versions.put_back(id, put.before);
     take_version_keys(tables, put.keys);
 }
 

@@ -105,7 +105,7 @@ pub fn take_version_keys(tables: &mut Tables, keys: VersionKeys)
 fn needed_keys(tables: &Tables, id: u64) -> VersionKeys
     ensures { (row : Row) → get (content_of tables.now).versions id ≡ Some row → AreKeysOf id row result }
 {
-    match tables.versions.get(&id) {
+    match tables.versions.get(id) {
         Some(row) => version_keys(id, row),
         None => VersionKeys {
             held: None,

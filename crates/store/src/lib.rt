@@ -2,6 +2,7 @@
 #![tactic(auto)]
 
 mod commit;
+mod guesses;
 mod indexes;
 mod keys;
 mod memory;
@@ -10,5 +11,6 @@ mod reads;
 mod tables;
 #[cfg(test)]
 mod tests;
+mod versions;
 
 pub use memory::MemoryStore;

@@ -83,7 +83,7 @@ impl Store for MemoryStore {
     }
 
     fn version(&mut self, id: u64) -> Result<Option<VersionRow>, StoreFault> {
-        match self.tables.versions.get(&id) {
+        match self.tables.versions.get(id) {
             None => Ok(None),
             Some(row) => Ok(Some(row.copied())),
         }
