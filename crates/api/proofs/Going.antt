@@ -7,15 +7,15 @@ use Rattle.std.proofs.lemmas.Grind.{flat_map-append}
 use Rattle.meaning.specs.Content.{Content}
 use Rattle.meaning.specs.Reading.{State}
 use Rattle.register.specs.Answers.{Stands}
-use Rattle.api.specs.Cuts.{Comes, Cuts, Done, Whole}
+use Rattle.messages.specs.Cuts.{Comes, Cuts, Done, Whole}
 use Rattle.api.specs.Run.{Exchange, Run, answers}
-use Rattle.api.specs.Sending.{AppendsFront}
+use Rattle.messages.specs.Sending.{AppendsFront}
 use Rattle.api.specs.Serving.{AfterWhole, AfterClose, AfterRefusal, AfterPart, EndsAt, Responds, end_of, refusal}
 use Rattle.api.specs.Step.{Step}
 use Rattle.api.specs.Ticks.{first_tick, later_ticks, HandsIn}
-use Rattle.api.specs.declared.fault.MessageFault.{MessageFault}
-use Rattle.api.specs.declared.message.Next.{Next}
-use Rattle.api.specs.declared.message.Request.{Request}
+use Rattle.messages.specs.declared.fault.MessageFault.{MessageFault}
+use Rattle.messages.specs.declared.message.Next.{Next}
+use Rattle.messages.specs.declared.message.Request.{Request}
 use Rattle.api.specs.declared.serving.End.{End}
 use Rattle.api.specs.declared.serving.End.TheVariants.{Input, Closed, Refused}
 

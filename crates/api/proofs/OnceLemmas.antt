@@ -7,19 +7,19 @@ use Rattle.meaning.specs.Reading.{State}
 use Rattle.meaning.specs.Refusals.{Input, Requests, Asks, Knows, ShowVersion, Query}
 use Rattle.meaning.specs.Machine.{Reply, Refused, Known, out}
 use Rattle.telnp.specs.declared.fault.TelFault.{TelFault}
-use Rattle.api.specs.declared.fault.Failure.TheVariants.{Uri}
-use Rattle.api.specs.declared.fault.MessageFault.{MessageFault}
-use Rattle.api.specs.declared.message.Request.{Request}
-use Rattle.api.specs.declared.paths.Method.{Method}
-use Rattle.api.specs.declared.paths.Route.{Route}
-use Rattle.api.specs.declared.paths.Route.TheVariants.{Carriers, Clock, RoutingNumbers, Codes, OldProviderCreate, NewProviderCreate, Activate, Acknowledge, Query as QueryPath, Version}
-use Rattle.api.specs.Table.{takes, among_offered}
-use Rattle.api.specs.Forms.{Asked, Orders, Confirms, Seeks, Moves, Shows, HasForm, json_of}
-use Rattle.api.specs.Failures.{failure_text}
-use Rattle.api.specs.RefusalTexts.{refusal_text}
+use Rattle.bodies.specs.declared.fault.Failure.TheVariants.{Uri}
+use Rattle.messages.specs.declared.fault.MessageFault.{MessageFault}
+use Rattle.messages.specs.declared.message.Request.{Request}
+use Rattle.messages.specs.declared.paths.Method.{Method}
+use Rattle.messages.specs.declared.paths.Route.{Route}
+use Rattle.messages.specs.declared.paths.Route.TheVariants.{Carriers, Clock, RoutingNumbers, Codes, OldProviderCreate, NewProviderCreate, Activate, Acknowledge, Query as QueryPath, Version}
+use Rattle.messages.specs.Table.{takes, among_offered}
+use Rattle.bodies.specs.Forms.{Asked, Orders, Confirms, Seeks, Moves, Shows, HasForm, json_of}
+use Rattle.bodies.specs.Failures.{failure_text}
+use Rattle.bodies.specs.RefusalTexts.{refusal_text}
 use Rattle.api.specs.Step.{Step, Meets, MeetsPath, Calls, PathAsks, Answers, AnswersMove, AnswersQuery, AnswersUri, Refuses, Withholds, WithholdsTick, Takes, IsOnce, IsWithheld, ticked, routed_text}
 use Rattle.telnp.specs.Answer.{Uri as TelUri}
-use Rattle.api.proofs.ClearLemmas.{same_form}
+use Rattle.bodies.proofs.ClearLemmas.{same_form}
 use Rattle.api.proofs.UriLemmas.{faultless, not_asked, same_fault, same_uri, same_number as same_asked_number}
 
 refuses_once : (st : State) (fault : MessageFault) (text said : List ℕ) (after later : State) → Refuses st fault text after → Refuses st fault said later → IsOnce text said after later

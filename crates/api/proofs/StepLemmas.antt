@@ -14,24 +14,24 @@ use Rattle.meaning.specs.Machine.{Reply, Refused as MachineRefused, Moved, Regis
 use Rattle.settle.specs.Reads.{HasRisen}
 use Rattle.register.specs.Answers.{Stands, AnswersAs}
 use Rattle.register.specs.Calls.{refused_with}
-use Rattle.api.specs.declared.fault.Failure.{Failure}
-use Rattle.api.specs.declared.fault.Failure.TheVariants.{Refused, Uri}
+use Rattle.bodies.specs.declared.fault.Failure.{Failure}
+use Rattle.bodies.specs.declared.fault.Failure.TheVariants.{Refused, Uri}
 use Rattle.telnp.specs.declared.fault.TelFault.{TelFault}
 use Rattle.telnp.specs.Answer.{Uri as TelUri}
 use Rattle.telnp.specs.Faults.{fault_of}
-use Rattle.api.specs.Failures.{failure_text}
-use Rattle.api.specs.Forms.{Asked, Orders, Confirms, Seeks, Moves, Shows, HasForm, json_of}
-use Rattle.api.specs.RefusalTexts.{refusal_text}
+use Rattle.bodies.specs.Failures.{failure_text}
+use Rattle.bodies.specs.Forms.{Asked, Orders, Confirms, Seeks, Moves, Shows, HasForm, json_of}
+use Rattle.bodies.specs.RefusalTexts.{refusal_text}
 use Rattle.api.specs.Step.{Step, Meets, MeetsPath, Calls, Answers, AnswersMove, WithholdsTick, ticked, BodyAsks, NumberAsks, PathAsks, IsShort, Outgrows, Withholds, Takes, IsUri, AsksFor, ComesBack, AnswersQuery, Carries, success, told, reply_text, routed_text}
-use Rattle.api.specs.Texts.{looked_up, now_text, uri_text}
+use Rattle.bodies.specs.Texts.{looked_up, now_text, uri_text}
 use Rattle.numbers.specs.declared.spid.Spid.{Spid}
 use Rattle.serde_json.specs.Data.{Data}
-use Rattle.api.specs.declared.message.Request.{Request}
-use Rattle.api.specs.declared.paths.Method.{Method}
-use Rattle.api.specs.declared.paths.Route.{Route}
-use Rattle.api.specs.declared.paths.Route.TheVariants.{Carriers, Clock, RoutingNumbers, Codes, OldProviderCreate as OldProviderPath, NewProviderCreate as NewProviderPath, Activate as ActivatePath, Acknowledge, Query as QueryPath, Version}
-use Rattle.api.specs.Table.{takes, among_offered}
-use Rattle.api.proofs.RefusalLemmas.{text_by_number}
+use Rattle.messages.specs.declared.message.Request.{Request}
+use Rattle.messages.specs.declared.paths.Method.{Method}
+use Rattle.messages.specs.declared.paths.Route.{Route}
+use Rattle.messages.specs.declared.paths.Route.TheVariants.{Carriers, Clock, RoutingNumbers, Codes, OldProviderCreate as OldProviderPath, NewProviderCreate as NewProviderPath, Activate as ActivatePath, Acknowledge, Query as QueryPath, Version}
+use Rattle.messages.specs.Table.{takes, among_offered}
+use Rattle.bodies.proofs.RefusalLemmas.{text_by_number}
 use Rattle.std.proofs.Math.Nat.{le_trans}
 use Rattle.api.proofs.Risen.{risen_since}
 

@@ -9,20 +9,20 @@ use Rattle.meaning.specs.History.{Commands, Acknowledges}
 use Rattle.meaning.specs.Machine.{Reply, Refused, Moved, Registered, LrnAdded, CodeOpened, Shown, Donated, Known, Fetched, Answered, Rows, Awaited, Found, out, accepted, refused_or, reply_of, answer_of}
 use Rattle.meaning.specs.Reading.{State}
 use Rattle.meaning.specs.Refusals.{Input, Moment, Requests, Asks, Knows, ShowVersion, Query, refusal, tests, command_tests, first_that_holds}
-use Rattle.api.specs.Answer.{answer, refusal_body, phrase}
-use Rattle.api.specs.Failures.{failure_text}
-use Rattle.api.specs.Forms.{Asked, Orders, Confirms, Seeks, Moves, Shows}
-use Rattle.api.specs.RefusalTexts.{refusal_text}
+use Rattle.bodies.specs.Answer.{answer, refusal_body, phrase}
+use Rattle.bodies.specs.Failures.{failure_text}
+use Rattle.bodies.specs.Forms.{Asked, Orders, Confirms, Seeks, Moves, Shows}
+use Rattle.bodies.specs.RefusalTexts.{refusal_text}
 use Rattle.api.specs.Step.{Step, Meets, MeetsPath, Calls, Answers, AnswersMove, AnswersQuery, AnswersUri, Withholds, WithholdsTick, Takes, ticked, success, reply_text, routed_text}
-use Rattle.api.specs.Texts.{registered_text, routing_number_text, opened_code_text, now_text, view_text, looked_up, uri_text}
-use Rattle.api.specs.declared.fault.Failure.TheVariants.{Uri, Message}
-use Rattle.api.specs.declared.fault.MessageFault.TheVariants.{BadRequest, NoPath, BadMethod}
+use Rattle.bodies.specs.Texts.{registered_text, routing_number_text, opened_code_text, now_text, view_text, looked_up, uri_text}
+use Rattle.bodies.specs.declared.fault.Failure.TheVariants.{Uri, Message}
+use Rattle.messages.specs.declared.fault.MessageFault.TheVariants.{BadRequest, NoPath, BadMethod}
 use Rattle.telnp.specs.declared.fault.TelFault.{TelFault}
 use Rattle.telnp.specs.Answer.{Uri as TelUri}
-use Rattle.api.specs.declared.message.Request.{Request}
-use Rattle.api.specs.declared.paths.Method.{Method}
-use Rattle.api.specs.declared.paths.Route.{Route}
-use Rattle.api.specs.Table.{takes, among_offered}
+use Rattle.messages.specs.declared.message.Request.{Request}
+use Rattle.messages.specs.declared.paths.Method.{Method}
+use Rattle.messages.specs.declared.paths.Route.{Route}
+use Rattle.messages.specs.Table.{takes, among_offered}
 
 -- the text is not that of storage
 abbrev Differs : List ℕ → Type 0

@@ -5,7 +5,7 @@ use Rattle.std.proofs.lemmas.List.Elements.{All-nil, All-cons}
 use Rattle.std.specs.Prelude.{All}
 use Rattle.settle.specs.Reads.{HasRisen}
 use Rattle.meaning.specs.Reading.{State}
-use Rattle.api.specs.RefusalTexts.{refusal_text}
+use Rattle.bodies.specs.RefusalTexts.{refusal_text}
 use Rattle.api.specs.Run.{Exchange, Run}
 use Rattle.api.specs.Step.{Step}
 use Rattle.api.specs.Ticks.{later_ticks}

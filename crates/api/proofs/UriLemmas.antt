@@ -1,21 +1,12 @@
--- A query's URI: its faults' names are short, and it has one reading and one number at most.
-use Rattle.std.proofs.Common.{◌≡◌, ◌≤◌, ℕ, List, ◌∷◌, Option, Some, None, option_map, true, false, inl, inr, length, sym, ◌∙◌, arith}
+-- A query's URI has one reading and one number at most.
+use Rattle.std.proofs.Common.{◌≡◌, ℕ, List, ◌∷◌, Option, Some, None, option_map, true, false, inl, inr, sym, ◌∙◌}
 use Rattle.numbers.specs.Texts.{tn_text}
 use Rattle.numbers.proofs.DigitLemmas.{digits_of-injective}
 use Rattle.telnp.specs.declared.fault.TelFault.{TelFault}
-use Rattle.telnp.specs.declared.fault.TelFault.TheVariants.{NotTel, BadNumber, BadParameter, ParameterTwice, LocalNumber, TooLong}
 use Rattle.telnp.specs.Answer.{Uri}
-use Rattle.telnp.specs.Faults.{IsRead, fault_name, fault_of, number_of, parameter_parts, rest_of}
+use Rattle.telnp.specs.Faults.{IsRead, fault_of, number_of, parameter_parts, rest_of}
 use Rattle.telnp.proofs.Only.{read_from_uri}
 use Rattle.api.specs.Step.{AsksFor, ComesBack, IsUri}
-
-pub short_name : (fault : TelFault) → length (fault_name fault) ≤ 16
-short_name NotTel = omega arith
-short_name BadNumber = omega arith
-short_name BadParameter = omega arith
-short_name ParameterTwice = omega arith
-short_name LocalNumber = omega arith
-short_name TooLong = omega arith
 
 is_read : (text : List ℕ) (uri : Uri) → IsUri text uri → IsRead text uri.number uri.parameters
 is_read text uri h = read_from_uri text uri.number uri.parameters h.parts

@@ -4,7 +4,7 @@ use Rattle.std.specs.List.{list_all}
 use Rattle.meaning.specs.Machine.{Answer}
 use Rattle.telnp.specs.Answer.{Uri}
 use Rattle.api.specs.Step.{IsUri}
-use Rattle.api.specs.Texts.{looked_up}
+use Rattle.bodies.specs.Texts.{looked_up}
 
 -- printable ASCII, and neither a quote (34) nor a backslash (92)
 abbrev pub is_plain : ℕ → Bool

@@ -3,11 +3,11 @@ use Rattle.std.specs.Prelude.{◌≡◌, ◌≢◌, ℕ, List, [], ◌∷◌, Bo
 use Rattle.std.specs.List.{flat_map}
 use Rattle.meaning.specs.Reading.{State}
 use Rattle.settle.specs.Reads.{HasRisen}
-use Rattle.api.specs.RefusalTexts.{refusal_text}
-use Rattle.api.specs.Cuts.{Cuts, Whole}
+use Rattle.bodies.specs.RefusalTexts.{refusal_text}
+use Rattle.messages.specs.Cuts.{Cuts, Whole}
 use Rattle.api.specs.Step.{Step}
 use Rattle.api.specs.Ticks.{first_tick, later_ticks}
-use Rattle.api.specs.declared.message.Request.{Request}
+use Rattle.messages.specs.declared.message.Request.{Request}
 
 -- a message, the minute handed in beside it, and its answer
 pub record Exchange : Type 0 where

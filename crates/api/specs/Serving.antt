@@ -5,15 +5,15 @@ use Rattle.std.specs.Io.KnownBytes.{Appends}
 use Rattle.meaning.specs.Content.{Content}
 use Rattle.meaning.specs.Reading.{State}
 use Rattle.register.specs.Answers.{Stands}
-use Rattle.api.specs.Cuts.{Cuts, Done, Refuses, Whole}
-use Rattle.api.specs.Failures.{failure_text}
+use Rattle.messages.specs.Cuts.{Cuts, Done, Refuses, Whole}
+use Rattle.bodies.specs.Failures.{failure_text}
 use Rattle.api.specs.Run.{Exchange, Run, answers}
 use Rattle.api.specs.Step.{Step}
 use Rattle.api.specs.Ticks.{first_tick, HandsIn}
-use Rattle.api.specs.declared.fault.Failure.TheVariants as Failure
-use Rattle.api.specs.declared.fault.MessageFault.{MessageFault}
-use Rattle.api.specs.declared.message.Request.{Request}
-use Rattle.api.specs.declared.message.Next.{Next}
+use Rattle.bodies.specs.declared.fault.Failure.TheVariants as Failure
+use Rattle.messages.specs.declared.fault.MessageFault.{MessageFault}
+use Rattle.messages.specs.declared.message.Request.{Request}
+use Rattle.messages.specs.declared.message.Next.{Next}
 use Rattle.api.specs.declared.serving.End.{End}
 use Rattle.api.specs.declared.serving.End.TheVariants.{Input, Closed, Refused}
 use Rattle.api.specs.declared.serving.Fault.{Fault}

@@ -17,20 +17,20 @@ use Rattle.telnp.specs.Faults.{fault_of}
 use Rattle.telnp.specs.Grammar.{has_name}
 use Rattle.telnp.specs.Numbers.{HasTn}
 use Rattle.telnp.specs.Uri.{IsTelUri}
-use Rattle.api.specs.declared.fault.Failure.{Failure}
-use Rattle.api.specs.declared.fault.Failure.TheVariants.{Uri, Message}
-use Rattle.api.specs.declared.fault.MessageFault.{MessageFault}
-use Rattle.api.specs.declared.fault.MessageFault.TheVariants.{BadRequest, NoPath, BadMethod}
-use Rattle.api.specs.declared.message.Request.{Request}
-use Rattle.api.specs.declared.paths.Method.{Method}
-use Rattle.api.specs.declared.paths.Route.{Route}
-use Rattle.api.specs.declared.paths.Route.TheVariants.{Version}
-use Rattle.api.specs.Answer.{answer}
-use Rattle.api.specs.Failures.{failure_text}
-use Rattle.api.specs.RefusalTexts.{refusal_text}
-use Rattle.api.specs.Forms.{Asked, Orders, Confirms, Seeks, Moves, Shows, HasForm, json_of}
-use Rattle.api.specs.Table.{takes, among_offered}
-use Rattle.api.specs.Texts.{registered_text, routing_number_text, opened_code_text, now_text, view_text, looked_up, uri_text}
+use Rattle.bodies.specs.declared.fault.Failure.{Failure}
+use Rattle.bodies.specs.declared.fault.Failure.TheVariants.{Uri, Message}
+use Rattle.messages.specs.declared.fault.MessageFault.{MessageFault}
+use Rattle.messages.specs.declared.fault.MessageFault.TheVariants.{BadRequest, NoPath, BadMethod}
+use Rattle.messages.specs.declared.message.Request.{Request}
+use Rattle.messages.specs.declared.paths.Method.{Method}
+use Rattle.messages.specs.declared.paths.Route.{Route}
+use Rattle.messages.specs.declared.paths.Route.TheVariants.{Version}
+use Rattle.bodies.specs.Answer.{answer}
+use Rattle.bodies.specs.Failures.{failure_text}
+use Rattle.bodies.specs.RefusalTexts.{refusal_text}
+use Rattle.bodies.specs.Forms.{Asked, Orders, Confirms, Seeks, Moves, Shows, HasForm, json_of}
+use Rattle.messages.specs.Table.{takes, among_offered}
+use Rattle.bodies.specs.Texts.{registered_text, routing_number_text, opened_code_text, now_text, view_text, looked_up, uri_text}
 
 -- ---- the answers to what was asked, byte for byte
 

@@ -7,25 +7,21 @@ ghost use Rattle.meaning.specs.Reading.{State, all_in_force};
 ghost use Rattle.register.specs.Answers.{Stands};
 ghost use Rattle.register.specs.Calls.{command_of as command_seen, view_of, reply_of, answer_of, in_force_of};
 ghost use Rattle.telnp.specs.Views.{uri_of};
-ghost use Rattle.api.specs.Failures.{failure_text};
-ghost use Rattle.api.specs.Forms.{Orders, Confirms, Seeks, Moves, Shows, asked_of};
+ghost use Rattle.bodies.specs.Failures.{failure_text};
+ghost use Rattle.bodies.specs.Forms.{Orders, Confirms, Seeks, Moves, Shows, asked_of};
 ghost use Rattle.api.specs.Plain.{AnswersArePlain};
-ghost use Rattle.api.specs.Rooms.{HasRoom, IsEmpty, IsWritten};
+ghost use Rattle.bodies.specs.Rooms.{HasRoom, IsEmpty, IsWritten};
 ghost use Rattle.api.specs.Run.{StaysClear};
 ghost use Rattle.api.specs.Step.{Step, StepsOnce, StorageTells, Meets, Calls, BodyAsks, NumberAsks, PathAsks, WithholdsTick, ticked, Carries, AsksFor, ComesBack, IsShort, Outgrows, success, told, reply_text};
-ghost use Rattle.api.specs.Table.{takes as takes_method, among_offered};
-ghost use Rattle.api.specs.Texts.{registered_text, now_text, view_text, looked_up, uri_text};
+ghost use Rattle.messages.specs.Table.{takes as takes_method, among_offered};
+ghost use Rattle.bodies.specs.Texts.{registered_text, now_text, view_text, looked_up, uri_text};
 
-use crate::answer::Room;
-use crate::fault::{Failure, MessageFault};
-use crate::forms::{Call, call_of, json};
-use crate::message::Request;
-use crate::paths::{Route, offered, takes};
-use crate::reply::{
-    ROW_ROOM, URI_ROOM, put_failure, put_now, put_opened_code, put_registered, put_routing_number,
-    put_uri, put_version,
+use bodies::{
+    Call, Failure, ROW_ROOM, Room, URI_ROOM, call_of, json, put_failure, put_now, put_opened_code,
+    put_registered, put_routing_number, put_uri, put_version,
 };
 use meaning::Refusal;
+use messages::{MessageFault, Request, Route, offered, takes};
 use numbers::{Minute, Spid, Tn};
 use register::{Answer, Command, Register, Reply, VersionView};
 use settle::{RoutedRow, Store};
@@ -481,7 +477,6 @@ fn reply<S: Store>(
 }
 
 /// Writes the answer of a message that was not carried out.
-#[tactic(auto, unfolding(crate::specs::Failures::failure_text))]
 pub fn put_refused(room: &mut Room, failure: Failure)
     requires room { HasRoom 512 room.old }
     ensures room { HasRoom 512 room.new }

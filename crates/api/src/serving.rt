@@ -3,21 +3,19 @@ ghost use Rattle.std.specs.Prelude.{◌≡◌, ◌≤◌, ℕ, List, [], Option,
 ghost use Rattle.numbers.specs.declared.minute.Minute.{Minute as MinuteSeen};
 ghost use Rattle.meaning.specs.Reading.{State};
 ghost use Rattle.register.specs.Answers.{Stands};
-ghost use Rattle.api.specs.Held.{held_bytes};
-ghost use Rattle.api.specs.Rooms.{HasRoom};
+ghost use Rattle.messages.specs.Held.{held_bytes};
+ghost use Rattle.bodies.specs.Rooms.{HasRoom};
 ghost use Rattle.api.specs.Serving.{EndsAt, FailsAt, Responds, end_of};
-ghost use Rattle.api.specs.Table.{table};
+ghost use Rattle.messages.specs.Table.{table};
 ghost use Rattle.api.specs.Ticks.{HandsIn};
 
-use crate::answer::Room;
 use crate::call::{put_answer, put_refused, take_tick};
-use crate::fault::{Failure, MessageFault};
-use crate::held::Held;
-use crate::message::{Next, NextFault, Request, next_message};
-use crate::paths::{Route, router};
-use crate::send::send_all;
+use bodies::{Failure, Room};
 use httparse::spans::EMPTY_HEADER_SPAN;
 use matchit::Router;
+use messages::{
+    Held, MessageFault, Next, NextFault, Request, Route, next_message, router, send_all,
+};
 use numbers::Minute;
 use register::Register;
 use settle::Store;

@@ -10,7 +10,7 @@ mod failing;
 #[cfg(test)]
 mod first_port;
 #[cfg(test)]
-mod messages;
+mod limits;
 #[cfg(test)]
 mod minutes;
 #[cfg(test)]

@@ -1,7 +1,7 @@
 use Rattle.std.proofs.Common.{inl, inr, refl, ap, sym, ◌∙◌, option_map}
 use Rattle.meaning.specs.declared.refusal.Refusal.TheVariants.{NoMemory}
-use Rattle.api.specs.Forms.{asked_of}
-use Rattle.api.proofs.RefusalLemmas.{text_by_number}
+use Rattle.bodies.specs.Forms.{asked_of}
+use Rattle.bodies.proofs.RefusalLemmas.{text_by_number}
 use Rattle.api.proofs.StepLemmas.{calls_carried}
 use Rattle.serde_json.specs.View.{view}
 use Rattle.api.proofs.call.carry_out_body.Goals as goal

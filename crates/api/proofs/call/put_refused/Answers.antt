@@ -1,4 +1,4 @@
-use Rattle.api.proofs.WholeRefusals.{no_bytes, refusal_is}
+use Rattle.bodies.proofs.WholeRefusals.{no_bytes, refusal_is}
 use Rattle.api.proofs.call.put_refused.Goals as goal
 
 pub returns-clause-text : goal.returns-clause-text

@@ -1,8 +1,8 @@
 use Rattle.std.proofs.Common.{◌≡◌, ◌∙◌, sym, subst, List, ℕ, arith, string_bytes}
 use Rattle.std.proofs.Math.Nat.{le_refl, le_trans}
 use Rattle.std.specs.Io.KnownBytes.{Appends}
-use Rattle.api.specs.Held.{input_left}
-use Rattle.api.specs.Sending.{AppendsFront}
+use Rattle.messages.specs.Held.{input_left}
+use Rattle.messages.specs.Sending.{AppendsFront}
 use Rattle.api.specs.Serving.{AfterWhole, Responds}
 use Rattle.api.proofs.Going.{Known, started, whole_of, ended, state_then, went_on, finished, partly}
 use Rattle.api.proofs.serving.serve.Goals as goal

@@ -1,6 +1,6 @@
 use Rattle.std.proofs.Common.{◌≡◌, ◌≤◌, vec_len}
-use Rattle.api.specs.Held.{input_left}
-use Rattle.api.specs.Rooms.{HasRoom}
+use Rattle.messages.specs.Held.{input_left}
+use Rattle.bodies.specs.Rooms.{HasRoom}
 use Rattle.api.proofs.Going.{Progress}
 use Rattle.api.proofs.serving.serve.Given as goal
 

@@ -1,5 +1,0 @@
-use Rattle.api.proofs.ClearLemmas.{same_form}
-use Rattle.api.proofs.forms.body_asks_once.Goals as goal
-
-pub returns : goal.returns
-returns c = same_form

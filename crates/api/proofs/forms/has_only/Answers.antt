@@ -1,6 +1,0 @@
-use Rattle.std.proofs.Common.{◌∙◌}
-use Rattle.api.proofs.Members.{known, of_object}
-use Rattle.api.proofs.forms.has_only.Goals as goal
-
-pub returns-in-Some : goal.returns-in-Some
-returns-in-Some c = c.are_known.ensures ∙ known c.args.allowed.now c.in-Some.members.now.entries ∙ of_object _ _ _ c.in-Some.ensures

@@ -1,0 +1,96 @@
+-- A body asks one thing at most.
+use Rattle.std.proofs.Common.{◌≡◌, ℕ, ◌/◌, ◌%◌, codes, List, Option, Some, None, true, get_or, option_and_then, refl, ap, sym, ◌∙◌, arith}
+use Rattle.serde_json.specs.Data.{Data, null, boolean, number, string, array, object}
+use Rattle.serde_json.specs.Find.{get, as_str}
+use Rattle.numbers.specs.Texts.{spid_text}
+use Rattle.numbers.proofs.DigitLemmas.{digits_of-injective}
+use Rattle.meaning.specs.Commands.{Command, RegisterCarrier, RegisterRoutingNumber, Activate}
+use Rattle.messages.specs.declared.paths.Route.{Route}
+use Rattle.messages.specs.declared.paths.Route.TheVariants.{Carriers, Clock, RoutingNumbers, Codes, OldProviderCreate as OldProviderPath, NewProviderCreate as NewProviderPath, Activate as ActivatePath, Acknowledge, Query, Version}
+use Rattle.bodies.specs.Forms.{Asked, Orders, Seeks, Moves, text, whole, HasSpid, HasTn, HasLrn, HasCode, HasCic, HasCommand, HasOrder, HasValues, HasForm, is_left_out}
+
+same_said : {A : Type 0} (given : Option A) (a b : A) → given ≡ Some a → given ≡ Some b → a ≡ b
+same_said given a b e f = cc
+
+same_spid_text : (m n : ℕ) → spid_text m ≡ spid_text n → m ≡ n
+same_spid_text m n e =
+    let a : m / 16777216 ≡ n / 16777216 = ap (λ (t : List ℕ). get_or t 0 0) e in
+    let b : m / 65536 % 256 ≡ n / 65536 % 256 = ap (λ (t : List ℕ). get_or t 1 0) e in
+    let c : m / 256 % 256 ≡ n / 256 % 256 = ap (λ (t : List ℕ). get_or t 2 0) e in
+    let d : m % 256 ≡ n % 256 = ap (λ (t : List ℕ). get_or t 3 0) e in
+    omega (arith, a, b, c, d)
+
+same_spid : (key : List ℕ) (d : Data) (m n : ℕ) → HasSpid key d m → HasSpid key d n → m ≡ n
+same_spid key d m n h k = same_spid_text m n (same_said (text key d) _ _ h.said k.said)
+
+same_tn : (d : Data) (m n : ℕ) → HasTn d m → HasTn d n → m ≡ n
+same_tn d m n h k = digits_of-injective 10 m n h.valid.0 k.valid.0 (same_said (text (codes "tn") d) _ _ h.said k.said)
+
+same_code : (d : Data) (m n : ℕ) → HasCode d m → HasCode d n → m ≡ n
+same_code d m n h k = digits_of-injective 6 m n h.valid.0 k.valid.0 (same_said (text (codes "code") d) _ _ h.said k.said)
+
+same_lrn : (d : Data) (m n : ℕ) → HasLrn d m → HasLrn d n → m ≡ n
+same_lrn d m n h k = digits_of-injective 10 m n h.valid k.valid (same_said (text (codes "lrn") d) _ _ h.said k.said)
+
+left_out_text : (o : Option Data) (t : List ℕ) → is_left_out o ≡ true → ¬ (option_and_then as_str o ≡ Some t)
+left_out_text None t h e = cc
+left_out_text (Some null) t h e = cc
+left_out_text (Some (boolean b)) t h e = cc
+left_out_text (Some (number n)) t h e = cc
+left_out_text (Some (string s)) t h e = cc
+left_out_text (Some (array ds)) t h e = cc
+left_out_text (Some (object ms)) t h e = cc
+
+no_cic : (d : Data) (t : List ℕ) → is_left_out (get (codes "cic") d) ≡ true → ¬ (text (codes "cic") d ≡ Some t)
+unfolding text
+no_cic d t h e = left_out_text (get (codes "cic") d) t h e
+
+same_cic : (d : Data) (b c : Option ℕ) → HasCic d b → HasCic d c → b ≡ c
+same_cic d None None h k = refl
+same_cic d None (Some n) h k = absurd (no_cic d _ h k.said)
+same_cic d (Some m) None h k = absurd (no_cic d _ k h.said)
+same_cic d (Some m) (Some n) h k = ap Some (digits_of-injective 4 m n h.valid k.valid (same_said (text (codes "cic") d) _ _ h.said k.said))
+
+same_command : (route : Route) (d : Data) (b c : Command) → HasCommand route d b → HasCommand route d c → b ≡ c
+same_command Carriers d b c x y = x.2 ∙ ap RegisterCarrier (same_spid (codes "spid") d x.0 y.0 x.1 y.1) ∙ sym y.2
+same_command RoutingNumbers d b c x y = x.2 ∙ ap RegisterRoutingNumber (same_lrn d x.0 y.0 x.1 y.1) ∙ sym y.2
+same_command Codes d b c x y = x.4 ∙ rw (same_code d x.0 y.0 x.2 y.2, same_spid (codes "spid") d x.1 y.1 x.3 y.3) (sym y.4)
+same_command OldProviderPath d b c x y =
+    x.6 ∙ rw (
+      same_tn d x.0 y.0 x.4.number y.4.number,
+      same_spid (codes "old") d x.1 y.1 x.4.old y.4.old,
+      same_spid (codes "new") d x.2 y.2 x.4.new y.4.new,
+      same_said (whole (codes "due") d) x.3 y.3 x.4.minute y.4.minute,
+    ) (sym y.6)
+same_command NewProviderPath d b c x y =
+    x.9 ∙ rw (
+      same_tn d x.0 y.0 x.6.number y.6.number,
+      same_spid (codes "old") d x.1 y.1 x.6.old y.6.old,
+      same_spid (codes "new") d x.2 y.2 x.6.new y.6.new,
+      same_said (whole (codes "due") d) x.3 y.3 x.6.minute y.6.minute,
+      same_lrn d x.4 y.4 x.7 y.7,
+      same_cic d x.5 y.5 x.8 y.8,
+    ) (sym y.9)
+same_command ActivatePath d b c x y = x.2 ∙ ap Activate (same_said (whole (codes "id") d) x.0 y.0 x.1 y.1) ∙ sym y.2
+same_command Acknowledge d b c x y = absurd x
+same_command Query d b c x y = absurd x
+same_command Clock d b c x y = absurd x
+same_command (Version id) d b c x y = absurd x
+
+same_order : (route : Route) (d : Data) (a b : Asked) → HasOrder route d a → HasOrder route d b → a ≡ b
+same_order route d a b x y = x.2 ∙ ap Orders (same_command route d x.0 y.0 x.1 y.1) ∙ sym y.2
+
+same_values : (route : Route) (d : Data) (a b : Asked) → HasValues route d a → HasValues route d b → a ≡ b
+same_values Acknowledge d a b x y = x.4 ∙ rw (same_said (whole (codes "id") d) x.0 y.0 x.2 y.2, same_said (whole (codes "attempt") d) x.1 y.1 x.3 y.3) (sym y.4)
+same_values Query d a b x y = x.2 ∙ ap Seeks (same_said (text (codes "uri") d) x.0 y.0 x.1 y.1) ∙ sym y.2
+same_values Clock d a b x y = x.2 ∙ ap Moves (same_said (whole (codes "minute") d) x.0 y.0 x.1 y.1) ∙ sym y.2
+same_values (Version id) d a b x y = absurd x
+same_values Carriers d a b x y = same_order Carriers d a b x y
+same_values RoutingNumbers d a b x y = same_order RoutingNumbers d a b x y
+same_values Codes d a b x y = same_order Codes d a b x y
+same_values OldProviderPath d a b x y = same_order OldProviderPath d a b x y
+same_values NewProviderPath d a b x y = same_order NewProviderPath d a b x y
+same_values ActivatePath d a b x y = same_order ActivatePath d a b x y
+
+pub same_form : (route : Route) (d : Data) (a b : Asked) → HasForm route d a → HasForm route d b → a ≡ b
+same_form route d a b h k = same_values route d a b h.values k.values

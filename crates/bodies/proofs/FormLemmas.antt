@@ -1,0 +1,50 @@
+-- Texts that are no number's, and values that are of no form.
+use Rattle.std.proofs.Common.{◌≡◌, ◌≢◌, ℕ, List, Option, Some, None, IfNone, ◌∙◌, refl}
+use Rattle.serde_json.specs.Data.{Data}
+use Rattle.meaning.specs.Commands.{Command}
+use Rattle.messages.specs.declared.paths.Route.{Route}
+use Rattle.messages.specs.declared.paths.Route.TheVariants.{Carriers, Clock, RoutingNumbers, Codes, OldProviderCreate as OldProviderPath, NewProviderCreate as NewProviderPath, Activate as ActivatePath, Acknowledge, Query, Version}
+use Rattle.bodies.specs.Forms.{Writes, Asked, Orders, HasPort, HasLrn, HasCic, HasCommand, HasValues}
+
+pub no_text : (IsOne : ℕ → Type 0) (text_of : ℕ → List ℕ) (given : Option (List ℕ)) → None ≡ given → (n : ℕ) → ¬ (Writes IsOne text_of given n)
+no_text IsOne text_of given e n w = let h : None ≡ Some (text_of n) = e ∙ w.said in cc
+
+pub other_text : (IsOne : ℕ → Type 0) (text_of : ℕ → List ℕ) (given : Option (List ℕ)) (t : List ℕ) → Some t ≡ given → ((n : ℕ) → IsOne n → t ≢ text_of n) → (n : ℕ) → ¬ (Writes IsOne text_of given n)
+other_text IsOne text_of given t e h n w = h n w.valid (let k : Some t ≡ Some (text_of n) = e ∙ w.said in cc)
+
+pub on_none : {X P : Type 0} (o : Option X) → P → IfNone o P
+on_none None p = p
+on_none (Some x) p = tt
+
+pub no_values : (route : Route) (d : Data) → route ≢ Acknowledge → route ≢ Query → route ≢ Clock → ((c : Command) → ¬ (HasCommand route d c)) → (asked : Asked) → ¬ (HasValues route d asked)
+no_values Carriers d a q k h asked x = h x.0 x.1
+no_values RoutingNumbers d a q k h asked x = h x.0 x.1
+no_values Codes d a q k h asked x = h x.0 x.1
+no_values OldProviderPath d a q k h asked x = h x.0 x.1
+no_values NewProviderPath d a q k h asked x = h x.0 x.1
+no_values ActivatePath d a q k h asked x = h x.0 x.1
+no_values Acknowledge d a q k h asked x = a refl
+no_values Query d a q k h asked x = q refl
+no_values Clock d a q k h asked x = k refl
+no_values (Version id) d a q k h asked x = x
+
+pub values_of_command : (route : Route) (d : Data) (c : Command) → route ≢ Acknowledge → route ≢ Query → route ≢ Clock → HasCommand route d c → HasValues route d (Orders c)
+values_of_command Carriers d c a q k x = (c, x, refl)
+values_of_command RoutingNumbers d c a q k x = (c, x, refl)
+values_of_command Codes d c a q k x = (c, x, refl)
+values_of_command OldProviderPath d c a q k x = (c, x, refl)
+values_of_command NewProviderPath d c a q k x = (c, x, refl)
+values_of_command ActivatePath d c a q k x = (c, x, refl)
+values_of_command Acknowledge d c a q k x = absurd x
+values_of_command Query d c a q k x = absurd x
+values_of_command Clock d c a q k x = absurd x
+values_of_command (Version id) d c a q k x = absurd x
+
+pub no_old_create : (d : Data) → ((tn old_provider new_provider due : ℕ) → ¬ (HasPort d tn old_provider new_provider due)) → (c : Command) → ¬ (HasCommand OldProviderPath d c)
+no_old_create d h c x = h x.0 x.1 x.2 x.3 x.4
+
+pub no_new_create : (d : Data) → ((tn old_provider new_provider due : ℕ) → ¬ (HasPort d tn old_provider new_provider due)) → (c : Command) → ¬ (HasCommand NewProviderPath d c)
+no_new_create d h c x = h x.0 x.1 x.2 x.3 x.6
+
+pub no_routing : (d : Data) → ((lrn : ℕ) (cic : Option ℕ) → HasLrn d lrn → ¬ (HasCic d cic)) → (c : Command) → ¬ (HasCommand NewProviderPath d c)
+no_routing d h c x = h x.4 x.5 x.7 x.8

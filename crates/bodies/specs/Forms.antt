@@ -1,0 +1,162 @@
+-- The forms of request bodies: what each asks.
+use Rattle.std.specs.Prelude.{◌≡◌, ℕ, ◌&&◌, List, [], ◌∷◌, codes, Bool, true, false, if◌then◌else◌, Option, Some, None, option_and_then}
+use Rattle.std.specs.List.{list_any}
+use Rattle.std.specs.Str.{is_utf8, bytes_eq}
+use Rattle.serde_json.specs.Data.{Data, null, boolean, number, string, array, object, Members, no_members, member}
+use Rattle.serde_json.specs.Read.{read}
+use Rattle.serde_json.specs.Find.{get, as_number, as_u64, as_str, as_bool}
+use Rattle.numbers.specs.Digits.{IsTn, IsCode, IsLrn, IsCic}
+use Rattle.numbers.specs.Spids.{IsSpid}
+use Rattle.numbers.specs.Texts.{tn_text, code_text, lrn_text, cic_text, spid_text}
+use Rattle.meaning.specs.Commands.{Command, RegisterCarrier, RegisterRoutingNumber, OpenCode, OldProviderCreate, NewProviderCreate, Activate}
+use Rattle.register.specs.Calls.{command_of}
+use Rattle.messages.specs.Table.{below_limit}
+use Rattle.messages.specs.declared.paths.Route.{Route}
+use Rattle.messages.specs.declared.paths.Route.TheVariants.{Carriers, Clock, RoutingNumbers, Codes, OldProviderCreate as OldProviderPath, NewProviderCreate as NewProviderPath, Activate as ActivatePath, Acknowledge, Query, Version}
+use Rattle.bodies.specs.declared.forms.Call.{Call}
+use Rattle.bodies.specs.declared.forms.Call.TheVariants.{Command as CommandCode, Acknowledge as AcknowledgeCode, Query as QueryCode, Clock as ClockCode}
+
+-- what a message asks of the register: a command, the acknowledgement of an attempt, where the number of a URI is routed, that
+-- the clock moves to a minute, or that the version of an id is shown
+pub data Asked : Type 0 where
+  Orders : (command : Command) → Asked
+  Confirms : (id attempt : ℕ) → Asked
+  Seeks : (uri : List ℕ) → Asked
+  Moves : (minute : ℕ) → Asked
+  Shows : (id : ℕ) → Asked
+
+-- what a body asks, as the code holds it
+abbrev pub asked_of : Call → Asked
+asked_of (CommandCode command) = Orders (command_of command)
+asked_of (AcknowledgeCode id attempt) = Confirms id attempt
+asked_of (QueryCode uri) = Seeks uri.now
+asked_of (ClockCode minute) = Moves minute.number
+
+-- the value that the bytes are as JSON
+abbrev pub json_of : List ℕ → Option Data
+json_of body = if is_utf8 body then read body else None
+
+-- ---- objects and their keys
+
+abbrev pub only_members : List (List ℕ) → Members → Bool
+only_members allowed no_members = true
+only_members allowed (member k d ms) = list_any (bytes_eq k) allowed && only_members allowed ms
+
+-- an object with no other keys
+abbrev pub only_keys : List (List ℕ) → Data → Bool
+only_keys allowed null = false
+only_keys allowed (boolean b) = false
+only_keys allowed (number n) = false
+only_keys allowed (string s) = false
+only_keys allowed (array ds) = false
+only_keys allowed (object ms) = only_members allowed ms
+
+-- the keys of a path's body
+abbrev pub keys : Route → List (List ℕ)
+keys Carriers = codes "spid" ∷ []
+keys RoutingNumbers = codes "lrn" ∷ []
+keys Codes = codes "code" ∷ codes "spid" ∷ []
+keys OldProviderPath = codes "authorized" ∷ codes "due" ∷ codes "new" ∷ codes "old" ∷ codes "tn" ∷ []
+keys NewProviderPath = codes "cic" ∷ codes "due" ∷ codes "lrn" ∷ codes "new" ∷ codes "old" ∷ codes "tn" ∷ []
+keys ActivatePath = codes "id" ∷ []
+keys Acknowledge = codes "attempt" ∷ codes "id" ∷ []
+keys Query = codes "uri" ∷ []
+keys Clock = codes "minute" ∷ []
+keys (Version id) = []
+
+-- ---- what stands under a key
+
+-- a whole number below 2^40
+unfoldable pub whole : List ℕ → Data → Option ℕ
+whole key d = option_and_then below_limit (option_and_then as_u64 (option_and_then as_number (get key d)))
+
+-- a text
+unfoldable pub text : List ℕ → Data → Option (List ℕ)
+text key d = option_and_then as_str (get key d)
+
+-- true or false
+unfoldable pub flag : List ℕ → Data → Option Bool
+flag key d = option_and_then as_bool (get key d)
+
+-- the text of a number of its kind
+pub record Writes (IsOne : ℕ → Type 0) (text_of : ℕ → List ℕ) (given : Option (List ℕ)) (n : ℕ) : Type 0 where
+  pub valid : IsOne n
+  pub said : given ≡ Some (text_of n)
+
+abbrev pub HasSpid : List ℕ → Data → ℕ → Type 0
+HasSpid key d n = Writes IsSpid spid_text (text key d) n
+
+abbrev pub HasTn : Data → ℕ → Type 0
+HasTn d n = Writes IsTn tn_text (text (codes "tn") d) n
+
+abbrev pub HasLrn : Data → ℕ → Type 0
+HasLrn d n = Writes IsLrn lrn_text (text (codes "lrn") d) n
+
+abbrev pub HasCode : Data → ℕ → Type 0
+HasCode d n = Writes IsCode code_text (text (codes "code") d) n
+
+-- nothing, or null
+abbrev pub is_left_out : Option Data → Bool
+is_left_out None = true
+is_left_out (Some null) = true
+is_left_out (Some (boolean b)) = false
+is_left_out (Some (number n)) = false
+is_left_out (Some (string s)) = false
+is_left_out (Some (array ds)) = false
+is_left_out (Some (object ms)) = false
+
+-- a carrier code, which may be left out or be null
+abbrev pub HasCic : Data → Option ℕ → Type 0
+HasCic d None = is_left_out (get (codes "cic") d) ≡ true
+HasCic d (Some n) = Writes IsCic cic_text (text (codes "cic") d) n
+
+-- ---- the forms
+
+-- the parties of a create and its due minute
+pub record HasPort (d : Data) (tn old_provider new_provider due : ℕ) : Type 0 where
+  pub number : HasTn d tn
+  pub old : HasSpid (codes "old") d old_provider
+  pub new : HasSpid (codes "new") d new_provider
+  pub minute : whole (codes "due") d ≡ Some due
+
+-- a path's command. A create without authorization is not taken yet
+abbrev pub HasCommand : Route → Data → Command → Type 0
+HasCommand Carriers d c = (spid : ℕ) × HasSpid (codes "spid") d spid × (c ≡ RegisterCarrier spid)
+HasCommand RoutingNumbers d c = (lrn : ℕ) × HasLrn d lrn × (c ≡ RegisterRoutingNumber lrn)
+HasCommand Codes d c = (code : ℕ) × (spid : ℕ) × HasCode d code × HasSpid (codes "spid") d spid × (c ≡ OpenCode code spid)
+HasCommand OldProviderPath d c =
+    (tn : ℕ) × (old_provider : ℕ) × (new_provider : ℕ) × (due : ℕ) × HasPort d tn old_provider new_provider due
+    × (flag (codes "authorized") d ≡ Some true) × (c ≡ OldProviderCreate tn old_provider new_provider due true)
+HasCommand NewProviderPath d c =
+    (tn : ℕ) × (old_provider : ℕ) × (new_provider : ℕ) × (due : ℕ) × (lrn : ℕ) × (cic : Option ℕ) × HasPort d tn old_provider new_provider due
+    × HasLrn d lrn × HasCic d cic × (c ≡ NewProviderCreate tn old_provider new_provider due lrn cic)
+HasCommand ActivatePath d c = (id : ℕ) × (whole (codes "id") d ≡ Some id) × (c ≡ Activate id)
+HasCommand Acknowledge d c = ⊥
+HasCommand Query d c = ⊥
+HasCommand Clock d c = ⊥
+HasCommand (Version id) d c = ⊥
+
+abbrev pub HasOrder : Route → Data → Asked → Type 0
+HasOrder route d asked = (c : Command) × HasCommand route d c × (asked ≡ Orders c)
+
+-- a path's values. A version's has no body
+abbrev pub HasValues : Route → Data → Asked → Type 0
+HasValues Acknowledge d asked = (id : ℕ) × (attempt : ℕ) × (whole (codes "id") d ≡ Some id) × (whole (codes "attempt") d ≡ Some attempt) × (asked ≡ Confirms id attempt)
+HasValues Query d asked = (uri : List ℕ) × (text (codes "uri") d ≡ Some uri) × (asked ≡ Seeks uri)
+HasValues Clock d asked = (minute : ℕ) × (whole (codes "minute") d ≡ Some minute) × (asked ≡ Moves minute)
+HasValues (Version id) d asked = ⊥
+HasValues Carriers d asked = HasOrder Carriers d asked
+HasValues RoutingNumbers d asked = HasOrder RoutingNumbers d asked
+HasValues Codes d asked = HasOrder Codes d asked
+HasValues OldProviderPath d asked = HasOrder OldProviderPath d asked
+HasValues NewProviderPath d asked = HasOrder NewProviderPath d asked
+HasValues ActivatePath d asked = HasOrder ActivatePath d asked
+
+-- the value is an object of the path's form, with no other keys, that asks this
+pub record HasForm (route : Route) (d : Data) (asked : Asked) : Type 0 where
+  pub keys : only_keys (keys route) d ≡ true
+  pub values : HasValues route d asked
+
+-- a body asks one thing at most
+abbrev pub AsksOnce : Type 0
+AsksOnce = (route : Route) (d : Data) (b c : Asked) → HasForm route d b → HasForm route d c → b ≡ c

@@ -1,0 +1,107 @@
+//! Answers, written into room that was taken before.
+ghost use Rattle.std.specs.Prelude.{◌≡◌, ℕ, ◌+◌, ◌≤◌, ◌<◌, ◌^◌, ◌++◌, length, string_bytes, IfOk, OnOk, string_len, string_capacity};
+ghost use Rattle.bodies.specs.Answer.{answer, head, IsAnswered, phrase};
+
+use crate::room::{put, put_number};
+use http::StatusCode;
+use std::alloc::{AllocError, Global};
+
+/// The room for every answer but those of everything in force and of queries.
+pub const SMALL_ROOM: usize = 512;
+
+/// The most that the head of an answer takes.
+pub const HEAD_ROOM: usize = 160;
+
+/// An answer under way: its body, and then its whole text.
+#[derive(Drop)]
+pub struct Room {
+    pub body: String,
+    pub text: String,
+}
+
+// The phrase of a status.
+#[tactic(auto, using(crate::proofs::Phrases::short_phrase), unfolding(crate::specs::Answer::phrase))]
+fn phrase_of(status: StatusCode) -> &'static str
+    ensures text { result.now ≡ phrase status }
+    ensures short { IsAnswered status → length result.now ≤ 31 }
+{
+    status.canonical_reason().unwrap_or("")
+}
+
+// Appends the head of an answer with this status before a body of this length.
+fn put_head(out: &mut String, status: StatusCode, length: u64)
+    requires room { string_len out.old + 160 ≤ string_capacity out.old }
+    requires answered { IsAnswered status }
+    ensures bytes { string_bytes out.new ≡ string_bytes out.old ++ head status length }
+    ensures len { string_len out.new ≤ string_len out.old + 160 }
+    ensures capacity { string_capacity out.old ≤ string_capacity out.new }
+{
+    put(out, "HTTP/1.1 ");
+    put(out, status.as_str());
+    put(out, " ");
+    put(out, phrase_of(status));
+    put(
+        out,
+        "\r\ncontent-type: application/json\r\ncontent-length: ",
+    );
+    put_number(out, length);
+    put(out, "\r\n\r\n");
+}
+
+/// The head of an answer fits its room.
+pub fn head_fits()
+    ensures { (code len : ℕ) → IsAnswered code → len < 2 ^ 64 → length (head code len) ≤ HEAD_ROOM }
+{}
+
+impl Room {
+    ghost use Rattle.bodies.specs.Rooms.{HasRoom, IsEmpty, IsWritten};
+
+    /// Takes the room for a small answer, whose body has at most 512 bytes, or answers want of memory.
+    pub fn new(alloc: Global) -> Result<Room, AllocError>
+        ensures room { IfOk result (HasRoom 512) }
+        ensures empty { IfOk result IsEmpty }
+    {
+        Ok(Room {
+            body: String::with_capacity(alloc, SMALL_ROOM)?,
+            text: String::with_capacity(alloc, SMALL_ROOM + HEAD_ROOM)?,
+        })
+    }
+
+    /// Empties it for the next answer.
+    pub fn clear(&mut self)
+        ensures empty { IsEmpty self.new }
+        ensures room { (n : ℕ) → HasRoom n self.old → HasRoom n self.new }
+    {
+        self.body.clear();
+        self.text.clear();
+    }
+
+    /// Takes the room for a body of so many bytes. After want of memory what room there was is there still.
+    pub fn take(&mut self, length: usize) -> Result<(), AllocError>
+        requires empty { IsEmpty self.old }
+        requires fits { length + 160 < 2 ^ 64 }
+        ensures ok { OnOk result (HasRoom length self.new) }
+        ensures empty { IsEmpty self.new }
+        ensures room { (n : ℕ) → HasRoom n self.old → HasRoom n self.new }
+    {
+        self.body.reserve(length)?;
+        self.text.reserve(length + HEAD_ROOM)?;
+        Ok(())
+    }
+
+    /// Writes the whole text of an answer with this status and the body.
+    pub fn finish(&mut self, status: u16)
+        requires answered { IsAnswered status }
+        requires written { IsWritten self.old }
+        ensures text { string_bytes self.new.text ≡ string_bytes self.old.text ++ answer status (string_bytes self.old.body) }
+        ensures room { (n : ℕ) → HasRoom n self.old → HasRoom n self.new }
+    {
+        match StatusCode::from_u16(status) {
+            Ok(status) => {
+                put_head(&mut self.text, status, self.body.len() as u64);
+                put(&mut self.text, &self.body);
+            }
+            Err(_) => unreachable!(),
+        }
+    }
+}

@@ -1,0 +1,16 @@
+//! What the bodies of requests ask and what the bodies of answers say, in JSON.
+#![tactic(auto)]
+
+mod answer;
+mod fault;
+mod forms;
+mod reply;
+mod room;
+
+pub use answer::Room;
+pub use fault::Failure;
+pub use forms::{Call, body_asks_once, call_of, json};
+pub use reply::{
+    ROW_ROOM, URI_ROOM, put_failure, put_now, put_opened_code, put_registered, put_routing_number,
+    put_uri, put_version,
+};

@@ -1,0 +1,331 @@
+//! The bodies of answers.
+ghost use Rattle.std.specs.Prelude.{◌≡◌, ◌+◌, ◌*◌, ◌≤◌, ◌++◌, length, map, option_map, string_bytes, string_len, string_capacity};
+ghost use Rattle.std.specs.List.{flat_map};
+ghost use Rattle.numbers.specs.declared.cic.Cic.{Cic as CicSeen};
+ghost use Rattle.numbers.specs.declared.lrn.Lrn.{Lrn as LrnSeen};
+ghost use Rattle.numbers.specs.Views.{routing_of};
+ghost use Rattle.meaning.specs.Views.{status_of as status_seen};
+ghost use Rattle.meaning.specs.Reading.{release_of};
+ghost use Rattle.version.specs.Views.{routings_of, phase_seen};
+ghost use Rattle.register.specs.Calls.{view_of, in_force_of};
+ghost use Rattle.bodies.specs.Answer.{refusal_body};
+ghost use Rattle.bodies.specs.Failures.{failure_body};
+ghost use Rattle.bodies.specs.Texts.{cic_value, lrn_value, minute_value, phase_value, status_word, cic_in, lrn_in, counts_text, parties_text, times_text, standing_text, view_text, row_text, next_row_text, rows_text, registered_text, routing_number_text, opened_code_text, now_text, uri_text};
+
+use crate::fault::Failure;
+use crate::room::{put, put_cic, put_code, put_lrn, put_minute, put_number, put_spid, put_subject};
+use meaning::{Action, Status};
+use numbers::{Cic, CodeId, Lrn, Minute, Routing, Spid};
+use register::VersionView;
+use settle::RoutedRow;
+use version::Phase;
+
+/// The most bytes that a version's body takes.
+pub const VERSION_ROOM: usize = 400;
+
+/// The most bytes that a row in force takes.
+pub const ROW_ROOM: usize = 64;
+
+/// Appends the body of a refusal, of at most 64 bytes.
+pub fn put_failure(out: &mut String, failure: Failure)
+    requires { string_len out.old + 64 ≤ string_capacity out.old }
+    ensures bytes { string_bytes out.new ≡ string_bytes out.old ++ failure_body failure }
+    ensures len { string_len out.new ≤ string_len out.old + 64 }
+    ensures capacity { string_capacity out.old ≤ string_capacity out.new }
+{
+    put(out, "{\"error\":\"");
+    put(out, failure.name());
+    put(out, "\",\"number\":");
+    put_number(out, u64::from(failure.number()));
+    put(out, "}");
+}
+
+fn put_cic_or_null(out: &mut String, cic: Option<Cic>)
+    requires { string_len out.old + 6 ≤ string_capacity out.old }
+    ensures bytes { string_bytes out.new ≡ string_bytes out.old ++ cic_value (option_map (λ (c : CicSeen). c.number) cic) }
+    ensures len { string_len out.new ≤ string_len out.old + 6 }
+    ensures capacity { string_capacity out.old ≤ string_capacity out.new }
+{
+    match cic {
+        None => put(out, "null"),
+        Some(cic) => {
+            put(out, "\"");
+            put_cic(out, cic);
+            put(out, "\"");
+        }
+    }
+}
+
+fn put_lrn_or_null(out: &mut String, lrn: Option<Lrn>)
+    requires { string_len out.old + 12 ≤ string_capacity out.old }
+    ensures bytes { string_bytes out.new ≡ string_bytes out.old ++ lrn_value (option_map (λ (n : LrnSeen). n.number) lrn) }
+    ensures len { string_len out.new ≤ string_len out.old + 12 }
+    ensures capacity { string_capacity out.old ≤ string_capacity out.new }
+{
+    match lrn {
+        None => put(out, "null"),
+        Some(lrn) => {
+            put(out, "\"");
+            put_lrn(out, lrn);
+            put(out, "\"");
+        }
+    }
+}
+
+fn phase_text(phase: Option<Phase>) -> &'static str
+    ensures text { result.now ≡ phase_value (option_map phase_seen phase) }
+    ensures len { length result.now ≤ 9 }
+{
+    match phase {
+        None => "null",
+        Some(Phase::Initial) => "\"initial\"",
+        Some(Phase::Final) => "\"final\"",
+        Some(Phase::Ended) => "\"ended\"",
+    }
+}
+
+fn status_text(status: Status) -> &'static str
+    ensures text { result.now ≡ status_word (status_seen status) }
+    ensures len { length result.now ≤ 20 }
+{
+    match status {
+        Status::Pending => "pending",
+        Status::Conflict => "conflict",
+        Status::CancelPending(_) => "cancel-pending",
+        Status::Sending(_) => "sending",
+        Status::Active => "active",
+        Status::PartialFailure => "partial-failure",
+        Status::Failed => "failed",
+        Status::DisconnectPending(_) => "disconnect-pending",
+        Status::Old => "old",
+        Status::Canceled => "canceled",
+    }
+}
+
+// The minute of the release that a disconnect-pending version waits for, or null.
+fn put_release(out: &mut String, status: Status)
+    requires { string_len out.old + 20 ≤ string_capacity out.old }
+    ensures bytes { string_bytes out.new ≡ string_bytes out.old ++ minute_value (release_of (status_seen status)) }
+    ensures len { string_len out.new ≤ string_len out.old + 20 }
+    ensures capacity { string_capacity out.old ≤ string_capacity out.new }
+{
+    match status {
+        Status::DisconnectPending(release) => put_minute(out, release),
+        _ => put(out, "null"),
+    }
+}
+
+// The members `attempt` to `id`.
+fn put_counts(out: &mut String, view: &VersionView)
+    requires { string_len out.old + 120 ≤ string_capacity out.old }
+    ensures bytes { string_bytes out.new ≡ string_bytes out.old ++ counts_text (view_of view.now) }
+    ensures len { string_len out.new ≤ string_len out.old + 120 }
+    ensures capacity { string_capacity out.old ≤ string_capacity out.new }
+{
+    put(out, "{\"attempt\":");
+    put_number(out, view.version.attempt);
+    put(out, ",\"cic\":");
+    put_cic_or_null(out, cic_of(view.version.routing));
+    put(out, ",\"due\":");
+    put_minute(out, view.version.due);
+    put(out, ",\"id\":");
+    put_number(out, view.id);
+}
+
+fn cic_of(routing: Option<Routing>) -> Option<Cic>
+    ensures { option_map (λ (c : CicSeen). c.number) result ≡ cic_in (routings_of routing) }
+{
+    routing?.cic
+}
+
+fn lrn_of(routing: Option<Routing>) -> Option<Lrn>
+    ensures { option_map (λ (n : LrnSeen). n.number) result ≡ lrn_in (routings_of routing) }
+{
+    Some(routing?.lrn)
+}
+
+// The members `lrn` to `old`.
+fn put_parties(out: &mut String, view: &VersionView)
+    requires { string_len out.old + 60 ≤ string_capacity out.old }
+    ensures bytes { string_bytes out.new ≡ string_bytes out.old ++ parties_text (view_of view.now) }
+    ensures len { string_len out.new ≤ string_len out.old + 60 }
+    ensures capacity { string_capacity out.old ≤ string_capacity out.new }
+{
+    put(out, ",\"lrn\":");
+    put_lrn_or_null(out, lrn_of(view.version.routing));
+    put(out, ",\"new\":\"");
+    put_spid(out, view.version.new_provider);
+    put(out, "\",\"old\":\"");
+    put_spid(out, view.version.old_provider);
+    put(out, "\"");
+}
+
+// The members `phase` to `since`.
+fn put_times(out: &mut String, view: &VersionView)
+    requires { string_len out.old + 80 ≤ string_capacity out.old }
+    ensures bytes { string_bytes out.new ≡ string_bytes out.old ++ times_text (view_of view.now) }
+    ensures len { string_len out.new ≤ string_len out.old + 80 }
+    ensures capacity { string_capacity out.old ≤ string_capacity out.new }
+{
+    put(out, ",\"phase\":");
+    put(out, phase_text(view.phase));
+    put(out, ",\"release\":");
+    put_release(out, view.version.status);
+    put(out, ",\"since\":");
+    put_minute(out, view.version.since);
+}
+
+// The members `status` and `subject`.
+fn put_standing(out: &mut String, view: &VersionView)
+    requires { string_len out.old + 80 ≤ string_capacity out.old }
+    ensures bytes { string_bytes out.new ≡ string_bytes out.old ++ standing_text (view_of view.now) }
+    ensures len { string_len out.new ≤ string_len out.old + 80 }
+    ensures capacity { string_capacity out.old ≤ string_capacity out.new }
+{
+    put(out, ",\"status\":\"");
+    put(out, status_text(view.version.status));
+    put(out, "\",\"subject\":\"");
+    put_subject(out, view.version.subject);
+    put(out, "\"}");
+}
+
+/// Appends the body that shows a version, of at most 400 bytes.
+#[tactic(auto, unfolding(crate::specs::Texts::view_text))]
+pub fn put_version(out: &mut String, view: &VersionView)
+    requires { string_len out.old + 400 ≤ string_capacity out.old }
+    ensures bytes { string_bytes out.new ≡ string_bytes out.old ++ view_text (view_of view.now) }
+    ensures len { string_len out.new ≤ string_len out.old + 400 }
+    ensures capacity { string_capacity out.old ≤ string_capacity out.new }
+{
+    put_counts(out, view);
+    put_parties(out, view);
+    put_times(out, view);
+    put_standing(out, view);
+}
+
+/// Appends the body that shows a routing number and whose it is, of at most 64 bytes.
+#[tactic(auto, unfolding(crate::specs::Texts::routing_number_text))]
+pub fn put_routing_number(out: &mut String, lrn: Lrn, spid: Spid)
+    requires { string_len out.old + 64 ≤ string_capacity out.old }
+    ensures bytes { string_bytes out.new ≡ string_bytes out.old ++ routing_number_text lrn.number spid.number }
+    ensures len { string_len out.new ≤ string_len out.old + 64 }
+    ensures capacity { string_capacity out.old ≤ string_capacity out.new }
+{
+    put(out, "{\"lrn\":\"");
+    put_lrn(out, lrn);
+    put(out, "\",\"spid\":\"");
+    put_spid(out, spid);
+    put(out, "\"}");
+}
+
+/// Appends the body that shows a code and its holder, of at most 64 bytes.
+#[tactic(auto, unfolding(crate::specs::Texts::opened_code_text))]
+pub fn put_opened_code(out: &mut String, code: CodeId, spid: Spid)
+    requires { string_len out.old + 64 ≤ string_capacity out.old }
+    ensures bytes { string_bytes out.new ≡ string_bytes out.old ++ opened_code_text code.number spid.number }
+    ensures len { string_len out.new ≤ string_len out.old + 64 }
+    ensures capacity { string_capacity out.old ≤ string_capacity out.new }
+{
+    put(out, "{\"code\":\"");
+    put_code(out, code);
+    put(out, "\",\"spid\":\"");
+    put_spid(out, spid);
+    put(out, "\"}");
+}
+
+/// Appends the body that shows the minute that it is, of at most 64 bytes.
+#[tactic(auto, unfolding(crate::specs::Texts::now_text))]
+pub fn put_now(out: &mut String, now: Minute)
+    requires { string_len out.old + 64 ≤ string_capacity out.old }
+    ensures bytes { string_bytes out.new ≡ string_bytes out.old ++ now_text now.number }
+    ensures len { string_len out.new ≤ string_len out.old + 64 }
+    ensures capacity { string_capacity out.old ≤ string_capacity out.new }
+{
+    put(out, "{\"now\":");
+    put_minute(out, now);
+    put(out, "}");
+}
+
+// One row in force.
+fn put_row(out: &mut String, row: &RoutedRow)
+    requires { string_len out.old + 60 ≤ string_capacity out.old }
+    ensures bytes { string_bytes out.new ≡ string_bytes out.old ++ row_text (in_force_of row.now) }
+    ensures len { string_len out.new ≤ string_len out.old + 60 }
+    ensures capacity { string_capacity out.old ≤ string_capacity out.new }
+{
+    put(out, "{\"cic\":");
+    put_cic_or_null(out, row.routing.cic);
+    put(out, ",\"lrn\":");
+    put_lrn_or_null(out, Some(row.routing.lrn));
+    put(out, ",\"subject\":\"");
+    put_subject(out, row.subject);
+    put(out, "\"}");
+}
+
+// A row behind another.
+fn put_next_row(out: &mut String, row: &RoutedRow)
+    requires { string_len out.old + 64 ≤ string_capacity out.old }
+    ensures bytes { string_bytes out.new ≡ string_bytes out.old ++ next_row_text (in_force_of row.now) }
+    ensures len { string_len out.new ≤ string_len out.old + 64 }
+    ensures capacity { string_capacity out.old ≤ string_capacity out.new }
+{
+    put(out, ",");
+    put_row(out, row);
+}
+
+// The rows behind the first.
+fn put_next_rows(out: &mut String, rows: &[RoutedRow])
+    requires { string_len out.old + length rows.now * 64 ≤ string_capacity out.old }
+    ensures bytes { string_bytes out.new ≡ string_bytes out.old ++ flat_map next_row_text (map in_force_of rows.now) }
+    ensures len { string_len out.new ≤ string_len out.old + length rows.now * 64 }
+    ensures capacity { string_capacity out.old ≤ string_capacity out.new }
+{
+    for row in rows {
+        put_next_row(out, row);
+    }
+}
+
+fn put_rows(out: &mut String, rows: &[RoutedRow])
+    requires { string_len out.old + length rows.now * 64 ≤ string_capacity out.old }
+    ensures bytes { string_bytes out.new ≡ string_bytes out.old ++ rows_text (map in_force_of rows.now) }
+    ensures len { string_len out.new ≤ string_len out.old + length rows.now * 64 }
+    ensures capacity { string_capacity out.old ≤ string_capacity out.new }
+{
+    if let Some((first, rest)) = rows.split_first() {
+        put_row(out, first);
+        put_next_rows(out, rest);
+    }
+}
+
+/// Appends the body that shows a carrier and its starting rows, of at most 64 bytes and 64 for each row.
+#[tactic(auto, unfolding(crate::specs::Texts::registered_text))]
+pub fn put_registered(out: &mut String, spid: Spid, rows: &[RoutedRow])
+    requires { string_len out.old + 64 + length rows.now * 64 ≤ string_capacity out.old }
+    ensures bytes { string_bytes out.new ≡ string_bytes out.old ++ registered_text spid.number (map in_force_of rows.now) }
+    ensures len { string_len out.new ≤ string_len out.old + 64 + length rows.now * 64 }
+    ensures capacity { string_capacity out.old ≤ string_capacity out.new }
+{
+    put(out, "{\"rows\":[");
+    put_rows(out, rows);
+    put(out, "],\"spid\":\"");
+    put_spid(out, spid);
+    put(out, "\"}");
+}
+
+/// The most bytes that the body of a query's answer takes beside its URI.
+pub const URI_ROOM: usize = 10;
+
+/// Appends the body that answers a query with a tel URI, of at most 10 bytes more than the URI. The bytes of a
+/// tel URI are letters, digits and marks of the grammar, none of them a quote, a backslash or a control byte, so
+/// none has to be escaped (`uris_need_no_escape` of `api`).
+#[tactic(auto, unfolding(crate::specs::Texts::uri_text))]
+pub fn put_uri(out: &mut String, uri: &str)
+    requires { string_len out.old + length uri.now + 10 ≤ string_capacity out.old }
+    ensures bytes { string_bytes out.new ≡ string_bytes out.old ++ uri_text uri.now }
+    ensures len { string_len out.new ≤ string_len out.old + length uri.now + 10 }
+    ensures capacity { string_capacity out.old ≤ string_capacity out.new }
+{
+    put(out, "{\"uri\":\"");
+    put(out, uri);
+    put(out, "\"}");
+}

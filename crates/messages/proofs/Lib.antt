@@ -1,0 +1,9 @@
+mod Appending
+mod BlankLemmas
+mod BodyLemmas
+mod CutLemmas
+mod FieldLemmas
+mod HeldLemmas
+mod MessageLemmas
+mod NumberLemmas
+mod PathLemmas

@@ -1,0 +1,9 @@
+pub mod Blank
+pub mod Cuts
+pub mod Faults
+pub mod Fields
+pub mod Front
+pub mod Head
+pub mod Held
+pub mod Sending
+pub mod Table

@@ -1,0 +1,115 @@
+-- The paths of the interface, their methods, and the router's rows, in the order of their texts.
+use Rattle.std.specs.Prelude.{ℕ, ◌^◌, List, [], ◌∷◌, length, take, drop, codes, map, Bool, true, false, not, ◌&&◌, ◌==◌, nat_lt, Option, Some, None, option_and_then, if◌then◌else◌}
+use Rattle.std.specs.List.{list_all}
+use Rattle.std.specs.Option.{option_or}
+use Rattle.std.specs.Str.{bytes_eq}
+use Rattle.matchit.specs.Rows.{RowsOf}
+use Rattle.matchit.specs.Router.{RouteOf}
+use Rattle.messages.specs.Fields.{number_of}
+use Rattle.messages.specs.declared.paths.Method.{Method}
+use Rattle.messages.specs.declared.paths.Method.TheVariants.{Get, Post, Other}
+use Rattle.messages.specs.declared.paths.Route.{Route}
+use Rattle.messages.specs.declared.paths.Route.TheVariants.{Carriers, Clock, RoutingNumbers, Codes, OldProviderCreate, NewProviderCreate, Activate, Acknowledge, Query, Version}
+
+-- ---- the paths that are one text
+
+abbrev pub paths : List (List ℕ × Route)
+paths =
+    (codes "/carriers", Carriers)
+    ∷ (codes "/clock", Clock)
+    ∷ (codes "/codes", Codes)
+    ∷ (codes "/downloads/acknowledge", Acknowledge)
+    ∷ (codes "/lrns", RoutingNumbers)
+    ∷ (codes "/query", Query)
+    ∷ (codes "/subscriptionVersionActivate", Activate)
+    ∷ (codes "/subscriptionVersionNewSP-Create", NewProviderCreate)
+    ∷ (codes "/subscriptionVersionOldSP-Create", OldProviderCreate)
+    ∷ []
+
+-- the first of these whose text is the target, byte for byte
+abbrev pub path_among : List (List ℕ × Route) → List ℕ → Option Route
+path_among [] target = None
+path_among (p ∷ ps) target = if bytes_eq p.0 target then Some p.1 else path_among ps target
+
+-- ---- the path of a version: `/versions/` and one part
+
+-- a byte of a part: neither a slash (47) nor a question mark (63)
+abbrev pub is_of_part : ℕ → Bool
+is_of_part b = not (b == 47) && not (b == 63)
+
+abbrev pub is_part : List ℕ → Bool
+is_part part = nat_lt 0 (length part) && list_all is_of_part part
+
+-- a zero stands in front of more
+abbrev pub has_zero_in_front : List ℕ → Bool
+has_zero_in_front part = nat_lt 1 (length part) && bytes_eq (codes "0") (take 1 part)
+
+abbrev pub below_limit : ℕ → Option ℕ
+below_limit n = if nat_lt n (2 ^ 40) then Some n else None
+
+-- the number below 2^40 that the part writes in digits, with no zero in front
+unfoldable pub number_in : List ℕ → Option ℕ
+number_in part = if has_zero_in_front part then None else option_and_then below_limit (number_of part)
+
+-- the path of a version, with its number where the part is one
+unfoldable pub version_path : List ℕ → Option Route
+version_path target =
+    if bytes_eq (take 10 target) (codes "/versions/") && is_part (drop 10 target) then Some (Version (number_in (drop 10 target))) else None
+
+-- ---- all paths
+
+-- a path that is one text, or else a version's
+unfoldable pub path_of : List ℕ → Option Route
+path_of target = option_or (path_among paths target) (version_path target)
+
+-- ---- methods
+
+abbrev pub method_of : List ℕ → Method
+method_of name = if bytes_eq name (codes "POST") then Post else (if bytes_eq name (codes "GET") then Get else Other)
+
+abbrev pub is_post : Method → Bool
+is_post Post = true
+is_post Get = false
+is_post Other = false
+
+abbrev pub is_get : Method → Bool
+is_get Get = true
+is_get Post = false
+is_get Other = false
+
+-- whether a path is there with this method: a version is shown by GET, and all else is by POST
+abbrev pub takes : Route → Method → Bool
+takes (Version number) method = is_get method
+takes Carriers method = is_post method
+takes Clock method = is_post method
+takes Codes method = is_post method
+takes Acknowledge method = is_post method
+takes RoutingNumbers method = is_post method
+takes Query method = is_post method
+takes Activate method = is_post method
+takes NewProviderCreate method = is_post method
+takes OldProviderCreate method = is_post method
+
+-- the path, if it is there: that of the clock is only where it is offered
+abbrev pub among_offered : (offered : Bool) → Option Route → Option Route
+among_offered true route = route
+among_offered false (Some Clock) = None
+among_offered false (Some Carriers) = Some Carriers
+among_offered false (Some Codes) = Some Codes
+among_offered false (Some Acknowledge) = Some Acknowledge
+among_offered false (Some RoutingNumbers) = Some RoutingNumbers
+among_offered false (Some Query) = Some Query
+among_offered false (Some Activate) = Some Activate
+among_offered false (Some NewProviderCreate) = Some NewProviderCreate
+among_offered false (Some OldProviderCreate) = Some OldProviderCreate
+among_offered false (Some (Version number)) = Some (Version number)
+among_offered false None = None
+
+-- ---- the router's rows
+
+-- the row of a path that is one text
+abbrev pub fixed : List ℕ × Route → List ℕ × RouteOf Route
+fixed p = (p.0, record { pattern = p.0; text = p.0; names = []; value = p.1 })
+
+abbrev pub table : RowsOf (RouteOf Route)
+table = map fixed paths

@@ -1,0 +1,62 @@
+//! Reading the body of a message.
+ghost use Rattle.std.specs.Prelude.{◌≡◌, ◌+◌, ◌-◌, ◌≤◌, ◌<◌, ◌++◌, [], true, false, Ok, take, drop, length, vec_len, vec_capacity, IfSome};
+ghost use Rattle.std.specs.Io.KnownBytes.{Keeps, Consumes, IsAtEnd};
+ghost use Rattle.messages.specs.Held.{held_bytes, input_left};
+
+use crate::held::Held;
+use std::io;
+use std::io::Read;
+
+// Moves so many held bytes behind a body that has room for them.
+fn take_held(held: &mut Held, count: usize, body: &mut Vec<u8>)
+    requires held { count ≤ held.old.filled }
+    requires room { vec_len body.old + count ≤ vec_capacity body.old }
+    ensures size { vec_len held.new.bytes ≡ vec_len held.old.bytes }
+    ensures held { held_bytes held.new ≡ drop count (held_bytes held.old) }
+    ensures body { body.new.items ≡ body.old.items ++ take count (held_bytes held.old) }
+    ensures len { vec_len body.new ≡ vec_len body.old + count }
+    ensures capacity { vec_capacity body.old ≤ vec_capacity body.new }
+{
+    match body.extend_from_slice(&held.held()[..count]) {
+        Ok(()) => held.drop_front(count),
+        Err(_) => unreachable!(),
+    }
+}
+
+// Whether a byte is held, after a read where none was.
+fn holds_some<R: Read>(held: &mut Held, reader: &mut R) -> io::Result<bool>
+    requires size { vec_len held.old.bytes ≡ 8192 }
+    ensures size { vec_len held.new.bytes ≡ 8192 }
+    ensures left { Keeps (input_left held.old (R.remaining reader.old)) (input_left held.new (R.remaining reader.new)) }
+    ensures some { result ≡ Ok true → 0 < held.new.filled }
+    ensures none { result ≡ Ok false → (held_bytes held.new ≡ []) × IsAtEnd (R.remaining reader.new) }
+{
+    if held.filled > 0 {
+        return Ok(true);
+    }
+    Ok(held.fill(reader)? > 0)
+}
+
+/// Reads a body of so many bytes. The answer is false where the input ends in it.
+pub fn read_body<R: Read>(
+    held: &mut Held,
+    reader: &mut R,
+    count: usize,
+    body: &mut Vec<u8>,
+) -> io::Result<bool>
+    requires size { vec_len held.old.bytes ≡ 8192 }
+    requires empty { vec_len body.old ≡ 0 }
+    requires room { count ≤ vec_capacity body.old }
+    ensures size { vec_len held.new.bytes ≡ 8192 }
+    ensures whole { result ≡ Ok true → Consumes (input_left held.old (R.remaining reader.old)) (input_left held.new (R.remaining reader.new)) body.new.items × (length body.new.items ≡ count) }
+    ensures cut { result ≡ Ok false → IfSome (input_left held.old (R.remaining reader.old)) (λ input. length input < count) }
+{
+    'pieces: while body.len() < count {
+        if !holds_some(held, reader)? {
+            return Ok(false);
+        }
+        let missing = count - body.len();
+        take_held(held, missing.min(held.filled), body);
+    }
+    Ok(true)
+}

@@ -1,0 +1,158 @@
+//! The next message of the input.
+ghost use Rattle.std.specs.Prelude.{◌≡◌, ℕ, ◌≤◌, List, length, vec_len, vec_capacity, IfOk, IfErr, IfSome, OnOk};
+ghost use Rattle.httparse.specs.Grammar.{RequestHead};
+ghost use Rattle.httparse.specs.Spans.{IsRequestAt, IsRequestWithin};
+ghost use Rattle.messages.specs.Cuts.{Cut, Cuts, IsCaller, IsNamed, IsNext, IsRequestOf, RefusesHead};
+ghost use Rattle.messages.specs.Fields.{IsFound, IsFoundWithin};
+ghost use Rattle.messages.specs.Held.{input_left};
+ghost use Rattle.messages.specs.Table.{table};
+
+use crate::body::read_body;
+use crate::fault::MessageFault;
+use crate::front::{Front, next_head};
+use crate::head::{Found, heads_of_the_input, read_head};
+use crate::held::Held;
+use crate::paths::{Method, Route, method_of, route_of};
+use httparse::spans::{HeaderSpan, RequestSpans};
+use matchit::Router;
+use numbers::Spid;
+use std::alloc::AllocError;
+use std::io::Read;
+
+/// The most bytes that a body may have.
+pub const BODY_LIMIT: u64 = 1_048_576;
+
+/// What the head of a message says.
+#[derive(Clone, Copy, Debug)]
+pub struct Request {
+    /// The path, if it is one.
+    pub route: Option<Route>,
+    pub method: Method,
+    /// The caller, where `x-spid` names one once.
+    pub caller: Option<Spid>,
+    /// The length of the body.
+    pub length: usize,
+    /// Whether the answer is the last.
+    pub closes: bool,
+}
+
+/// What comes next: a message, or what is refused in place of one.
+#[derive(Clone, Copy, Debug)]
+pub enum Next {
+    Message(Request),
+    Refused(MessageFault),
+}
+
+/// Why no next message came: the reader failed, or the room for a body found no memory.
+#[derive(Clone, Copy, Debug)]
+pub enum NextFault {
+    Read,
+    Memory,
+}
+
+// The provider that a text names.
+fn named(value: &[u8]) -> Option<Spid>
+    ensures { IsNamed value.now result }
+{
+    match str::from_utf8(value) {
+        Ok(text) => Spid::read(text),
+        Err(_) => None,
+    }
+}
+
+// The provider that a field names, if it is there once.
+fn caller_of(held: &[u8], found: Found) -> Option<Spid>
+    requires { IsFoundWithin (length held.now) found }
+    ensures { (values : List (List ℕ)) → IsFound held.now found values → IsCaller values result }
+{
+    match found {
+        Found::Once(span) => named(span.of(held)),
+        Found::Absent | Found::Twice => None,
+    }
+}
+
+// What a head says that was found in the held bytes, and how long it is. `BadHead` comes before `TooLarge`.
+fn request_of(
+    held: &[u8],
+    headers: &[HeaderSpan],
+    spans: &RequestSpans,
+    router: &Router<Route>,
+) -> Result<Request, MessageFault>
+    requires within { IsRequestWithin held.now headers.now spans.now }
+    requires router { router.now ≡ table }
+    ensures small { IfOk result (λ request. request.length ≤ 1048576) }
+    ensures asks { (h : RequestHead) → IsRequestAt held.now headers.now spans.now h → IfOk result (IsRequestOf h) }
+    ensures refuses { (h : RequestHead) → IsRequestAt held.now headers.now spans.now h → IfErr result (RefusesHead h) }
+{
+    let Some(head) = read_head(held, headers, spans) else {
+        return Err(MessageFault::BadHead);
+    };
+    if head.body > BODY_LIMIT {
+        return Err(MessageFault::TooLarge);
+    }
+    Ok(Request {
+        route: route_of(router, spans.path.of(held)),
+        method: method_of(spans.method.of(held)),
+        caller: caller_of(held, head.caller),
+        length: head.body as usize,
+        closes: head.closes,
+    })
+}
+
+/// An input is cut in one way alone: into one message with its body and what follows it, or into one of
+/// what stands in place of a message.
+pub fn cuts_of_the_input()
+    ensures { (input : List ℕ) (a b : Cut) → Cuts input a → Cuts input b → a ≡ b }
+{
+    heads_of_the_input();
+}
+
+fn take_room(body: &mut Vec<u8>, length: usize) -> Result<(), AllocError>
+    ensures empty { vec_len body.new ≡ 0 }
+    ensures room { OnOk result (length ≤ vec_capacity body.new) }
+{
+    body.clear();
+    body.reserve(length)
+}
+
+/// Reads the next message, if there is one: its head, and then its body into `body`.
+///
+/// A message is refused with `BadHead`, `TooLarge` or `CutBody`, in this order; its path, its method and
+/// its form are judged later.
+pub fn next_message<R: Read>(
+    held: &mut Held,
+    headers: &mut [HeaderSpan],
+    router: &Router<Route>,
+    reader: &mut R,
+    body: &mut Vec<u8>,
+) -> Result<Option<Next>, NextFault>
+    requires room { length headers.old ≡ 64 }
+    requires size { vec_len held.old.bytes ≡ 8192 }
+    requires router { router.now ≡ table }
+    ensures size { vec_len held.new.bytes ≡ 8192 }
+    ensures room { length headers.new ≡ 64 }
+    ensures cut { IfOk result (λ next. IfSome (input_left held.old (R.remaining reader.old)) (λ input. IsNext input next body.new.items (input_left held.new (R.remaining reader.new)))) }
+{
+    let spans = match next_head(held, headers, reader) {
+        Err(_) => return Err(NextFault::Read),
+        Ok(Front::End) => return Ok(None),
+        Ok(Front::Bad) => return Ok(Some(Next::Refused(MessageFault::BadHead))),
+        Ok(Front::Head(spans)) => spans,
+    };
+    let request = match request_of(held.held(), headers, &spans, router) {
+        Ok(request) => request,
+        Err(fault) => {
+            heads_of_the_input();
+            return Ok(Some(Next::Refused(fault)));
+        }
+    };
+    held.drop_front(spans.len);
+    if take_room(body, request.length).is_err() {
+        return Err(NextFault::Memory);
+    }
+    match read_body(held, reader, request.length, body) {
+        Err(_) => Err(NextFault::Read),
+        Ok(false) => Ok(Some(Next::Refused(MessageFault::CutBody))),
+        Ok(true) => Ok(Some(Next::Message(request))),
+    }
+}

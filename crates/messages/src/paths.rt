@@ -1,0 +1,157 @@
+//! The paths of the interface. Edit it seldom: the router's table is computed by its proof.
+ghost use Rattle.std.specs.Prelude.{◌≡◌, IfOk};
+ghost use Rattle.std.specs.List.{list_all};
+ghost use Rattle.messages.specs.Table.{table, paths, path_among, path_of, version_path, number_in, is_of_part, is_part as is_one_part, method_of as method_seen, takes as takes_method, among_offered};
+
+use crate::head::read_number;
+use matchit::{InsertError, Router};
+use std::alloc::Global;
+
+/// The method of a message.
+#[derive(Clone, Copy, Debug, PartialEq, Eq)]
+pub enum Method {
+    Get,
+    Post,
+    Other,
+}
+
+/// A path of the interface.
+#[derive(Clone, Copy, Debug, PartialEq, Eq)]
+pub enum Route {
+    Carriers,
+    Clock,
+    RoutingNumbers,
+    Codes,
+    OldProviderCreate,
+    NewProviderCreate,
+    Activate,
+    Acknowledge,
+    Query,
+    /// A version, by its number, where the path's last part is one.
+    Version(Option<u64>),
+}
+
+/// The method that a head names.
+pub fn method_of(name: &[u8]) -> Method
+    ensures { result ≡ method_seen name.now }
+{
+    if name == b"POST".as_slice() {
+        return Method::Post;
+    }
+    if name == b"GET".as_slice() {
+        return Method::Get;
+    }
+    Method::Other
+}
+
+/// Whether a path is there with this method: a version's with GET, the others with POST.
+pub fn takes(route: Route, method: Method) -> bool
+    ensures { result ≡ takes_method route method }
+{
+    match route {
+        Route::Version(_) => matches!(method, Method::Get),
+        Route::Carriers
+        | Route::Clock
+        | Route::RoutingNumbers
+        | Route::Codes
+        | Route::OldProviderCreate
+        | Route::NewProviderCreate
+        | Route::Activate
+        | Route::Acknowledge
+        | Route::Query => matches!(method, Method::Post),
+    }
+}
+
+/// The path, if it is there: that of the clock is only where it is offered.
+pub fn offered(route: Option<Route>, clock: bool) -> Option<Route>
+    ensures { result ≡ among_offered clock route }
+{
+    match route {
+        Some(Route::Clock) if !clock => None,
+        _ => route,
+    }
+}
+
+/// The router of the paths that are one text, for `next_message`. `Err` is what `matchit` refuses, as for want
+/// of memory.
+pub fn router(alloc: Global) -> Result<Router<Route>, InsertError>
+    ensures { IfOk result (λ r. r ≡ table) }
+{
+    let mut router = Router::new(alloc);
+    router.insert("/carriers", Route::Carriers)?;
+    router.insert("/clock", Route::Clock)?;
+    router.insert("/lrns", Route::RoutingNumbers)?;
+    router.insert("/codes", Route::Codes)?;
+    router.insert("/subscriptionVersionOldSP-Create", Route::OldProviderCreate)?;
+    router.insert("/subscriptionVersionNewSP-Create", Route::NewProviderCreate)?;
+    router.insert("/subscriptionVersionActivate", Route::Activate)?;
+    router.insert("/downloads/acknowledge", Route::Acknowledge)?;
+    router.insert("/query", Route::Query)?;
+    Ok(router)
+}
+
+// The path that is one text.
+fn fixed_route_of(router: &Router<Route>, target: &[u8]) -> Option<Route>
+    requires { router.now ≡ table }
+    ensures { result ≡ path_among paths target.now }
+{
+    match str::from_utf8(target) {
+        Ok(text) => match router.at(text) {
+            Ok(found) => Some(*found.value),
+            Err(_) => None,
+        },
+        Err(_) => None,
+    }
+}
+
+// Whether none of the bytes is a slash or a question mark.
+fn are_of_part(part: &[u8]) -> bool
+    ensures { result ≡ list_all is_of_part part.now }
+{
+    part.iter().all(|b| *b != b'/' && *b != b'?')
+}
+
+// Whether the bytes are one part of a path.
+fn is_part(part: &[u8]) -> bool
+    ensures { result ≡ is_one_part part.now }
+{
+    if part.is_empty() {
+        return false;
+    }
+    are_of_part(part)
+}
+
+// The number that a part writes in digits, with no zero in front.
+#[tactic(auto, unfolding(crate::specs::Table::number_in))]
+fn number_of_part(part: &[u8]) -> Option<u64>
+    ensures { result ≡ number_in part.now }
+{
+    if part.len() > 1 && part.starts_with(b"0") {
+        return None;
+    }
+    read_number(part).filter(|n| *n < 1 << 40)
+}
+
+// The path of a version.
+#[tactic(auto, unfolding(crate::specs::Table::version_path))]
+fn version_route_of(target: &[u8]) -> Option<Route>
+    ensures { result ≡ version_path target.now }
+{
+    let part = target.strip_prefix(b"/versions/")?;
+    if !is_part(part) {
+        return None;
+    }
+    Some(Route::Version(number_of_part(part)))
+}
+
+/// The path of a message's target, if it is one: byte for byte, with no decoding.
+#[tactic(auto, unfolding(crate::specs::Table::path_of))]
+pub fn route_of(router: &Router<Route>, target: &[u8]) -> Option<Route>
+    requires { router.now ≡ table }
+    ensures { result ≡ path_of target.now }
+{
+    match fixed_route_of(router, target) {
+        Some(route) => Some(route),
+        None => version_route_of(target),
+    }
+}
