@@ -1,5 +1,5 @@
 -- Empty lines, by the test and as the grammar has them.
-use Rattle.std.proofs.Common.{◌≡◌, ℕ, ◌++◌, List, [], ◌∷◌, length, Bool, true, false, not, ◌&&◌, cond, Option, Some, None, refl, sym, ap, ◌∙◌, subst, append-nil, arith, length-append}
+use Rattle.std.proofs.Common.{◌≡◌, ℕ, ◌++◌, List, [], ◌∷◌, Bool, true, false, not, ◌&&◌, cond, Option, Some, None, refl, sym, ap, ◌∙◌, subst, append-nil}
 use Rattle.std.proofs.lemmas.Bool.{eqb-true}
 use Rattle.std.specs.Prelude.{IfSome, ◌==◌}
 use Rattle.std.specs.Io.KnownBytes.{IsAtEnd, Keeps, prepend_known}
@@ -62,9 +62,6 @@ not_blank_end held None e end = tt
 not_blank_end held (Some more) e end =
     let same : held ++ more ≡ held = ap (λ (t : List ℕ). held ++ t) end ∙ append-nil held in
     λ blank. not_lines held e (subst IsBlank same blank)
-
-pub not_blank_long : (held : List ℕ) (r : Option (List ℕ)) → length held ≡ 8192 → IfSome (prepend_known held r) (λ input. ¬ (IsBlank input))
-not_blank_long held r long = known held r (λ input. ¬ (IsBlank input)) (λ more blank. absurd (omega (arith, blank.1, long, length-append held more)))
 
 pub not_blank_bad : (held : List ℕ) (r : Option (List ℕ)) → ((more : List ℕ) (ends : List LineEnd) → ¬ (held ++ more ≡ print_blank ends)) → IfSome (prepend_known held r) (λ input. ¬ (IsBlank input))
 not_blank_bad held r f = known held r (λ input. ¬ (IsBlank input)) (λ more blank. f more blank.0.0 blank.0.1)

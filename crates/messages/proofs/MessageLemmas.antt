@@ -2,7 +2,6 @@
 use Rattle.std.proofs.Common.{◌≡◌, ℕ, ◌<◌, ◌≤◌, List, ◌++◌, length, drop, Option, Some, None, refl, sym, ap, ◌∙◌, subst, arith, length-append, vec_len}
 use Rattle.std.specs.Prelude.{IfSome}
 use Rattle.std.specs.Io.KnownBytes.{Consumes, Keeps, prepend_known}
-use Rattle.std.proofs.lemmas.List.{length-take-le}
 use Rattle.httparse.specs.Grammar.{RequestHead, ReadsRequest, print_request}
 use Rattle.httparse.proofs.GrammarLemmas.{ReadsRequest-append}
 use Rattle.messages.specs.Cuts.{IsRequestOf, IsCutShort, Comes, Cuts, Refuses, RefusesHead}
@@ -14,11 +13,11 @@ use Rattle.messages.specs.declared.fault.MessageFault.TheVariants.{BadRequest, N
 use Rattle.messages.specs.declared.held.Held.{Held}
 use Rattle.messages.specs.declared.message.Request.{Request}
 use Rattle.messages.specs.declared.message.Next.TheVariants.{Message}
+use Rattle.messages.proofs.HeldLemmas.{held_length}
 
 pub held_short : (held : Held) → vec_len held.bytes ≡ 8192 → length (held_bytes held) ≤ 8192
 held_short held size =
-    let long : length (held_bytes held) ≡ held.filled = length-take-le held.filled held.bytes.items (omega (arith, held.fits, held.bytes.ok.0)) in
-    omega (arith, long, held.fits, size)
+    omega (arith, held_length held, held.fits, size)
 
 -- a head of so many bytes is at the front of what is held
 pub record HoldsHead (all r : Option (List ℕ)) (held : List ℕ) (len : ℕ) (h : RequestHead) : Type 0 where

@@ -1,11 +1,11 @@
 -- The bytes that were read and are not yet used up.
-use Rattle.std.specs.Prelude.{◌≡◌, ℕ, ◌+◌, ◌≤◌, List, ◌++◌, length, take, Option}
+use Rattle.std.specs.Prelude.{◌≡◌, ℕ, ◌+◌, ◌-◌, ◌≤◌, List, ◌++◌, length, take, drop, Option}
 use Rattle.std.specs.Io.KnownBytes.{Consumes, IsAtEnd, prepend_known}
 use Rattle.messages.specs.declared.held.Held.{Held}
 
 -- the bytes that are held
 abbrev pub held_bytes : Held → List ℕ
-held_bytes h = take h.filled h.bytes.items
+held_bytes h = take (h.filled - h.start) (drop h.start h.bytes.items)
 
 -- what is left of the input, where the reader's bytes are known: what is held, and then what the reader has
 abbrev pub input_left : Held → Option (List ℕ) → Option (List ℕ)

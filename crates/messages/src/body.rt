@@ -9,7 +9,7 @@ use std::io::Read;
 
 // Moves so many held bytes behind a body that has room for them.
 fn take_held(held: &mut Held, count: usize, body: &mut Vec<u8>)
-    requires held { count ≤ held.old.filled }
+    requires held { count ≤ length (held_bytes held.old) }
     requires room { vec_len body.old + count ≤ vec_capacity body.old }
     ensures size { vec_len held.new.bytes ≡ vec_len held.old.bytes }
     ensures held { held_bytes held.new ≡ drop count (held_bytes held.old) }
@@ -28,10 +28,10 @@ fn holds_some<R: Read>(held: &mut Held, reader: &mut R) -> io::Result<bool>
     requires size { vec_len held.old.bytes ≡ 8192 }
     ensures size { vec_len held.new.bytes ≡ 8192 }
     ensures left { Keeps (input_left held.old (R.remaining reader.old)) (input_left held.new (R.remaining reader.new)) }
-    ensures some { result ≡ Ok true → 0 < held.new.filled }
+    ensures some { result ≡ Ok true → 0 < length (held_bytes held.new) }
     ensures none { result ≡ Ok false → (held_bytes held.new ≡ []) × IsAtEnd (R.remaining reader.new) }
 {
-    if held.filled > 0 {
+    if held.len() > 0 {
         return Ok(true);
     }
     Ok(held.fill(reader)? > 0)
@@ -56,7 +56,7 @@ pub fn read_body<R: Read>(
             return Ok(false);
         }
         let missing = count - body.len();
-        take_held(held, missing.min(held.filled), body);
+        take_held(held, missing.min(held.len()), body);
     }
     Ok(true)
 }

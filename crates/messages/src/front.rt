@@ -54,7 +54,7 @@ pub fn next_head<R: Read>(
     ensures not_blank { result ≡ Ok Front.Bad → IfSome (input_left held.new (R.remaining reader.new)) (λ input. ¬ (IsBlank input)) }
 {
     'reads: loop {
-        match look_at(&held.bytes[..held.filled], headers) {
+        match look_at(held.held(), headers) {
             Look::Head(spans) => return Ok(Front::Head(spans)),
             Look::Bad => {
                 heads_of_the_input();
@@ -62,12 +62,12 @@ pub fn next_head<R: Read>(
             }
             Look::More => {}
         }
-        if held.filled == held.bytes.len() {
+        if held.len() == held.bytes.len() {
             heads_of_the_input();
             return Ok(Front::Bad);
         }
         if held.fill(reader)? == 0 {
-            if are_empty_lines(&held.bytes[..held.filled]) {
+            if are_empty_lines(held.held()) {
                 return Ok(Front::End);
             }
             return Ok(Front::Bad);

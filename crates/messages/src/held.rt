@@ -11,11 +11,16 @@ mod reads;
 /// How many bytes a head may have, with the empty lines in front of it.
 pub const HEAD_LIMIT: usize = 8192;
 
-/// What was read and is not yet used up: a buffer whose first `filled` bytes are held.
+/// Less room than this behind what is held is too little for a read.
+pub const LEAST_ROOM: usize = 1024;
+
+/// What was read and is not yet used up: the bytes of a buffer from `start` to `filled`.
 #[derive(Drop)]
 pub struct Held {
     pub(crate) bytes: Vec<u8>,
-    pub(crate) filled: usize,
+    start: usize,
+    filled: usize,
+    ghost begins: { start ≤ filled },
     ghost fits: { filled ≤ vec_len bytes },
 }
 
@@ -28,34 +33,73 @@ impl Held {
         ensures empty { IfOk result (λ held. held_bytes held ≡ []) }
     {
         let bytes = vec![in alloc; 0; HEAD_LIMIT]?;
-        Ok(Held { bytes, filled: 0 })
+        Ok(Held {
+            bytes,
+            start: 0,
+            filled: 0,
+        })
     }
 
     /// What is held.
     pub(crate) fn held(&self) -> &[u8]
         ensures { result.now ≡ held_bytes self.now }
     {
-        &self.bytes[..self.filled]
+        &self.bytes[self.start..self.filled]
     }
 
-    /// Lets go of the first n bytes.
+    /// How many bytes are held.
+    pub(crate) fn len(&self) -> usize
+        ensures value { result ≡ length (held_bytes self.now) }
+        ensures most { result ≤ vec_len self.now.bytes }
+    {
+        self.filled - self.start
+    }
+
+    /// Lets go of the first n bytes. They stay where they are: only what is behind them is held.
     pub(crate) fn drop_front(&mut self, n: usize)
-        requires { n ≤ self.old.filled }
+        requires { n ≤ length (held_bytes self.old) }
         ensures size { vec_len self.new.bytes ≡ vec_len self.old.bytes }
         ensures held { held_bytes self.new ≡ drop n (held_bytes self.old) }
     {
-        self.bytes.copy_within(n..self.filled, 0);
-        self.filled -= n;
+        self.start += n;
+        if self.start == self.filled {
+            self.start = 0;
+            self.filled = 0;
+        }
+    }
+
+    // Moves what is held to the front.
+    fn move_to_front(&mut self)
+        ensures size { vec_len self.new.bytes ≡ vec_len self.old.bytes }
+        ensures held { held_bytes self.new ≡ held_bytes self.old }
+        ensures front { self.new.start ≡ 0 }
+    {
+        self.bytes.copy_within(self.start..self.filled, 0);
+        self.filled -= self.start;
+        self.start = 0;
+    }
+
+    // Makes room behind what is held, where there is too little.
+    fn make_room(&mut self)
+        requires { length (held_bytes self.old) < vec_len self.old.bytes }
+        ensures size { vec_len self.new.bytes ≡ vec_len self.old.bytes }
+        ensures held { held_bytes self.new ≡ held_bytes self.old }
+        ensures room { self.new.filled < vec_len self.new.bytes }
+    {
+        if self.start > 0 && self.bytes.len() - self.filled < LEAST_ROOM {
+            self.move_to_front();
+        }
     }
 
     /// Reads once more behind what is held. 0 bytes come only at the end of the input.
     pub(crate) fn fill<R: Read>(&mut self, reader: &mut R) -> io::Result<usize>
-        requires { self.old.filled < vec_len self.old.bytes }
+        requires { length (held_bytes self.old) < vec_len self.old.bytes }
         ensures size { vec_len self.new.bytes ≡ vec_len self.old.bytes }
         ensures left { Keeps (input_left self.old (R.remaining reader.old)) (input_left self.new (R.remaining reader.new)) }
-        ensures grows { IfOk result (λ n. self.new.filled ≡ self.old.filled + n) }
+        ensures grows { IfOk result (λ n. length (held_bytes self.new) ≡ length (held_bytes self.old) + n) }
         ensures end { IfOk result (λ n. n ≡ 0 → IsAtEnd (R.remaining reader.new) × (held_bytes self.new ≡ held_bytes self.old)) }
     {
+        self.make_room();
         let start = self.filled;
         let n = reads::read_at(reader, &mut self.bytes, start)?;
         self.filled = start + n;
