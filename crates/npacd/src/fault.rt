@@ -1,4 +1,7 @@
 //! Why a command line was not carried out.
+ghost use Rattle.std.specs.Prelude.{◌≡◌};
+ghost use Rattle.npacd.specs.Faults.{exit_status, fault_name};
+
 use api::MessageFault;
 use register::OpenFault;
 use windows::WindowFault;
@@ -16,7 +19,9 @@ pub enum Fault {
 
 impl Fault {
     /// The name on standard error.
-    pub fn name(self) -> &'static str {
+    pub fn name(self) -> &'static str
+        ensures { result.now ≡ fault_name self }
+    {
         match self {
             Fault::Windows(fault) => fault.name(),
             Fault::Open(OpenFault::WindowsDiffer) => "windows_differ",
@@ -29,7 +34,9 @@ impl Fault {
     }
 
     /// The exit status: 1 for a refused file or message, 3 where the machine failed.
-    pub fn status(self) -> u8 {
+    pub fn status(self) -> u8
+        ensures { result ≡ exit_status self }
+    {
         match self {
             Fault::Windows(WindowFault::NoMemory)
             | Fault::Open(OpenFault::Storage | OpenFault::NoMemory)

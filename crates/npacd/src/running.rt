@@ -1,8 +1,12 @@
 //! Carrying out a command line.
+ghost use Rattle.std.specs.Prelude.{◌≡◌, IfSome};
+ghost use Rattle.version.specs.Views.{windows_of};
+ghost use Rattle.npacd.specs.Feeding.{Feeds, outcome_of};
+
 use crate::fault::Fault;
 use crate::parse::{Line, Subcommand, Usage, parse};
 use api::{End, NoTicks, Options, Served, serve};
-use register::Register;
+use register::{Register, law_of_new_stores};
 use std::alloc::Global;
 use std::io::{ErrorKind, Read, Write};
 use std::rt::Files;
@@ -27,7 +31,9 @@ fn windows_at<T: Files + AllocGlobal>(rt: &T, path: &str) -> Result<Windows, Fau
 }
 
 // A connection that ended by a message's fault ends the program by it.
-fn ended(served: Result<Served, api::Fault>) -> Result<(), Fault> {
+fn ended(served: Result<Served, api::Fault>) -> Result<(), Fault>
+    ensures { result ≡ outcome_of served }
+{
     match served {
         Ok(served) => match served.end {
             End::Input | End::Closed => Ok(()),
@@ -39,13 +45,17 @@ fn ended(served: Result<Served, api::Fault>) -> Result<(), Fault> {
     }
 }
 
-// Serves the reader to the writer over a new store in memory.
+// Serves the reader to the writer over a new store in memory: the answers are those of the history machine,
+// from the first state of the windows on.
 fn feed<R: Read, W: Write>(
     alloc: Global,
     windows: &Windows,
     reader: &mut R,
     writer: &mut W,
-) -> Result<(), Fault> {
+) -> Result<(), Fault>
+    ensures { IfSome (R.remaining reader.old) (λ input. Feeds (windows_of windows.now) input (W.contents writer.old) (W.contents writer.new) result) }
+{
+    law_of_new_stores();
     let store = MemoryStore::new(alloc);
     match Register::open(alloc, store, windows) {
         Ok(register) => {
