@@ -24,4 +24,6 @@ mod retries;
 #[cfg(test)]
 mod settling;
 #[cfg(test)]
+mod stores;
+#[cfg(test)]
 mod ticking;

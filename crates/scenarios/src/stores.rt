@@ -1,12 +1,12 @@
 //! A commit and each read. The same tests run with each allocation refused in turn: a commit that is
 //! refused leaves every read as it was.
-use super::MemoryStore;
 use delivery::Broadcast;
 use meaning::{Action, Status};
 use numbers::{BlockId, CodeId, Lrn, Minute, Routing, Spid, Subject, Tn};
 use settle::{BlockRow, BroadcastKey, Changes, Store, VersionRow, WaitKey};
 use std::alloc::Global;
 use std::test::Fail;
+use store::MemoryStore;
 use version::Version;
 
 #[derive(Clone, Copy)]
