@@ -81,60 +81,66 @@ fn changes(alloc: Global, sample: &Sample) -> Result<Changes, Fail> {
     Ok(changes)
 }
 
+// What stands under the keys of the sample.
+#[derive(Clone, Copy, Debug, PartialEq, Eq)]
+struct Found {
+    clock: bool,
+    carrier: bool,
+    lrn: Option<Spid>,
+    code: Option<Spid>,
+    block: bool,
+    version: bool,
+    in_force: bool,
+    opened: bool,
+    broadcast: bool,
+}
+
+fn look_up(store: &mut MemoryStore, sample: &Sample) -> Result<Found, Fail> {
+    Ok(Found {
+        clock: store.clock()?.is_some(),
+        carrier: store.carrier(sample.carrier)?,
+        lrn: store.lrn(sample.lrn)?,
+        code: store.code(sample.code)?,
+        block: store.block(sample.block)?.is_some(),
+        version: store.version(1)?.is_some(),
+        in_force: store.version_in_force(sample.subject)?.is_some(),
+        opened: store.open_version(sample.subject)?.is_some(),
+        broadcast: store.broadcast(KEY)?.is_some(),
+    })
+}
+
+// How many rows each list has.
+fn listed(store: &mut MemoryStore, sample: &Sample) -> Result<[usize; 5], Fail> {
+    let about = store.waits_about(sample.carrier, sample.subject)?.len();
+    let waiters = store.waiters(Minute::ZERO, KEY)?.len();
+    let carriers = store.carriers()?.len();
+    let broadcasts = store.open_broadcasts()?.len();
+    let in_force = store.in_force()?.len();
+    Ok([about, waiters, carriers, broadcasts, in_force])
+}
+
 #[test]
 fn commits_and_reads(rt: HostRuntime) -> Result<(), Fail> {
     let alloc = rt.alloc();
     let sample = make_sample()?;
-    let changes = changes(alloc, &sample)?;
     let mut store = MemoryStore::new(alloc);
-    let done = store.commit(&changes).is_ok();
-    let count = if done { 1 } else { 0 };
+    let done = store.commit(&changes(alloc, &sample)?).is_ok();
     let carrier = if done { Some(sample.carrier) } else { None };
-    assert_eq!(rt; store.carrier(sample.carrier), Ok(done));
-    assert_eq!(rt; store.lrn(sample.lrn), Ok(carrier));
-    assert_eq!(rt; store.code(sample.code), Ok(carrier));
-    assert_eq!(rt;
-        store.block(sample.block).is_ok_and(|row| row.is_some()),
-        done
-    );
-    assert_eq!(rt; store.version(1).is_ok_and(|row| row.is_some()), done);
-    assert_eq!(rt;
-        store
-            .version_in_force(sample.subject)
-            .is_ok_and(|row| row.is_some()),
-        done
-    );
-    assert_eq!(rt;
-        store
-            .open_version(sample.subject)
-            .is_ok_and(|row| row.is_some()),
-        false
-    );
-    assert_eq!(rt; store.broadcast(KEY).is_ok_and(|row| row.is_some()), done);
-    assert_eq!(rt; store.clock(), Ok(None));
+    let wanted = Found {
+        clock: false,
+        carrier: done,
+        lrn: carrier,
+        code: carrier,
+        block: done,
+        version: done,
+        in_force: done,
+        opened: false,
+        broadcast: done,
+    };
+    assert_eq!(rt; look_up(&mut store, &sample)?, wanted);
+    let count = if done { 1 } else { 0 };
+    assert_eq!(rt; listed(&mut store, &sample)?, [count; 5]);
     assert_eq!(rt; store.failures(), 0);
-    assert_eq!(rt;
-        store
-            .waits_about(sample.carrier, sample.subject)
-            .ok()
-            .ok_or("waits")?
-            .len(),
-        count
-    );
-    assert_eq!(rt;
-        store
-            .waiters(Minute::ZERO, KEY)
-            .ok()
-            .ok_or("waiters")?
-            .len(),
-        count
-    );
-    assert_eq!(rt; store.carriers().ok().ok_or("carriers")?.len(), count);
-    assert_eq!(rt;
-        store.open_broadcasts().ok().ok_or("broadcasts")?.len(),
-        count
-    );
-    assert_eq!(rt; store.in_force().ok().ok_or("in force")?.len(), count);
     Ok(())
 }
 
@@ -146,12 +152,15 @@ fn minute(number: u64) -> Result<Minute, Fail> {
 fn deadlines(
     alloc: Global,
     sample: &Sample,
-    versions: &[(u64, Option<Minute>)],
+    versions: &[(u64, Option<u64>)],
 ) -> Result<Changes, Fail> {
     let mut changes = Changes::none(alloc);
     for (id, deadline) in versions {
         let mut row = row(sample);
-        row.deadline = *deadline;
+        row.deadline = match deadline {
+            Some(number) => Some(minute(*number)?),
+            None => None,
+        };
         changes.versions.push((*id, row))?;
     }
     Ok(changes)
@@ -159,29 +168,33 @@ fn deadlines(
 
 // The id of the version whose deadline is least, where that minute is not after this one.
 fn least_due(store: &mut MemoryStore, now: u64) -> Result<Option<u64>, Fail> {
-    let least = store.least_due(minute(now)?).ok().ok_or("least due")?;
+    let least = store.least_due(minute(now)?)?;
     Ok(least.map(|version| version.id))
+}
+
+// The same at three minutes, one after the other.
+fn least_due_at(store: &mut MemoryStore, minutes: [u64; 3]) -> Result<[Option<u64>; 3], Fail> {
+    let [a, b, c] = minutes;
+    Ok([
+        least_due(store, a)?,
+        least_due(store, b)?,
+        least_due(store, c)?,
+    ])
 }
 
 #[test]
 fn finds_the_least_deadline(rt: HostRuntime) -> Result<(), Fail> {
     let alloc = rt.alloc();
     let sample = make_sample()?;
-    let first = [
-        (1, Some(minute(30)?)),
-        (2, Some(minute(10)?)),
-        (3, Some(minute(20)?)),
-        (4, None),
-    ];
+    let first = [(1, Some(30)), (2, Some(10)), (3, Some(20)), (4, None)];
     let mut store = MemoryStore::new(alloc);
     let done = store.commit(&deadlines(alloc, &sample, &first)?).is_ok();
     let second = if done { Some(2) } else { None };
-    assert_eq!(rt; least_due(&mut store, 9)?, None);
-    assert_eq!(rt; least_due(&mut store, 10)?, second);
-    assert_eq!(rt; least_due(&mut store, 1000)?, second);
+    let found = least_due_at(&mut store, [9, 10, 1000])?;
+    assert_eq!(rt; found, [None, second, second]);
 
     // The second version is over, and a fifth comes.
-    let next = [(2, None), (5, Some(minute(40)?))];
+    let next = [(2, None), (5, Some(40))];
     let changed = store.commit(&deadlines(alloc, &sample, &next)?).is_ok();
     let third = if done { Some(3) } else { Some(5) };
     let least = if changed { third } else { second };

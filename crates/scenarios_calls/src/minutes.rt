@@ -1,35 +1,9 @@
 //! Windows that end, by single minutes and by jumps of the clock.
-use crate::desk::{answer, desk, hear, look, message, refusal};
-use register::Register;
+use desk::{
+    BAD_METHOD, BAD_REQUEST, CONFLICT, DeskFault, FORBIDDEN, NOT_FOUND, OPENING, Port, Said,
+    Wanted, told,
+};
 use std::alloc::Global;
-use std::process::Abort;
-use std::test::Fail;
-use store::MemoryStore;
-
-/// What is answered.
-#[derive(Clone, Copy, Debug)]
-enum Wanted<'a> {
-    /// The clock's minute.
-    Now(u64),
-    /// A port of 2025331234 from BBBB to AAAA.
-    Port(Port<'a>),
-    Body(&'a str),
-    /// The status line's code and phrase, a refusal's name, and its number.
-    Refused(&'a str, &'a str, u8),
-}
-
-#[derive(Clone, Copy, Debug)]
-struct Port<'a> {
-    attempt: u64,
-    due: u64,
-    lrn: &'a str,
-    phase: &'a str,
-    since: u64,
-    status: &'a str,
-}
-
-/// A caller, a path, a body (none: a GET), and what is answered.
-type Row<'a> = (&'a str, &'a str, &'a str, Wanted<'a>);
 
 const CREATE: &str = "/subscriptionVersionNewSP-Create";
 
@@ -53,97 +27,27 @@ const UNROUTED: &str = r#"{"uri":"tel:+12025331234;npdi"}"#;
 
 const LRN: &str = "\"2025440000\"";
 
-const CONFLICT: &str = "409 Conflict";
-
-// Three carriers, each with a routing number, and the code of BBBB.
-const OPENING: [(&str, &str, &str); 7] = [
-    ("NPAC", "/carriers", r#"{"spid":"AAAA"}"#),
-    ("NPAC", "/carriers", r#"{"spid":"BBBB"}"#),
-    ("NPAC", "/carriers", r#"{"spid":"CCCC"}"#),
-    ("AAAA", "/lrns", r#"{"lrn":"2025440000"}"#),
-    ("BBBB", "/lrns", r#"{"lrn":"2025330000"}"#),
-    ("CCCC", "/lrns", r#"{"lrn":"2025550000"}"#),
-    ("NPAC", "/codes", r#"{"code":"202533","spid":"BBBB"}"#),
-];
-
-fn reply(
-    alloc: Global,
-    register: &mut Register<MemoryStore>,
-    caller: &str,
-    path: &str,
-    body: &str,
-) -> Result<String, Fail> {
-    let text = if body.is_empty() {
-        look(alloc, caller, path)?
-    } else {
-        message(alloc, caller, path, body)?
-    };
-    let mut reader: &[u8] = text.as_bytes();
-    let heard = hear(alloc, register, &mut reader)?;
-    Ok(heard.text)
-}
-
-fn opened(alloc: Global) -> Result<Register<MemoryStore>, Fail> {
-    let mut register = desk(alloc)?;
-    for (caller, path, body) in &OPENING {
-        reply(alloc, &mut register, caller, path, body)?;
-    }
-    Ok(register)
-}
-
-fn port_text(alloc: Global, port: &Port<'_>) -> Result<String, Fail> {
-    let Port {
-        attempt,
-        due,
-        lrn,
-        phase,
-        since,
-        status,
-    } = port;
-    Ok(format!(in alloc;
-        "{{\"attempt\":{attempt},\"cic\":null,\"due\":{due},\"id\":1,\"lrn\":{lrn},\"new\":\"AAAA\",\"old\":\"BBBB\",\"phase\":{phase},\"release\":null,\"since\":{since},\"status\":\"{status}\",\"subject\":\"2025331234\"}}"
-    )?)
-}
-
-fn wanted_text(alloc: Global, wanted: &Wanted<'_>) -> Result<String, Fail> {
-    match wanted {
-        Wanted::Now(minute) => {
-            let body = format!(in alloc; "{{\"now\":{minute}}}")?;
-            answer(alloc, "200 OK", body.as_str())
-        }
-        Wanted::Port(port) => answer(alloc, "200 OK", port_text(alloc, port)?.as_str()),
-        Wanted::Body(body) => answer(alloc, "200 OK", body),
-        Wanted::Refused(status, name, number) => refusal(alloc, status, name, *number),
-    }
-}
-
 // Each message is answered so, on a register after the opening.
-fn runs(rt: &impl Abort, alloc: Global, rows: &[Row<'_>]) -> Result<(), Fail> {
-    let mut register = opened(alloc)?;
-    for (caller, path, body, wanted) in rows {
-        let text = reply(alloc, &mut register, caller, path, body)?;
-        let wanted = wanted_text(alloc, wanted)?;
-        assert_eq!(rt; text.as_str(), wanted.as_str(), "{caller} {path} {body}");
-    }
-    Ok(())
+fn runs(alloc: Global, rows: &[Said<'_>]) -> Result<(), DeskFault> {
+    told(alloc, &OPENING, rows)
 }
 
-fn clock<'a>(body: &'a str, now: u64) -> Row<'a> {
+fn clock<'a>(body: &'a str, now: u64) -> Said<'a> {
     ("NPAC", "/clock", body, Wanted::Now(now))
 }
 
-fn shows<'a>(port: Port<'a>) -> Row<'a> {
+fn shows<'a>(port: Port<'a>) -> Said<'a> {
     ("CCCC", SHOW, "", Wanted::Port(port))
 }
 
 // The new provider's create at the present minute, due at 100.
-fn created<'a>() -> Row<'a> {
+fn created<'a>() -> Said<'a> {
     let body = r#"{"due":100,"lrn":"2025440000","new":"AAAA","old":"BBBB","tn":"2025331234"}"#;
     ("AAAA", CREATE, body, Wanted::Port(pending("\"initial\"")))
 }
 
 // And the old provider's.
-fn concurred<'a>() -> Row<'a> {
+fn concurred<'a>() -> Said<'a> {
     let body = r#"{"authorized":true,"due":100,"new":"AAAA","old":"BBBB","tn":"2025331234"}"#;
     ("BBBB", CONCUR, body, Wanted::Port(pending("null")))
 }
@@ -170,7 +74,7 @@ fn sent<'a>(status: &'a str, since: u64) -> Port<'a> {
     }
 }
 
-fn activates<'a>(since: u64) -> Row<'a> {
+fn activates<'a>(since: u64) -> Said<'a> {
     (
         "AAAA",
         ACTIVATE,
@@ -179,7 +83,7 @@ fn activates<'a>(since: u64) -> Row<'a> {
     )
 }
 
-fn acknowledges<'a>(caller: &'a str, status: &'a str, since: u64) -> Row<'a> {
+fn acknowledges<'a>(caller: &'a str, status: &'a str, since: u64) -> Said<'a> {
     (
         caller,
         ACKNOWLEDGE,
@@ -188,12 +92,12 @@ fn acknowledges<'a>(caller: &'a str, status: &'a str, since: u64) -> Row<'a> {
     )
 }
 
-fn asks<'a>(answered: &'a str) -> Row<'a> {
+fn asks<'a>(answered: &'a str) -> Said<'a> {
     ("CCCC", "/query", ASKED, Wanted::Body(answered))
 }
 
 #[test]
-fn a_port_waits_for_its_due_minute(rt: HostRuntime) -> Result<(), Fail> {
+fn a_port_waits_for_its_due_minute(rt: HostRuntime) -> Result<(), DeskFault> {
     let alloc = rt.alloc();
     let early = Wanted::Refused(CONFLICT, "before_due", 17);
     let rows = [
@@ -204,11 +108,11 @@ fn a_port_waits_for_its_due_minute(rt: HostRuntime) -> Result<(), Fail> {
         clock(r#"{"minute":100}"#, 100),
         activates(100),
     ];
-    runs(&rt, alloc, &rows)
+    runs(alloc, &rows)
 }
 
 #[test]
-fn a_silent_old_provider_delays_until_both_windows_ended(rt: HostRuntime) -> Result<(), Fail> {
+fn a_silent_old_provider_delays_until_both_windows_ended(rt: HostRuntime) -> Result<(), DeskFault> {
     let alloc = rt.alloc();
     let rows = [
         created(),
@@ -228,11 +132,11 @@ fn a_silent_old_provider_delays_until_both_windows_ended(rt: HostRuntime) -> Res
         shows(pending("\"ended\"")),
         activates(120),
     ];
-    runs(&rt, alloc, &rows)
+    runs(alloc, &rows)
 }
 
 // The old provider's create alone, due at 300.
-fn offered<'a>() -> Row<'a> {
+fn offered<'a>() -> Said<'a> {
     let body = r#"{"authorized":true,"due":300,"new":"AAAA","old":"BBBB","tn":"2025331234"}"#;
     (
         "BBBB",
@@ -254,7 +158,7 @@ fn alone<'a>(phase: &'a str, since: u64, status: &'a str) -> Port<'a> {
 }
 
 #[test]
-fn a_silent_new_provider_lets_the_port_go(rt: HostRuntime) -> Result<(), Fail> {
+fn a_silent_new_provider_lets_the_port_go(rt: HostRuntime) -> Result<(), DeskFault> {
     let alloc = rt.alloc();
     let minutes = [
         offered(),
@@ -263,18 +167,18 @@ fn a_silent_new_provider_lets_the_port_go(rt: HostRuntime) -> Result<(), Fail> {
         clock(r#"{"minute":120}"#, 120),
         shows(alone("null", 120, "canceled")),
     ];
-    runs(&rt, alloc, &minutes)?;
+    runs(alloc, &minutes)?;
     let jump = [
         offered(),
         clock(r#"{"minute":5}"#, 5),
         clock(r#"{"minute":900}"#, 900),
         shows(alone("null", 120, "canceled")),
     ];
-    runs(&rt, alloc, &jump)
+    runs(alloc, &jump)
 }
 
 #[test]
-fn some_acknowledgements_make_a_partial_failure(rt: HostRuntime) -> Result<(), Fail> {
+fn some_acknowledgements_make_a_partial_failure(rt: HostRuntime) -> Result<(), DeskFault> {
     let alloc = rt.alloc();
     let rows = [
         created(),
@@ -290,11 +194,11 @@ fn some_acknowledgements_make_a_partial_failure(rt: HostRuntime) -> Result<(), F
         acknowledges("AAAA", "partial-failure", 215),
         acknowledges("BBBB", "active", 215),
     ];
-    runs(&rt, alloc, &rows)
+    runs(alloc, &rows)
 }
 
 #[test]
-fn an_acknowledgement_in_the_closing_minute_is_late(rt: HostRuntime) -> Result<(), Fail> {
+fn an_acknowledgement_in_the_closing_minute_is_late(rt: HostRuntime) -> Result<(), DeskFault> {
     let alloc = rt.alloc();
     let rows = [
         created(),
@@ -306,7 +210,7 @@ fn an_acknowledgement_in_the_closing_minute_is_late(rt: HostRuntime) -> Result<(
             "CCCC",
             ACKNOWLEDGE,
             DOWNLOAD,
-            Wanted::Refused("404 Not Found", "not_queued", 25),
+            Wanted::Refused(NOT_FOUND, "not_queued", 25),
         ),
         shows(sent("failed", 215)),
         asks(UNROUTED),
@@ -321,11 +225,11 @@ fn an_acknowledgement_in_the_closing_minute_is_late(rt: HostRuntime) -> Result<(
             }),
         ),
     ];
-    runs(&rt, alloc, &rows)
+    runs(alloc, &rows)
 }
 
 // Sent at 400, and one carrier has acknowledged it.
-fn until_400<'a>() -> [Row<'a>; 5] {
+fn until_400<'a>() -> [Said<'a>; 5] {
     [
         created(),
         concurred(),
@@ -343,7 +247,7 @@ const WITH_THE_NUMBER: &str =
     r#"{"rows":[{"cic":null,"lrn":"2025440000","subject":"2025331234"}],"spid":"DDDD"}"#;
 
 #[test]
-fn a_newcomer_gets_what_is_still_open(rt: HostRuntime) -> Result<(), Fail> {
+fn a_newcomer_gets_what_is_still_open(rt: HostRuntime) -> Result<(), DeskFault> {
     let alloc = rt.alloc();
     let [a, b, c, d, e] = until_400();
     let rows = [
@@ -356,11 +260,11 @@ fn a_newcomer_gets_what_is_still_open(rt: HostRuntime) -> Result<(), Fail> {
         ("NPAC", "/carriers", NEWCOMER, Wanted::Body(WITHOUT_ROWS)),
         acknowledges("DDDD", "sending", 400),
     ];
-    runs(&rt, alloc, &rows)
+    runs(alloc, &rows)
 }
 
 #[test]
-fn a_newcomer_gets_nothing_of_what_has_ended(rt: HostRuntime) -> Result<(), Fail> {
+fn a_newcomer_gets_nothing_of_what_has_ended(rt: HostRuntime) -> Result<(), DeskFault> {
     let alloc = rt.alloc();
     let [a, b, c, d, e] = until_400();
     let rows = [
@@ -375,16 +279,16 @@ fn a_newcomer_gets_nothing_of_what_has_ended(rt: HostRuntime) -> Result<(), Fail
             "DDDD",
             ACKNOWLEDGE,
             DOWNLOAD,
-            Wanted::Refused("404 Not Found", "not_queued", 25),
+            Wanted::Refused(NOT_FOUND, "not_queued", 25),
         ),
         acknowledges("BBBB", "partial-failure", 415),
         acknowledges("CCCC", "active", 415),
     ];
-    runs(&rt, alloc, &rows)
+    runs(alloc, &rows)
 }
 
 #[test]
-fn the_clock_does_not_go_back(rt: HostRuntime) -> Result<(), Fail> {
+fn the_clock_does_not_go_back(rt: HostRuntime) -> Result<(), DeskFault> {
     let alloc = rt.alloc();
     let rows = [
         created(),
@@ -399,11 +303,11 @@ fn the_clock_does_not_go_back(rt: HostRuntime) -> Result<(), Fail> {
         shows(pending("\"ended\"")),
         activates(500),
     ];
-    runs(&rt, alloc, &rows)
+    runs(alloc, &rows)
 }
 
 #[test]
-fn a_port_that_is_never_activated_is_not_kept(rt: HostRuntime) -> Result<(), Fail> {
+fn a_port_that_is_never_activated_is_not_kept(rt: HostRuntime) -> Result<(), DeskFault> {
     let alloc = rt.alloc();
     let canceled = Port {
         since: 600,
@@ -418,12 +322,12 @@ fn a_port_that_is_never_activated_is_not_kept(rt: HostRuntime) -> Result<(), Fai
         clock(r#"{"minute":600}"#, 600),
         shows(canceled),
     ];
-    runs(&rt, alloc, &rows)
+    runs(alloc, &rows)
 }
 
 // Due at 10, and the old provider comes at 300: the retention counts from the due minute.
 #[test]
-fn a_late_concurrence_keeps_the_retention(rt: HostRuntime) -> Result<(), Fail> {
+fn a_late_concurrence_keeps_the_retention(rt: HostRuntime) -> Result<(), DeskFault> {
     let alloc = rt.alloc();
     let create = r#"{"due":10,"lrn":"2025440000","new":"AAAA","old":"BBBB","tn":"2025331234"}"#;
     let concur = r#"{"authorized":true,"due":10,"new":"AAAA","old":"BBBB","tn":"2025331234"}"#;
@@ -444,17 +348,11 @@ fn a_late_concurrence_keeps_the_retention(rt: HostRuntime) -> Result<(), Fail> {
             ..early("null")
         }),
     ];
-    runs(&rt, alloc, &rows)
+    runs(alloc, &rows)
 }
 
-const FORBIDDEN: &str = "403 Forbidden";
-
-const MISSING: &str = "404 Not Found";
-
-const BAD: &str = "400 Bad Request";
-
 #[test]
-fn the_clock_and_versions_are_refused_in_order(rt: HostRuntime) -> Result<(), Fail> {
+fn the_clock_and_versions_are_refused_in_order(rt: HostRuntime) -> Result<(), DeskFault> {
     let alloc = rt.alloc();
     let minute = r#"{"minute":7}"#;
     let rows = [
@@ -474,25 +372,25 @@ fn the_clock_and_versions_are_refused_in_order(rt: HostRuntime) -> Result<(), Fa
             "AAAA",
             "/clock",
             r#"{"minute":"7"}"#,
-            Wanted::Refused(BAD, "bad_request", 41),
+            Wanted::Refused(BAD_REQUEST, "bad_request", 41),
         ),
         (
             "NPAC",
             "/clock",
             r#"{"minute":1099511627776}"#,
-            Wanted::Refused(BAD, "bad_request", 41),
+            Wanted::Refused(BAD_REQUEST, "bad_request", 41),
         ),
         (
             "NPAC",
             "/clock",
             r#"{"minute":7,"now":7}"#,
-            Wanted::Refused(BAD, "bad_request", 41),
+            Wanted::Refused(BAD_REQUEST, "bad_request", 41),
         ),
         (
             "NPAC",
             "/clock",
             "",
-            Wanted::Refused("405 Method Not Allowed", "bad_method", 43),
+            Wanted::Refused(BAD_METHOD, "bad_method", 43),
         ),
         clock(minute, 7),
         created_at_7(),
@@ -512,61 +410,61 @@ fn the_clock_and_versions_are_refused_in_order(rt: HostRuntime) -> Result<(), Fa
             "AAAA",
             "/versions/2",
             "",
-            Wanted::Refused(MISSING, "not_found", 10),
+            Wanted::Refused(NOT_FOUND, "not_found", 10),
         ),
         (
             "AAAA",
             "/versions/0",
             "",
-            Wanted::Refused(MISSING, "not_found", 10),
+            Wanted::Refused(NOT_FOUND, "not_found", 10),
         ),
         (
             "AAAA",
             "/versions/01",
             "",
-            Wanted::Refused(BAD, "bad_request", 41),
+            Wanted::Refused(BAD_REQUEST, "bad_request", 41),
         ),
         (
             "AAAA",
             "/versions/x",
             "",
-            Wanted::Refused(BAD, "bad_request", 41),
+            Wanted::Refused(BAD_REQUEST, "bad_request", 41),
         ),
         (
             "AAAA",
             "/versions/1099511627776",
             "",
-            Wanted::Refused(BAD, "bad_request", 41),
+            Wanted::Refused(BAD_REQUEST, "bad_request", 41),
         ),
         (
             "AAAA",
             SHOW,
             "{}",
-            Wanted::Refused("405 Method Not Allowed", "bad_method", 43),
+            Wanted::Refused(BAD_METHOD, "bad_method", 43),
         ),
         (
             "AAAA",
             "/versions/",
             "",
-            Wanted::Refused(MISSING, "no_path", 42),
+            Wanted::Refused(NOT_FOUND, "no_path", 42),
         ),
         (
             "AAAA",
             "/versions/1/",
             "",
-            Wanted::Refused(MISSING, "no_path", 42),
+            Wanted::Refused(NOT_FOUND, "no_path", 42),
         ),
         (
             "AAAA",
             "/versions/1?a",
             "",
-            Wanted::Refused(MISSING, "no_path", 42),
+            Wanted::Refused(NOT_FOUND, "no_path", 42),
         ),
     ];
-    runs(&rt, alloc, &rows)
+    runs(alloc, &rows)
 }
 
-fn created_at_7<'a>() -> Row<'a> {
+fn created_at_7<'a>() -> Said<'a> {
     let body = r#"{"due":100,"lrn":"2025440000","new":"AAAA","old":"BBBB","tn":"2025331234"}"#;
     let port = Port {
         since: 7,

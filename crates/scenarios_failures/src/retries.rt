@@ -2,14 +2,12 @@
 //!
 //! `rt try --test --fail-alloc N` runs it with its N-th allocation refused; `bench/refused-memory` does the same
 //! to the built program, for every N.
-use crate::desk::WINDOWS;
-use crate::first_port::FIRST_PORT;
 use api::{End, Fault, NoTicks, Options, Served, serve};
+use desk::{FIRST_PORT, Said, asked, new_register};
 use register::Register;
 use std::alloc::Global;
 use std::test::Fail;
 use store::MemoryStore;
-use windows::Windows;
 
 const NO_MEMORY: &str =
     "HTTP/1.1 503 Service Unavailable\r\ncontent-type: application/json\r\ncontent-length: 33\r\n\r\n{\"error\":\"no_memory\",\"number\":30}";
@@ -48,39 +46,22 @@ fn say(
     Heard::Wrong
 }
 
-// The register, if memory for it is granted.
-fn granted_desk(alloc: Global) -> Option<Register<MemoryStore>> {
-    let windows = Windows::from_toml(alloc, WINDOWS).ok()?;
-    match Register::open(alloc, MemoryStore::new(alloc), &windows) {
-        Ok(register) => Some(register),
-        Err((_store, _fault)) => None,
-    }
-}
-
-// A message and its answer.
-fn granted_texts(alloc: Global, row: &(&str, &str, &str, &str)) -> Option<(String, String)> {
-    let (caller, path, body, reply) = row;
-    let (length, replied) = (body.len(), reply.len());
-    let asked = format!(in alloc;
-        "POST {path} HTTP/1.1\r\nx-spid: {caller}\r\ncontent-length: {length}\r\n\r\n{body}"
-    ).ok()?;
-    let answered = format!(in alloc;
-        "HTTP/1.1 200 OK\r\ncontent-type: application/json\r\ncontent-length: {replied}\r\n\r\n{reply}"
-    ).ok()?;
-    Some((asked, answered))
+// A message and its answer, if memory for them is granted.
+fn granted_texts(alloc: Global, said: &Said<'_>) -> Option<(String, String)> {
+    Some((asked(alloc, said).ok()?, said.3.text(alloc).ok()?))
 }
 
 fn desk_at_last(alloc: Global) -> Option<Register<MemoryStore>> {
-    match granted_desk(alloc) {
-        Some(register) => Some(register),
-        None => granted_desk(alloc),
+    match new_register(alloc) {
+        Ok(register) => Some(register),
+        Err(_) => new_register(alloc).ok(),
     }
 }
 
-fn texts_at_last(alloc: Global, row: &(&str, &str, &str, &str)) -> Option<(String, String)> {
-    match granted_texts(alloc, row) {
+fn texts_at_last(alloc: Global, said: &Said<'_>) -> Option<(String, String)> {
+    match granted_texts(alloc, said) {
         Some(texts) => Some(texts),
-        None => granted_texts(alloc, row),
+        None => granted_texts(alloc, said),
     }
 }
 
@@ -91,30 +72,28 @@ fn room_at_last(alloc: Global) -> Option<Vec<u8>> {
     }
 }
 
+// A row is said, and said again where it was refused.
+fn said_again(
+    alloc: Global,
+    register: &mut Register<MemoryStore>,
+    said: &Said<'_>,
+    bytes: &mut Vec<u8>,
+) -> Option<Heard> {
+    let (asked, answered) = texts_at_last(alloc, said)?;
+    match say(alloc, register, asked.as_str(), answered.as_str(), bytes) {
+        Heard::Refused => Some(say(alloc, register, asked.as_str(), answered.as_str(), bytes)),
+        heard => Some(heard),
+    }
+}
+
 #[test]
 fn a_refused_message_may_be_sent_again(rt: HostRuntime) -> Result<(), Fail> {
     let alloc = rt.alloc();
     let mut register = desk_at_last(alloc).ok_or("desk")?;
     let mut bytes = room_at_last(alloc).ok_or("room")?;
-    for row in &FIRST_PORT {
-        let (asked, answered) = texts_at_last(alloc, row).ok_or("texts")?;
-        let mut heard = say(
-            alloc,
-            &mut register,
-            asked.as_str(),
-            answered.as_str(),
-            &mut bytes,
-        );
-        if heard == Heard::Refused {
-            heard = say(
-                alloc,
-                &mut register,
-                asked.as_str(),
-                answered.as_str(),
-                &mut bytes,
-            );
-        }
-        assert_eq!(rt; heard, Heard::Right, "{}", answered.as_str());
+    for said in &FIRST_PORT {
+        let heard = said_again(alloc, &mut register, said, &mut bytes);
+        assert_eq!(rt; heard, Some(Heard::Right));
     }
     Ok(())
 }

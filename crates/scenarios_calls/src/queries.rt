@@ -1,19 +1,19 @@
 //! Queries after the first port, by URIs of every kind.
-use crate::desk::{answer, refusal, times};
-use crate::ports::{after_the_first_port, reply};
+use desk::{
+    BAD_REQUEST, DeskFault, FIRST_PORT, FORBIDDEN, Said, Wanted, after_the_first_port, tell, times,
+    told,
+};
 use register::Register;
-use std::alloc::Global;
-use std::process::Abort;
-use std::test::Fail;
+use std::alloc::{AllocError, Global};
 use store::MemoryStore;
 
 // A body with this URI, as JSON writes it.
-fn body_of(alloc: Global, uri: &str) -> Result<String, Fail> {
-    Ok(format!(in alloc; "{{\"uri\":\"{uri}\"}}")?)
+fn body_of(alloc: Global, uri: &str) -> Result<String, AllocError> {
+    format!(in alloc; "{{\"uri\":\"{uri}\"}}")
 }
 
 // A query's URI, and the one that answers it.
-const ANSWERED: [(&str, &str); 9] = [
+static ANSWERED: [(&str, &str); 9] = [
     ("tel:+12025331234", "tel:+12025331234;npdi;rn=+12025440000"),
     (
         "tel:+1-202-533-1234;rn=+12020000000;npdi",
@@ -39,29 +39,32 @@ const ANSWERED: [(&str, &str); 9] = [
 
 // Each query is answered so.
 fn are_answered(
-    rt: &impl Abort,
     alloc: Global,
     register: &mut Register<MemoryStore>,
     rows: &[(&str, &str)],
-) -> Result<(), Fail> {
+) -> Result<(), DeskFault> {
     for (uri, found) in rows {
         let asked = body_of(alloc, uri)?;
-        let text = reply(alloc, register, ("AAAA", "/query", asked.as_str()))?;
-        let wanted = answer(alloc, "200 OK", body_of(alloc, found)?.as_str())?;
-        assert_eq!(rt; text.as_str(), wanted.as_str(), "{uri}");
+        let answered = body_of(alloc, found)?;
+        let wanted = Wanted::Body(answered.as_str());
+        tell(
+            alloc,
+            register,
+            &[("AAAA", "/query", asked.as_str(), wanted)],
+        )?;
     }
     Ok(())
 }
 
 #[test]
-fn uris_are_answered_by_what_is_in_force(rt: HostRuntime) -> Result<(), Fail> {
+fn uris_are_answered_by_what_is_in_force(rt: HostRuntime) -> Result<(), DeskFault> {
     let alloc = rt.alloc();
     let mut register = after_the_first_port(alloc)?;
-    are_answered(&rt, alloc, &mut register, &ANSWERED)
+    are_answered(alloc, &mut register, &ANSWERED)
 }
 
 // A URI, and the name and number of its fault.
-const FAULTY: [(&str, &str, u8); 13] = [
+static FAULTY: [(&str, &str, u8); 13] = [
     ("sip:a", "not_tel", 31),
     ("", "not_tel", 31),
     ("tel:", "bad_number", 32),
@@ -79,35 +82,36 @@ const FAULTY: [(&str, &str, u8); 13] = [
 
 // Each query is refused so.
 fn are_refused(
-    rt: &impl Abort,
     alloc: Global,
     register: &mut Register<MemoryStore>,
     rows: &[(&str, &str, u8)],
-) -> Result<(), Fail> {
+) -> Result<(), DeskFault> {
     for (uri, name, number) in rows {
         let asked = body_of(alloc, uri)?;
-        let text = reply(alloc, register, ("AAAA", "/query", asked.as_str()))?;
-        let wanted = refusal(alloc, "400 Bad Request", name, *number)?;
-        assert_eq!(rt; text.as_str(), wanted.as_str(), "{name}");
+        let wanted = Wanted::Refused(BAD_REQUEST, name, *number);
+        tell(
+            alloc,
+            register,
+            &[("AAAA", "/query", asked.as_str(), wanted)],
+        )?;
     }
     Ok(())
 }
 
 #[test]
-fn faults_of_uris_are_told(rt: HostRuntime) -> Result<(), Fail> {
+fn faults_of_uris_are_told(rt: HostRuntime) -> Result<(), DeskFault> {
     let alloc = rt.alloc();
     let mut register = after_the_first_port(alloc)?;
-    are_refused(&rt, alloc, &mut register, &FAULTY)
+    are_refused(alloc, &mut register, &FAULTY)
 }
 
 #[test]
-fn uris_have_a_limit(rt: HostRuntime) -> Result<(), Fail> {
+fn uris_have_a_limit(rt: HostRuntime) -> Result<(), DeskFault> {
     let alloc = rt.alloc();
     let mut register = after_the_first_port(alloc)?;
     let digits = times(alloc, "1", 2043)?;
     let longest = format!(in alloc; "tel:+{digits}")?;
     are_answered(
-        &rt,
         alloc,
         &mut register,
         &[(longest.as_str(), longest.as_str())],
@@ -115,7 +119,6 @@ fn uris_have_a_limit(rt: HostRuntime) -> Result<(), Fail> {
     let longer = format!(in alloc; "tel:+1{digits}")?;
     let semicolons = times(alloc, ";", 1_000_000)?;
     are_refused(
-        &rt,
         alloc,
         &mut register,
         &[
@@ -125,15 +128,20 @@ fn uris_have_a_limit(rt: HostRuntime) -> Result<(), Fail> {
     )
 }
 
+const STRANGE: Wanted<'static> = Wanted::Refused(FORBIDDEN, "unknown_carrier", 1);
+
+static STRANGERS: [Said<'static>; 3] = [
+    ("ZZZZ", "/query", r#"{"uri":"sip:a"}"#, STRANGE),
+    ("ZZZZ", "/query", r#"{"uri":"tel:+1;a="}"#, STRANGE),
+    (
+        "ZZZZ",
+        "/query",
+        r#"{"uri":"tel:+12025331234;npdi"}"#,
+        STRANGE,
+    ),
+];
+
 #[test]
-fn the_caller_is_judged_before_the_uri(rt: HostRuntime) -> Result<(), Fail> {
-    let alloc = rt.alloc();
-    let mut register = after_the_first_port(alloc)?;
-    let wanted = refusal(alloc, "403 Forbidden", "unknown_carrier", 1)?;
-    for uri in ["sip:a", "tel:+1;a=", "tel:+12025331234;npdi"] {
-        let asked = body_of(alloc, uri)?;
-        let text = reply(alloc, &mut register, ("ZZZZ", "/query", asked.as_str()))?;
-        assert_eq!(rt; text.as_str(), wanted.as_str(), "{uri}");
-    }
-    Ok(())
+fn the_caller_is_judged_before_the_uri(rt: HostRuntime) -> Result<(), DeskFault> {
+    told(rt.alloc(), &FIRST_PORT, &STRANGERS)
 }
