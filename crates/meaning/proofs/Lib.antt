@@ -27,3 +27,4 @@ pub mod Later
 pub mod Begun
 pub mod Rooms
 pub mod Reached
+pub mod Firings

@@ -1,5 +1,5 @@
 -- Laws of the history machine, each the contract of a function.
-use Rattle.std.specs.Prelude.{◌≡◌, ℕ, ◌≤◌, ◌<◌, Bool, true, false, is_some, List, [], ◌∷◌, ⊤, Option, Some, None, option_map, filter, length}
+use Rattle.std.specs.Prelude.{◌≡◌, ◌≢◌, ℕ, suc, ◌≤◌, ◌<◌, Bool, true, false, is_some, List, [], ◌∷◌, ⊤, Option, Some, None, option_map, filter, length}
 use Rattle.numbers.specs.Subjects.{Subject, Block}
 use Rattle.meaning.specs.Commands.{RegisterCarrier, RegisterRoutingNumber, OpenCode, OldProviderCreate, NewProviderCreate, Activate, PutInConflict, RemoveFromConflict, Cancel, OldProviderCancellationAcknowledge, NewProviderCancellationAcknowledge, Disconnect, Donate, Assign, Release}
 use Rattle.meaning.specs.Statuses.{Active}
@@ -45,6 +45,15 @@ pub record IsOrderly (s : Subject) (r : Record) : Type 0 where
 -- in every state that a run can reach each subject is orderly
 abbrev pub NoTwoActive : Type 0
 NoTwoActive = (st : State) → IsState st → (s : Subject) → IsOrderly s (record_now st s)
+
+-- from every state that a run can reach, until a subject is asked for again, at most two minutes change its record: a version
+-- that is cancel-pending may become conflict and then canceled, one that is disconnect-pending is sent and then closed, and no
+-- other version waits beside it
+abbrev pub AtMostTwoFirings : Type 0
+AtMostTwoFirings =
+    (st : State) → IsState st → (s : Subject) →
+    (d : ℕ) × (e : ℕ) × ((m : ℕ) → st.now ≤ m → suc m ≢ d → suc m ≢ e →
+    judge st.windows (suc m) (judged st.windows st.now m (record_now st s)) ≡ judged st.windows st.now m (record_now st s))
 
 -- in every state that a run can reach, what is in force has a routing
 abbrev pub ForceIsRouted : Type 0

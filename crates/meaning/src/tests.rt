@@ -1,6 +1,8 @@
 //! The public functions called once, and the numbers of the refusals from outside.
 use crate::Refusal;
-use crate::laws::{law_of_answers, law_of_routing, law_of_service, laws_of_minutes};
+use crate::laws::{
+    law_of_answers, law_of_firings, law_of_routing, law_of_service, laws_of_minutes,
+};
 use std::alloc::Global;
 
 const ALL: [Refusal; 30] = [
@@ -62,6 +64,7 @@ fn refused_memory_is_a_refusal(rt: HostRuntime) {
 #[test]
 fn laws_return(_rt: HostRuntime) {
     laws_of_minutes();
+    law_of_firings();
     law_of_service();
     law_of_routing();
     law_of_answers();
