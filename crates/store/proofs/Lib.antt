@@ -5,6 +5,7 @@ pub mod Forgotten
 pub mod Lists
 pub mod Changed
 pub mod Undone
+pub mod Spare
 pub mod Registry
 pub mod Found
 pub mod Due

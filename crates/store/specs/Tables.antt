@@ -1,5 +1,5 @@
 -- What the tables of a store in memory contain.
-use Rattle.std.specs.Prelude.{◌≡◌, ◌<◌, ℕ, List, map, Option, Some, option_map, is_some, true}
+use Rattle.std.specs.Prelude.{◌≡◌, ◌<◌, ℕ, List, map, Option, Some, None, option_map, is_some, IsSomeAnd, true}
 use Rattle.std.specs.declared.cmp.Ordering.{Ordering}
 use Rattle.std.specs.Ordering.{nat_cmp, ordering_then, on}
 use Rattle.std.specs.BTreeMap.{BTreeMap}
@@ -111,7 +111,7 @@ opened_key id row = option_map (subject_version id) row.opens
 abbrev pub due_key : ℕ → VersionRow → Option DueVersion
 due_key id row = option_map (due_version id) row.deadline
 
--- each version that has a key stands in the index under it. What the index has beside them is passed over
+-- each version that has a key stands in the index under it. A look-up passes over what the index has beside them: while a commit runs, the keys of rows before (`AreNeeded`)
 abbrev pub AreVersionsIndexed : {K L : Type 0} (R : L → L → Ordering) → (K → L) → (ℕ → VersionRow → Option L) → FinMap nat_cmp VersionRow → BTreeMap K (Unit {0}) → Type 0
 AreVersionsIndexed {L = L} R f key versions index =
     (id : ℕ) (row : VersionRow) (k : L) → get versions id ≡ Some row → key id row ≡ Some k → (id < 18446744073709551616) × (is_some (get (map_of {R = R} f (λ u. u) index) k) ≡ true)
@@ -152,6 +152,78 @@ KeepOtherWaits about old new =
     × Keeps (on due_version_of due_version_cmp) old.deadlines new.deadlines
     × KeepsOthers (on subject_wait_of subject_wait_cmp) old.waits_about new.waits_about about
 
+-- ---- keys that no row needs
+
+-- a key of one of the indexes
+pub data IndexKey : Type 0 where
+  Held : (key : SubjectVersion) → IndexKey
+  Opened : (key : SubjectVersion) → IndexKey
+  Due : (key : DueVersion) → IndexKey
+  About : (key : SubjectWait) → IndexKey
+
+-- the key stands in its index
+abbrev pub Stands : Tables → IndexKey → Type 0
+Stands t (Held k) = is_some (get (versions_index t.holds) k) ≡ true
+Stands t (Opened k) = is_some (get (versions_index t.opens) k) ≡ true
+Stands t (Due k) = is_some (get (map_of {R = due_version_cmp} due_version_of (λ u. u) t.deadlines) k) ≡ true
+Stands t (About k) = is_some (get (waits_index t.waits_about) k) ≡ true
+
+-- the key is one of this version's row
+abbrev pub IsKeyOf : ℕ → VersionRow → IndexKey → Type 0
+IsKeyOf id row (Held k) = held_key id row ≡ Some k
+IsKeyOf id row (Opened k) = opened_key id row ≡ Some k
+IsKeyOf id row (Due k) = due_key id row ≡ Some k
+IsKeyOf id row (About k) = ⊥
+
+-- the key is that of this download
+abbrev pub IsKeyOfWait : WaitKey → Subject → IndexKey → Type 0
+IsKeyOfWait key subject (Held k) = ⊥
+IsKeyOfWait key subject (Opened k) = ⊥
+IsKeyOfWait key subject (Due k) = ⊥
+IsKeyOfWait key subject (About k) = wait_about key subject ≡ k
+
+-- the download that a key is of
+abbrev pub wait_of : SubjectWait → WaitKey
+wait_of k = record { carrier = k.carrier; minute = k.minute; id = k.id; attempt = k.attempt }
+
+-- a row needs the key: the row of its id is there and has what the key says of it, or the download is there, with the key's subject
+abbrev pub IsNeeded : Content → IndexKey → Type 0
+IsNeeded c (Held k) = IsSomeAnd (get c.versions k.id) (λ row. row.holds ≡ Some k.subject)
+IsNeeded c (Opened k) = IsSomeAnd (get c.versions k.id) (λ row. row.opens ≡ Some k.subject)
+IsNeeded c (Due k) = IsSomeAnd (get c.versions k.id) (λ row. row.deadline ≡ Some k.minute)
+IsNeeded c (About k) = get c.waits (wait_of k) ≡ Some k.subject
+
+-- whatever stands in an index a row needs
+abbrev pub AreNeeded : Tables → Type 0
+AreNeeded t =
+    ((k : SubjectVersion) → Stands t (Held k) → IsNeeded (content_of t) (Held k))
+    × ((k : SubjectVersion) → Stands t (Opened k) → IsNeeded (content_of t) (Opened k))
+    × ((k : DueVersion) → Stands t (Due k) → IsNeeded (content_of t) (Due k))
+    × ((k : SubjectWait) → Stands t (About k) → IsNeeded (content_of t) (About k))
+
+-- the key stands in its index, and no row needs it
+abbrev pub IsSpare : Tables → IndexKey → Type 0
+IsSpare t k = Stands t k × (IsNeeded (content_of t) k → ⊥)
+
+-- no key is spare that was not
+abbrev pub AddNoSpare : Tables → Tables → Type 0
+AddNoSpare old new = (k : IndexKey) → IsSpare new k → IsSpare old k
+
+-- no key is spare that was not, but for these
+abbrev pub AddSpareOnly : (IndexKey → Type 0) → Tables → Tables → Type 0
+AddSpareOnly These old new = (k : IndexKey) → (These k → ⊥) → IsSpare new k → IsSpare old k
+
+-- none of these keys is spare
+abbrev pub NoneSpare : (IndexKey → Type 0) → Tables → Type 0
+NoneSpare These t = (k : IndexKey) → These k → IsSpare t k → ⊥
+
+-- the key is one of the row that was there before, if there was one
+abbrev pub WasKeyOf : ℕ → Option VersionRow → IndexKey → Type 0
+WasKeyOf id before k = IsSomeAnd before (λ row. IsKeyOf id row k)
+
+abbrev pub WasKeyOfWait : WaitKey → Option Subject → IndexKey → Type 0
+WasKeyOfWait key before k = IsSomeAnd before (λ subject. IsKeyOfWait key subject k)
+
 -- ---- a version's keys
 
 -- the keys of the row
@@ -159,6 +231,12 @@ pub record AreKeysOf (id : ℕ) (row : VersionRow) (keys : VersionKeys) : Type 0
   pub held : option_map subject_version_of keys.held ≡ held_key id row
   pub opened : option_map subject_version_of keys.opened ≡ opened_key id row
   pub due : option_map due_version_of keys.due ≡ due_key id row
+
+-- there is no key among them
+pub record AreNoKeys (keys : VersionKeys) : Type 0 where
+  pub held : keys.held ≡ None
+  pub opened : keys.opened ≡ None
+  pub due : keys.due ≡ None
 
 -- the indexes have them
 pub record HaveKeys (keys : VersionKeys) (t : Tables) : Type 0 where
@@ -172,10 +250,12 @@ pub record LackKeys (keys : VersionKeys) (t : Tables) : Type 0 where
   pub opened : Lacks (on subject_version_of subject_version_cmp) t.opens keys.opened
   pub due : Lacks (on due_version_of due_version_cmp) t.deadlines keys.due
 
--- nothing but these keys is taken away
+-- these keys are taken away, and nothing else
 pub record AreKeysTaken (keys : VersionKeys) (old new : Tables) : Type 0 where
   pub content : content_of new ≡ content_of old
   pub keeps : KeepOtherVersions keys old new
+  pub adds : KeepIndexes new old
+  pub gone : LackKeys keys new
 
 -- ---- one row put
 
@@ -185,35 +265,44 @@ with_version c id row = record c { versions = set c.versions id row }
 abbrev pub with_wait : Content → WaitKey → Option Subject → Content
 with_wait c k s = record c { waits = set c.waits k s }
 
--- the content is the same, and what the indexes had they have
+-- the content is the same, and the indexes have the keys that they had
 pub record IsKept (old new : Tables) : Type 0 where
   pub content : content_of new ≡ content_of old
   pub keeps : KeepIndexes old new
+  pub adds : KeepIndexes new old
 
--- a version's row is put, and with it its keys, of which some were new
+-- a version's row is put, and with it its keys, of which some were new. Those of the row before stay
 pub record IsVersionPut (id : ℕ) (row : VersionRow) (put : VersionPut) (old new : Tables) : Type 0 where
   pub content : content_of new ≡ with_version (content_of old) id (Some row)
   pub before : put.before ≡ get (content_of old).versions id
   pub are_new : LackKeys put.keys old
   pub keeps : KeepIndexes old new
+  pub adds : KeepOtherVersions put.keys new old
   pub indexed : AreIndexed new
+  pub spares : AddSpareOnly (WasKeyOf id put.before) old new
 
 -- what was there before is there again
 pub record IsVersionBack (id : ℕ) (put : VersionPut) (old new : Tables) : Type 0 where
   pub content : content_of new ≡ with_version (content_of old) id put.before
   pub keeps : KeepOtherVersions put.keys old new
+  pub adds : KeepIndexes new old
+  pub gone : LackKeys put.keys new
 
--- a download is put, and with it its key under its subject, which may have been new
+-- a download is put, and with it its key under its subject, which may have been new. That under the subject before stays
 pub record IsWaitPut (key : WaitKey) (subject : Subject) (put : WaitPut) (old new : Tables) : Type 0 where
   pub content : content_of new ≡ with_wait (content_of old) key (Some subject)
   pub before : option_map subject_of put.before ≡ get (content_of old).waits key
   pub is_new : Lacks (on subject_wait_of subject_wait_cmp) old.waits_about put.about
   pub keeps : KeepIndexes old new
+  pub adds : KeepOtherWaits put.about new old
   pub indexed : AreIndexed new
+  pub spares : AddSpareOnly (WasKeyOfWait key (option_map subject_of put.before)) old new
 
 pub record IsWaitBack (key : WaitKey) (put : WaitPut) (old new : Tables) : Type 0 where
   pub content : content_of new ≡ with_wait (content_of old) key (option_map subject_of put.before)
   pub keeps : KeepOtherWaits put.about old new
+  pub adds : KeepIndexes new old
+  pub gone : Lacks (on subject_wait_of subject_wait_cmp) new.waits_about put.about
 
 -- ---- the changes from a table on: each function puts the rows of one table, and then those of the next ones
 

@@ -6,7 +6,7 @@ ghost use Rattle.std.specs.FinMap.{get};
 ghost use Rattle.numbers.specs.Views.{subject_of};
 ghost use Rattle.settle.specs.Views.{wait_key_of, broadcast_key_of};
 ghost use Rattle.settle.specs.Changes.{IsChanged, changes_of, no_changes};
-ghost use Rattle.store.specs.Tables.{content_of, AreIndexed, with_wait, from_waits, from_broadcasts, from_versions, from_block, from_code, from_lrn, from_carrier, IsKept, IsVersionPut, IsVersionBack, IsWaitPut, IsWaitBack, AreBroadcastsTaken, AreWaitsTaken};
+ghost use Rattle.store.specs.Tables.{content_of, AreIndexed, AreNeeded, AddNoSpare, NoneSpare, WasKeyOf, WasKeyOfWait, with_wait, from_waits, from_broadcasts, from_versions, from_block, from_code, from_lrn, from_carrier, IsKept, IsVersionPut, IsVersionBack, IsWaitPut, IsWaitBack, AreBroadcastsTaken, AreWaitsTaken};
 
 use crate::indexes::{
     about, forget_version, forget_wait, put_key, put_version_keys, take_key, take_version_keys,
@@ -27,6 +27,8 @@ fn forget_wait_before(tables: &mut Tables, key: WaitKey, before: Option<Subject>
     requires { AreIndexed tables.old }
     ensures same { content_of tables.new ≡ content_of tables.old }
     ensures indexed { AreIndexed tables.new }
+    ensures spares { AddNoSpare tables.old tables.new }
+    ensures none { NoneSpare (WasKeyOfWait (wait_key_of key) (option_map subject_of before)) tables.new }
 {
     if let Some(subject) = before {
         forget_wait(tables, key, subject);
@@ -37,6 +39,8 @@ fn forget_version_before(tables: &mut Tables, id: u64, before: Option<VersionRow
     requires { AreIndexed tables.old }
     ensures same { content_of tables.new ≡ content_of tables.old }
     ensures indexed { AreIndexed tables.new }
+    ensures spares { AddNoSpare tables.old tables.new }
+    ensures none { NoneSpare (WasKeyOf id before) tables.new }
 {
     if let Some(row) = before {
         forget_version(tables, id, &row);
@@ -58,6 +62,7 @@ fn take_wait(tables: &mut Tables, key: WaitKey)
     requires { AreIndexed tables.old }
     ensures taken { content_of tables.new ≡ with_wait (content_of tables.old) (wait_key_of key) None }
     ensures indexed { AreIndexed tables.new }
+    ensures spares { AddNoSpare tables.old tables.new }
 {
     let before = tables.waits.remove(&key);
     forget_wait_before(tables, key, before);
@@ -67,6 +72,7 @@ fn take_waits(tables: &mut Tables, keys: &[WaitKey])
     requires { AreIndexed tables.old }
     ensures taken { AreWaitsTaken keys.now (content_of tables.old) (content_of tables.new) }
     ensures indexed { AreIndexed tables.new }
+    ensures spares { AddNoSpare tables.old tables.new }
 {
     if let Some((first, others)) = keys.split_first() {
         take_wait(tables, *first);
@@ -79,6 +85,7 @@ fn finish(tables: &mut Tables, changes: &Changes)
     requires { AreIndexed tables.old }
     ensures changed { IsChanged (from_waits [] changes.now) (content_of tables.old) (content_of tables.new) }
     ensures indexed { AreIndexed tables.new }
+    ensures spares { AddNoSpare tables.old tables.new }
 {
     tables.clock = changes.clock.or(tables.clock);
     take_broadcasts(&mut tables.broadcasts, &changes.taken_broadcasts);
@@ -125,6 +132,7 @@ fn put_waits(
     requires { AreIndexed tables.old }
     ensures changed { OnOk result (IsChanged (from_waits waits.now changes.now) (content_of tables.old) (content_of tables.new)) }
     ensures indexed { OnOk result (AreIndexed tables.new) }
+    ensures spares { OnOk result (AddNoSpare tables.old tables.new) }
     ensures kept { OnErr result (IsKept tables.old tables.new) }
 {
     let Some((first, others)) = waits.split_first() else {
@@ -154,6 +162,7 @@ fn put_broadcasts(
     requires { AreIndexed tables.old }
     ensures changed { OnOk result (IsChanged (from_broadcasts broadcasts.now changes.now) (content_of tables.old) (content_of tables.new)) }
     ensures indexed { OnOk result (AreIndexed tables.new) }
+    ensures spares { OnOk result (AddNoSpare tables.old tables.new) }
     ensures kept { OnErr result (IsKept tables.old tables.new) }
 {
     let Some((first, others)) = broadcasts.split_first() else {
@@ -212,6 +221,7 @@ fn put_versions(
     requires { AreIndexed tables.old }
     ensures changed { OnOk result (IsChanged (from_versions versions.now changes.now) (content_of tables.old) (content_of tables.new)) }
     ensures indexed { OnOk result (AreIndexed tables.new) }
+    ensures spares { OnOk result (AddNoSpare tables.old tables.new) }
     ensures kept { OnErr result (IsKept tables.old tables.new) }
 {
     let Some((first, others)) = versions.split_first() else {
@@ -236,6 +246,7 @@ fn put_block(tables: &mut Tables, changes: &Changes) -> Result<(), AllocError>
     requires { AreIndexed tables.old }
     ensures changed { OnOk result (IsChanged (from_block changes.now) (content_of tables.old) (content_of tables.new)) }
     ensures indexed { OnOk result (AreIndexed tables.new) }
+    ensures spares { OnOk result (AddNoSpare tables.old tables.new) }
     ensures kept { OnErr result (IsKept tables.old tables.new) }
 {
     let Some((block, row)) = changes.block else {
@@ -255,6 +266,7 @@ fn put_code(tables: &mut Tables, changes: &Changes) -> Result<(), AllocError>
     requires { AreIndexed tables.old }
     ensures changed { OnOk result (IsChanged (from_code changes.now) (content_of tables.old) (content_of tables.new)) }
     ensures indexed { OnOk result (AreIndexed tables.new) }
+    ensures spares { OnOk result (AddNoSpare tables.old tables.new) }
     ensures kept { OnErr result (IsKept tables.old tables.new) }
 {
     let Some((code, spid)) = changes.code else {
@@ -274,6 +286,7 @@ fn put_lrn(tables: &mut Tables, changes: &Changes) -> Result<(), AllocError>
     requires { AreIndexed tables.old }
     ensures changed { OnOk result (IsChanged (from_lrn changes.now) (content_of tables.old) (content_of tables.new)) }
     ensures indexed { OnOk result (AreIndexed tables.new) }
+    ensures spares { OnOk result (AddNoSpare tables.old tables.new) }
     ensures kept { OnErr result (IsKept tables.old tables.new) }
 {
     let Some((lrn, spid)) = changes.lrn else {
@@ -293,6 +306,7 @@ fn put_carrier(tables: &mut Tables, changes: &Changes) -> Result<(), AllocError>
     requires { AreIndexed tables.old }
     ensures changed { OnOk result (IsChanged (from_carrier changes.now) (content_of tables.old) (content_of tables.new)) }
     ensures indexed { OnOk result (AreIndexed tables.new) }
+    ensures spares { OnOk result (AddNoSpare tables.old tables.new) }
     ensures kept { OnErr result (IsKept tables.old tables.new) }
 {
     let Some(spid) = changes.carrier else {
@@ -314,6 +328,7 @@ pub fn commit(tables: &mut Tables, changes: &Changes) -> Result<(), AllocError>
     ensures done { OnOk result (IsChanged (changes_of changes.now) (content_of tables.old) (content_of tables.new)) }
     ensures refused { OnErr result (content_of tables.new ≡ content_of tables.old) }
     ensures indexed { AreIndexed tables.new }
+    ensures needed { AreNeeded tables.old → AreNeeded tables.new }
 {
     put_carrier(tables, changes)
 }

@@ -1,7 +1,8 @@
 //! A store in memory.
 ghost use Rattle.std.specs.Prelude.{◌≡◌};
+ghost use Rattle.std.proofs.Props.{props};
 ghost use Rattle.meaning.specs.Content.{empty_content};
-ghost use Rattle.store.specs.Tables.{content_of, AreIndexed};
+ghost use Rattle.store.specs.Tables.{content_of, AreIndexed, AreNeeded};
 
 use crate::commit::commit;
 use crate::reads::{
@@ -23,6 +24,7 @@ pub struct MemoryStore {
     alloc: Global,
     tables: Tables,
     ghost indexed: { AreIndexed tables },
+    ghost needed: { AreNeeded tables } by { Prim.hlevel props },
 }
 
 impl MemoryStore {
