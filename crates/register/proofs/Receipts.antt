@@ -1,6 +1,6 @@
 -- What an acknowledgement owes at each of its ends, over what its code reads.
 use Rattle.std.proofs.Common.{◌≡◌, ℕ, Bool, true, false, ◌&&◌, List, [], ◌∷◌, ◌++◌, map, Option, Some, None, refl, ap, sym, ◌∙◌, subst}
-use Rattle.std.specs.Prelude.{◌==◌, is_some, find, if◌then◌else◌}
+use Rattle.std.specs.Prelude.{◌==◌, nat_lt, is_some, find, if◌then◌else◌, Result, Ok, Err, IfOk, IfErr, OnErr}
 use Rattle.std.specs.List.{list_all}
 use Rattle.std.specs.FinMap.{get}
 use Rattle.numbers.specs.Subjects.{Subject}
@@ -12,7 +12,9 @@ use Rattle.meaning.specs.Windows.{Windows}
 use Rattle.meaning.specs.Versions.{Broadcast, Version, sends_create, version_with}
 use Rattle.meaning.specs.History.{Acknowledges, made_by}
 use Rattle.meaning.specs.Reading.{State, View, record_now, view_of}
-use Rattle.meaning.specs.Refusals.{Requests, refusal}
+use Rattle.meaning.specs.declared.refusal.Refusal.{Refusal}
+use Rattle.meaning.specs.RefusalNumbers.{number_of}
+use Rattle.meaning.specs.Refusals.{Input, Requests, refusal}
 use Rattle.meaning.specs.Machine.{Shown, accepted, answer_of}
 use Rattle.meaning.specs.Content.{Content, VersionRow, BroadcastRow, ClockRow, row_of}
 use Rattle.meaning.proofs.Shown.{id_found, some_is}
@@ -30,10 +32,11 @@ use Rattle.settle.specs.Settling.{IsSettled}
 use Rattle.register.specs.Answers.{Stands}
 use Rattle.register.specs.Settling.{AnswersSettled, AreSettled, LeavesOthers}
 use Rattle.register.proofs.Settled.{IdSettled, row_now, row_settled}
-use Rattle.register.specs.Calls.{refused_with}
+use Rattle.register.specs.declared.view.VersionView.{VersionView}
+use Rattle.register.specs.Calls.{refused_with, replied, view_of as view_seen}
 use Rattle.settle.specs.Fired.{retired_rows, IsEarlier}
 use Rattle.register.specs.Acknowledging.{is_sending, answered_row, completed_if, own_rows, acknowledging, completes, are_only, IsFound, all_changes}
-use Rattle.register.proofs.Composed.{answers_refused_same, answers_accepted}
+use Rattle.register.proofs.Composed.{answers_refused_same, answers_accepted, answers_without}
 use Rattle.register.proofs.OnVersion.{clock_of, clock_is_of}
 use Rattle.register.proofs.Activated.{row_version}
 use Rattle.meaning.proofs.Entered.{given_now}
@@ -246,3 +249,11 @@ answers_acknowledged old new caller id attempt clock row u keys key broadcast la
             ∙ ap (λ k. view_of (accepted st (Requests caller (Acknowledges id attempt))) (record { subject = row.subject; version = version_of k (completed_if (last && (awaited.version.attempt == attempt)) st.now (answered_all caller attempt st.now awaited.version)).broadcasts after }))
             (sym (id_found id (record_now st row.subject).versions awaited.version awaited.found))
             ∙ ap (λ x. view_of (accepted st (Requests caller (Acknowledges id attempt))) (record { subject = row.subject; version = x })) after_is
+
+-- by what a call answered that shows a version, or leaves the content
+pub by_view : {U : Type 0} (P : Content → VersionView → Type 0) (old mid new : Content) (input : Input) (result : Result VersionView Refusal) → U →
+    IfOk result (λ view. U → P mid view) → OnErr result (U → new ≡ mid) → IfErr result (λ r. nat_lt (number_of r) 29 ≡ false) → mid ≡ old →
+    ((view : VersionView) → P old view → AnswersSettled old new input (Some (Shown (Some (view_seen view))))) →
+    AnswersSettled old new input (replied (λ view. Shown (Some (view_seen view))) result)
+by_view P old mid new input (Ok view) usable gives kept fault same each = each view (subst (λ (m : Content). P m view) same (gives usable))
+by_view P old mid new input (Err r) usable gives kept fault same each = answers_without old new input (number_of r) fault (kept usable ∙ same)

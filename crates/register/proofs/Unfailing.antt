@@ -7,6 +7,9 @@ use Rattle.meaning.specs.History.{or_else}
 use Rattle.meaning.specs.RefusalNumbers.{number_of}
 use Rattle.meaning.specs.Refusals.{first_that_holds}
 use Rattle.meaning.specs.Windows.{Windows}
+use Rattle.numbers.specs.Subjects.{Subject}
+use Rattle.meaning.specs.Versions.{Version}
+use Rattle.version.specs.Activation.{activation_tests, activation_refusal}
 use Rattle.version.specs.Creates.{answered_by, party_tests, first_tests, second_tests, port_refusal, create_refusal}
 use Rattle.version.specs.Views.{seen}
 use Rattle.version.specs.declared.create.Create.{Create as CreateCode}
@@ -35,7 +38,7 @@ first_machine k false other below later e = later e
 first_machine k true other below later e = let same : k ≡ 29 = cc in let past : nat_lt 29 29 ≡ true = subst (λ n. nat_lt n 29 ≡ true) same below in cc
 
 nothing : (o : Option ℕ) → o ≡ None → o ≡ Some 29 → ⊥
-nothing o none e = let never : None ≡ Some 29 = sym none ∙ e in cc
+nothing o none e = let never : ◌≡◌ {A = Option ℕ} None (Some 29) = sym none ∙ e in cc
 
 never_storage : (ts : List (ℕ × Bool)) → AreMachines ts → first_that_holds ts ≡ Some 29 → ⊥
 never_storage [] are e = nothing None refl e
@@ -55,3 +58,8 @@ create_never w now caller c facts refusal is storage =
     or_never (first_that_holds (party_tests caller c facts)) (port_refusal w now c facts (answered_by c facts.opened))
     (never_storage (party_tests caller c facts) (refl, (refl, (refl, (refl, (refl, (refl, tt))))))) (port_never w now c facts (answered_by c facts.opened))
     (sym is ∙ ap (λ r. Some (number_of r)) storage)
+
+-- nor is an activation
+pub activation_never : (w : Windows) (now caller : ℕ) (s : Subject) (v : Version) (refusal : Refusal) → Some (number_of refusal) ≡ activation_refusal w now caller s v → refusal ≡ Storage → ⊥
+activation_never w now caller s v refusal is storage =
+    never_storage (activation_tests w now caller s v) (refl, (refl, (refl, (refl, (refl, (refl, tt)))))) (sym is ∙ ap (λ r. Some (number_of r)) storage)

@@ -3,7 +3,7 @@ ghost use Rattle.std.specs.Prelude.{◌≡◌, ◌≤◌, Some, Err, map, IfOk, 
 ghost use Rattle.meaning.specs.Content.{Represents};
 ghost use Rattle.meaning.specs.History.{Commands, Acknowledges};
 ghost use Rattle.meaning.specs.Laws.{IsOrderly};
-ghost use Rattle.meaning.specs.Machine.{Reply as ReplySeen, Moved, Known, Shown, Answered, Rows};
+ghost use Rattle.meaning.specs.Machine.{Moved, Known, Shown, Answered, Rows};
 ghost use Rattle.meaning.specs.Reading.{State, record_now};
 ghost use Rattle.meaning.specs.Refusals.{Moment, Requests, Asks, Knows, ShowVersion, Query, AllInForce};
 ghost use Rattle.numbers.specs.Subjects.{Subject};
@@ -25,7 +25,7 @@ use crate::registration::{open_code, register_carrier, register_routing_number};
 use crate::settling::{settle_for, settle_number, settle_version};
 use crate::view::{Answer, VersionView};
 use meaning::Refusal;
-use numbers::{Lrn, Minute, Spid, Tn};
+use numbers::{Minute, Spid, Tn};
 use settle::{Changes, ClockRow, RoutedRow, Store, StoreFault, settle_all};
 use std::alloc::Global;
 use version::FIRST_ID;

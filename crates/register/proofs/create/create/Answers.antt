@@ -1,4 +1,4 @@
-use Rattle.std.proofs.Common.{arith, rules, ◌≡◌, Some, None, ap, sym, ◌∙◌, subst}
+use Rattle.std.proofs.Common.{arith, rules, ◌≡◌, true, Some, None, ap, sym, ◌∙◌, subst}
 use Rattle.std.specs.Prelude.{option_map, Result, Err}
 use Rattle.meaning.specs.History.{Commands}
 use Rattle.meaning.specs.Machine.{Shown}
@@ -18,11 +18,24 @@ use Rattle.settle.specs.Sending.{putting}
 use Rattle.register.specs.Serving.{IsOpened, AreRead}
 use Rattle.settle.proofs.Risen.{risen-since}
 use Rattle.register.proofs.Unfailing.{create_never, same_refusal}
-use Rattle.register.proofs.Composed.{answers_fault}
-use Rattle.register.proofs.Created.{has_read, one_more, Views, answers_create_refused, answers_create_unknown, by_result}
+use Rattle.register.proofs.Composed.{answers_fault, by_result, Views, answers_same}
+use Rattle.register.proofs.FactsRead.{are_known}
+use Rattle.register.proofs.Created.{has_read, one_more, answers_create_refused, answers_create_unknown}
 use Rattle.register.proofs.FirstAnswered.{answers_first}
 use Rattle.register.proofs.SecondAnswered.{answers_second}
 use Rattle.register.proofs.create.create.Goals as goal
+
+pub returns-in_err-are_carriers_known-clause-answers : goal.returns-in_err-are_carriers_known-clause-answers
+returns-in_err-are_carriers_known-clause-answers g c = λ usable.
+    let at_0 = c.in_err-are_carriers_known.ensures.same usable in
+    answers_fault (g.S.Store.content c.args.store.now) (g.S.Store.content c.are_carriers_known.new.store) (Requests c.args.caller.number (Commands (command_of c.args.create.now))) (λ view. Shown (Some (view_of view)))
+    c.from_residual.result c.in_err-are_carriers_known.field-0.0 (search rules) (at_0.1)
+
+pub returns-in_default-clause-answers : goal.returns-in_default-clause-answers
+returns-in_default-clause-answers g c = λ usable.
+    let at_0 = c.in_ok-clock.ensures.same usable in
+    let at_1 = c.in_ok-are_carriers_known.ensures.same at_0.0 in
+    answers_same (g.S.Store.content c.args.store.now) (g.S.Store.content c.clock.new.self) (Requests c.args.caller.number (Commands (command_of c.args.create.now))) (at_0.1 ∙ at_1.1)
 
 pub returns-then-not-branch-clause-answers : goal.returns-then-not-branch-clause-answers
 returns-then-not-branch-clause-answers g c = λ usable.
@@ -59,6 +72,8 @@ returns-in_err-version-clause-answers g c = λ usable.
     let at_clock = c.in_ok-row.ensures.same at_row.0 in
     let at_known = c.in_ok-clock.ensures.same at_clock.0 in
     let at_start = c.in_ok-are_carriers_known.ensures.same at_known.0 in
+    let known : are_known (g.S.Store.content c.args.store.now) c.args.create.now c.args.caller.number ≡ true =
+    ◌∙◌ {a = are_known (g.S.Store.content c.args.store.now) c.args.create.now c.args.caller.number} (sym (c.in_ok-are_carriers_known.ensures.value at_known.0)) c.if-not-branch.false in
     let is : c.from_residual-in_err-version.result ≡ Err c.in_err-version.field-0.0 = search rules in
     subst (λ (r : Result VersionView Refusal). AnswersSettled (g.S.Store.content c.args.store.now) (g.S.Store.content c.facts.new.store) (Requests c.args.caller.number (Commands (command_of c.args.create.now))) (replied (λ view. Shown (Some (view_of view))) r)) (sym is)
     (answers_create_refused (g.S.Store.content c.args.store.now) (g.S.Store.content c.facts.new.store) c.args.caller.number c.args.create.now (clock_row_of c.in-Some.clock)
@@ -67,7 +82,7 @@ returns-in_err-version-clause-answers g c = λ usable.
     (has_read (g.S.Store.content c.args.store.now) (g.S.Store.content c.clock.new.self) (g.S.Store.content c.read.new.store) c.args.caller.number c.args.create.now (clock_row_of c.in-Some.clock)
     c.in_ok-row.row.in_force c.in_ok-row.row.opened c.in_ok-row.row.block_in_force c.in_ok-facts.facts
     (at_known.1 ∙ at_start.1) (at_clock.1 ∙ at_known.1 ∙ at_start.1)
-    (sym (c.in_ok-are_carriers_known.ensures.value at_known.0) ∙ c.if-not-branch.false)
+    known
     (ap (λ (m : Content). m.clock) (sym at_start.1) ∙ sym (c.in_ok-clock.ensures.value at_clock.0) ∙ ap (option_map clock_row_of) c.in-Some.is)
     (c.in_ok-row.ensures.in_force at_row.0) (c.in_ok-row.ensures.opened at_row.0) (c.in_ok-row.ensures.block at_row.0) (c.in_ok-facts.ensures.value usable))
     c.in_err-version.ensures.refusal)
@@ -79,6 +94,8 @@ returns-in-First-clause-answers g c = λ usable.
     let at_clock = c.in_ok-row.ensures.same at_row.0 in
     let at_known = c.in_ok-clock.ensures.same at_clock.0 in
     let at_start = c.in_ok-are_carriers_known.ensures.same at_known.0 in
+    let known : are_known (g.S.Store.content c.args.store.now) c.args.create.now c.args.caller.number ≡ true =
+    ◌∙◌ {a = are_known (g.S.Store.content c.args.store.now) c.args.create.now c.args.caller.number} (sym (c.in_ok-are_carriers_known.ensures.value at_known.0)) c.if-not-branch.false in
     by_result (λ view. Views (clock_row_of c.in-Some.clock) c.in-Some.clock.next_id c.in-First.version (view_of view))
     (putting c.in-Some.clock.next_id (windows_of c.in-Some.clock.windows) (subject_of c.in-First.version.subject) (seen c.in-First.version) (Some (record { minute = c.in-Some.clock.minute.number; next_id = c.saturating_add.result; windows = windows_of c.in-Some.clock.windows })))
     (g.S.Store.content c.args.store.now) (g.S.Store.content c.facts.new.store) (g.S.Store.content c.put_version.new.store) (Requests c.args.caller.number (Commands (command_of c.args.create.now)))
@@ -90,7 +107,7 @@ returns-in-First-clause-answers g c = λ usable.
     (has_read (g.S.Store.content c.args.store.now) (g.S.Store.content c.clock.new.self) (g.S.Store.content c.read.new.store) c.args.caller.number c.args.create.now (clock_row_of c.in-Some.clock)
     c.in_ok-row.row.in_force c.in_ok-row.row.opened c.in_ok-row.row.block_in_force c.in_ok-facts.facts
     (at_known.1 ∙ at_start.1) (at_clock.1 ∙ at_known.1 ∙ at_start.1)
-    (sym (c.in_ok-are_carriers_known.ensures.value at_known.0) ∙ c.if-not-branch.false)
+    known
     (ap (λ (m : Content). m.clock) (sym at_start.1) ∙ sym (c.in_ok-clock.ensures.value at_clock.0) ∙ ap (option_map clock_row_of) c.in-Some.is)
     (c.in_ok-row.ensures.in_force at_row.0) (c.in_ok-row.ensures.opened at_row.0) (c.in_ok-row.ensures.block at_row.0) (c.in_ok-facts.ensures.value at_facts))
     c.in_ok-version.ensures.refusal
@@ -105,6 +122,8 @@ returns-in-Some-opened-clause-answers g c = λ usable.
     let at_clock = c.in_ok-row.ensures.same at_row.0 in
     let at_known = c.in_ok-clock.ensures.same at_clock.0 in
     let at_start = c.in_ok-are_carriers_known.ensures.same at_known.0 in
+    let known : are_known (g.S.Store.content c.args.store.now) c.args.create.now c.args.caller.number ≡ true =
+    ◌∙◌ {a = are_known (g.S.Store.content c.args.store.now) c.args.create.now c.args.caller.number} (sym (c.in_ok-are_carriers_known.ensures.value at_known.0)) c.if-not-branch.false in
     by_result (λ view. Views (clock_row_of c.in-Some.clock) c.in-Some-opened.id c.in-Second.version (view_of view))
     (putting c.in-Some-opened.id (windows_of c.in-Some.clock.windows) (subject_of c.in-Second.version.subject) (seen c.in-Second.version) None)
     (g.S.Store.content c.args.store.now) (g.S.Store.content c.facts.new.store) (g.S.Store.content c.put_version-in-Some-opened.new.store) (Requests c.args.caller.number (Commands (command_of c.args.create.now)))
@@ -115,7 +134,7 @@ returns-in-Some-opened-clause-answers g c = λ usable.
     (has_read (g.S.Store.content c.args.store.now) (g.S.Store.content c.clock.new.self) (g.S.Store.content c.read.new.store) c.args.caller.number c.args.create.now (clock_row_of c.in-Some.clock)
     c.in_ok-row.row.in_force (Some (c.in-Some-opened.id, c.in-Some-opened.field-0-1)) c.in_ok-row.row.block_in_force c.in_ok-facts.facts
     (at_known.1 ∙ at_start.1) (at_clock.1 ∙ at_known.1 ∙ at_start.1)
-    (sym (c.in_ok-are_carriers_known.ensures.value at_known.0) ∙ c.if-not-branch.false)
+    known
     (ap (λ (m : Content). m.clock) (sym at_start.1) ∙ sym (c.in_ok-clock.ensures.value at_clock.0) ∙ ap (option_map clock_row_of) c.in-Some.is)
     (c.in_ok-row.ensures.in_force at_row.0) (subst (IsOpened (g.S.Store.content c.clock.new.self) (Number c.args.create.now.tn.number)) c.in-Some-opened.is (c.in_ok-row.ensures.opened at_row.0)) (c.in_ok-row.ensures.block at_row.0) (subst (λ o. AreRead (g.S.Store.content c.read.new.store) c.args.create.now c.in-Some.clock.next_id c.in_ok-row.row.in_force (option_map (λ e. e.1) o) c.in_ok-row.row.block_in_force c.in_ok-facts.facts) c.in-Some-opened.is (c.in_ok-facts.ensures.value at_facts)))
     c.in_ok-version.ensures.refusal

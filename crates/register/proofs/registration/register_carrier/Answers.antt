@@ -10,10 +10,47 @@ use Rattle.settle.specs.Changes.{IsChanged}
 use Rattle.settle.specs.Views.{clock_row_of}
 use Rattle.register.specs.Calls.{reply_of, in_force_of}
 use Rattle.register.specs.Joining.{joining}
-use Rattle.register.proofs.Composed.{answers_refused_same, answers_fault}
+use Rattle.register.proofs.Composed.{answers_refused_same, answers_fault, answers_same, answers_beyond}
 use Rattle.register.proofs.Starting.{in_force_listed}
 use Rattle.register.proofs.Registered.{carrier_not_admin, carrier_is_taken, carriers_full, answers_registered}
 use Rattle.register.proofs.registration.register_carrier.Goals as goal
+
+pub returns-in_err-is_known-clause-answers : goal.returns-in_err-is_known-clause-answers
+returns-in_err-is_known-clause-answers g c = λ usable.
+    let at_0 = c.in_err-is_known.ensures.same usable in
+    answers_fault (g.S.Store.content c.args.store.now) (g.S.Store.content c.is_known.new.store) (Requests c.args.caller.number (Commands (RegisterCarrier c.args.spid.number))) reply_of
+    c.from_residual.result c.in_err-is_known.field-0.0 (search rules) (at_0.1)
+
+pub returns-in_err-is_full-clause-answers : goal.returns-in_err-is_full-clause-answers
+returns-in_err-is_full-clause-answers g c = λ usable.
+    let at_0 = c.in_err-is_full.ensures.same usable in
+    let at_1 = c.in_ok-is_known.ensures.same at_0.0 in
+    answers_fault (g.S.Store.content c.args.store.now) (g.S.Store.content c.is_full.new.store) (Requests c.args.caller.number (Commands (RegisterCarrier c.args.spid.number))) reply_of
+    c.from_residual-in_err-is_full.result c.in_err-is_full.field-0.0 (search rules) (at_0.1 ∙ at_1.1)
+
+pub returns-in_err-clock-clause-answers : goal.returns-in_err-clock-clause-answers
+returns-in_err-clock-clause-answers g c = λ usable.
+    let at_0 = c.in_err-clock.ensures.same usable in
+    let at_1 = c.in_ok-is_full.ensures.same at_0.0 in
+    let at_2 = c.in_ok-is_known.ensures.same at_1.0 in
+    answers_fault (g.S.Store.content c.args.store.now) (g.S.Store.content c.clock.new.self) (Requests c.args.caller.number (Commands (RegisterCarrier c.args.spid.number))) reply_of
+    c.from_residual-in_err-clock.result c.in_err-clock.field-0.0 (search rules) (at_0.1 ∙ at_1.1 ∙ at_2.1)
+
+pub returns-in_default-clause-answers : goal.returns-in_default-clause-answers
+returns-in_default-clause-answers g c = λ usable.
+    let at_0 = c.in_ok-clock.ensures.same usable in
+    let at_1 = c.in_ok-is_full.ensures.same at_0.0 in
+    let at_2 = c.in_ok-is_known.ensures.same at_1.0 in
+    answers_same (g.S.Store.content c.args.store.now) (g.S.Store.content c.clock.new.self) (Requests c.args.caller.number (Commands (RegisterCarrier c.args.spid.number))) (at_0.1 ∙ at_1.1 ∙ at_2.1)
+
+pub returns-in_err-join-clause-answers : goal.returns-in_err-join-clause-answers
+returns-in_err-join-clause-answers g c = λ usable.
+    let at_0 = c.in_ok-rows.ensures.same (c.in_err-join.ensures.usable usable) in
+    let at_1 = c.in_ok-clock.ensures.same at_0.0 in
+    let at_2 = c.in_ok-is_full.ensures.same at_1.0 in
+    let at_3 = c.in_ok-is_known.ensures.same at_2.0 in
+    answers_beyond (g.S.Store.content c.args.store.now) (g.S.Store.content c.join.new.store) (Requests c.args.caller.number (Commands (RegisterCarrier c.args.spid.number))) reply_of
+    c.from_residual-in_err-join.result c.in_err-join.field-0.0 (search rules) c.in_err-join.ensures.fault (c.in_err-join.ensures.refused usable ∙ at_0.1 ∙ at_1.1 ∙ at_2.1 ∙ at_3.1)
 
 pub returns-then-ne-clause-answers : goal.returns-then-ne-clause-answers
 returns-then-ne-clause-answers g c = λ usable.
