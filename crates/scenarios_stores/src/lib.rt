@@ -1,10 +1,8 @@
-//! Tests of stores: a commit and each read, stores that are opened again, and what a call commits.
+//! Tests of stores: a commit and each read, and what a call commits.
 #![tactic(auto)]
 
 #[cfg(test)]
 mod counted;
-#[cfg(test)]
-mod opening;
 #[cfg(test)]
 mod settling;
 #[cfg(test)]

@@ -119,12 +119,16 @@ fn listed(store: &mut MemoryStore, sample: &Sample) -> Result<[usize; 5], Fail> 
     Ok([about, waiters, carriers, broadcasts, in_force])
 }
 
+fn is_committed(store: &mut MemoryStore, changes: &Changes) -> bool {
+    store.commit(changes).is_ok()
+}
+
 #[test]
 fn commits_and_reads(rt: HostRuntime) -> Result<(), Fail> {
     let alloc = rt.alloc();
     let sample = make_sample()?;
     let mut store = MemoryStore::new(alloc);
-    let done = store.commit(&changes(alloc, &sample)?).is_ok();
+    let done = is_committed(&mut store, &changes(alloc, &sample)?);
     let carrier = if done { Some(sample.carrier) } else { None };
     let wanted = Found {
         clock: false,
@@ -182,20 +186,30 @@ fn least_due_at(store: &mut MemoryStore, minutes: [u64; 3]) -> Result<[Option<u6
     ])
 }
 
+// Versions of these ids, with these deadlines, are committed.
+fn are_committed(
+    alloc: Global,
+    store: &mut MemoryStore,
+    versions: &[(u64, Option<u64>)],
+) -> Result<bool, Fail> {
+    let sample = make_sample()?;
+    let changes = deadlines(alloc, &sample, versions)?;
+    Ok(is_committed(store, &changes))
+}
+
+static FIRST: [(u64, Option<u64>); 4] = [(1, Some(30)), (2, Some(10)), (3, Some(20)), (4, None)];
+
+// The second version is over, and a fifth comes.
+static NEXT: [(u64, Option<u64>); 2] = [(2, None), (5, Some(40))];
+
 #[test]
 fn finds_the_least_deadline(rt: HostRuntime) -> Result<(), Fail> {
-    let alloc = rt.alloc();
-    let sample = make_sample()?;
-    let first = [(1, Some(30)), (2, Some(10)), (3, Some(20)), (4, None)];
-    let mut store = MemoryStore::new(alloc);
-    let done = store.commit(&deadlines(alloc, &sample, &first)?).is_ok();
+    let mut store = MemoryStore::new(rt.alloc());
+    let done = are_committed(rt.alloc(), &mut store, &FIRST)?;
     let second = if done { Some(2) } else { None };
-    let found = least_due_at(&mut store, [9, 10, 1000])?;
-    assert_eq!(rt; found, [None, second, second]);
-
-    // The second version is over, and a fifth comes.
-    let next = [(2, None), (5, Some(40))];
-    let changed = store.commit(&deadlines(alloc, &sample, &next)?).is_ok();
+    let least = least_due_at(&mut store, [9, 10, 1000])?;
+    assert_eq!(rt; least, [None, second, second]);
+    let changed = are_committed(rt.alloc(), &mut store, &NEXT)?;
     let third = if done { Some(3) } else { Some(5) };
     let least = if changed { third } else { second };
     assert_eq!(rt; least_due(&mut store, 1000)?, least);
