@@ -338,3 +338,17 @@ fn a_hundred_carriers_are_taken(rt: HostRuntime) -> Result<(), DeskFault> {
     }
     tell(alloc, &mut register, &ONE_MORE)
 }
+
+static UNWANTED: [Said<'static>; 1] = [(
+    "NPAC",
+    "/carriers",
+    r#"{"spid":"AAAA"}"#,
+    Wanted::Body(r#"{"rows":[],"spid":"AAAB"}"#),
+)];
+
+// What these tests stand on notices an answer that is not the wanted one, and where it is.
+#[test]
+fn an_unwanted_answer_is_noticed(rt: HostRuntime) {
+    let found = told(rt.alloc(), &UNWANTED, &[]);
+    assert!(rt; matches!(&found, Err(DeskFault::Row(0, _))));
+}

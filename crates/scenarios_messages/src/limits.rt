@@ -334,3 +334,16 @@ fn a_cut_message_changes_nothing(rt: HostRuntime) -> Result<(), DeskFault> {
     });
     hears(alloc, &mut register, &mut reader, answered.as_str(), ended)
 }
+
+// What these tests stand on notices another text, and another end.
+#[test]
+fn an_unwanted_answer_or_end_is_noticed(rt: HostRuntime) -> Result<(), DeskFault> {
+    let alloc = rt.alloc();
+    let asked = query_with(alloc, "")?;
+    let wanted = UNLISTED.text(alloc)?;
+    let text = is_answered(alloc, asked.as_str(), "", 1, End::Input);
+    assert!(rt; matches!(&text, Err(DeskFault::Other(_))));
+    let end = is_answered(alloc, asked.as_str(), wanted.as_str(), 2, End::Input);
+    assert!(rt; matches!(&end, Err(DeskFault::Ended(Ok(_)))));
+    Ok(())
+}
