@@ -1,0 +1,231 @@
+"""Wrong bodies that the prover has to refuse, all of a crate's in one check.
+
+A proof sees the other functions of its crate by their contracts alone, so wrong bodies of different functions do not meet. They are put
+into one copy of the crate, which is checked once. One of them is refused where its own function has a goal of its own that is not
+proved; that it calls another function that is not proved says nothing. What was not refused so stays for the next check, alone among
+those that were not, until a check refuses none of them: what is left then is proved, and the crate's contracts are too weak.
+
+An edit is a file crates/NAME/wrong-bodies/*.edit, of the form of must-fail edits: a line 'file: src/lib.rt', then pairs of lines
+'old: TEXT' and 'new: TEXT', each TEXT once in that file, all in one function. An edit whose name begins with 'harmless' changes no
+meaning and has to be proved: it shows that a harmless change is not counted as refused.
+"""
+import os
+import re
+import shutil
+import subprocess
+import sys
+import tempfile
+from concurrent.futures import FIRST_COMPLETED, ThreadPoolExecutor, wait
+from dataclasses import dataclass
+
+PARTS = ("src", "specs", "proofs", "out")
+LANES = 2
+
+
+@dataclass
+class Edit:
+    """A wrong body: what it changes, and of which function."""
+    crate: str
+    name: str
+    path: str
+    pairs: list
+    function: str = ""
+
+    def is_harmless(self):
+        return self.name.startswith("harmless")
+
+    def applied(self, text):
+        for old, new in self.pairs:
+            if text.count(old) != 1:
+                return None
+            text = text.replace(old, new)
+        return text
+
+
+def stop(why):
+    sys.exit(f"wrong-bodies: {why}")
+
+
+def read_crates():
+    """The crates, and the repository's libraries that each names, as crates.txt has them."""
+    with open("crates.txt", encoding="utf-8") as file:
+        lines = [line.split("#")[0].partition(":") for line in file if line.split("#")[0].strip()]
+    named = {head.split()[0]: tail.split() for head, _, tail in lines}
+    return {crate: [it for it in below if it in named] for crate, below in named.items()}
+
+
+# ---- edits
+
+def read_edit(crate, name):
+    with open(f"crates/{crate}/wrong-bodies/{name}", encoding="utf-8") as file:
+        lines = file.read().split("\n")
+    paths = {line[len("file: "):] for line in lines if line.startswith("file: ")}
+    olds = [line[len("old: "):] for line in lines if line.startswith("old: ")]
+    news = [re.sub(r"\Anew: ?", "", line) for line in lines if line.startswith("new:")]
+    if len(paths) != 1 or not olds or len(olds) != len(news):
+        stop(f"{crate}/{name}: an edit is one line 'file: ..' and pairs of lines 'old: ..' and 'new: ..'")
+    edit = Edit(crate, name.removesuffix(".edit"), paths.pop(), list(zip(olds, news)))
+    with open(f"crates/{crate}/{edit.path}", encoding="utf-8") as file:
+        text = file.read()
+    if edit.applied(text) is None:
+        stop(f"{crate}/{name}: an 'old:' text is not in {edit.path} once")
+    edit.function = function_at(crate, edit.path, text[:text.index(olds[0]) + len(olds[0])])
+    return edit
+
+
+def function_at(crate, path, before):
+    """The function in which a text ends, as a pattern of the path by which the checker names it: that of its module, or of its type's."""
+    found = re.findall(r"^( *)(?:pub(?:\(\w+\))? )?fn (\w+)", before, re.M)
+    if not found:
+        stop(f"{crate}/{path}: no function stands there")
+    indent, name = found[-1]
+    if indent:
+        trait, subject = re.findall(r"^impl(?:<.*?>)? (?:([\w:]+)(?:<.*?>)? for )?(\w+)", before, re.M)[-1]
+        return rf"{crate}::(?:\w+::)*{subject}{trait.split('::')[-1]}\d*::{name}"
+    module = path.removeprefix("src/").removesuffix(".rt").removesuffix("/mod")
+    return "::".join([crate, *([] if module in ("lib", "main") else module.split("/")), name])
+
+
+def edits_of(crate):
+    folder = f"crates/{crate}/wrong-bodies"
+    names = sorted(os.listdir(folder)) if os.path.isdir(folder) else []
+    return [read_edit(crate, name) for name in names if name.endswith(".edit")]
+
+
+def together(edits):
+    """Those that can be tried in one check, at most one of a function, and the texts of the files with all of them."""
+    chosen, texts = [], {}
+    for edit in edits:
+        if edit.path not in texts:
+            with open(f"crates/{edit.crate}/{edit.path}", encoding="utf-8") as file:
+                texts[edit.path] = file.read()
+        text = edit.applied(texts[edit.path])
+        if text is not None and edit.function not in [it.function for it in chosen]:
+            texts[edit.path] = text
+            chosen.append(edit)
+    return chosen, texts
+
+
+# ---- checks
+
+def check_edited(crate, texts, below):
+    """What the checker says of the crate with these texts in place of its own, in a room of its own beside links to what it stands on."""
+    os.makedirs("out", exist_ok=True)
+    with tempfile.TemporaryDirectory(dir="out") as room:
+        os.mkdir(f"{room}/crates")
+        shutil.copy("HANDLES", room)
+        with open("crates.txt", encoding="utf-8") as file, open(f"{room}/crates.txt", "w", encoding="utf-8") as listed:
+            listed.writelines(line for line in file if line.partition(":")[0].split()[:1] in [[it] for it in [crate, *below]])
+        for other in below:
+            shutil.copytree(f"crates/{other}", f"{room}/crates/{other}", copy_function=os.link)
+        for part in PARTS:
+            if os.path.isdir(f"crates/{crate}/{part}"):
+                shutil.copytree(f"crates/{crate}/{part}", f"{room}/crates/{crate}/{part}")
+        for path, text in texts.items():
+            with open(f"{room}/crates/{crate}/{path}", "w", encoding="utf-8") as file:
+                file.write(text)
+        ran = subprocess.run(["rt", "check", "--jobs", "1"], cwd=f"{room}/crates/{crate}", stdin=subprocess.DEVNULL,
+                             stdout=subprocess.PIPE, stderr=subprocess.STDOUT, encoding="utf-8", errors="replace")
+    return ran.stdout.split("\n")
+
+
+def goal_of(edit, lines):
+    """A goal of the edit's own function that is not proved, None where there is none."""
+    said = [found for line in lines if (found := re.match(rf"fn ({edit.function}): (.*)", line))]
+    if len(said) != 1:
+        stop(f"{edit.crate}/{edit.name}: the checker speaks {len(said)} times of {edit.function}; its last lines:\n" + "\n".join(lines[-6:]))
+    if goal := re.search(r"`search` did not prove (`[^`]*`)", said[0][2]):
+        return goal[1]
+    _, *parts = said[0][1].split("::")
+    own = re.compile(rf"\./proofs/{'/'.join(parts)}/\w+\.antt:\d+:\d+: error: (.*)")
+    names = re.compile(r"has no field|is not in scope|has no `|was not admitted")
+    errors = [found[1] for line in lines if (found := own.match(line))]
+    return next((error[:70] for error in errors if not names.search(error)), None)
+
+
+def verdicts(crate, edits, below):
+    """For each edit the goal that refuses it, or None."""
+    left, goals = edits, {}
+    while left:
+        chosen, texts = together(left)
+        lines = check_edited(crate, texts, below)
+        found = {edit.name: goal for edit in chosen if (goal := goal_of(edit, lines))}
+        goals |= found
+        if not found:
+            # what no check among others refuses is not refused
+            goals |= {edit.name: None for edit in chosen}
+        left = [edit for edit in left if edit.name not in goals]
+    return goals
+
+
+def try_crate(crate, below):
+    """Says what became of each edit of the crate, and returns whether each did as it has to."""
+    edits = edits_of(crate)
+    goals = verdicts(crate, edits, below)
+    lines, is_well = [], True
+    for edit in edits:
+        goal = goals[edit.name]
+        well = edit.is_harmless() == (goal is None)
+        is_well &= well
+        lines.append(f"{crate}/{edit.name}: {'refused: ' + goal if goal else 'proved'}{'' if well else ', WHICH IS WRONG'}")
+    print("\n".join(lines), flush=True)
+    return is_well
+
+
+def make_library(crate, _below):
+    """Checks the crate as it stands, and builds it where others stand on it: the edited copies are checked over that."""
+    ran = subprocess.run(["rt", "lib", "--jobs", "1"], cwd=f"crates/{crate}", stdin=subprocess.DEVNULL,
+                         stdout=subprocess.PIPE, stderr=subprocess.STDOUT, encoding="utf-8", errors="replace")
+    if ran.returncode:
+        print(ran.stdout, f"{crate}: not proved as it stands", sep="\n", flush=True)
+    return ran.returncode == 0
+
+
+# ---- all crates
+
+def all_below(crates, crate):
+    """The libraries that the crate stands on, and those under them."""
+    found = {it: None for below in crates[crate] for it in [*all_below(crates, below), below]}
+    return list(found)
+
+
+def tasks_of(crates, names):
+    """What is to be done, and what each waits for."""
+    needed = {it for name in names for it in [*all_below(crates, name), name]}
+    tasks = {}
+    for crate in crates:
+        below = all_below(crates, crate)
+        is_library = os.path.isfile(f"crates/{crate}/src/lib.rt")
+        if crate in needed and is_library:
+            tasks["library", crate] = ([("library", it) for it in below], below, make_library)
+        if crate in names:
+            tasks["edits", crate] = ([("library", it) for it in [*below, *([crate] if is_library else [])]], below, try_crate)
+    return tasks
+
+
+def in_lanes(tasks):
+    """Runs each task once those that it waits for have ended, libraries first. Whether all went well."""
+    left, running, done = sorted(tasks, key=lambda it: it[0], reverse=True), {}, {}
+    with ThreadPoolExecutor(LANES) as pool:
+        while left or running:
+            ready = [it for it in left if all(below in done for below in tasks[it][0])]
+            for key in ready[:LANES - len(running)]:
+                left.remove(key)
+                _, below, do = tasks[key]
+                running[pool.submit(do, key[1], below)] = key
+            for ended in wait(running, return_when=FIRST_COMPLETED).done:
+                done[running.pop(ended)] = ended.result()
+    return all(done.values())
+
+
+def main():
+    crates = read_crates()
+    names = sys.argv[1:] or [it for it in crates if os.path.isdir(f"crates/{it}/wrong-bodies")]
+    for name in names:
+        if name not in crates:
+            stop(f"crates.txt has no crate {name}")
+    sys.exit(0 if in_lanes(tasks_of(crates, names)) else 1)
+
+
+if __name__ == "__main__":
+    main()
