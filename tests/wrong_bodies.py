@@ -75,13 +75,13 @@ def read_edit(crate, name):
 
 def function_at(crate, path, before):
     """The function in which a text ends, as a pattern of the path by which the checker names it: that of its module, or of its type's."""
-    found = re.findall(r"^( *)(?:pub(?:\(\w+\))? )?fn (\w+)", before, re.M)
-    if not found:
+    found = list(re.finditer(r"^( *)(?:pub(?:\(\w+\))? )?fn (\w+)", before, re.M))
+    if not found or re.search(rf"^{found[-1][1]}\}}", before[found[-1].end():], re.M):
         stop(f"{crate}/{path}: no function stands there")
-    indent, name = found[-1]
+    indent, name = found[-1].groups()
     if indent:
-        trait, subject = re.findall(r"^impl(?:<.*?>)? (?:([\w:]+)(?:<.*?>)? for )?(\w+)", before, re.M)[-1]
-        return rf"{crate}::(?:\w+::)*{subject}{trait.split('::')[-1]}\d*::{name}"
+        trait, argument, subject = re.findall(r"^impl(?:<.*?>)? (?:([\w:]+)(?:<(\w+).*?>)? for )?(\w+)", before, re.M)[-1]
+        return rf"{crate}::(?:\w+::)*{subject}{trait.split('::')[-1]}(?:{argument})?::{name}"
     module = path.removeprefix("src/").removesuffix(".rt").removesuffix("/mod")
     return "::".join([crate, *([] if module in ("lib", "main") else module.split("/")), name])
 

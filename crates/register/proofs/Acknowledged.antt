@@ -20,11 +20,12 @@ use Rattle.meaning.proofs.Tended.{IsTended, replay-tended, found_tended}
 use Rattle.meaning.proofs.Recipients.{AreKnown, broadcast_known}
 use Rattle.settle.specs.Changes.{Changes, IsChanged, AreOfVersion, ArePutsOf, AreKeysOf, put_rows, take_rows, same_broadcast}
 use Rattle.settle.proofs.Aside.{lagging_aside}
+use Rattle.settle.specs.Reads.{is_last_wait}
 use Rattle.settle.specs.Settling.{IsSettled}
 use Rattle.register.specs.Answers.{Stands}
 use Rattle.register.specs.Settling.{LeavesOthers}
 use Rattle.register.proofs.Settled.{due_lags, leaves_but, of_id_found, wait_subject}
-use Rattle.register.specs.Acknowledging.{is_sending, is_last_of, answered_row, completed_if, own_rows, acknowledging}
+use Rattle.register.specs.Acknowledging.{is_sending, answered_row, completed_if, own_rows, acknowledging}
 use Rattle.register.proofs.Alone.{one_in_force}
 use Rattle.register.proofs.OnVersion.{acknowledge-names, clock_same, shown_is}
 use Rattle.settle.proofs.Tables.{same_broadcast_with}
@@ -72,7 +73,7 @@ module _ (st : State) (old : Content) (stands : Stands old st) (caller : ℕ) (s
           record { version = is.version; broadcast = is.broadcast; found = is.found; sent = is.sent; sent_at = is.sent_at; waits = ap (is_among k) (waiters_are caller is.broadcast is.waits) ∙ e } in
           ap (λ b. b && waiting k) carrier ∙ ap is_some (awaited-waiting st old stands k s due minute id attempt awaited)
 
-  pub last_left : is_last_of old caller minute id attempt ≡ is_empty (unacknowledged (acknowledged_one caller is.broadcast))
+  pub last_left : is_last_wait old (record { carrier = caller; minute = minute; id = id; attempt = attempt }) ≡ is_empty (unacknowledged (acknowledged_one caller is.broadcast))
   last_left = last_is caller (filter waiting (keys old.carriers)) (unacknowledged (acknowledged_one caller is.broadcast))
       (λ k. left_without caller is.broadcast k ∙ ap (λ b. b && not (caller == k)) (sym (waiting_are k)))
 
@@ -167,7 +168,7 @@ one_version caller minute id attempt last s row of_s = record {
 -- ---- an acknowledgement
 
 module _ (st : State) (old new : Content) (stands : Stands old st) (caller : ℕ) (s : Subject) (due : IsSettled old st s) (minute id attempt : ℕ) (is : IsAwaited st caller s minute id attempt) (last : Bool)
-    (last_one : last ≡ is_last_of old caller minute id attempt) where
+    (last_one : last ≡ is_last_wait old (record { carrier = caller; minute = minute; id = id; attempt = attempt })) where
   abbrev change : Version → Version
   change = acknowledged_by caller attempt st.now
 

@@ -35,7 +35,7 @@ use Rattle.register.proofs.Settled.{IdSettled, row_now, row_settled}
 use Rattle.register.specs.declared.view.VersionView.{VersionView}
 use Rattle.register.specs.Calls.{refused_with, replied, view_of as view_seen}
 use Rattle.settle.specs.Fired.{retired_rows, IsEarlier}
-use Rattle.register.specs.Acknowledging.{is_sending, answered_row, completed_if, own_rows, acknowledging, completes, are_only, IsFound, all_changes}
+use Rattle.register.specs.Acknowledging.{is_sending, answered_row, completed_if, own_rows, acknowledging, completes, IsFound, all_changes}
 use Rattle.register.proofs.Composed.{answers_refused_same, answers_accepted, answers_without}
 use Rattle.register.proofs.OnVersion.{clock_of, clock_is_of}
 use Rattle.register.proofs.Activated.{row_version}
@@ -45,12 +45,6 @@ use Rattle.register.proofs.Alone.{one_in_force}
 use Rattle.register.proofs.Queued.{IsAwaited, found-awaited, refused_unknown, refused_not_found, refused_by_keys}
 use Rattle.register.proofs.Answering.{answered_all, row_was}
 use Rattle.register.proofs.Acknowledged.{broadcast_there, broadcast_read, acknowledged-stands, acknowledged-leaves, acknowledged-answer}
-
--- ---- carriers of the code
-
-pub only_seen : (carrier : ℕ) (cs : List Spid) → are_only carrier cs ≡ list_all (λ k. k == carrier) (map spid_of cs)
-only_seen carrier [] = refl
-only_seen carrier (c ∷ cs) = ap (λ b. (c.number == carrier) && b) (only_seen carrier cs)
 
 -- ---- rows of the code
 
