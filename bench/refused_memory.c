@@ -7,6 +7,8 @@
 
 void *__libc_malloc(size_t size);
 void *__libc_realloc(void *old, size_t size);
+void *__libc_calloc(size_t count, size_t size);
+void *__libc_memalign(size_t alignment, size_t size);
 
 static long place = -1, count;
 
@@ -32,6 +34,30 @@ void *realloc(void *old, size_t size) {
         return NULL;
     }
     return __libc_realloc(old, size);
+}
+
+void *calloc(size_t many, size_t size) {
+    if (is_refused()) {
+        errno = ENOMEM;
+        return NULL;
+    }
+    return __libc_calloc(many, size);
+}
+
+void *aligned_alloc(size_t alignment, size_t size) {
+    if (is_refused()) {
+        errno = ENOMEM;
+        return NULL;
+    }
+    return __libc_memalign(alignment, size);
+}
+
+int posix_memalign(void **at, size_t alignment, size_t size) {
+    if (is_refused()) {
+        return ENOMEM;
+    }
+    *at = __libc_memalign(alignment, size);
+    return *at ? 0 : ENOMEM;
 }
 
 __attribute__((destructor)) static void tell(void) {

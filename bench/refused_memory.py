@@ -1,10 +1,10 @@
-"""The messages of a file, served by the built program with each allocation refused in turn."""
+"""The messages of a stream, served by the built program with each allocation refused in turn."""
 import os
 import subprocess
 import sys
 import tempfile
 
-from ports import PROGRAM, WINDOWS
+from ports import PROGRAM, WINDOWS, message
 
 NO_MEMORY = b'{"error":"no_memory","number":30}'
 
@@ -52,9 +52,31 @@ def outcome(shim, messages, answers, place):
     return "sent again" if again.status == 0 and again.answers == wanted else None
 
 
+def beside_open_broadcasts(count):
+    """So many broadcasts that two carriers have not acknowledged, a third carrier that registers, and its acknowledgements."""
+    for carrier, lrn in (("AAAA", "2025440000"), ("BBBB", "2025330000")):
+        yield message("NPAC", "/carriers", f'{{"spid":"{carrier}"}}')
+        yield message(carrier, "/lrns", f'{{"lrn":"{lrn}"}}')
+    yield message("NPAC", "/codes", '{"code":"202533","spid":"BBBB"}')
+    for version in range(1, count + 1):
+        parties = f'"new":"AAAA","old":"BBBB","tn":"202533{version:04}"'
+        yield message("AAAA", "/subscriptionVersionNewSP-Create", f'{{"due":0,"lrn":"2025440000",{parties}}}')
+        yield message("BBBB", "/subscriptionVersionOldSP-Create", f'{{"authorized":true,"due":0,{parties}}}')
+        yield message("AAAA", "/subscriptionVersionActivate", f'{{"id":{version}}}')
+    yield message("NPAC", "/carriers", '{"spid":"CCCC"}')
+    for version in range(1, count + 1):
+        yield message("CCCC", "/downloads/acknowledge", f'{{"attempt":1,"id":{version}}}')
+
+
+def messages_of(words):
+    if words:
+        with open(words[0], "rb") as file:
+            return parts_of(file.read())
+    return [text.encode() for text in beside_open_broadcasts(12)]
+
+
 def main():
-    with open(sys.argv[1], "rb") as file:
-        messages = parts_of(file.read())
+    messages = messages_of(sys.argv[1:])
     with tempfile.TemporaryDirectory() as folder:
         shim, count = os.path.join(folder, "shim.so"), os.path.join(folder, "count")
         subprocess.run(["gcc", "-O2", "-shared", "-fPIC", "-o", shim, "bench/refused_memory.c"], check=True)
