@@ -149,6 +149,67 @@ fn buffers(alloc: Global) -> Option<(Held, Room, Router<Route>)>
     }
 }
 
+// Serves with the buffers of a connection, which have nothing of it yet.
+fn serve_with<S: Store, T: Ticks, R: Read, W: Write>(
+    alloc: Global,
+    register: &mut Register<S>,
+    ticks: &mut T,
+    options: &Options,
+    reader: &mut R,
+    writer: &mut W,
+    held: &mut Held,
+    room: &mut Room,
+    router: &Router<Route>,
+) -> Result<Served, Fault>
+    requires size { vec_len held.old.bytes ≡ 8192 }
+    requires empty { held_bytes held.old ≡ [] }
+    requires room { HasRoom 512 room.old }
+    requires router { router.now ≡ table }
+    ensures served { S.IsUsable register.new.store → (st : State) → Stands (S.content register.old.store) st → IfOk result (λ served. IfSome (R.remaining reader.old) (λ input. IfSome (T.told ticks.old) (λ minutes.
+        EndsAt served.end options.now.clock_route (S.failed register.old.store) (S.failed register.new.store) st (S.content register.new.store) input minutes (W.contents writer.old) (W.contents writer.new) served.count))) }
+    ensures fault { S.IsUsable register.new.store → (st : State) → Stands (S.content register.old.store) st → IfErr result (λ fault. IfSome (R.remaining reader.old) (λ input. IfSome (T.told ticks.old) (λ minutes.
+        FailsAt fault options.now.clock_route (S.failed register.old.store) (S.failed register.new.store) st (S.content register.new.store) input minutes (W.contents writer.old) (W.contents writer.new)))) }
+    ensures state { S.IsUsable register.new.store → (st : State) → Stands (S.content register.old.store) st → (after : State) × Stands (S.content register.new.store) after }
+    ensures usable { S.IsUsable register.new.store → S.IsUsable register.old.store }
+    ensures rises { S.failed register.old.store ≤ S.failed register.new.store }
+{
+    let mut body = Vec::new(alloc);
+    let mut headers = [EMPTY_HEADER_SPAN; FIELD_LIMIT];
+    for count in 0..u64::MAX {
+        let next = match next_message(held, &mut headers, router, reader, &mut body) {
+            Ok(Some(next)) => next,
+            Ok(None) => {
+                return Ok(Served {
+                    count,
+                    end: End::Input,
+                });
+            }
+            Err(NextFault::Read) => return Err(Fault::Read(count)),
+            Err(NextFault::Memory) => return Err(Fault::Memory(count)),
+        };
+        let end = respond(
+            alloc,
+            register,
+            options.clock_route,
+            ticks,
+            next,
+            &body,
+            room,
+        );
+        match send_all(writer, room.text.as_bytes()) {
+            Ok(()) => {}
+            Err(_) => return Err(Fault::Write(count)),
+        }
+        if let Some(end) = end {
+            return Ok(Served {
+                count: count + 1,
+                end,
+            });
+        }
+    }
+    Err(Fault::Read(u64::MAX))
+}
+
 /// Serves the messages of a reader, one after the other, and writes their answers.
 ///
 /// A message takes the next minute of the ticks before it is carried out: the clock moves to it, unless it
@@ -177,39 +238,7 @@ pub fn serve<S: Store, T: Ticks, R: Read, W: Write>(
     let Some((mut held, mut room, router)) = buffers(alloc) else {
         return Err(Fault::Memory(0));
     };
-    let mut body = Vec::new(alloc);
-    let mut headers = [EMPTY_HEADER_SPAN; FIELD_LIMIT];
-    for count in 0..u64::MAX {
-        let next = match next_message(&mut held, &mut headers, &router, reader, &mut body) {
-            Ok(Some(next)) => next,
-            Ok(None) => {
-                return Ok(Served {
-                    count,
-                    end: End::Input,
-                });
-            }
-            Err(NextFault::Read) => return Err(Fault::Read(count)),
-            Err(NextFault::Memory) => return Err(Fault::Memory(count)),
-        };
-        let end = respond(
-            alloc,
-            register,
-            options.clock_route,
-            ticks,
-            next,
-            &body,
-            &mut room,
-        );
-        match send_all(writer, room.text.as_bytes()) {
-            Ok(()) => {}
-            Err(_) => return Err(Fault::Write(count)),
-        }
-        if let Some(end) = end {
-            return Ok(Served {
-                count: count + 1,
-                end,
-            });
-        }
-    }
-    Err(Fault::Read(u64::MAX))
+    serve_with(
+        alloc, register, ticks, options, reader, writer, &mut held, &mut room, &router,
+    )
 }

@@ -315,9 +315,20 @@ retained_to_600 : standing (state_after start (both_creates 100 ++ Moment 600 �
 unfolding next meaning after effect judge judged_for judged_version queue tests out published copy_of
 retained_to_600 = refl
 
-retained_from_due : standing (state_after start (does a (NewProviderCreate n b a 10 2025440000 None) ∷ Moment 9 ∷ does b (OldProviderCreate n b a 10 true) ∷ Moment 2000 ∷ [])) 1 ≡ Some (Canceled, 510, 0)
+-- the old provider's create, at 300, does not count
+retained_from_due : map (λ m. standing (state_after start (does a (NewProviderCreate n b a 10 2025440000 None) ∷ Moment 300 ∷ does b (OldProviderCreate n b a 10 true) ∷ Moment m ∷ [])) 1) (509 ∷ 510 ∷ []) ≡ Some (Pending, 0, 0) ∷ Some (Canceled, 510, 0) ∷ []
 unfolding next meaning after effect judge judged_for judged_version queue tests out published copy_of
 retained_from_due = refl
+
+-- the new provider's create, at 100, does: it is later than the due minute and than the minute since which the version is pending
+retained_from_create : map (λ m. standing (state_after start (does b (OldProviderCreate n b a 10 true) ∷ Moment 100 ∷ does a (NewProviderCreate n b a 10 2025440000 None) ∷ Moment m ∷ [])) 1) (599 ∷ 600 ∷ []) ≡ Some (Pending, 0, 0) ∷ Some (Canceled, 600, 0) ∷ []
+unfolding next meaning after effect judge judged_for judged_version queue tests out published copy_of
+retained_from_create = refl
+
+-- and so does the minute since which it is pending: removed from conflict at 200
+retained_from_since : map (λ m. standing (state_after start (both_creates 100 ++ Moment 50 ∷ does b (PutInConflict 1) ∷ Moment 200 ∷ does b (RemoveFromConflict 1) ∷ Moment m ∷ [])) 1) (699 ∷ 700 ∷ []) ≡ Some (Pending, 200, 0) ∷ Some (Canceled, 700, 0) ∷ []
+unfolding next meaning after effect judge judged_for judged_version queue tests out published copy_of
+retained_from_since = refl
 
 -- ---- disconnects
 

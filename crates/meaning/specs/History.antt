@@ -33,7 +33,21 @@ AreLines (line ∷ lines) = (line < 1000) × AreLines lines
 
 abbrev pub HasLines : Request → Type 0
 HasLines (Commands (Donate block used lrn cic)) = AreLines used
-HasLines _ = ⊤
+HasLines (Commands (RegisterCarrier spid)) = ⊤
+HasLines (Commands (RegisterRoutingNumber lrn)) = ⊤
+HasLines (Commands (OpenCode code spid)) = ⊤
+HasLines (Commands (OldProviderCreate tn old_provider new_provider due authorized)) = ⊤
+HasLines (Commands (NewProviderCreate tn old_provider new_provider due lrn cic)) = ⊤
+HasLines (Commands (Activate id)) = ⊤
+HasLines (Commands (PutInConflict id)) = ⊤
+HasLines (Commands (RemoveFromConflict id)) = ⊤
+HasLines (Commands (Cancel id)) = ⊤
+HasLines (Commands (OldProviderCancellationAcknowledge id)) = ⊤
+HasLines (Commands (NewProviderCancellationAcknowledge id)) = ⊤
+HasLines (Commands (Disconnect id release)) = ⊤
+HasLines (Commands (Assign block holder lrn cic)) = ⊤
+HasLines (Commands (Release block)) = ⊤
+HasLines (Acknowledges id attempt) = ⊤
 
 -- ---- the registry, by searching the history
 
@@ -199,7 +213,18 @@ makes (Commands (NewProviderCreate tn old_provider new_provider due lrn cic)) at
 makes (Commands (Donate block used lrn cic)) at =
     filter (λ s. is_none (version_in_force (at s))) (used_numbers block used)
 makes (Commands (Assign block holder lrn cic)) at = Block block ∷ []
-makes _ at = []
+makes (Commands (RegisterCarrier spid)) at = []
+makes (Commands (RegisterRoutingNumber lrn)) at = []
+makes (Commands (OpenCode code spid)) at = []
+makes (Commands (Activate id)) at = []
+makes (Commands (PutInConflict id)) at = []
+makes (Commands (RemoveFromConflict id)) at = []
+makes (Commands (Cancel id)) at = []
+makes (Commands (OldProviderCancellationAcknowledge id)) at = []
+makes (Commands (NewProviderCancellationAcknowledge id)) at = []
+makes (Commands (Disconnect id release)) at = []
+makes (Commands (Release block)) at = []
+makes (Acknowledges id attempt) at = []
 
 -- a version as it is made, before its status
 abbrev pub blank_version : ℕ → ℕ → ℕ → ℕ → ℕ → Version
@@ -219,7 +244,7 @@ blank_version id old_provider new_provider due minute = record {
   broadcasts = [];
 }
 
--- the version that a request makes. An assigned block has a donor
+-- the version that a request makes. An assigned block has a donor. Of a request that makes none (`makes`) no line is ever asked
 abbrev pub made_version : ℕ → ℕ → ℕ → List ℕ → Option ℕ → Request → Version
 made_version id caller minute everyone donor (Commands (OldProviderCreate tn old_provider new_provider due authorized)) =
     with_old_create authorized minute (blank_version id old_provider new_provider due minute)
@@ -229,7 +254,18 @@ made_version id caller minute everyone donor (Commands (Donate block used lrn ci
     sent Create everyone minute (record (blank_version id caller caller minute minute) { routing = Some (record { lrn = lrn; cic = cic }); protective = true })
 made_version id caller minute everyone donor (Commands (Assign block holder lrn cic)) =
     sent Create everyone minute (record (blank_version id (unwrap_or donor 0) holder minute minute) { routing = Some (record { lrn = lrn; cic = cic }) })
-made_version id caller minute everyone donor _ = blank_version id caller caller minute minute
+made_version id caller minute everyone donor (Commands (RegisterCarrier spid)) = blank_version id caller caller minute minute
+made_version id caller minute everyone donor (Commands (RegisterRoutingNumber lrn)) = blank_version id caller caller minute minute
+made_version id caller minute everyone donor (Commands (OpenCode code spid)) = blank_version id caller caller minute minute
+made_version id caller minute everyone donor (Commands (Activate its_id)) = blank_version id caller caller minute minute
+made_version id caller minute everyone donor (Commands (PutInConflict its_id)) = blank_version id caller caller minute minute
+made_version id caller minute everyone donor (Commands (RemoveFromConflict its_id)) = blank_version id caller caller minute minute
+made_version id caller minute everyone donor (Commands (Cancel its_id)) = blank_version id caller caller minute minute
+made_version id caller minute everyone donor (Commands (OldProviderCancellationAcknowledge its_id)) = blank_version id caller caller minute minute
+made_version id caller minute everyone donor (Commands (NewProviderCancellationAcknowledge its_id)) = blank_version id caller caller minute minute
+made_version id caller minute everyone donor (Commands (Disconnect its_id release)) = blank_version id caller caller minute minute
+made_version id caller minute everyone donor (Commands (Release block)) = blank_version id caller caller minute minute
+made_version id caller minute everyone donor (Acknowledges its_id attempt) = blank_version id caller caller minute minute
 
 -- the id of the version that is made for s, if one is: the subjects take ids in turn
 abbrev pub id_among : Subject → ℕ → List Subject → Option ℕ
@@ -239,7 +275,21 @@ id_among s id (t ∷ ts) = if subject_eq s t then Some id else id_among s (suc i
 -- the block that an assignment names; any number stands for the other requests, which have no use for a donor
 abbrev pub assigned_block : Request → ℕ
 assigned_block (Commands (Assign block holder lrn cic)) = block
-assigned_block _ = 0
+assigned_block (Commands (RegisterCarrier spid)) = 0
+assigned_block (Commands (RegisterRoutingNumber lrn)) = 0
+assigned_block (Commands (OpenCode code spid)) = 0
+assigned_block (Commands (OldProviderCreate tn old_provider new_provider due authorized)) = 0
+assigned_block (Commands (NewProviderCreate tn old_provider new_provider due lrn cic)) = 0
+assigned_block (Commands (Activate id)) = 0
+assigned_block (Commands (PutInConflict id)) = 0
+assigned_block (Commands (RemoveFromConflict id)) = 0
+assigned_block (Commands (Cancel id)) = 0
+assigned_block (Commands (OldProviderCancellationAcknowledge id)) = 0
+assigned_block (Commands (NewProviderCancellationAcknowledge id)) = 0
+assigned_block (Commands (Disconnect id release)) = 0
+assigned_block (Commands (Donate block used lrn cic)) = 0
+assigned_block (Commands (Release block)) = 0
+assigned_block (Acknowledges id attempt) = 0
 
 -- the new version in front, if one is made
 abbrev pub with_made : Option ℕ → (ℕ → Version) → List Version → List Version

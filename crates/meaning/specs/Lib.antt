@@ -15,6 +15,9 @@ pub mod Laws
 pub mod Due
 pub mod Theorems
 pub mod Examples
+pub mod ServiceExamples
+pub mod RefusalExamples
+pub mod GreatestWindows
 pub mod Views
 pub mod RefusalNumbers
 pub mod Concerns

@@ -74,13 +74,20 @@ is_release _ = false
 abbrev pub has_caller : Question → Bool
 has_caller AllInForce = false
 has_caller (Ids tn) = false
-has_caller _ = true
+has_caller Knows = true
+has_caller (Fetch n) = true
+has_caller (ShowVersion id) = true
+has_caller (Query tn) = true
+has_caller Waiting = true
 
 abbrev pub may_be_administrators : Question → Bool
 may_be_administrators Knows = true
 may_be_administrators (ShowVersion id) = true
 may_be_administrators (Query tn) = true
-may_be_administrators _ = false
+may_be_administrators (Fetch n) = false
+may_be_administrators AllInForce = false
+may_be_administrators Waiting = false
+may_be_administrators (Ids tn) = false
 
 -- the number of a create, with its providers, due minute and authorization
 pub record Creates : Type 0 where
@@ -302,12 +309,37 @@ module _ (st : State) (caller : ℕ) where
   abbrev pub not_concurred : Command → Bool
   not_concurred (Activate id) = holds_of_named st (Activate id) (λ v. lacks_concurrence st.windows st.now v.status v.old_at v.new_at v.since)
   not_concurred (RemoveFromConflict id) = holds_of_named st (RemoveFromConflict id) (λ v. not (has_both_creates v.old_at v.new_at))
-  not_concurred _ = false
+  not_concurred (RegisterCarrier spid) = false
+  not_concurred (RegisterRoutingNumber lrn) = false
+  not_concurred (OpenCode code spid) = false
+  not_concurred (OldProviderCreate tn old_provider new_provider due authorized) = false
+  not_concurred (NewProviderCreate tn old_provider new_provider due lrn cic) = false
+  not_concurred (PutInConflict id) = false
+  not_concurred (Cancel id) = false
+  not_concurred (OldProviderCancellationAcknowledge id) = false
+  not_concurred (NewProviderCancellationAcknowledge id) = false
+  not_concurred (Disconnect id release) = false
+  not_concurred (Donate block used lrn cic) = false
+  not_concurred (Assign block holder lrn cic) = false
+  not_concurred (Release block) = false
 
   -- 17: activation of a pending version before it is due
   abbrev pub before_due : Command → Bool
   before_due (Activate id) = holds_of_named st (Activate id) (λ v. is_not_yet_due st.now v.status v.due)
-  before_due _ = false
+  before_due (RegisterCarrier spid) = false
+  before_due (RegisterRoutingNumber lrn) = false
+  before_due (OpenCode code spid) = false
+  before_due (OldProviderCreate tn old_provider new_provider due authorized) = false
+  before_due (NewProviderCreate tn old_provider new_provider due lrn cic) = false
+  before_due (PutInConflict id) = false
+  before_due (RemoveFromConflict id) = false
+  before_due (Cancel id) = false
+  before_due (OldProviderCancellationAcknowledge id) = false
+  before_due (NewProviderCancellationAcknowledge id) = false
+  before_due (Disconnect id release) = false
+  before_due (Donate block used lrn cic) = false
+  before_due (Assign block holder lrn cic) = false
+  before_due (Release block) = false
 
   -- 18: a second conflict
   abbrev pub conflict_spent : Command → Bool
@@ -322,12 +354,38 @@ module _ (st : State) (caller : ℕ) where
   -- 20: a removal by the new provider before the conflict may be resolved
   abbrev pub too_early : Command → Bool
   too_early (RemoveFromConflict id) = holds_of_named st (RemoveFromConflict id) (λ v. is_early_removal st.windows st.now caller v.new_provider v.since)
-  too_early _ = false
+  too_early (RegisterCarrier spid) = false
+  too_early (RegisterRoutingNumber lrn) = false
+  too_early (OpenCode code spid) = false
+  too_early (OldProviderCreate tn old_provider new_provider due authorized) = false
+  too_early (NewProviderCreate tn old_provider new_provider due lrn cic) = false
+  too_early (Activate id) = false
+  too_early (PutInConflict id) = false
+  too_early (Cancel id) = false
+  too_early (OldProviderCancellationAcknowledge id) = false
+  too_early (NewProviderCancellationAcknowledge id) = false
+  too_early (Disconnect id release) = false
+  too_early (Donate block used lrn cic) = false
+  too_early (Assign block holder lrn cic) = false
+  too_early (Release block) = false
 
   -- 21: a failed protective version stays
   abbrev pub protected : Command → Bool
   protected (Cancel id) = holds_of_named st (Cancel id) (λ v. is_protected v.status v.protective)
-  protected _ = false
+  protected (RegisterCarrier spid) = false
+  protected (RegisterRoutingNumber lrn) = false
+  protected (OpenCode code spid) = false
+  protected (OldProviderCreate tn old_provider new_provider due authorized) = false
+  protected (NewProviderCreate tn old_provider new_provider due lrn cic) = false
+  protected (Activate id) = false
+  protected (PutInConflict id) = false
+  protected (RemoveFromConflict id) = false
+  protected (OldProviderCancellationAcknowledge id) = false
+  protected (NewProviderCancellationAcknowledge id) = false
+  protected (Disconnect id release) = false
+  protected (Donate block used lrn cic) = false
+  protected (Assign block holder lrn cic) = false
+  protected (Release block) = false
 
   -- the numbers of a block that are named as used, or have a version in force
   abbrev pub contaminated_numbers : ℕ → List ℕ → List Subject
@@ -353,7 +411,19 @@ module _ (st : State) (caller : ℕ) where
   abbrev pub block_taken : Command → Bool
   block_taken (Donate block used lrn cic) = is_some (donor_of block st.history)
   block_taken (Assign block holder lrn cic) = holds_of (λ (v : Version). takes_block v.status) (last_version (record_now st (Block block)))
-  block_taken _ = false
+  block_taken (RegisterCarrier spid) = false
+  block_taken (RegisterRoutingNumber lrn) = false
+  block_taken (OpenCode code spid) = false
+  block_taken (OldProviderCreate tn old_provider new_provider due authorized) = false
+  block_taken (NewProviderCreate tn old_provider new_provider due lrn cic) = false
+  block_taken (Activate id) = false
+  block_taken (PutInConflict id) = false
+  block_taken (RemoveFromConflict id) = false
+  block_taken (Cancel id) = false
+  block_taken (OldProviderCancellationAcknowledge id) = false
+  block_taken (NewProviderCancellationAcknowledge id) = false
+  block_taken (Disconnect id release) = false
+  block_taken (Release block) = false
 
   -- the attempt that a command sends, or plans
   abbrev pub attempts_too_often : Command → Bool
@@ -430,7 +500,12 @@ tests st (Requests caller (Acknowledges id attempt)) =
     (1, unknown_carrier st (Requests caller (Acknowledges id attempt))) ∷ (10, no_version st id)
     ∷ (25, not_queued st caller id attempt) ∷ (26, out_of_order st caller id attempt) ∷ []
 tests st (Asks caller (ShowVersion id)) = (1, unknown_carrier st (Asks caller (ShowVersion id))) ∷ (10, no_version st id) ∷ []
-tests st (Asks caller q) = (1, unknown_carrier st (Asks caller q)) ∷ []
+tests st (Asks caller Knows) = (1, unknown_carrier st (Asks caller Knows)) ∷ []
+tests st (Asks caller (Fetch n)) = (1, unknown_carrier st (Asks caller (Fetch n))) ∷ []
+tests st (Asks caller (Query tn)) = (1, unknown_carrier st (Asks caller (Query tn))) ∷ []
+tests st (Asks caller AllInForce) = (1, unknown_carrier st (Asks caller AllInForce)) ∷ []
+tests st (Asks caller Waiting) = (1, unknown_carrier st (Asks caller Waiting)) ∷ []
+tests st (Asks caller (Ids tn)) = (1, unknown_carrier st (Asks caller (Ids tn))) ∷ []
 
 -- the number of the first test that holds
 abbrev pub first_that_holds : List (ℕ × Bool) → Option ℕ

@@ -1,5 +1,5 @@
 //! The paths of the interface. Edit it seldom: the router's table is computed by its proof.
-ghost use Rattle.std.specs.Prelude.{◌≡◌, IfOk};
+ghost use Rattle.std.specs.Prelude.{◌≡◌, [], IfOk, OnOk};
 ghost use Rattle.std.specs.List.{list_all};
 ghost use Rattle.messages.specs.Table.{table, paths, path_among, path_of, version_path, number_in, is_of_part, is_part as is_one_part, method_of as method_seen, takes as takes_method, among_offered};
 
@@ -72,12 +72,11 @@ pub fn offered(route: Option<Route>, clock: bool) -> Option<Route>
     }
 }
 
-/// The router of the paths that are one text, for `next_message`. `Err` is what `matchit` refuses, as for want
-/// of memory.
-pub fn router(alloc: Global) -> Result<Router<Route>, InsertError>
-    ensures { IfOk result (λ r. r ≡ table) }
+// Puts the paths that are one text into a new router. The router is lent, so that a refusal has nothing to let go of.
+fn insert_paths(router: &mut Router<Route>) -> Result<(), InsertError>
+    requires { router.old ≡ [] }
+    ensures { OnOk result (router.new ≡ table) }
 {
-    let mut router = Router::new(alloc);
     router.insert("/carriers", Route::Carriers)?;
     router.insert("/clock", Route::Clock)?;
     router.insert("/lrns", Route::RoutingNumbers)?;
@@ -87,6 +86,16 @@ pub fn router(alloc: Global) -> Result<Router<Route>, InsertError>
     router.insert("/subscriptionVersionActivate", Route::Activate)?;
     router.insert("/downloads/acknowledge", Route::Acknowledge)?;
     router.insert("/query", Route::Query)?;
+    Ok(())
+}
+
+/// The router of the paths that are one text, for `next_message`. `Err` is what `matchit` refuses, as for want
+/// of memory.
+pub fn router(alloc: Global) -> Result<Router<Route>, InsertError>
+    ensures { IfOk result (λ r. r ≡ table) }
+{
+    let mut router = Router::new(alloc);
+    insert_paths(&mut router)?;
     Ok(router)
 }
 

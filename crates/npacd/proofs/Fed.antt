@@ -3,7 +3,7 @@ use Rattle.std.proofs.Common.{◌≡◌, ℕ, List, [], Option, Some, None, inl,
 use Rattle.std.specs.Prelude.{Result, Ok, Err, IfOk, IfErr, IfSome}
 use Rattle.meaning.specs.Content.{Content}
 use Rattle.meaning.specs.Reading.{first_state}
-use Rattle.meaning.specs.Windows.{AreWindows}
+use Rattle.meaning.specs.Windows.{AreWindows, Windows as WindowsMeant}
 use Rattle.version.specs.Views.{windows_of}
 use Rattle.windows.specs.declared.window.Windows.{Windows}
 use Rattle.api.specs.Serving.{EndsAt, FailsAt}
@@ -29,15 +29,15 @@ are-windows w = record {
   broadcast = w.broadcast.in_range.0;
 }
 
-module _ (w : Windows) (had has : Option (List ℕ)) (new : Content) where
+module _ (w : WindowsMeant) (had has : Option (List ℕ)) (new : Content) where
   of_outcome : (told : Option (List ℕ)) (r : Result Served ServingFault) →
-      IfOk r (λ served. IfSome told (λ input. EndsAt served.end true 0 0 (first_state (windows_of w)) new input [] had has served.count)) →
-      IfErr r (λ fault. IfSome told (λ input. FailsAt fault true 0 0 (first_state (windows_of w)) new input [] had has)) →
-      IfSome told (λ input. Feeds (windows_of w) input had has (outcome_of r))
+      IfOk r (λ served. IfSome told (λ input. EndsAt served.end true 0 0 (first_state w) new input [] had has served.count)) →
+      IfErr r (λ fault. IfSome told (λ input. FailsAt fault true 0 0 (first_state w) new input [] had has)) →
+      IfSome told (λ input. Feeds w input had has (outcome_of r))
   of_outcome None r ends fails = tt
   of_outcome (Some input) (Ok served) ends fails = go served.end ends
     where
-      go : (end : End) → EndsAt end true 0 0 (first_state (windows_of w)) new input [] had has served.count → Feeds (windows_of w) input had has (fault_of_end end)
+      go : (end : End) → EndsAt end true 0 0 (first_state w) new input [] had has served.count → Feeds w input had has (fault_of_end end)
       go Input ends = inl (new, served.count, ends)
       go Closed ends = inr (new, served.count, ends)
       go (Refused fault) ends = (new, served.count, ends)
@@ -46,7 +46,7 @@ module _ (w : Windows) (had has : Option (List ℕ)) (new : Content) where
   of_outcome (Some input) (Err (serving.Memory k)) ends fails = (new, k, fails)
 
   pub fed : (told : Option (List ℕ)) (r : Result Served ServingFault) (result : Result (Unit {0}) Fault) → result ≡ outcome_of r →
-      IfOk r (λ served. IfSome told (λ input. EndsAt served.end true 0 0 (first_state (windows_of w)) new input [] had has served.count)) →
-      IfErr r (λ fault. IfSome told (λ input. FailsAt fault true 0 0 (first_state (windows_of w)) new input [] had has)) →
-      IfSome told (λ input. Feeds (windows_of w) input had has result)
-  fed told r result is ends fails = subst (λ o. IfSome told (λ input. Feeds (windows_of w) input had has o)) (sym is) (of_outcome told r ends fails)
+      IfOk r (λ served. IfSome told (λ input. EndsAt served.end true 0 0 (first_state w) new input [] had has served.count)) →
+      IfErr r (λ fault. IfSome told (λ input. FailsAt fault true 0 0 (first_state w) new input [] had has)) →
+      IfSome told (λ input. Feeds w input had has result)
+  fed told r result is ends fails = subst (λ o. IfSome told (λ input. Feeds w input had has o)) (sym is) (of_outcome told r ends fails)

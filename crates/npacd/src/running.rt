@@ -1,6 +1,10 @@
 //! Carrying out a command line.
 ghost use Rattle.std.specs.Prelude.{◌≡◌, IfSome};
+ghost use Rattle.meaning.specs.Reading.{first_state};
+ghost use Rattle.meaning.specs.Windows.{Windows as WindowsMeant};
 ghost use Rattle.version.specs.Views.{windows_of};
+ghost use Rattle.register.specs.Answers.{Stands};
+ghost use Rattle.store.specs.Tables.{content_of};
 ghost use Rattle.npacd.specs.Feeding.{Feeds, outcome_of};
 
 use crate::fault::Fault;
@@ -45,6 +49,21 @@ fn ended(served: Result<Served, api::Fault>) -> Result<(), Fault>
     }
 }
 
+// Serves the reader to the writer over a register in memory: where its content stands for the first state of
+// some windows, the answers are those of the history machine from there on.
+fn feed_to<R: Read, W: Write>(
+    alloc: Global,
+    register: &mut Register<MemoryStore>,
+    reader: &mut R,
+    writer: &mut W,
+) -> Result<(), Fault>
+    ensures { (w : WindowsMeant) → Stands (content_of register.old.store.tables) (first_state w) → IfSome (R.remaining reader.old) (λ input. Feeds w input (W.contents writer.old) (W.contents writer.new) result) }
+{
+    let options = Options { clock_route: true };
+    let served = serve(alloc, register, &mut NoTicks, &options, reader, writer);
+    ended(served)
+}
+
 // Serves the reader to the writer over a new store in memory: the answers are those of the history machine,
 // from the first state of the windows on.
 fn feed<R: Read, W: Write>(
@@ -60,10 +79,9 @@ fn feed<R: Read, W: Write>(
     match Register::open(alloc, store, windows) {
         Ok(register) => {
             let mut register = register;
-            let options = Options { clock_route: true };
-            let served = serve(alloc, &mut register, &mut NoTicks, &options, reader, writer);
+            let outcome = feed_to(alloc, &mut register, reader, writer);
             let _store = register.close();
-            ended(served)
+            outcome
         }
         Err((_store, fault)) => Err(Fault::Open(fault)),
     }

@@ -4,3 +4,4 @@ pub mod Made
 pub mod Refused
 pub mod CreateRefused
 pub mod Fired
+pub mod Judged

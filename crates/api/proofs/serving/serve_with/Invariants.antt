@@ -2,7 +2,7 @@ use Rattle.std.proofs.Common.{◌≡◌, ◌≤◌, vec_len}
 use Rattle.messages.specs.Held.{input_left}
 use Rattle.bodies.specs.Rooms.{HasRoom}
 use Rattle.api.proofs.Going.{Progress}
-use Rattle.api.proofs.serving.serve.Given as goal
+use Rattle.api.proofs.serving.serve_with.Given as goal
 
 abbrev pub invariant-loop-count : goal.invariant-loop-count
 invariant-loop-count g l =

@@ -5,15 +5,15 @@ use Rattle.messages.specs.Held.{input_left}
 use Rattle.messages.specs.Sending.{AppendsFront}
 use Rattle.api.specs.Serving.{AfterWhole, Responds}
 use Rattle.api.proofs.Going.{Known, started, whole_of, ended, state_then, went_on, finished, partly}
-use Rattle.api.proofs.serving.serve.Goals as goal
+use Rattle.api.proofs.serving.serve_with.Goals as goal
 
 pub loop-count-init : goal.loop-count-init
 loop-count-init g c = (
-  c.in-Some.ensures.size,
-  c.in-Some.ensures.room,
+  c.requires.size,
+  c.requires.room,
   λ usable. usable,
   le_refl _,
-  λ usable. started c.args.options.now.clock_route (g.S.Store.failed c.args.register.now.store) (g.S.Store.content c.args.register.now.store) _ (g.R.Read.remaining c.args.reader.now) (g.W.Write.contents c.args.writer.now) (g.T.Ticks.told c.args.ticks.now) c.in-Some.ensures.empty,
+  λ usable. started c.args.options.now.clock_route (g.S.Store.failed c.args.register.now.store) (g.S.Store.content c.args.register.now.store) _ (g.R.Read.remaining c.args.reader.now) (g.W.Write.contents c.args.writer.now) (g.T.Ticks.told c.args.ticks.now) c.requires.empty,
 )
 
 pub returns-in-Ok-None-clause-served : goal.returns-in-Ok-None-clause-served
@@ -47,17 +47,17 @@ returns-in-Err-clause-state g c = λ usable.
     (g.W.Write.contents c.args.writer.now) (g.W.Write.contents c.loop-count.writer) (g.T.Ticks.told c.args.ticks.now) (g.T.Ticks.told c.loop-count.ticks) c.loop-count.count (c.loop-count.invariant.4 (c.respond-end.ensures.usable usable))
     (g.S.Store.failed c.respond-end.new.register.store) (g.S.Store.content c.respond-end.new.register.store) (g.T.Ticks.told c.respond-end.new.ticks) c.in-Ok-Some.next c.deref.result.now _ (c.respond-end.ensures.responds usable)
 
-pub returns-in-Some-end-clause-served : goal.returns-in-Some-end-clause-served
-returns-in-Some-end-clause-served g c = λ usable.
+pub returns-in-Some-clause-served : goal.returns-in-Some-clause-served
+returns-in-Some-clause-served g c = λ usable.
     finished c.args.options.now.clock_route (g.S.Store.failed c.args.register.now.store) (g.S.Store.failed c.loop-count.register.store) (g.S.Store.content c.args.register.now.store) (g.S.Store.content c.loop-count.register.store) (g.R.Read.remaining c.args.reader.now) (input_left c.loop-count.held (g.R.Read.remaining c.loop-count.reader))
     (g.W.Write.contents c.args.writer.now) (g.W.Write.contents c.loop-count.writer) (g.T.Ticks.told c.args.ticks.now) (g.T.Ticks.told c.loop-count.ticks) c.loop-count.count (c.loop-count.invariant.4 (c.respond-end.ensures.usable usable))
-    (g.S.Store.failed c.respond-end.new.register.store) (g.S.Store.content c.respond-end.new.register.store) (input_left c.next_message.new.held (g.R.Read.remaining c.next_message.new.reader)) (g.W.Write.contents c.send_all.new.writer) (g.T.Ticks.told c.respond-end.new.ticks) c.in-Ok-Some.next c.in-Some-end.end c.next_message.new.body.items (string_bytes c.respond-end.new.room.text)
-    (sym c.respond-end.ensures.end ∙ c.in-Some-end.is) (rw c.in-Ok-Some.field-0-is at c.in-Ok-Some.ensures.cut)
+    (g.S.Store.failed c.respond-end.new.register.store) (g.S.Store.content c.respond-end.new.register.store) (input_left c.next_message.new.held (g.R.Read.remaining c.next_message.new.reader)) (g.W.Write.contents c.send_all.new.writer) (g.T.Ticks.told c.respond-end.new.ticks) c.in-Ok-Some.next c.in-Some.end c.next_message.new.body.items (string_bytes c.respond-end.new.room.text)
+    (sym c.respond-end.ensures.end ∙ c.in-Some.is) (rw c.in-Ok-Some.field-0-is at c.in-Ok-Some.ensures.cut)
     (subst (λ (b : List ℕ). Responds c.args.options.now.clock_route (g.T.Ticks.told c.loop-count.ticks) (g.T.Ticks.told c.respond-end.new.ticks) (g.S.Store.failed c.loop-count.register.store) (g.S.Store.failed c.respond-end.new.register.store) c.in-Ok-Some.next b (string_bytes c.respond-end.new.room.text) (g.S.Store.content c.loop-count.register.store) (g.S.Store.content c.respond-end.new.register.store)) c.deref.ensures.value (c.respond-end.ensures.responds usable))
     (subst (Appends (g.W.Write.contents c.loop-count.writer) (g.W.Write.contents c.send_all.new.writer)) c.as_bytes.ensures.value c.in-Ok.ensures.ok)
 
-pub returns-in-Some-end-clause-state : goal.returns-in-Some-end-clause-state
-returns-in-Some-end-clause-state g c = λ usable.
+pub returns-in-Some-clause-state : goal.returns-in-Some-clause-state
+returns-in-Some-clause-state g c = λ usable.
     state_then c.args.options.now.clock_route (g.S.Store.failed c.args.register.now.store) (g.S.Store.failed c.loop-count.register.store) (g.S.Store.content c.args.register.now.store) (g.S.Store.content c.loop-count.register.store) (g.R.Read.remaining c.args.reader.now) (input_left c.loop-count.held (g.R.Read.remaining c.loop-count.reader))
     (g.W.Write.contents c.args.writer.now) (g.W.Write.contents c.loop-count.writer) (g.T.Ticks.told c.args.ticks.now) (g.T.Ticks.told c.loop-count.ticks) c.loop-count.count (c.loop-count.invariant.4 (c.respond-end.ensures.usable usable))
     (g.S.Store.failed c.respond-end.new.register.store) (g.S.Store.content c.respond-end.new.register.store) (g.T.Ticks.told c.respond-end.new.ticks) c.in-Ok-Some.next c.deref.result.now _ (c.respond-end.ensures.responds usable)
@@ -72,7 +72,7 @@ loop-count-preserved g c = (
       went_on c.args.options.now.clock_route (g.S.Store.failed c.args.register.now.store) (g.S.Store.failed c.loop-count.register.store) (g.S.Store.content c.args.register.now.store) (g.S.Store.content c.loop-count.register.store) (g.R.Read.remaining c.args.reader.now) (input_left c.loop-count.held (g.R.Read.remaining c.loop-count.reader))
       (g.W.Write.contents c.args.writer.now) (g.W.Write.contents c.loop-count.writer) (g.T.Ticks.told c.args.ticks.now) (g.T.Ticks.told c.loop-count.ticks) c.loop-count.count (c.loop-count.invariant.4 (c.respond-end.ensures.usable usable))
       (g.S.Store.failed c.respond-end.new.register.store) (g.S.Store.content c.respond-end.new.register.store) (input_left c.next_message.new.held (g.R.Read.remaining c.next_message.new.reader)) (g.W.Write.contents c.send_all.new.writer) (g.T.Ticks.told c.respond-end.new.ticks) c.in-Ok-Some.next c.next_message.new.body.items (string_bytes c.respond-end.new.room.text)
-      (sym c.respond-end.ensures.end ∙ c.in_default-end.is) (rw c.in-Ok-Some.field-0-is at c.in-Ok-Some.ensures.cut)
+      (sym c.respond-end.ensures.end ∙ c.in_default.is) (rw c.in-Ok-Some.field-0-is at c.in-Ok-Some.ensures.cut)
       (subst (λ (b : List ℕ). Responds c.args.options.now.clock_route (g.T.Ticks.told c.loop-count.ticks) (g.T.Ticks.told c.respond-end.new.ticks) (g.S.Store.failed c.loop-count.register.store) (g.S.Store.failed c.respond-end.new.register.store) c.in-Ok-Some.next b (string_bytes c.respond-end.new.room.text) (g.S.Store.content c.loop-count.register.store) (g.S.Store.content c.respond-end.new.register.store)) c.deref.ensures.value (c.respond-end.ensures.responds usable))
       (subst (Appends (g.W.Write.contents c.loop-count.writer) (g.W.Write.contents c.send_all.new.writer)) c.as_bytes.ensures.value c.in-Ok.ensures.ok),
 )
