@@ -244,7 +244,7 @@ blank_version id old_provider new_provider due minute = record {
   broadcasts = [];
 }
 
--- the version that a request makes. An assigned block has a donor. Of a request that makes none (`makes`) no line is ever asked
+-- the version that a request makes. An assigned block has a donor. Of requests that make none (`makes`) the version is asked for nowhere
 abbrev pub made_version : ℕ → ℕ → ℕ → List ℕ → Option ℕ → Request → Version
 made_version id caller minute everyone donor (Commands (OldProviderCreate tn old_provider new_provider due authorized)) =
     with_old_create authorized minute (blank_version id old_provider new_provider due minute)

@@ -72,7 +72,8 @@ pub fn offered(route: Option<Route>, clock: bool) -> Option<Route>
     }
 }
 
-// Puts the paths that are one text into a new router. The router is lent, so that a refusal has nothing to let go of.
+// Puts the paths that are one text into a new router. It is lent: a proof is dear where a value with so
+// deep a destructor is owned across many calls that can fail.
 fn insert_paths(router: &mut Router<Route>) -> Result<(), InsertError>
     requires { router.old ≡ [] }
     ensures { OnOk result (router.new ≡ table) }

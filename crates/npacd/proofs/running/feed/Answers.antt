@@ -1,4 +1,4 @@
-use Rattle.std.proofs.Common.{◌≡◌, refl, sym, subst}
+use Rattle.std.proofs.Common.{refl, sym, subst}
 use Rattle.meaning.specs.Content.{Content, Represents}
 use Rattle.meaning.specs.Reading.{first_state}
 use Rattle.version.specs.Views.{windows_of}
