@@ -1,5 +1,5 @@
 //! Plays stories: the messages of each file that the command line names are served to a new register over
-//! memory, and what is answered is printed.
+//! memory, whole and byte by byte, and what is answered is printed.
 //!
 //! A file has the bytes of a connection, or of several to the same register with a byte 30 between them. The
 //! windows are those of `w.toml`.
@@ -20,17 +20,23 @@ fn read_windows<T: Files + AllocGlobal>(rt: &T) -> Result<Windows, Fault> {
     Ok(Windows::from_toml(rt.alloc(), text.as_str())?)
 }
 
-// Prints a story's name, and what is answered to it.
+// Prints a story's name and what is answered to it, and what is answered to it byte by byte where that is
+// something else.
 fn tell<T: Files + AllocGlobal + Print>(
     rt: &T,
     windows: &Windows,
     name: &str,
 ) -> Result<(), Fault> {
     let story = fs::read(rt, name)?;
-    let mut heard = Vec::new(rt.alloc());
-    writeln!(heard, "story {name}")?;
-    play(rt.alloc(), windows, &story, &mut heard)?;
-    io::writer(rt).write_all(&heard)?;
+    let heard = play(rt.alloc(), windows, &story, usize::MAX)?;
+    let again = play(rt.alloc(), windows, &story, 1)?;
+    let mut out = io::writer(rt);
+    writeln!(out, "story {name}")?;
+    out.write_all(&heard)?;
+    if again != heard {
+        writeln!(out, "story {name}, byte by byte")?;
+        out.write_all(&again)?;
+    }
     Ok(())
 }
 
