@@ -6,15 +6,16 @@ use settle::{
     BlockRow, BroadcastKey, Changes, ClockRow, NumberedRow, RoutedRow, Store, StoreFault,
     VersionRow,
 };
+use std::cell::Cell;
 
 /// Another store, and how many commits it was asked for.
 #[derive(Drop)]
-pub struct Counted<S: Store> {
+pub struct Counted<'a, S: Store> {
     pub store: S,
-    pub commits: u64,
+    pub commits: &'a Cell<u64>,
 }
 
-impl<S: Store> Store for Counted<S> {
+impl<S: Store> Store for Counted<'_, S> {
     ghost content = { λ s. S.content s.store };
 
     ghost IsUsable = { λ s. S.IsUsable s.store };
@@ -94,7 +95,7 @@ impl<S: Store> Store for Counted<S> {
     }
 
     fn commit(&mut self, changes: &Changes) -> Result<(), StoreFault> {
-        self.commits = self.commits.saturating_add(1);
+        self.commits.set(self.commits.get().saturating_add(1));
         self.store.commit(changes)
     }
 
