@@ -1,5 +1,5 @@
 #!/usr/bin/env python3
-"""Makes what the crate `stories` is run on, and what it must print, from the files of tests/stories.
+"""Makes what the crate `stories` is run on, and what it must print, of the files of tests/stories.
 
 tests/stories.py           writes crates/stories/data, args and stdout
 tests/stories.py --check   says which of them are not what it would write
@@ -98,7 +98,7 @@ def body_of(text: str, names: Names) -> str:
 
 
 def texts_of(text: str, names: Names) -> str:
-    """Texts in quotes, as JSON writes them, or names of such, each with `*N` behind it where it comes N times."""
+    """Texts in quotes, as JSON writes them, or names of such; `*N` behind one: it comes N times."""
     made = ""
     for part in re.findall(r'(?:"(?:[^"\\]|\\.)*"|[^\s"*]+)(?:\*\d+)?', text):
         one, times = part, 1
@@ -127,7 +127,7 @@ def answer(text: str, names: Names) -> str:
 
 
 def unrolled(lines: list[tuple[str, str]]) -> list[tuple[str, str]]:
-    """The lines with those between `for` and `end` once for each number, which stands for the `#`."""
+    """The lines, with those between `for` and `end` once for each number in place of `#`."""
     made: list[tuple[str, str]] = []
     repeated: list[tuple[str, str]] = []
     numbers: list[str] = []
@@ -255,7 +255,9 @@ def differences(pieces: list[Piece], heard: str) -> list[str]:
             instead = heard[at : at + len(piece.text) + 40]
             found.append(f"{piece.where}\n  wanted {piece.text!r}\n  heard  {instead!r}")
             is_lost = True
-    return found + ([] if is_lost or at == len(heard) else [f"more is printed: {heard[at:][:200]!r}"])
+    if not is_lost and at < len(heard):
+        found.append(f"more is printed: {heard[at:][:200]!r}")
+    return found
 
 
 def notices(pieces: list[Piece]) -> bool:
@@ -283,7 +285,8 @@ def check(files: dict[Path, bytes], pieces: list[Piece]) -> int:
     there = {*(CRATE / "data").iterdir(), CRATE / "args", CRATE / "stdout"}
     for path in sorted(there | files.keys()):
         if path not in files or path not in there or path.read_bytes() != files[path]:
-            print(f"{path.relative_to(HERE.parent)} is not what tests/stories.py makes of the stories")
+            name = path.relative_to(HERE.parent)
+            print(f"{name} is not what tests/stories.py makes of the stories")
             return 1
     if not notices(pieces[:200]):
         print("tests/stories.py does not notice an answer that is not wanted")

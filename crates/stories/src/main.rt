@@ -1,8 +1,8 @@
-//! Plays stories: the messages of each file that the command line names are served to a new register over
-//! memory, whole and byte by byte, and what is answered is printed.
+//! Plays stories: the messages of each file that the command line names are served to a new
+//! register over memory, whole and byte by byte, and what is answered is printed.
 //!
-//! A file has the bytes of a connection, or of several to the same register with a byte 30 between them. The
-//! windows are those of `w.toml`.
+//! A file has the bytes of a connection, or of several to the same register with a byte 30 between
+//! them. The windows are those of `w.toml`.
 #![tactic(auto)]
 
 mod fault;
@@ -20,8 +20,8 @@ fn read_windows<T: Files + AllocGlobal>(rt: &T) -> Result<Windows, Fault> {
     Ok(Windows::from_toml(rt.alloc(), text.as_str())?)
 }
 
-// Prints a story's name and what is answered to it, and what is answered to it byte by byte where that is
-// something else.
+// Prints a story's name and what is answered to it, and what is answered to it byte by byte where
+// that is something else.
 fn tell<T: Files + AllocGlobal + Print>(
     rt: &T,
     windows: &Windows,

@@ -73,8 +73,8 @@ fn hear_all(
     Ok(heard)
 }
 
-/// What is answered to a story's connections, which are served one after the other to a new register in
-/// pieces of at most this size.
+/// What is answered to a story's connections, which are served one after the other to a new
+/// register in pieces of at most this size.
 pub fn play(alloc: Global, windows: &Windows, story: &[u8], size: usize) -> Result<Vec<u8>, Fault> {
     match Register::open(alloc, MemoryStore::new(alloc), windows) {
         Ok(mut register) => Ok(hear_all(alloc, &mut register, story, size)?),

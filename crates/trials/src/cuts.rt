@@ -1,5 +1,5 @@
-//! The first port, cut in two by the reader at every place. That stories are answered byte by byte as they
-//! are whole, their player shows.
+//! The first port, cut in two by the reader at every place. That stories are answered byte by byte
+//! as they are whole, their player shows.
 use crate::port::{FIRST_PORT, Texts, hears, new_register, stream_of, whole};
 use std::io::Read;
 use std::process::Abort;

@@ -1,7 +1,7 @@
 //! A newcomer among very many open broadcasts.
 //!
-//! What is done once for each open broadcast, or for each row of a commit, is done in loops: calls within
-//! calls would end this test by the depth of the stack.
+//! What is done once for each open broadcast, or for each row of a commit, is done in loops: calls
+//! within calls would end this test by the depth of the stack.
 use crate::commands::{begin, create_of, opens, registers, routing};
 use crate::port::new_register;
 use meaning::{Action, Status};

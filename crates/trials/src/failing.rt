@@ -1,4 +1,4 @@
-//! Readers and writers that fail in mid-stream: what was answered, and what the register is left with.
+//! Readers and writers that fail in mid-stream: what was answered, and what is left then.
 use crate::port::{FIRST_PORT, Texts, hears, is_so, new_register, texts_of, whole};
 use api::{Fault, NoTicks, Options, Served, serve};
 use register::Register;

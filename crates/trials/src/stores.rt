@@ -1,5 +1,5 @@
-//! A commit and each read. The same tests run with each allocation refused in turn: a commit that is
-//! refused leaves every read as it was.
+//! A commit and each read. The same tests run with each allocation refused in turn: a commit that
+//! is refused leaves every read as it was.
 use delivery::Broadcast;
 use meaning::{Action, Status};
 use numbers::{BlockId, CodeId, Lrn, Minute, Routing, Spid, Subject, Tn};

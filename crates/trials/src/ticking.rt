@@ -59,7 +59,7 @@ fn add_clock(alloc: Global, texts: &mut Texts) -> Result<(), AllocError> {
     })
 }
 
-// The messages and their answers: what opens the register, and what comes after it beside the minutes.
+// The messages and their answers: what opens the register, and what comes beside the minutes.
 fn add_all(alloc: Global, texts: &mut Texts) -> Result<(), AllocError> {
     texts.add_rows(alloc, &FIRST_PORT[..5])?;
     texts.add_rows(alloc, &CREATED)?;
@@ -100,8 +100,8 @@ fn is_moved<T: Abort + AllocGlobal>(rt: &T) -> Option<()> {
     Some(())
 }
 
-// A minute ends the first window, one that has passed is dropped, none changes nothing, and one beside a
-// refused message counts.
+// A minute ends the first window, one that has passed is dropped, none changes nothing, and one
+// beside a refused message counts.
 #[test]
 fn minutes_beside_messages_move_the_clock(rt: HostRuntime) {
     assert!(rt; is_moved(&rt).is_some());
