@@ -3,8 +3,6 @@
 
 mod broadcast;
 mod download;
-#[cfg(test)]
-mod tests;
 
 pub use broadcast::Broadcast;
 pub use download::{DownloadKey, may_acknowledge};

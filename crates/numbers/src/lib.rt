@@ -27,6 +27,3 @@ pub use minute::Minute;
 pub use ported::{Routing, Subject, subjects_in_order_of_texts};
 pub use spid::Spid;
 pub use tn::Tn;
-
-#[cfg(test)]
-mod tests;

@@ -21,6 +21,3 @@ pub use fault::TelFault;
 pub use parameter::Parameter;
 pub use parameters::Parameters;
 pub use uri::{TelUri, faults_are_in_order, tel_uris_are_read};
-
-#[cfg(test)]
-mod tests;

@@ -7,8 +7,6 @@ mod create;
 mod deadline;
 mod firing;
 mod phase;
-#[cfg(test)]
-mod tests;
 mod version;
 
 pub use create::{Create, CreateFacts, Created, Creator};

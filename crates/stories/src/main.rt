@@ -1,0 +1,58 @@
+//! Plays stories: the messages of each file that the command line names are served to a new
+//! register over memory, whole and byte by byte, and what is answered is printed.
+//!
+//! A file has the bytes of a connection, or of several to the same register with a byte 30 between
+//! them. The windows are those of `w.toml`.
+#![tactic(auto)]
+
+mod fault;
+mod story;
+
+use fault::Fault;
+use std::io::Write;
+use std::rt::{Env, Files};
+use std::{env, fs, io};
+use story::play;
+use windows::Windows;
+
+fn read_windows<T: Files + AllocGlobal>(rt: &T) -> Result<Windows, Fault> {
+    let text = fs::read_to_string(rt, "w.toml")?;
+    Ok(Windows::from_toml(rt.alloc(), text.as_str())?)
+}
+
+// Prints a story's name and what is answered to it, and what is answered to it byte by byte where
+// that is something else.
+fn tell<T: Files + AllocGlobal + Print>(
+    rt: &T,
+    windows: &Windows,
+    name: &str,
+) -> Result<(), Fault> {
+    let story = fs::read(rt, name)?;
+    let heard = play(rt.alloc(), windows, &story, usize::MAX)?;
+    let again = play(rt.alloc(), windows, &story, 1)?;
+    let mut out = io::writer(rt);
+    writeln!(out, "story {name}")?;
+    out.write_all(&heard)?;
+    if again != heard {
+        writeln!(out, "story {name}, byte by byte")?;
+        out.write_all(&again)?;
+    }
+    Ok(())
+}
+
+fn words_of<T: AllocGlobal + Env>(rt: &T) -> io::Result<Vec<String>> {
+    let words = env::args(rt)?.collect(rt.alloc())?;
+    Ok(words)
+}
+
+fn tell_all<T: Files + AllocGlobal + Print + Env>(rt: &T) -> Result<(), Fault> {
+    let windows = read_windows(rt)?;
+    for name in words_of(rt)?.iter().skip(1) {
+        tell(rt, &windows, name.as_str())?;
+    }
+    Ok(())
+}
+
+fn main(rt: HostRuntime) -> Result<(), Fault> {
+    tell_all(&rt)
+}

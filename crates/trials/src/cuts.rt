@@ -1,0 +1,33 @@
+//! The first port, cut in two by the reader at every place. That stories are answered byte by byte
+//! as they are whole, their player shows.
+use crate::port::{FIRST_PORT, Texts, hears, new_register, stream_of, whole};
+use std::io::Read;
+use std::process::Abort;
+
+// A new register answers the two pieces as the whole.
+fn is_answered<T: Abort + AllocGlobal>(rt: &T, texts: &Texts, place: usize) -> Option<()> {
+    let (front, back) = texts.asked.as_bytes().split_at_checked(place)?;
+    let mut register = new_register(rt.alloc())?;
+    let mut reader = front.chain(back);
+    hears(
+        rt,
+        &mut register,
+        &mut reader,
+        texts.answered.as_str(),
+        whole(11),
+    );
+    Some(())
+}
+
+fn are_answered<T: Abort + AllocGlobal>(rt: &T) -> Option<()> {
+    let texts = stream_of(rt.alloc(), &FIRST_PORT)?;
+    for place in 0..texts.asked.len() {
+        is_answered(rt, &texts, place)?;
+    }
+    Some(())
+}
+
+#[test]
+fn the_first_port_is_answered_at_every_cut(rt: HostRuntime) {
+    assert!(rt; are_answered(&rt).is_some());
+}

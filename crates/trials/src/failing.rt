@@ -1,0 +1,187 @@
+//! Readers and writers that fail in mid-stream: what was answered, and what is left then.
+use crate::port::{FIRST_PORT, Texts, hears, is_so, new_register, texts_of, whole};
+use api::{Fault, NoTicks, Options, Served, serve};
+use register::Register;
+use std::alloc::{AllocError, Global};
+use std::io;
+use std::io::{ErrorKind, Read, Write};
+use std::process::Abort;
+use store::MemoryStore;
+
+// Hands out its bytes, and then fails.
+#[derive(Drop)]
+struct Breaking<'a> {
+    rest: &'a [u8],
+}
+
+impl Read for Breaking<'_> {
+    fn read(&mut self, buf: &mut [u8]) -> io::Result<usize> {
+        if self.rest.is_empty() {
+            return Err(ErrorKind::ConnectionReset.into());
+        }
+        self.rest.read(buf)
+    }
+}
+
+// Takes so many bytes, and then fails.
+#[derive(Drop)]
+struct Filling {
+    bytes: Vec<u8>,
+    room: usize,
+}
+
+impl Write for Filling {
+    fn write(&mut self, buf: &[u8]) -> io::Result<usize> {
+        let count = buf.len().min(self.room);
+        if count == 0 {
+            return Err(ErrorKind::StorageFull.into());
+        }
+        self.room -= count;
+        self.bytes.write(&buf[..count])
+    }
+
+    fn flush(&mut self) -> io::Result<()> {
+        Ok(())
+    }
+}
+
+// What is asked and answered in the first port, and where its messages and its answers end.
+#[derive(Drop)]
+struct Story {
+    texts: Texts,
+    asked: Vec<usize>,
+    answered: Vec<usize>,
+}
+
+// How many of the ends lie at or before a place.
+fn reached(ends: &[usize], place: usize) -> usize {
+    ends.iter().filter(|end| **end <= place).count()
+}
+
+// Where the first so many end.
+fn end_of(ends: &[usize], count: usize) -> usize {
+    match count.checked_sub(1) {
+        Some(last) => ends.get(last).copied().unwrap_or(0),
+        None => 0,
+    }
+}
+
+impl Story {
+    fn add(&mut self, more: &Texts) -> Result<(), AllocError> {
+        self.texts.add(more)?;
+        self.asked.push(self.texts.asked.len())?;
+        self.answered.push(self.texts.answered.len())?;
+        Ok(())
+    }
+
+    fn add_first_port(&mut self, alloc: Global) -> Result<(), AllocError> {
+        for said in &FIRST_PORT {
+            self.add(&texts_of(alloc, said)?)?;
+        }
+        Ok(())
+    }
+
+    // After so many messages the rest is answered as if nothing had happened.
+    fn goes_on<T: Abort + AllocGlobal>(
+        &self,
+        rt: &T,
+        register: &mut Register<MemoryStore>,
+        made: usize,
+    ) -> Option<()> {
+        let asked = self.texts.asked.get(end_of(&self.asked, made)..)?;
+        let wanted = self.texts.answered.get(end_of(&self.answered, made)..)?;
+        let count = FIRST_PORT.len().saturating_sub(made) as u64;
+        hears(rt, register, &mut asked.as_bytes(), wanted, whole(count));
+        Some(())
+    }
+
+    // The reader fails at a place: whole messages were answered, and the others can be sent still.
+    fn reads_until<T: Abort + AllocGlobal>(
+        &self,
+        rt: &T,
+        register: &mut Register<MemoryStore>,
+        place: usize,
+    ) -> Option<()> {
+        let made = reached(&self.asked, place);
+        let written = self.texts.answered.get(..end_of(&self.answered, made))?;
+        let rest = self.texts.asked.as_bytes().get(..place)?;
+        let fault = Err(Fault::Read(made as u64));
+        hears(rt, register, &mut Breaking { rest }, written, fault);
+        self.goes_on(rt, register, made)
+    }
+
+    // The writer fails at a place: the message whose answer it cuts was made.
+    fn writes_until<T: Abort + AllocGlobal>(
+        &self,
+        rt: &T,
+        register: &mut Register<MemoryStore>,
+        place: usize,
+    ) -> Option<()> {
+        let made = reached(&self.answered, place);
+        let wanted = self.texts.answered.get(..place)?;
+        let (bytes, ended) = written(rt.alloc(), register, self.texts.asked.as_str(), place);
+        is_so(rt, &bytes, wanted, ended, Err(Fault::Write(made as u64)));
+        self.goes_on(rt, register, made.saturating_add(1))
+    }
+}
+
+// What a writer took that has so much room, and how serving it came to its end.
+fn written(
+    alloc: Global,
+    register: &mut Register<MemoryStore>,
+    asked: &str,
+    room: usize,
+) -> (Vec<u8>, Result<Served, Fault>) {
+    let mut writer = Filling {
+        bytes: Vec::new(alloc),
+        room,
+    };
+    let options = Options { clock_route: true };
+    let served = serve(
+        alloc,
+        register,
+        &mut NoTicks,
+        &options,
+        &mut asked.as_bytes(),
+        &mut writer,
+    );
+    (writer.bytes, served)
+}
+
+fn story_of_first_port(alloc: Global) -> Option<Story> {
+    let mut story = Story {
+        texts: Texts::new(alloc),
+        asked: Vec::new(alloc),
+        answered: Vec::new(alloc),
+    };
+    story.add_first_port(alloc).ok()?;
+    Some(story)
+}
+
+fn reads_until_each<T: Abort + AllocGlobal>(rt: &T) -> Option<()> {
+    let story = story_of_first_port(rt.alloc())?;
+    for place in 0..story.texts.asked.len() {
+        let mut register = new_register(rt.alloc())?;
+        story.reads_until(rt, &mut register, place)?;
+    }
+    Some(())
+}
+
+#[test]
+fn read_faults_leave_whole_messages(rt: HostRuntime) {
+    assert!(rt; reads_until_each(&rt).is_some());
+}
+
+fn writes_until_each<T: Abort + AllocGlobal>(rt: &T) -> Option<()> {
+    let story = story_of_first_port(rt.alloc())?;
+    for place in 0..story.texts.answered.len() {
+        let mut register = new_register(rt.alloc())?;
+        story.writes_until(rt, &mut register, place)?;
+    }
+    Some(())
+}
+
+#[test]
+fn write_faults_leave_one_message_more(rt: HostRuntime) {
+    assert!(rt; writes_until_each(&rt).is_some());
+}

@@ -1,0 +1,39 @@
+//! The proved tests: what stories cannot show, and each function of the lower crates once.
+#![tactic(auto)]
+
+#[cfg(test)]
+mod commands;
+#[cfg(test)]
+mod counted;
+#[cfg(test)]
+mod cuts;
+#[cfg(test)]
+mod deep;
+#[cfg(test)]
+mod delivery_trials;
+#[cfg(test)]
+mod failing;
+#[cfg(test)]
+mod large;
+#[cfg(test)]
+mod meaning_trials;
+#[cfg(test)]
+mod numbers_trials;
+#[cfg(test)]
+mod opening;
+#[cfg(test)]
+mod port;
+#[cfg(test)]
+mod retries;
+#[cfg(test)]
+mod settling;
+#[cfg(test)]
+mod stores;
+#[cfg(test)]
+mod telnp_trials;
+#[cfg(test)]
+mod ticking;
+#[cfg(test)]
+mod version_trials;
+#[cfg(test)]
+mod windows_trials;

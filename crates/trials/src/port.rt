@@ -1,0 +1,223 @@
+//! What the tests share: a register over memory, and the first port.
+use api::{End, Fault, NoTicks, Options, Served, serve};
+use register::Register;
+use settle::Store;
+use std::alloc::{AllocError, Global};
+use std::io::Read;
+use std::process::Abort;
+use store::MemoryStore;
+use windows::Windows;
+
+/// The windows of the tests, in minutes.
+pub const WINDOWS: &str =
+    "initial_concurrence = 60\nfinal_concurrence = 60\nconflict_restriction = 30\nconflict_resolution = 120\nconflict_expiration = 1000\ncancellation_initial = 60\ncancellation_final = 60\npending_retention = 500\nbroadcast = 15\n";
+
+/// A caller, a path, a body (an empty one: a GET), and the body that is answered.
+pub type Said<'a> = (&'a str, &'a str, &'a str, &'a str);
+
+pub static FIRST_PORT: [Said<'static>; 11] = [
+    (
+        "NPAC",
+        "/carriers",
+        r#"{"spid":"AAAA"}"#,
+        r#"{"rows":[],"spid":"AAAA"}"#,
+    ),
+    (
+        "NPAC",
+        "/carriers",
+        r#"{"spid":"BBBB"}"#,
+        r#"{"rows":[],"spid":"BBBB"}"#,
+    ),
+    (
+        "AAAA",
+        "/lrns",
+        r#"{"lrn":"2025440000"}"#,
+        r#"{"lrn":"2025440000","spid":"AAAA"}"#,
+    ),
+    (
+        "BBBB",
+        "/lrns",
+        r#"{"lrn":"2025330000"}"#,
+        r#"{"lrn":"2025330000","spid":"BBBB"}"#,
+    ),
+    (
+        "NPAC",
+        "/codes",
+        r#"{"code":"202533","spid":"BBBB"}"#,
+        r#"{"code":"202533","spid":"BBBB"}"#,
+    ),
+    (
+        "AAAA",
+        "/subscriptionVersionNewSP-Create",
+        r#"{"due":0,"lrn":"2025440000","new":"AAAA","old":"BBBB","tn":"2025331234"}"#,
+        r#"{"attempt":0,"cic":null,"due":0,"id":1,"lrn":"2025440000","new":"AAAA","old":"BBBB","phase":"initial","release":null,"since":0,"status":"pending","subject":"2025331234"}"#,
+    ),
+    (
+        "BBBB",
+        "/subscriptionVersionOldSP-Create",
+        r#"{"authorized":true,"due":0,"new":"AAAA","old":"BBBB","tn":"2025331234"}"#,
+        r#"{"attempt":0,"cic":null,"due":0,"id":1,"lrn":"2025440000","new":"AAAA","old":"BBBB","phase":null,"release":null,"since":0,"status":"pending","subject":"2025331234"}"#,
+    ),
+    (
+        "AAAA",
+        "/subscriptionVersionActivate",
+        r#"{"id":1}"#,
+        r#"{"attempt":1,"cic":null,"due":0,"id":1,"lrn":"2025440000","new":"AAAA","old":"BBBB","phase":null,"release":null,"since":0,"status":"sending","subject":"2025331234"}"#,
+    ),
+    (
+        "AAAA",
+        "/downloads/acknowledge",
+        r#"{"attempt":1,"id":1}"#,
+        r#"{"attempt":1,"cic":null,"due":0,"id":1,"lrn":"2025440000","new":"AAAA","old":"BBBB","phase":null,"release":null,"since":0,"status":"sending","subject":"2025331234"}"#,
+    ),
+    (
+        "BBBB",
+        "/downloads/acknowledge",
+        r#"{"attempt":1,"id":1}"#,
+        r#"{"attempt":1,"cic":null,"due":0,"id":1,"lrn":"2025440000","new":"AAAA","old":"BBBB","phase":null,"release":null,"since":0,"status":"active","subject":"2025331234"}"#,
+    ),
+    (
+        "AAAA",
+        "/query",
+        r#"{"uri":"tel:+12025331234"}"#,
+        r#"{"uri":"tel:+12025331234;npdi;rn=+12025440000"}"#,
+    ),
+];
+
+/// What is asked, and what is answered.
+#[derive(Drop)]
+pub struct Texts {
+    pub asked: String,
+    pub answered: String,
+}
+
+/// The message of a row.
+pub fn asked(alloc: Global, said: &Said<'_>) -> Result<String, AllocError> {
+    let (caller, path, body, _) = *said;
+    if body.is_empty() {
+        return format!(in alloc; "GET {path} HTTP/1.1\r\nx-spid: {caller}\r\n\r\n");
+    }
+    let length = body.len();
+    format!(in alloc;
+        "POST {path} HTTP/1.1\r\nx-spid: {caller}\r\ncontent-length: {length}\r\n\r\n{body}"
+    )
+}
+
+/// The answer of a status and a body.
+pub fn answer(alloc: Global, status: &str, body: &str) -> Result<String, AllocError> {
+    let length = body.len();
+    format!(in alloc;
+        "HTTP/1.1 {status}\r\ncontent-type: application/json\r\ncontent-length: {length}\r\n\r\n{body}"
+    )
+}
+
+/// A row's message, and its answer.
+pub fn texts_of(alloc: Global, said: &Said<'_>) -> Result<Texts, AllocError> {
+    Ok(Texts {
+        asked: asked(alloc, said)?,
+        answered: answer(alloc, "200 OK", said.3)?,
+    })
+}
+
+impl Texts {
+    /// No messages, and no answers.
+    pub fn new(alloc: Global) -> Texts {
+        Texts {
+            asked: String::new(alloc),
+            answered: String::new(alloc),
+        }
+    }
+
+    /// Puts more messages and answers behind those that there are.
+    pub fn add(&mut self, more: &Texts) -> Result<(), AllocError> {
+        self.asked.push_str(more.asked.as_str())?;
+        self.answered.push_str(more.answered.as_str())
+    }
+
+    /// Puts the messages and the answers of rows behind those that there are.
+    pub fn add_rows(&mut self, alloc: Global, rows: &[Said<'_>]) -> Result<(), AllocError> {
+        for said in rows {
+            self.add(&texts_of(alloc, said)?)?;
+        }
+        Ok(())
+    }
+}
+
+/// The messages of rows, one behind the other, and their answers.
+pub fn stream_of(alloc: Global, rows: &[Said<'_>]) -> Option<Texts> {
+    let mut texts = Texts::new(alloc);
+    texts.add_rows(alloc, rows).ok()?;
+    Some(texts)
+}
+
+/// A store, opened with the windows of the tests.
+pub fn opened<S: Store + Drop>(alloc: Global, store: S) -> Option<Register<S>> {
+    let windows = Windows::from_toml(alloc, WINDOWS).ok()?;
+    Register::open(alloc, store, &windows).ok()
+}
+
+/// A new register over memory.
+pub fn new_register(alloc: Global) -> Option<Register<MemoryStore>> {
+    opened(alloc, MemoryStore::new(alloc))
+}
+
+/// What is answered to what a reader gives, the clock's path offered, and how serving ends.
+pub fn served<R: Read>(
+    alloc: Global,
+    register: &mut Register<MemoryStore>,
+    reader: &mut R,
+) -> (Vec<u8>, Result<Served, Fault>) {
+    let mut bytes = Vec::new(alloc);
+    let options = Options { clock_route: true };
+    let ended = serve(alloc, register, &mut NoTicks, &options, reader, &mut bytes);
+    (bytes, ended)
+}
+
+/// The answers as a text.
+fn text_of(bytes: &[u8]) -> &str {
+    str::from_utf8(bytes).unwrap_or("no UTF-8")
+}
+
+/// The answers are these, and serving ended so.
+pub fn is_so<T: Abort>(
+    rt: &T,
+    answers: &[u8],
+    wanted: &str,
+    ended: Result<Served, Fault>,
+    end: Result<Served, Fault>,
+) {
+    assert_eq!(rt; text_of(answers), wanted);
+    assert_eq!(rt; ended, end);
+}
+
+/// What a reader gives is answered so, and serving ends so.
+pub fn hears<T: Abort + AllocGlobal, R: Read>(
+    rt: &T,
+    register: &mut Register<MemoryStore>,
+    reader: &mut R,
+    answered: &str,
+    wanted: Result<Served, Fault>,
+) {
+    let (bytes, ended) = served(rt.alloc(), register, reader);
+    is_so(rt, &bytes, answered, ended, wanted);
+}
+
+/// Serving so many messages to the end of the input.
+pub fn whole(count: u64) -> Result<Served, Fault> {
+    Ok(Served {
+        count,
+        end: End::Input,
+    })
+}
+
+/// A register after the first port.
+pub fn after_the_first_port(alloc: Global) -> Option<Register<MemoryStore>> {
+    let texts = stream_of(alloc, &FIRST_PORT)?;
+    let mut register = new_register(alloc)?;
+    let (_answers, ended) = served(alloc, &mut register, &mut texts.asked.as_bytes());
+    if ended == whole(11) {
+        Some(register)
+    } else {
+        None
+    }
+}

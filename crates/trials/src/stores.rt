@@ -1,0 +1,219 @@
+//! A commit and each read. The same tests run with each allocation refused in turn: a commit that
+//! is refused leaves every read as it was.
+use delivery::Broadcast;
+use meaning::{Action, Status};
+use numbers::{BlockId, CodeId, Lrn, Minute, Routing, Spid, Subject, Tn};
+use settle::{BlockRow, BroadcastKey, Changes, Store, VersionRow, WaitKey};
+use std::alloc::Global;
+use store::MemoryStore;
+use version::Version;
+
+#[derive(Clone, Copy)]
+struct Sample {
+    carrier: Spid,
+    lrn: Lrn,
+    code: CodeId,
+    block: BlockId,
+    subject: Subject,
+}
+
+fn make_sample() -> Option<Sample> {
+    Some(Sample {
+        carrier: Spid::read("A001")?,
+        lrn: Lrn::read("2025440000")?,
+        code: CodeId::read("202533")?,
+        block: BlockId::read("2025337")?,
+        subject: Subject::Number(Tn::read("2025331234")?),
+    })
+}
+
+fn row(sample: &Sample) -> VersionRow {
+    let version = Version {
+        subject: sample.subject,
+        old_provider: sample.carrier,
+        new_provider: sample.carrier,
+        due: Minute::ZERO,
+        routing: Some(Routing {
+            lrn: sample.lrn,
+            cic: None,
+        }),
+        old_at: None,
+        new_at: None,
+        status: Status::Active,
+        since: Minute::ZERO,
+        attempt: 1,
+        is_conflict_spent: false,
+        is_protective: false,
+    };
+    VersionRow {
+        version,
+        deadline: None,
+        holds: Some(sample.subject),
+        opens: None,
+    }
+}
+
+const KEY: BroadcastKey = BroadcastKey { id: 1, attempt: 1 };
+
+// A version in force and what was sent of it, which one carrier has to acknowledge.
+fn add_version(changes: &mut Changes, sample: &Sample) -> Option<()> {
+    changes.versions.push((1, row(sample))).ok()?;
+    let sent = Broadcast::send(Minute::ZERO, sample.subject, Action::Create, None);
+    changes.broadcasts.push((KEY, sent)).ok()?;
+    let wait = WaitKey {
+        carrier: sample.carrier,
+        minute: Minute::ZERO,
+        id: 1,
+        attempt: 1,
+    };
+    changes.waits.push((wait, sample.subject)).ok()
+}
+
+fn changes(alloc: Global, sample: &Sample) -> Option<Changes> {
+    let row = BlockRow {
+        donor: sample.carrier,
+        last: None,
+    };
+    let mut changes = Changes {
+        carrier: Some(sample.carrier),
+        lrn: Some((sample.lrn, sample.carrier)),
+        code: Some((sample.code, sample.carrier)),
+        block: Some((sample.block, row)),
+        ..Changes::none(alloc)
+    };
+    add_version(&mut changes, sample)?;
+    Some(changes)
+}
+
+// What stands under the keys of the sample.
+#[derive(Clone, Copy, Debug, PartialEq, Eq)]
+struct Found {
+    clock: bool,
+    carrier: bool,
+    lrn: Option<Spid>,
+    code: Option<Spid>,
+    block: bool,
+    version: bool,
+    in_force: bool,
+    opened: bool,
+    broadcast: bool,
+}
+
+fn look_up(store: &mut MemoryStore, sample: &Sample) -> Option<Found> {
+    Some(Found {
+        clock: store.clock().ok()?.is_some(),
+        carrier: store.carrier(sample.carrier).ok()?,
+        lrn: store.lrn(sample.lrn).ok()?,
+        code: store.code(sample.code).ok()?,
+        block: store.block(sample.block).ok()?.is_some(),
+        version: store.version(1).ok()?.is_some(),
+        in_force: store.version_in_force(sample.subject).ok()?.is_some(),
+        opened: store.open_version(sample.subject).ok()?.is_some(),
+        broadcast: store.broadcast(KEY).ok()?.is_some(),
+    })
+}
+
+// How many rows each list has.
+fn listed(store: &mut MemoryStore, sample: &Sample) -> Option<[usize; 5]> {
+    let about = store
+        .waits_about(sample.carrier, sample.subject)
+        .ok()?
+        .len();
+    let waiters = store.waiters(Minute::ZERO, KEY).ok()?.len();
+    let carriers = store.carriers().ok()?.len();
+    let broadcasts = store.open_broadcasts().ok()?.len();
+    let in_force = store.in_force().ok()?.len();
+    Some([about, waiters, carriers, broadcasts, in_force])
+}
+
+fn is_committed(store: &mut MemoryStore, changes: &Changes) -> bool {
+    store.commit(changes).is_ok()
+}
+
+// What is found after a commit, which was done or refused.
+fn wanted(sample: &Sample, done: bool) -> Found {
+    let carrier = if done { Some(sample.carrier) } else { None };
+    Found {
+        clock: false,
+        carrier: done,
+        lrn: carrier,
+        code: carrier,
+        block: done,
+        version: done,
+        in_force: done,
+        opened: false,
+        broadcast: done,
+    }
+}
+
+fn is_found(alloc: Global) -> Option<bool> {
+    let sample = make_sample()?;
+    let changes = changes(alloc, &sample)?;
+    let mut store = MemoryStore::new(alloc);
+    let done = is_committed(&mut store, &changes);
+    let found = look_up(&mut store, &sample)?;
+    let lists = listed(&mut store, &sample)?;
+    let rows = [usize::from(done); 5];
+    Some(found == wanted(&sample, done) && lists == rows && store.failures() == 0)
+}
+
+#[test]
+fn commits_and_reads(rt: HostRuntime) {
+    assert_eq!(rt; is_found(rt.alloc()), Some(true));
+}
+
+// The id of a version, and its deadline.
+type Deadline = (u64, Option<u64>);
+
+fn changes_of(alloc: Global, versions: &[Deadline]) -> Option<Changes> {
+    let sample = make_sample()?;
+    let mut changes = Changes::none(alloc);
+    for (id, deadline) in versions {
+        let mut row = row(&sample);
+        row.deadline = deadline.and_then(Minute::new);
+        changes.versions.push((*id, row)).ok()?;
+    }
+    Some(changes)
+}
+
+fn are_committed(alloc: Global, store: &mut MemoryStore, versions: &[Deadline]) -> Option<bool> {
+    let changes = changes_of(alloc, versions)?;
+    Some(is_committed(store, &changes))
+}
+
+// The id of the version whose deadline is least, where that minute is not after this one.
+fn least_due(store: &mut MemoryStore, now: u64) -> Option<Option<u64>> {
+    let least = store.least_due(Minute::new(now)?).ok()?;
+    Some(least.map(|version| version.id))
+}
+
+static FIRST: [Deadline; 4] = [(1, Some(30)), (2, Some(10)), (3, Some(20)), (4, None)];
+
+// The second version is over, and a fifth comes.
+static NEXT: [Deadline; 2] = [(2, None), (5, Some(40))];
+
+// After the first commit, which was done or refused, none is due at 9, and the second from 10 on.
+fn is_second_due(store: &mut MemoryStore, done: bool) -> Option<bool> {
+    let second = if done { Some(2) } else { None };
+    let early = least_due(store, 9)?;
+    Some(early.is_none() && least_due(store, 10)? == second && least_due(store, 1000)? == second)
+}
+
+fn is_least_found(alloc: Global) -> Option<bool> {
+    let mut store = MemoryStore::new(alloc);
+    let done = are_committed(alloc, &mut store, &FIRST)?;
+    let at_first = is_second_due(&mut store, done)?;
+    let changed = are_committed(alloc, &mut store, &NEXT)?;
+    let least = match (done, changed) {
+        (true, true) => Some(3),
+        (true, false) => Some(2),
+        (false, true) => Some(5),
+        (false, false) => None,
+    };
+    Some(at_first && least_due(&mut store, 1000)? == least)
+}
+
+#[test]
+fn the_least_deadline_is_found(rt: HostRuntime) {
+    assert_eq!(rt; is_least_found(rt.alloc()), Some(true));
+}

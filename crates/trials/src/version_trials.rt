@@ -1,0 +1,181 @@
+//! One port of a number: created from both sides, activated, completed, and ended by minutes.
+use crate::commands::{create_of, routing};
+use meaning::{Action, Refusal, Side, Status};
+use numbers::{Minute, Spid};
+use version::{Create, CreateFacts, Created, Creator, Phase, Version};
+use windows::{Window, Windows};
+
+const WINDOWS: Windows = Windows {
+    initial_concurrence: Window { minutes: 540 },
+    final_concurrence: Window { minutes: 540 },
+    conflict_restriction: Window { minutes: 1080 },
+    conflict_resolution: Window { minutes: 360 },
+    conflict_expiration: Window { minutes: 43_200 },
+    cancellation_initial: Window { minutes: 540 },
+    cancellation_final: Window { minutes: 540 },
+    pending_retention: Window { minutes: 43_200 },
+    broadcast: Window { minutes: 15 },
+};
+
+fn create(creator: Creator) -> Option<Create> {
+    create_of("2025331234", 5000, creator)
+}
+
+// What is known of the number: BBBB serves it, and this version of it is open.
+fn facts(opened: Option<Version>) -> Option<CreateFacts> {
+    Some(CreateFacts {
+        are_carriers_known: true,
+        is_code_open: true,
+        is_lrn_good: true,
+        server: Some(Spid::read("BBBB")?),
+        in_force: None,
+        opened,
+        is_block_released: false,
+        next_id: 7,
+    })
+}
+
+fn first() -> Option<Version> {
+    let create = create(Creator::OldProvider { authorized: true })?;
+    let facts = facts(None)?;
+    match create.apply(create.old_provider, &facts, Minute::new(600)?, &WINDOWS) {
+        Ok(Created::First(version)) => Some(version),
+        _ => None,
+    }
+}
+
+fn second() -> Option<Version> {
+    let routing = routing()?;
+    let create = create(Creator::NewProvider { routing })?;
+    let facts = facts(Some(first()?))?;
+    match create.apply(create.new_provider, &facts, Minute::new(700)?, &WINDOWS) {
+        Ok(Created::Second(version)) => Some(version),
+        _ => None,
+    }
+}
+
+// A minute, and the version's phase in it.
+static PHASES: [(u64, Phase); 3] = [
+    (1139, Phase::Initial),
+    (1140, Phase::Final),
+    (1680, Phase::Ended),
+];
+
+fn has_phases(version: &Version) -> bool {
+    PHASES.iter().all(|(number, phase)| match Minute::new(*number) {
+        Some(minute) => version.phase(minute, &WINDOWS) == Some(*phase),
+        None => false,
+    })
+}
+
+fn deadline_of(version: &Version) -> Option<u64> {
+    Some(version.deadline(&WINDOWS)?.number)
+}
+
+// Whether a version with one create is open, pending, and over at 1680.
+fn is_offered(version: &Version) -> bool {
+    let stands = version.is_open() && !version.is_in_force() && !version.is_sent_too_often();
+    stands && version.status == Status::Pending && deadline_of(version) == Some(1680)
+}
+
+#[test]
+fn a_first_create_waits(rt: HostRuntime) {
+    let version = first();
+    assert!(rt; version.is_some_and(|version| is_offered(&version)));
+    assert!(rt; version.is_some_and(|version| has_phases(&version)));
+}
+
+// Whether a version with both creates is routed, has no phase, and is over at 48200.
+fn is_agreed(version: &Version) -> Option<bool> {
+    let phase = version.phase(Minute::new(1140)?, &WINDOWS);
+    let is_routed = version.routing == Some(routing()?);
+    Some(is_routed && phase.is_none() && deadline_of(version) == Some(48_200))
+}
+
+#[test]
+fn a_second_create_ends_the_phases(rt: HostRuntime) {
+    let agreed = second().and_then(|version| is_agreed(&version));
+    assert_eq!(rt; agreed, Some(true));
+}
+
+// The version as it is activated in a minute, or why it is not.
+fn activated(both: &Version, number: u64) -> Option<Result<Version, Refusal>> {
+    let minute = Minute::new(number)?;
+    Some(both.activated(both.new_provider, minute, &WINDOWS))
+}
+
+// Whether it is refused before its due minute, and sent in it.
+fn is_sent_when_due(both: &Version) -> Option<bool> {
+    let sent = both.sending(Action::Create, Minute::new(5000)?);
+    let is_early = activated(both, 4999)? == Err(Refusal::BeforeDue);
+    Some(is_early && activated(both, 5000)? == Ok(sent) && sent.attempt == 1)
+}
+
+// Whether it is active once it is completed, and waits for nothing.
+fn is_completed(both: &Version) -> Option<bool> {
+    let sent = activated(both, 5000)?.ok()?;
+    let minute = Minute::new(5003)?;
+    let active = sent.completed(minute);
+    Some(active == sent.entering(Status::Active, minute) && active.deadline(&WINDOWS).is_none())
+}
+
+#[test]
+fn an_activation_is_completed(rt: HostRuntime) {
+    let both = second();
+    assert_eq!(rt; both.and_then(|both| is_sent_when_due(&both)), Some(true));
+    assert_eq!(rt; both.and_then(|both| is_completed(&both)), Some(true));
+}
+
+// A status, whether a broadcast was acknowledged, and the status after its window.
+type Ended = (Status, bool, Status);
+
+fn ended() -> [Ended; 8] {
+    [
+        (Status::Pending, false, Status::Canceled),
+        (Status::Conflict, false, Status::Canceled),
+        (
+            Status::CancelPending(Side::OldProvider),
+            false,
+            Status::Conflict,
+        ),
+        (
+            Status::CancelPending(Side::NewProvider),
+            false,
+            Status::Canceled,
+        ),
+        (
+            Status::Sending(Action::Create),
+            true,
+            Status::PartialFailure,
+        ),
+        (Status::Sending(Action::Create), false, Status::Failed),
+        (Status::Sending(Action::Delete), true, Status::Old),
+        (Status::Sending(Action::Delete), false, Status::Active),
+    ]
+}
+
+// Whether the minute makes of the version in the one status what it is in the other.
+fn is_ended(both: &Version, end: Minute, row: Ended) -> bool {
+    let (status, is_acknowledged, after) = row;
+    let fired = both
+        .entering(status, Minute::ZERO)
+        .fired(end, is_acknowledged);
+    fired == both.entering(after, end)
+}
+
+fn are_ended(both: &Version) -> Option<bool> {
+    let end = Minute::new(9000)?;
+    for row in ended() {
+        if !is_ended(both, end, row) {
+            return Some(false);
+        }
+    }
+    let planned = both.entering(Status::DisconnectPending(end), Minute::ZERO);
+    Some(planned.fired(end, false) == both.sending(Action::Delete, end))
+}
+
+#[test]
+fn minutes_end_what_waits(rt: HostRuntime) {
+    let found = second().and_then(|both| are_ended(&both));
+    assert_eq!(rt; found, Some(true));
+}

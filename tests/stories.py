@@ -1,0 +1,321 @@
+#!/usr/bin/env python3
+"""Makes what the crate `stories` is run on, and what it must print, of the files of tests/stories.
+
+tests/stories.py           writes crates/stories/data, args and stdout
+tests/stories.py --check   says which of them are not what it would write
+tests/stories.py --play    runs the built program, and names the rows that it answers otherwise
+
+tests/stories/README.md says how a story is written.
+"""
+
+import json
+import re
+import subprocess
+import sys
+from dataclasses import dataclass, field
+from pathlib import Path
+
+HERE = Path(__file__).resolve().parent
+STORIES = HERE / "stories"
+CRATE = HERE.parent / "crates" / "stories"
+WINDOWS = HERE.parent / "examples" / "windows.toml"
+
+NUMBERS = {"attempt", "due", "id", "minute", "now", "release", "since"}
+PHRASES = {
+    200: "OK",
+    400: "Bad Request",
+    403: "Forbidden",
+    404: "Not Found",
+    405: "Method Not Allowed",
+    409: "Conflict",
+    413: "Payload Too Large",
+    503: "Service Unavailable",
+}
+ENDS = {"input", "closed", "bad_head", "too_large", "cut_body"}
+# between the connections of a story
+BREAK = "\x1e"
+
+
+class Mistake(Exception):
+    """What is wrong with a story, and where."""
+
+
+@dataclass
+class Row:
+    where: str
+    asked: str
+    answers: list[str] = field(default_factory=list)
+
+
+@dataclass
+class End:
+    where: str
+    how: str
+
+
+@dataclass
+class Names:
+    """What `let` has named: the fields of bodies, and texts."""
+
+    fields: dict[str, dict[str, str]] = field(default_factory=dict)
+    texts: dict[str, str] = field(default_factory=dict)
+
+
+@dataclass
+class Piece:
+    """A piece of what the program has to print, and which line of which story wants it."""
+
+    where: str
+    text: str
+
+
+def value(key: str, text: str) -> str:
+    """A value as JSON writes it."""
+    if text in ("null", "true", "false") or text[:1] in ("[", "{") or key in NUMBERS:
+        return text
+    return json.dumps(text)
+
+
+def fields_of(words: list[str], names: Names) -> dict[str, str]:
+    """The fields that words say: a name's first, if the first word is one, and then `key=value`."""
+    fields: dict[str, str] = {}
+    if "=" not in words[0]:
+        fields.update(names.fields[words.pop(0)])
+    for word in words:
+        key, _, text = word.partition("=")
+        fields[key] = text
+    return fields
+
+
+def body_of(text: str, names: Names) -> str:
+    """A body: JSON as it stands, texts, or fields, whose keys come in rising order."""
+    if not text or text[0] in "{[":
+        return text
+    if text.startswith("raw "):
+        return texts_of(text.removeprefix("raw "), names)
+    fields = fields_of(text.split(), names)
+    return "{" + ",".join(f'"{key}":{value(key, fields[key])}' for key in sorted(fields)) + "}"
+
+
+def texts_of(text: str, names: Names) -> str:
+    """Texts in quotes, as JSON writes them, or names of such; `*N` behind one: it comes N times."""
+    made = ""
+    for part in re.findall(r'(?:"(?:[^"\\]|\\.)*"|[^\s"*]+)(?:\*\d+)?', text):
+        one, times = part, 1
+        if counted := re.fullmatch(r"(.*)\*(\d+)", part, re.DOTALL):
+            one, times = counted[1], int(counted[2])
+        made += (json.loads(one) if one.startswith('"') else names.texts[one]) * times
+    return made
+
+
+def asked(caller: str, path: str, body: str) -> str:
+    if not body:
+        return f"GET {path} HTTP/1.1\r\nx-spid: {caller}\r\n\r\n"
+    length = len(body.encode())
+    return f"POST {path} HTTP/1.1\r\nx-spid: {caller}\r\ncontent-length: {length}\r\n\r\n{body}"
+
+
+def answer(text: str, names: Names) -> str:
+    """An answer: a status and a body, or a status, a refusal's name and its number."""
+    status, _, rest = text.partition(" ")
+    if refused := re.fullmatch(r"(\w+) (\d+)", rest):
+        body = f'{{"error":"{refused[1]}","number":{refused[2]}}}'
+    else:
+        body = body_of(rest, names)
+    head = f"HTTP/1.1 {status} {PHRASES[int(status)]}\r\ncontent-type: application/json\r\n"
+    return f"{head}content-length: {len(body.encode())}\r\n\r\n{body}"
+
+
+def unrolled(lines: list[tuple[str, str]]) -> list[tuple[str, str]]:
+    """The lines, with those between `for` and `end` once for each number in place of `#`."""
+    made: list[tuple[str, str]] = []
+    repeated: list[tuple[str, str]] = []
+    numbers: list[str] = []
+    for where, line in lines:
+        if loop := re.fullmatch(r"for (\d+) to (\d+)", line):
+            low, high = loop[1], loop[2]
+            numbers = [str(number).zfill(len(low)) for number in range(int(low), int(high) + 1)]
+            repeated = []
+        elif line == "end":
+            made += [(at, each.replace("#", number)) for number in numbers for at, each in repeated]
+            numbers = []
+        elif numbers:
+            repeated.append((where, line))
+        else:
+            made.append((where, line))
+    return made
+
+
+def lines_of(name: str) -> list[tuple[str, str]]:
+    path = STORIES / f"{name}.story"
+    lines = path.read_text(encoding="utf-8").splitlines()
+    if not lines or not lines[0].startswith("# "):
+        raise Mistake(f"{path.name}: the first line is no title")
+    numbered = [(f"{path.name}:{number}", line) for number, line in enumerate(lines, 1)]
+    return unrolled([(at, line) for at, line in numbered if line and not line.startswith("#")])
+
+
+def let(line: str, names: Names) -> None:
+    name, _, rest = line.partition(" ")
+    if rest.startswith('"'):
+        names.texts[name] = texts_of(rest, names)
+    else:
+        names.fields[name] = fields_of(rest.split(), names)
+
+
+def add(where: str, line: str, rows: list[Row | End], names: Names, is_whole: bool) -> None:
+    """Adds what a line says to the rows."""
+    word, _, rest = line.partition(" ")
+    if line.startswith(" "):
+        last = rows[-1]
+        if not isinstance(last, Row):
+            raise Mistake(f"{where}: an answer without a message")
+        last.answers.append(answer(line.strip(), names))
+    elif word == "let":
+        let(rest, names)
+    elif word == "after":
+        rows += rows_of(rest, names, True) if is_whole else []
+    elif word == "then":
+        rows += rows_of(rest, names, False)
+    elif word == "raw":
+        rows.append(Row(where, texts_of(rest, names)))
+    elif word == "ends" and rest in ENDS:
+        rows.append(End(where, rest))
+    elif said := re.fullmatch(r"([A-Z0-9]{4}) (/\S*) ?(.*)", line):
+        rows.append(Row(where, asked(said[1], said[2], body_of(said[3], names))))
+    else:
+        raise Mistake(f"{where}: {line}")
+
+
+def rows_of(name: str, names: Names, is_whole: bool) -> list[Row | End]:
+    """A story's rows, with those of the one that it comes after, or without."""
+    rows: list[Row | End] = []
+    for where, line in lines_of(name):
+        try:
+            add(where, line, rows, names, is_whole)
+        except (KeyError, ValueError, IndexError) as fault:
+            raise Mistake(f"{where}: {line} ({fault!r})") from fault
+    return rows
+
+
+def names_of_all() -> Names:
+    names = Names()
+    for line in (STORIES / "names").read_text(encoding="utf-8").splitlines():
+        if line.startswith("let "):
+            let(line.removeprefix("let "), names)
+    return names
+
+
+def told(name: str) -> tuple[str, list[Piece]]:
+    """What a story asks, and the pieces of what is to be printed of it."""
+    rows = rows_of(name, names_of_all(), True)
+    if not isinstance(rows[-1], End):
+        rows.append(End(f"{name}.story", "input"))
+    stream, count = "", 0
+    pieces = [Piece(f"{name}.story", f"story {name}\n")]
+    for row in rows:
+        if isinstance(row, Row):
+            stream += row.asked
+            pieces += [Piece(row.where, text) for text in row.answers]
+            count += len(row.answers)
+        else:
+            stream += BREAK
+            pieces.append(Piece(row.where, f"\n{count} answered, {row.how}\n"))
+            count = 0
+    return stream.removesuffix(BREAK), pieces
+
+
+def made() -> tuple[dict[Path, bytes], list[Piece]]:
+    """The files of the crate, and the pieces of its standard output."""
+    files = {CRATE / "data" / "w.toml": WINDOWS.read_bytes()}
+    all_pieces: list[Piece] = []
+    names = sorted(path.stem for path in STORIES.glob("*.story"))
+    for name in names:
+        stream, pieces = told(name)
+        files[CRATE / "data" / name] = stream.encode()
+        all_pieces += pieces
+    files[CRATE / "args"] = "".join(f"{name}\n" for name in names).encode()
+    files[CRATE / "stdout"] = "".join(piece.text for piece in all_pieces).encode()
+    return files, all_pieces
+
+
+def differences(pieces: list[Piece], heard: str) -> list[str]:
+    """Where what was heard is not what is wanted: the first place of each story."""
+    found, at, is_lost = [], 0, False
+    for piece in pieces:
+        is_title = piece.text.startswith("story ")
+        if is_lost and is_title:
+            again = heard.find(piece.text, at)
+            at, is_lost = (again, False) if again >= 0 else (at, True)
+        if is_lost:
+            continue
+        if heard.startswith(piece.text, at):
+            at += len(piece.text)
+        else:
+            instead = heard[at : at + len(piece.text) + 40]
+            found.append(f"{piece.where}\n  wanted {piece.text!r}\n  heard  {instead!r}")
+            is_lost = True
+    if not is_lost and at < len(heard):
+        found.append(f"more is printed: {heard[at:][:200]!r}")
+    return found
+
+
+def notices(pieces: list[Piece]) -> bool:
+    """Whether each answer that is not the wanted one is noticed, and named by its line."""
+    wanted = [piece.text for piece in pieces]
+    for place, piece in enumerate(pieces):
+        other = "".join([*wanted[:place], piece.text[:-2], "~~", *wanted[place + 1 :]])
+        found = differences(pieces, other)
+        if not found or not found[0].startswith(piece.where):
+            return False
+    return differences(pieces, "".join(wanted)) == []
+
+
+def write(files: dict[Path, bytes]) -> int:
+    (CRATE / "data").mkdir(parents=True, exist_ok=True)
+    for path in (CRATE / "data").iterdir():
+        if path not in files:
+            path.unlink()
+    for path, content in files.items():
+        path.write_bytes(content)
+    return 0
+
+
+def check(files: dict[Path, bytes], pieces: list[Piece]) -> int:
+    there = {*(CRATE / "data").iterdir(), CRATE / "args", CRATE / "stdout"}
+    for path in sorted(there | files.keys()):
+        if path not in files or path not in there or path.read_bytes() != files[path]:
+            name = path.relative_to(HERE.parent)
+            print(f"{name} is not what tests/stories.py makes of the stories")
+            return 1
+    if not notices(pieces[:200]):
+        print("tests/stories.py does not notice an answer that is not wanted")
+        return 1
+    return 0
+
+
+def play(pieces: list[Piece]) -> int:
+    names = (CRATE / "args").read_text(encoding="utf-8").split()
+    program = CRATE / "out" / "stories"
+    ran = subprocess.run([program, *names], cwd=CRATE / "data", capture_output=True, check=False)
+    found = differences(pieces, ran.stdout.decode(errors="replace"))
+    print("\n".join(found) or f"{len(names)} stories are answered as they are written")
+    sys.stderr.write(ran.stderr.decode(errors="replace"))
+    return 1 if found or ran.returncode else 0
+
+
+def main(words: list[str]) -> int:
+    try:
+        files, pieces = made()
+    except Mistake as mistake:
+        print(mistake)
+        return 1
+    if words == ["--check"]:
+        return check(files, pieces)
+    if words == ["--play"]:
+        return play(pieces)
+    return write(files) if not words else 2
+
+
+if __name__ == "__main__":
+    sys.exit(main(sys.argv[1:]))

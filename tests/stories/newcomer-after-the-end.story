@@ -1,0 +1,13 @@
+# A newcomer gets nothing of what has ended, but the number as one of those in force.
+after sent-at-400
+
+NPAC /clock minute=415
+     200 now=415
+NPAC /carriers spid=DDDD
+     200 {"rows":[{"cic":null,"lrn":"2025440000","subject":"2025331234"}],"spid":"DDDD"}
+DDDD /downloads/acknowledge attempt=1 id=1
+     404 not_queued 25
+BBBB /downloads/acknowledge attempt=1 id=1
+     200 sent since=415 status=partial-failure
+CCCC /downloads/acknowledge attempt=1 id=1
+     200 sent since=415 status=active
