@@ -97,6 +97,17 @@ struct Found {
     in_force: bool,
     opened: bool,
     broadcast: bool,
+    // The download would be the last of another carrier.
+    last_of_another: bool,
+}
+
+fn another_wait() -> Option<WaitKey> {
+    Some(WaitKey {
+        carrier: Spid::read("B001")?,
+        minute: Minute::ZERO,
+        id: KEY.id,
+        attempt: KEY.attempt,
+    })
 }
 
 fn look_up(store: &mut MemoryStore, sample: &Sample) -> Option<Found> {
@@ -110,6 +121,7 @@ fn look_up(store: &mut MemoryStore, sample: &Sample) -> Option<Found> {
         in_force: store.version_in_force(sample.subject).ok()?.is_some(),
         opened: store.open_version(sample.subject).ok()?.is_some(),
         broadcast: store.broadcast(KEY).ok()?.is_some(),
+        last_of_another: store.is_last_wait(another_wait()?).ok()?,
     })
 }
 
@@ -143,6 +155,7 @@ fn wanted(sample: &Sample, done: bool) -> Found {
         in_force: done,
         opened: false,
         broadcast: done,
+        last_of_another: !done,
     }
 }
 
