@@ -162,9 +162,9 @@ pub fn new_register(alloc: Global) -> Option<Register<MemoryStore>> {
 }
 
 /// What is answered to what a reader gives, the clock's path offered, and how serving ends.
-pub fn served<R: Read>(
+pub fn served<S: Store, R: Read>(
     alloc: Global,
-    register: &mut Register<MemoryStore>,
+    register: &mut Register<S>,
     reader: &mut R,
 ) -> (Vec<u8>, Result<Served, Fault>) {
     let mut bytes = Vec::new(alloc);
@@ -191,9 +191,9 @@ pub fn is_so<T: Abort>(
 }
 
 /// What a reader gives is answered so, and serving ends so.
-pub fn hears<T: Abort + AllocGlobal, R: Read>(
+pub fn hears<T: Abort + AllocGlobal, S: Store, R: Read>(
     rt: &T,
-    register: &mut Register<MemoryStore>,
+    register: &mut Register<S>,
     reader: &mut R,
     answered: &str,
     wanted: Result<Served, Fault>,
