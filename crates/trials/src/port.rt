@@ -210,14 +210,17 @@ pub fn whole(count: u64) -> Result<Served, Fault> {
     })
 }
 
+fn says_first_port(alloc: Global, register: &mut Register<MemoryStore>) -> Option<()> {
+    let texts = stream_of(alloc, &FIRST_PORT)?;
+    let (_answers, ended) = served(alloc, register, &mut texts.asked.as_bytes());
+    if ended == whole(11) { Some(()) } else { None }
+}
+
 /// A register after the first port.
 pub fn after_the_first_port(alloc: Global) -> Option<Register<MemoryStore>> {
-    let texts = stream_of(alloc, &FIRST_PORT)?;
     let mut register = new_register(alloc)?;
-    let (_answers, ended) = served(alloc, &mut register, &mut texts.asked.as_bytes());
-    if ended == whole(11) {
-        Some(register)
-    } else {
-        None
+    match says_first_port(alloc, &mut register) {
+        Some(()) => Some(register),
+        None => None,
     }
 }
