@@ -28,6 +28,49 @@ AAAA /query uri=tel:+12025331234;a=1;b;A
 AAAA /query uri=tel:+1;npdi;NPDI;
      400 bad_parameter 33
 
+AAAA /query uri=tel
+     400 not_tel 31
+AAAA /query uri=tels:+1
+     400 not_tel 31
+AAAA /query uri=tel:+
+     400 bad_number 32
+AAAA /query uri=tel:+-
+     400 bad_number 32
+AAAA /query uri=tel:()
+     400 bad_number 32
+AAAA /query {"uri":"tel:+1 2"}
+     400 bad_number 32
+AAAA /query uri=tel:;npdi
+     400 bad_number 32
+AAAA /query uri=tel:*#aF
+     400 local_number 35
+AAAA /query uri=tel:7042;phone-context=example.com
+     400 local_number 35
+AAAA /query uri=tel:863-1234;phone-context=+1-914-555
+     400 local_number 35
+AAAA /query uri=tel:+12025331234;
+     400 bad_parameter 33
+AAAA /query uri=tel:+12025331234;=1
+     400 bad_parameter 33
+AAAA /query uri=tel:+12025331234;npdi=1
+     400 bad_parameter 33
+AAAA /query uri=tel:+12025331234;CIC
+     400 bad_parameter 33
+AAAA /query uri=tel:+12025331234;rn-context
+     400 bad_parameter 33
+AAAA /query uri=tel:+12025331234;cic-context
+     400 bad_parameter 33
+AAAA /query uri=tel:+12025331234;a=%4
+     400 bad_parameter 33
+AAAA /query uri=tel:+12025331234;a=%4g
+     400 bad_parameter 33
+AAAA /query uri=tel:+12025331234;a=b=c
+     400 bad_parameter 33
+AAAA /query uri=tel:+12025331234;a_b
+     400 bad_parameter 33
+AAAA /query {"uri":"tel:+12025331234;a=é"}
+     400 bad_parameter 33
+
 ZZZZ /query uri=sip:a
      403 unknown_carrier 1
 ZZZZ /query uri=tel:+1;a=

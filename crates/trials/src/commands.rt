@@ -1,7 +1,5 @@
-//! Commands that the tests share.
-use numbers::{CodeId, Lrn, Minute, Routing, Spid, Tn};
-use register::{Command, Register};
-use settle::Store;
+//! Creates that the tests share.
+use numbers::{Lrn, Minute, Routing, Spid, Tn};
 use version::{Create, Creator};
 
 /// The routing of AAAA.
@@ -13,39 +11,15 @@ pub fn routing() -> Option<Routing> {
 }
 
 /// A provider's create of the port of a number from BBBB to AAAA.
-pub fn create_of(number: &str, due: u64, creator: Creator) -> Option<Create> {
+pub fn create_of(number: &str, due: Minute, creator: Creator) -> Option<Create> {
+    let tn = Tn::read(number)?;
+    let old_provider = Spid::read("BBBB")?;
+    let new_provider = Spid::read("AAAA")?;
     Some(Create {
-        tn: Tn::read(number)?,
-        old_provider: Spid::read("BBBB")?,
-        new_provider: Spid::read("AAAA")?,
-        due: Minute::new(due)?,
+        tn,
+        old_provider,
+        new_provider,
+        due,
         creator,
     })
-}
-
-/// Registers a carrier.
-pub fn registers<S: Store>(register: &mut Register<S>, text: &str) -> Option<()> {
-    let spid = Spid::read(text)?;
-    let command = Command::RegisterCarrier { spid };
-    register.do_it(Spid::NPAC, &command).ok()?;
-    Some(())
-}
-
-/// Opens a code of BBBB.
-pub fn opens<S: Store>(register: &mut Register<S>, text: &str) -> Option<()> {
-    let code = CodeId::read(text)?;
-    let spid = Spid::read("BBBB")?;
-    let command = Command::OpenCode { code, spid };
-    register.do_it(Spid::NPAC, &command).ok()?;
-    Some(())
-}
-
-/// Registers two carriers, the routing number of the first, and the code of the second.
-pub fn begin<S: Store>(register: &mut Register<S>) -> Option<()> {
-    registers(register, "AAAA")?;
-    registers(register, "BBBB")?;
-    let lrn = routing()?.lrn;
-    let command = Command::RegisterRoutingNumber { lrn };
-    register.do_it(Spid::read("AAAA")?, &command).ok()?;
-    opens(register, "202533")
 }

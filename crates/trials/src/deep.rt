@@ -2,36 +2,46 @@
 //!
 //! What is done once for each open broadcast, or for each row of a commit, is done in loops: calls
 //! within calls would end this test by the depth of the stack.
-use crate::commands::{begin, create_of, opens, registers, routing};
-use crate::port::new_register;
+use crate::commands::{create_of, routing};
+use crate::port::{FIRST_PORT, Texts, asked, new_register, served, whole};
 use meaning::{Action, Status};
-use numbers::Spid;
+use numbers::{Minute, Spid};
 use register::{Command, Register};
-use std::alloc::Global;
+use std::alloc::{AllocError, Global};
 use store::MemoryStore;
-use version::Creator;
+use version::{Create, Creator};
 
 /// How many versions are sent and not acknowledged.
 const COUNT: u64 = 200_000;
 
 type Desk = Register<MemoryStore>;
 
-// Opens the codes of the ports: twenty, from 202540 on.
-fn opens_codes(alloc: Global, register: &mut Desk) -> Option<()> {
+// What opens the register, and the codes of the ports: twenty, from 202540 on.
+fn ask_for_codes(alloc: Global, texts: &mut Texts) -> Result<(), AllocError> {
+    texts.add_rows(alloc, &FIRST_PORT[..5])?;
     for number in 40..60 {
-        let code = format!(in alloc; "2025{number}").ok()?;
-        opens(register, code.as_str())?;
+        let body = format!(in alloc; "{{\"code\":\"2025{number}\",\"spid\":\"BBBB\"}}")?;
+        let text = asked(alloc, &("NPAC", "/codes", body.as_str(), ""))?;
+        texts.asked.push_str(text.as_str())?;
     }
-    Some(())
+    Ok(())
+}
+
+fn opens_codes(alloc: Global, register: &mut Desk) -> Option<()> {
+    let mut texts = Texts::new(alloc);
+    ask_for_codes(alloc, &mut texts).ok()?;
+    let (_answers, ended) = served(alloc, register, &mut texts.asked.as_bytes());
+    if ended == whole(25) { Some(()) } else { None }
 }
 
 // The port of a number is created from both sides.
 fn creates(register: &mut Desk, number: &str) -> Option<()> {
-    let creator = Creator::NewProvider {
-        routing: routing()?,
+    let routing = routing()?;
+    let create = create_of(number, Minute::ZERO, Creator::NewProvider { routing })?;
+    let concur = Create {
+        creator: Creator::OldProvider { authorized: true },
+        ..create
     };
-    let create = create_of(number, 0, creator)?;
-    let concur = create_of(number, 0, Creator::OldProvider { authorized: true })?;
     let (first, second) = (Command::Create(create), Command::Create(concur));
     register.do_it(create.new_provider, &first).ok()?;
     register.do_it(create.old_provider, &second).ok()?;
@@ -63,13 +73,18 @@ fn acknowledges_all(register: &mut Desk, caller: Spid) -> Option<u64> {
 }
 
 // How many versions a newcomer acknowledges that is registered after all of them were sent.
+fn acknowledged_in(alloc: Global, register: &mut Desk) -> Option<u64> {
+    let newcomer = Spid::read("CCCC")?;
+    opens_codes(alloc, register)?;
+    sends_all(alloc, register)?;
+    let command = Command::RegisterCarrier { spid: newcomer };
+    register.do_it(Spid::NPAC, &command).ok()?;
+    acknowledges_all(register, newcomer)
+}
+
 fn acknowledged(alloc: Global) -> Option<u64> {
     let mut register = new_register(alloc)?;
-    begin(&mut register)?;
-    opens_codes(alloc, &mut register)?;
-    sends_all(alloc, &mut register)?;
-    registers(&mut register, "CCCC")?;
-    acknowledges_all(&mut register, Spid::read("CCCC")?)
+    acknowledged_in(alloc, &mut register)
 }
 
 #[test]

@@ -158,30 +158,39 @@ fn story_of_first_port(alloc: Global) -> Option<Story> {
     Some(story)
 }
 
-fn reads_until_each<T: Abort + AllocGlobal>(rt: &T) -> Option<()> {
-    let story = story_of_first_port(rt.alloc())?;
+// A reader that fails at a place of the first port, and a new register.
+fn fails_to_read<T: Abort + AllocGlobal>(rt: &T, story: &Story, place: usize) -> Option<()> {
+    let mut register = new_register(rt.alloc())?;
+    story.reads_until(rt, &mut register, place)
+}
+
+fn fails_to_write<T: Abort + AllocGlobal>(rt: &T, story: &Story, place: usize) -> Option<()> {
+    let mut register = new_register(rt.alloc())?;
+    story.writes_until(rt, &mut register, place)
+}
+
+fn reads_until_each<T: Abort + AllocGlobal>(rt: &T, story: &Story) -> Option<()> {
     for place in 0..story.texts.asked.len() {
-        let mut register = new_register(rt.alloc())?;
-        story.reads_until(rt, &mut register, place)?;
+        fails_to_read(rt, story, place)?;
     }
     Some(())
 }
 
-#[test]
-fn read_faults_leave_whole_messages(rt: HostRuntime) {
-    assert!(rt; reads_until_each(&rt).is_some());
-}
-
-fn writes_until_each<T: Abort + AllocGlobal>(rt: &T) -> Option<()> {
-    let story = story_of_first_port(rt.alloc())?;
+fn writes_until_each<T: Abort + AllocGlobal>(rt: &T, story: &Story) -> Option<()> {
     for place in 0..story.texts.answered.len() {
-        let mut register = new_register(rt.alloc())?;
-        story.writes_until(rt, &mut register, place)?;
+        fails_to_write(rt, story, place)?;
     }
     Some(())
 }
 
+fn is_told<T: Abort + AllocGlobal>(rt: &T) -> Option<()> {
+    let story = story_of_first_port(rt.alloc())?;
+    reads_until_each(rt, &story)?;
+    writes_until_each(rt, &story)
+}
+
+// A reader's fault leaves whole messages, a writer's one message more.
 #[test]
-fn write_faults_leave_one_message_more(rt: HostRuntime) {
-    assert!(rt; writes_until_each(&rt).is_some());
+fn faults_leave_whole_messages(rt: HostRuntime) {
+    assert!(rt; is_told(&rt).is_some());
 }

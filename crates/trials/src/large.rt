@@ -1,7 +1,9 @@
 //! Messages that are too large for a story's file.
 use crate::port::{answer, asked, hears, new_register, whole};
+use register::Register;
 use std::alloc::{AllocError, Global};
 use std::process::Abort;
+use store::MemoryStore;
 
 // A text of so many times one character, with others around it.
 fn filled(
@@ -20,18 +22,28 @@ fn filled(
 }
 
 // A query by the administrator is answered so.
-fn is_answered<T: Abort + AllocGlobal>(
+fn is_answered_by<T: Abort + AllocGlobal>(
     rt: &T,
+    register: &mut Register<MemoryStore>,
     query: &str,
     status: &str,
     body: &str,
 ) -> Option<()> {
     let message = asked(rt.alloc(), &("NPAC", "/query", query, "")).ok()?;
     let wanted = answer(rt.alloc(), status, body).ok()?;
-    let mut register = new_register(rt.alloc())?;
     let mut reader = message.as_bytes();
-    hears(rt, &mut register, &mut reader, wanted.as_str(), whole(1));
+    hears(rt, register, &mut reader, wanted.as_str(), whole(1));
     Some(())
+}
+
+fn is_answered<T: Abort + AllocGlobal>(
+    rt: &T,
+    query: &str,
+    status: &str,
+    body: &str,
+) -> Option<()> {
+    let mut register = new_register(rt.alloc())?;
+    is_answered_by(rt, &mut register, query, status, body)
 }
 
 const QUERY: &str = r#"{"uri":"tel:+12025331234"}"#;

@@ -16,6 +16,8 @@ mod failing;
 #[cfg(test)]
 mod large;
 #[cfg(test)]
+mod laws;
+#[cfg(test)]
 mod meaning_trials;
 #[cfg(test)]
 mod numbers_trials;

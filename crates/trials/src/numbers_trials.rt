@@ -1,111 +1,8 @@
 //! Values and their texts.
-use numbers::{
-    BlockId, Cic, CodeId, Line, Lrn, Minute, Spid, Subject, Tn, subjects_in_order_of_texts,
-};
+use numbers::{BlockId, Cic, CodeId, Line, Lrn, Minute, Spid, Subject, Tn};
 use std::alloc::Global;
 
-// A number and its parts.
-fn write_number(out: &mut String) -> Option<()> {
-    let tn = Tn::read("2025331234")?;
-    tn.write(out).ok()?;
-    tn.code().write(out).ok()?;
-    tn.block().write(out).ok()?;
-    tn.line().write(out).ok()
-}
-
-// A code and a line, and a block's code and number.
-fn write_parts(out: &mut String) -> Option<()> {
-    let block = BlockId::read("2025337")?;
-    let line = Line::read("001")?;
-    CodeId::read("202534")?.write(out).ok()?;
-    line.write(out).ok()?;
-    block.code().write(out).ok()?;
-    block.tn(line).write(out).ok()
-}
-
-// What is read and written alone.
-fn write_others(out: &mut String) -> Option<()> {
-    Lrn::read("0025440000")?.write(out).ok()?;
-    Cic::read("0288")?.write(out).ok()?;
-    Spid::read("A0Z9")?.write(out).ok()?;
-    Spid::NPAC.write(out).ok()
-}
-
-// A subject's text behind what is there.
-fn write_subjects(out: &mut String) -> Option<()> {
-    for subject in &subjects()? {
-        subject.write(out).ok()?;
-    }
-    Some(())
-}
-
-// The number before a block, the block, and the first of its numbers.
-fn subjects() -> Option<[Subject; 3]> {
-    Some([
-        Subject::Number(Tn::read("2025330999")?),
-        Subject::Block(BlockId::read("2025331")?),
-        Subject::Number(Tn::read("2025331000")?),
-    ])
-}
-
-static TEXTS: [&str; 4] = [
-    "20253312342025332025331234",
-    "2025340012025332025337001",
-    "00254400000288A0Z9NPAC",
-    "202533099920253312025331000",
-];
-
-fn write_all(out: &mut [String; 4]) -> Option<()> {
-    write_number(&mut out[0])?;
-    write_parts(&mut out[1])?;
-    write_others(&mut out[2])?;
-    write_subjects(&mut out[3])
-}
-
-#[test]
-fn texts_are_read_and_written(rt: HostRuntime) {
-    let alloc = rt.alloc();
-    let mut out = [
-        String::new(alloc),
-        String::new(alloc),
-        String::new(alloc),
-        String::new(alloc),
-    ];
-    assert!(rt; write_all(&mut out).is_some());
-    for (found, wanted) in out.iter().zip(&TEXTS) {
-        assert_eq!(rt; found.as_str(), *wanted);
-    }
-}
-
-fn are_in_order() -> Option<bool> {
-    let [before, block, first] = subjects()?;
-    Some(before < block && block < first)
-}
-
-#[test]
-fn subjects_are_in_the_order_of_their_texts(rt: HostRuntime) {
-    assert_eq!(rt; are_in_order(), Some(true));
-    subjects_in_order_of_texts();
-}
-
-static MINUTES: [(&str, u64); 3] = [("0", 0), ("7", 7), ("1099511627775", 1_099_511_627_775)];
-
-fn is_minute(alloc: Global, text: &str, number: u64) -> Option<bool> {
-    let minute = Minute::read(text)?;
-    let mut out = String::new(alloc);
-    minute.write(&mut out).ok()?;
-    Some(Minute::new(number) == Some(minute) && out.as_str() == text)
-}
-
-#[test]
-fn minutes_are_read_and_written(rt: HostRuntime) {
-    for (text, number) in &MINUTES {
-        assert_eq!(rt; is_minute(rt.alloc(), text, *number), Some(true), "{text}");
-    }
-    assert!(rt; Minute::ZERO.number == 0 && Minute::new(Minute::LIMIT).is_none());
-}
-
-#[derive(Clone, Copy, Debug)]
+#[derive(Clone, Copy)]
 enum Kind {
     Block,
     Cic,
@@ -117,57 +14,122 @@ enum Kind {
     Tn,
 }
 
-fn is_read(kind: Kind, text: &str) -> bool {
-    match kind {
-        Kind::Block => BlockId::read(text).is_some(),
-        Kind::Cic => Cic::read(text).is_some(),
-        Kind::Code => CodeId::read(text).is_some(),
-        Kind::Line => Line::read(text).is_some(),
-        Kind::Lrn => Lrn::read(text).is_some(),
-        Kind::Minute => Minute::read(text).is_some(),
-        Kind::Spid => Spid::read(text).is_some(),
-        Kind::Tn => Tn::read(text).is_some(),
-    }
+// Reads a text, and writes what was read.
+fn copy(kind: Kind, text: &str, out: &mut String) -> Option<()> {
+    let written = match kind {
+        Kind::Block => Subject::Block(BlockId::read(text)?).write(out),
+        Kind::Cic => Cic::read(text)?.write(out),
+        Kind::Code => CodeId::read(text)?.write(out),
+        Kind::Line => Line::read(text)?.write(out),
+        Kind::Lrn => Lrn::read(text)?.write(out),
+        Kind::Minute => Minute::read(text)?.write(out),
+        Kind::Spid => Spid::read(text)?.write(out),
+        Kind::Tn => Subject::Number(Tn::read(text)?).write(out),
+    };
+    written.ok()
 }
 
-static REFUSED: [(Kind, &str); 32] = [
-    (Kind::Tn, ""),
-    (Kind::Tn, "2025331234 "),
-    (Kind::Tn, " 2025331234"),
-    (Kind::Tn, "20253312345"),
-    (Kind::Tn, "202533123"),
-    (Kind::Tn, "1025331234"),
-    (Kind::Tn, "0025331234"),
-    (Kind::Tn, "2021331234"),
-    (Kind::Tn, "2020331234"),
-    (Kind::Tn, "202533123x"),
-    (Kind::Tn, "+202533123"),
-    (Kind::Minute, ""),
-    (Kind::Minute, "00"),
-    (Kind::Minute, "01"),
-    (Kind::Minute, "+1"),
-    (Kind::Minute, " 1"),
-    (Kind::Minute, "1 "),
-    (Kind::Minute, "1099511627776"),
-    (Kind::Minute, "99999999999999999999"),
-    (Kind::Spid, ""),
-    (Kind::Spid, "aAAA"),
-    (Kind::Spid, "AAA"),
-    (Kind::Spid, "AAAAA"),
-    (Kind::Spid, "AAA "),
-    (Kind::Spid, "AA-A"),
-    (Kind::Spid, "AA\u{e9}"),
-    (Kind::Code, "202133"),
-    (Kind::Code, "2025331"),
-    (Kind::Block, "1025331"),
-    (Kind::Line, "1"),
-    (Kind::Lrn, "202544000"),
-    (Kind::Cic, "028"),
+// Whether a text is read and written as it was.
+fn is_copied(alloc: Global, kind: Kind, text: &str) -> bool {
+    let mut out = String::new(alloc);
+    copy(kind, text, &mut out).is_some() && out.as_str() == text
+}
+
+// A text, and whether it is one of its kind.
+type Row<'a> = (Kind, &'a str, bool);
+
+// The first of the texts that is read and should not be, or the other way round.
+fn misread(alloc: Global, rows: &[Row<'static>]) -> Option<&'static str> {
+    for (kind, text, is_one) in rows {
+        if is_copied(alloc, *kind, text) != *is_one {
+            return Some(text);
+        }
+    }
+    None
+}
+
+static TEXTS: [Row<'static>; 44] = [
+    (Kind::Tn, "2025331234", true),
+    (Kind::Block, "2025337", true),
+    (Kind::Code, "202534", true),
+    (Kind::Line, "001", true),
+    (Kind::Lrn, "0025440000", true),
+    (Kind::Cic, "0288", true),
+    (Kind::Spid, "A0Z9", true),
+    (Kind::Spid, "NPAC", true),
+    (Kind::Minute, "0", true),
+    (Kind::Minute, "7", true),
+    (Kind::Minute, "1099511627775", true),
+    (Kind::Tn, "", false),
+    (Kind::Tn, "2025331234 ", false),
+    (Kind::Tn, " 2025331234", false),
+    (Kind::Tn, "20253312345", false),
+    (Kind::Tn, "202533123", false),
+    (Kind::Tn, "1025331234", false),
+    (Kind::Tn, "0025331234", false),
+    (Kind::Tn, "2021331234", false),
+    (Kind::Tn, "2020331234", false),
+    (Kind::Tn, "202533123x", false),
+    (Kind::Tn, "+202533123", false),
+    (Kind::Minute, "", false),
+    (Kind::Minute, "00", false),
+    (Kind::Minute, "01", false),
+    (Kind::Minute, "+1", false),
+    (Kind::Minute, " 1", false),
+    (Kind::Minute, "1 ", false),
+    (Kind::Minute, "1099511627776", false),
+    (Kind::Minute, "99999999999999999999", false),
+    (Kind::Spid, "", false),
+    (Kind::Spid, "aAAA", false),
+    (Kind::Spid, "AAA", false),
+    (Kind::Spid, "AAAAA", false),
+    (Kind::Spid, "AAA ", false),
+    (Kind::Spid, "AA-A", false),
+    (Kind::Spid, "AA\u{e9}", false),
+    (Kind::Code, "202133", false),
+    (Kind::Code, "2025331", false),
+    (Kind::Block, "1025331", false),
+    (Kind::Line, "1", false),
+    (Kind::Line, "0001", false),
+    (Kind::Lrn, "202544000", false),
+    (Kind::Cic, "028", false),
 ];
 
 #[test]
-fn other_texts_are_refused(rt: HostRuntime) {
-    for (kind, text) in &REFUSED {
-        assert!(rt; !is_read(*kind, text), "{kind:?} {text}");
-    }
+fn texts_are_read_and_written(rt: HostRuntime) {
+    assert_eq!(rt; misread(rt.alloc(), &TEXTS), None);
+}
+
+// Whether a number's parts are these, and the number is made of them.
+fn is_made_of(tn: Tn, block: BlockId, line: Line) -> [bool; 3] {
+    [
+        tn.block() == block && tn.line() == line,
+        tn.code() == block.code(),
+        block.tn(line) == tn,
+    ]
+}
+
+fn are_parts() -> Option<[bool; 3]> {
+    let tn = Tn::read("2025331234")?;
+    Some(is_made_of(tn, BlockId::read("2025331")?, Line::read("234")?))
+}
+
+// The number before a block, the block, and the first of its numbers: in the order of their texts.
+fn are_in_order() -> Option<bool> {
+    let before = Subject::Number(Tn::read("2025330999")?);
+    let block = Subject::Block(BlockId::read("2025331")?);
+    let first = Subject::Number(Tn::read("2025331000")?);
+    Some(before < block && block < first)
+}
+
+#[test]
+fn parts_and_order(rt: HostRuntime) {
+    let found = (are_parts(), are_in_order());
+    assert_eq!(rt; found, (Some([true; 3]), Some(true)));
+}
+
+#[test]
+fn constants(rt: HostRuntime) {
+    assert!(rt; Minute::new(Minute::LIMIT).is_none() && Minute::ZERO.number == 0);
+    assert!(rt; Spid::read("NPAC") == Some(Spid::NPAC) && Minute::read("7") == Minute::new(7));
 }

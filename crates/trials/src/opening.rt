@@ -1,13 +1,8 @@
 //! Opening a store, and opening it again.
-use crate::port::{WINDOWS, after_the_first_port, opened};
-use api::{
-    body_asks_once, cuts_of_the_input, message_steps_once, storage_tells_of_a_failure,
-    uris_need_no_escape,
-};
-use meaning::Refusal;
-use numbers::{Spid, Tn};
-use register::{Answer, OpenFault, Register, law_of_new_stores};
+use crate::port::{Said, WINDOWS, after_the_first_port, hears, opened, stream_of, whole};
+use register::{OpenFault, Register};
 use std::alloc::Global;
+use std::process::Abort;
 use store::MemoryStore;
 use windows::Windows;
 
@@ -16,30 +11,41 @@ fn served_store(alloc: Global) -> Option<MemoryStore> {
     Some(after_the_first_port(alloc)?.close())
 }
 
-// Whether a query of the first port's number is routed.
-fn is_routed(register: &mut Register<MemoryStore>) -> Option<bool> {
-    let caller = Spid::read("AAAA")?;
-    let tn = Tn::read("2025331234")?;
-    register.knows(caller).ok()?;
-    let answer = register.query(caller, tn).ok()?;
-    Some(matches!(&answer, Answer::Open(Some(_))))
+// The port's number is routed, and a carrier that registers gets its one row.
+static AFTERWARDS: [Said<'static>; 2] = [
+    (
+        "AAAA",
+        "/query",
+        r#"{"uri":"tel:+12025331234"}"#,
+        r#"{"uri":"tel:+12025331234;npdi;rn=+12025440000"}"#,
+    ),
+    (
+        "NPAC",
+        "/carriers",
+        r#"{"spid":"CCCC"}"#,
+        r#"{"rows":[{"cic":null,"lrn":"2025440000","subject":"2025331234"}],"spid":"CCCC"}"#,
+    ),
+];
+
+fn goes_on<T: Abort + AllocGlobal>(rt: &T, register: &mut Register<MemoryStore>) -> Option<()> {
+    let texts = stream_of(rt.alloc(), &AFTERWARDS)?;
+    let mut reader = texts.asked.as_bytes();
+    hears(rt, register, &mut reader, texts.answered.as_str(), whole(2));
+    Some(())
 }
 
-// Whether one row is in force, and a carrier is unknown that was never registered.
-fn is_as_it_was(register: &mut Register<MemoryStore>) -> Option<bool> {
-    let stranger = Spid::read("ZZZZ")?;
-    let rows = register.in_force().ok()?;
-    Some(rows.len() == 1 && register.knows(stranger) == Err(Refusal::UnknownCarrier))
+fn goes_on_over<T: Abort + AllocGlobal>(rt: &T, store: MemoryStore) -> Option<()> {
+    let mut register = opened(rt.alloc(), store)?;
+    goes_on(rt, &mut register)
 }
 
-fn is_opened_again(alloc: Global) -> Option<bool> {
-    let mut register = opened(alloc, served_store(alloc)?)?;
-    Some(is_routed(&mut register)? && is_as_it_was(&mut register)?)
+fn is_opened_again<T: Abort + AllocGlobal>(rt: &T) -> Option<()> {
+    goes_on_over(rt, served_store(rt.alloc())?)
 }
 
 #[test]
 fn a_store_is_opened_again(rt: HostRuntime) {
-    assert_eq!(rt; is_opened_again(rt.alloc()), Some(true));
+    assert!(rt; is_opened_again(&rt).is_some());
 }
 
 // The windows of the tests, but for the broadcast's.
@@ -56,24 +62,14 @@ fn handed_back(alloc: Global) -> Option<(MemoryStore, OpenFault)> {
     Register::open(alloc, served_store(alloc)?, &windows).err()
 }
 
-// Whether it is refused for its windows, and goes on with its own.
-fn is_handed_back(alloc: Global) -> Option<bool> {
-    let (store, fault) = handed_back(alloc)?;
-    let mut register = opened(alloc, store)?;
-    Some(fault == OpenFault::WindowsDiffer && is_routed(&mut register)?)
+// It is refused for its windows, and goes on with its own.
+fn is_handed_back<T: Abort + AllocGlobal>(rt: &T) -> Option<()> {
+    let (store, fault) = handed_back(rt.alloc())?;
+    assert_eq!(rt; fault, OpenFault::WindowsDiffer);
+    goes_on_over(rt, store)
 }
 
 #[test]
 fn other_windows_are_refused_and_the_store_handed_back(rt: HostRuntime) {
-    assert_eq!(rt; is_handed_back(rt.alloc()), Some(true));
-}
-
-#[test]
-fn the_laws_return(_rt: HostRuntime) {
-    law_of_new_stores();
-    cuts_of_the_input();
-    body_asks_once();
-    message_steps_once();
-    storage_tells_of_a_failure();
-    uris_need_no_escape();
+    assert!(rt; is_handed_back(&rt).is_some());
 }

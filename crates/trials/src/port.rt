@@ -162,9 +162,9 @@ pub fn new_register(alloc: Global) -> Option<Register<MemoryStore>> {
 }
 
 /// What is answered to what a reader gives, the clock's path offered, and how serving ends.
-pub fn served<R: Read>(
+pub fn served<S: Store, R: Read>(
     alloc: Global,
-    register: &mut Register<MemoryStore>,
+    register: &mut Register<S>,
     reader: &mut R,
 ) -> (Vec<u8>, Result<Served, Fault>) {
     let mut bytes = Vec::new(alloc);
@@ -191,9 +191,9 @@ pub fn is_so<T: Abort>(
 }
 
 /// What a reader gives is answered so, and serving ends so.
-pub fn hears<T: Abort + AllocGlobal, R: Read>(
+pub fn hears<T: Abort + AllocGlobal, S: Store, R: Read>(
     rt: &T,
-    register: &mut Register<MemoryStore>,
+    register: &mut Register<S>,
     reader: &mut R,
     answered: &str,
     wanted: Result<Served, Fault>,
@@ -210,14 +210,17 @@ pub fn whole(count: u64) -> Result<Served, Fault> {
     })
 }
 
+fn says_first_port(alloc: Global, register: &mut Register<MemoryStore>) -> Option<()> {
+    let texts = stream_of(alloc, &FIRST_PORT)?;
+    let (_answers, ended) = served(alloc, register, &mut texts.asked.as_bytes());
+    if ended == whole(11) { Some(()) } else { None }
+}
+
 /// A register after the first port.
 pub fn after_the_first_port(alloc: Global) -> Option<Register<MemoryStore>> {
-    let texts = stream_of(alloc, &FIRST_PORT)?;
     let mut register = new_register(alloc)?;
-    let (_answers, ended) = served(alloc, &mut register, &mut texts.asked.as_bytes());
-    if ended == whole(11) {
-        Some(register)
-    } else {
-        None
+    match says_first_port(alloc, &mut register) {
+        Some(()) => Some(register),
+        None => None,
     }
 }

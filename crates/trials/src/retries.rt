@@ -12,7 +12,7 @@ const NO_MEMORY: &str =
     "HTTP/1.1 503 Service Unavailable\r\ncontent-type: application/json\r\ncontent-length: 33\r\n\r\n{\"error\":\"no_memory\",\"number\":30}";
 
 // A message was answered as it should be, or memory was refused and nothing was done.
-#[derive(Clone, Copy, Debug, PartialEq, Eq)]
+#[derive(Clone, Copy)]
 enum Heard {
     Right,
     Refused,
@@ -76,7 +76,13 @@ fn said_again(
 
 // Whether each row of the first port is answered, at first or when it is said again.
 fn is_answered(alloc: Global, register: &mut Register<MemoryStore>, bytes: &mut Vec<u8>) -> bool {
-    FIRST_PORT.iter().all(|said| said_again(alloc, register, said, bytes) == Some(Heard::Right))
+    for said in &FIRST_PORT {
+        match said_again(alloc, register, said, bytes) {
+            Some(Heard::Right) => {}
+            _ => return false,
+        }
+    }
+    true
 }
 
 fn is_answered_at_last(alloc: Global) -> Option<bool> {

@@ -1,113 +1,145 @@
 //! What a call settles: the subjects that it reads, and no other.
-use crate::commands::{begin, create_of, registers};
 use crate::counted::Counted;
-use crate::port::opened;
-use meaning::{Refusal, Status};
-use numbers::{Minute, Spid, Tn};
-use register::{Answer, Command, Register};
-use std::alloc::Global;
+use crate::port::{FIRST_PORT, Said, Texts, answer, asked, hears, opened, served, whole};
+use register::Register;
+use std::alloc::{AllocError, Global};
 use std::cell::Cell;
 use std::process::Abort;
 use store::MemoryStore;
-use version::Creator;
 
 type Desk<'a> = Register<Counted<'a, MemoryStore>>;
 
 // The old provider's create of a number, due at 300.
-fn offers(register: &mut Desk<'_>, number: &str) -> Option<()> {
-    let create = create_of(number, 300, Creator::OldProvider { authorized: true })?;
-    register
-        .do_it(create.old_provider, &Command::Create(create))
-        .ok()?;
-    Some(())
+fn offer(alloc: Global, line: u64, out: &mut String) -> Result<(), AllocError> {
+    let body = format!(in alloc;
+        "{{\"authorized\":true,\"due\":300,\"new\":\"AAAA\",\"old\":\"BBBB\",\"tn\":\"202533{line}\"}}"
+    )?;
+    let path = "/subscriptionVersionOldSP-Create";
+    let text = asked(alloc, &("BBBB", path, body.as_str(), ""))?;
+    out.push_str(text.as_str())
 }
 
-fn moves_clock(register: &mut Desk<'_>, minute: u64) -> Option<bool> {
-    let minute = Minute::new(minute)?;
-    Some(register.clock(minute) == Ok(minute))
-}
+static AT_120: Said<'static> = ("NPAC", "/clock", r#"{"minute":120}"#, r#"{"now":120}"#);
 
-// A thousand creates, whose windows end at 120, and the clock at that minute.
-fn until_120(alloc: Global, register: &mut Desk<'_>) -> Option<()> {
-    begin(register)?;
+// What opens a register, a thousand creates, whose windows end at 120, and the clock at that minute.
+fn ask_until_120(alloc: Global, texts: &mut Texts) -> Result<(), AllocError> {
+    texts.add_rows(alloc, &FIRST_PORT[..5])?;
     for line in 1000..2000 {
-        let number = format!(in alloc; "202533{line}").ok()?;
-        offers(register, number.as_str())?;
+        offer(alloc, line, &mut texts.asked)?;
     }
-    moves_clock(register, 120)?;
-    Some(())
+    let clock = asked(alloc, &AT_120)?;
+    texts.asked.push_str(clock.as_str())
 }
 
-#[derive(Clone, Copy, Debug)]
-enum Step {
-    /// A number that no version is of is asked for.
-    Query,
-    /// The first version is shown: canceled at 120.
-    Show,
-    /// The clock is refused to go back.
-    Back,
-    /// The clock is moved to the minute at which it stands.
-    Stay,
-    /// A carrier is registered.
-    Register,
+fn until_120(alloc: Global, register: &mut Desk<'_>) -> Option<()> {
+    let mut texts = Texts::new(alloc);
+    ask_until_120(alloc, &mut texts).ok()?;
+    let (_answers, ended) = served(alloc, register, &mut texts.asked.as_bytes());
+    if ended == whole(1006) { Some(()) } else { None }
 }
 
-fn is_unrouted(register: &mut Desk<'_>) -> Option<bool> {
-    let caller = Spid::read("AAAA")?;
-    let tn = Tn::read("2025339999")?;
-    Some(register.query(caller, tn) == Ok(Answer::Open(None)))
-}
+// What is said, the answer's status, and how often the store is asked for a commit.
+type Step = (Said<'static>, &'static str, u64);
 
-fn is_canceled(register: &mut Desk<'_>) -> Option<bool> {
-    let version = register.version(Spid::read("AAAA")?, 1).ok()?.version;
-    Some(version.status == Status::Canceled && version.since == Minute::new(120)?)
-}
-
-fn is_refused_to_go_back(register: &mut Desk<'_>) -> Option<bool> {
-    Some(register.clock(Minute::new(119)?) == Err(Refusal::ClockBack))
-}
-
-// Takes a step, and says whether it came out as it should.
-fn take(register: &mut Desk<'_>, step: Step) -> Option<bool> {
-    match step {
-        Step::Query => is_unrouted(register),
-        Step::Show => is_canceled(register),
-        Step::Back => is_refused_to_go_back(register),
-        Step::Stay => moves_clock(register, 120),
-        Step::Register => Some(registers(register, "CCCC").is_some()),
-    }
-}
-
-// How often the store is asked for a commit.
-static STEPS: [(Step, u64); 5] = [
-    (Step::Query, 0),
-    (Step::Show, 1),
-    (Step::Back, 0),
-    (Step::Stay, 0),
-    (Step::Register, 1000),
+static STEPS: [Step; 5] = [
+    // a number that no version is of is asked for
+    (
+        (
+            "AAAA",
+            "/query",
+            r#"{"uri":"tel:+12025339999"}"#,
+            r#"{"uri":"tel:+12025339999;npdi"}"#,
+        ),
+        "200 OK",
+        0,
+    ),
+    // the first version is shown: canceled at 120
+    (
+        (
+            "AAAA",
+            "/versions/1",
+            "",
+            r#"{"attempt":0,"cic":null,"due":300,"id":1,"lrn":null,"new":"AAAA","old":"BBBB","phase":null,"release":null,"since":120,"status":"canceled","subject":"2025331000"}"#,
+        ),
+        "200 OK",
+        1,
+    ),
+    // the clock is refused to go back
+    (
+        (
+            "NPAC",
+            "/clock",
+            r#"{"minute":119}"#,
+            r#"{"error":"clock_back","number":27}"#,
+        ),
+        "409 Conflict",
+        0,
+    ),
+    // the clock is moved to the minute at which it stands
+    (
+        ("NPAC", "/clock", r#"{"minute":120}"#, r#"{"now":120}"#),
+        "200 OK",
+        0,
+    ),
+    // a carrier is registered
+    (
+        (
+            "NPAC",
+            "/carriers",
+            r#"{"spid":"CCCC"}"#,
+            r#"{"rows":[],"spid":"CCCC"}"#,
+        ),
+        "200 OK",
+        1000,
+    ),
 ];
 
-fn takes_each<T: Abort>(rt: &T, register: &mut Desk<'_>, commits: &Cell<u64>) {
-    for (step, wanted) in &STEPS {
-        commits.set(0);
-        let done = take(register, *step);
-        assert_eq!(rt; (done, commits.get()), (Some(true), *wanted), "{step:?}");
-    }
+fn takes<T: Abort + AllocGlobal>(rt: &T, register: &mut Desk<'_>, step: &Step) -> Option<()> {
+    let text = asked(rt.alloc(), &step.0).ok()?;
+    let wanted = answer(rt.alloc(), step.1, step.0.3).ok()?;
+    hears(
+        rt,
+        register,
+        &mut text.as_bytes(),
+        wanted.as_str(),
+        whole(1),
+    );
+    Some(())
 }
 
-fn is_settled<T: Abort + AllocGlobal>(rt: &T) -> Option<()> {
-    let commits = Cell::new(0);
+fn takes_each<T: Abort + AllocGlobal>(
+    rt: &T,
+    register: &mut Desk<'_>,
+    commits: &Cell<u64>,
+) -> Option<()> {
+    for step in &STEPS {
+        commits.set(0);
+        takes(rt, register, step)?;
+        assert_eq!(rt; commits.get(), step.2);
+    }
+    Some(())
+}
+
+fn is_settled_in<T: Abort + AllocGlobal>(
+    rt: &T,
+    register: &mut Desk<'_>,
+    commits: &Cell<u64>,
+) -> Option<()> {
+    until_120(rt.alloc(), register)?;
+    takes_each(rt, register, commits)
+}
+
+fn is_settled<T: Abort + AllocGlobal>(rt: &T, commits: &Cell<u64>) -> Option<()> {
     let store = Counted {
         store: MemoryStore::new(rt.alloc()),
-        commits: &commits,
+        commits,
     };
     let mut register = opened(rt.alloc(), store)?;
-    until_120(rt.alloc(), &mut register)?;
-    takes_each(rt, &mut register, &commits);
-    Some(())
+    is_settled_in(rt, &mut register, commits)
 }
 
 #[test]
 fn a_call_settles_what_it_reads_alone(rt: HostRuntime) {
-    assert!(rt; is_settled(&rt).is_some());
+    let commits = Cell::new(0);
+    assert!(rt; is_settled(&rt, &commits).is_some());
 }

@@ -85,22 +85,7 @@ fn changes(alloc: Global, sample: &Sample) -> Option<Changes> {
     Some(changes)
 }
 
-// What stands under the keys of the sample.
-#[derive(Clone, Copy, Debug, PartialEq, Eq)]
-struct Found {
-    clock: bool,
-    carrier: bool,
-    lrn: Option<Spid>,
-    code: Option<Spid>,
-    block: bool,
-    version: bool,
-    in_force: bool,
-    opened: bool,
-    broadcast: bool,
-    // The download would be the last of another carrier.
-    last_of_another: bool,
-}
-
+// The download that would be the last of another carrier.
 fn another_wait() -> Option<WaitKey> {
     Some(WaitKey {
         carrier: Spid::read("B001")?,
@@ -110,19 +95,26 @@ fn another_wait() -> Option<WaitKey> {
     })
 }
 
-fn look_up(store: &mut MemoryStore, sample: &Sample) -> Option<Found> {
-    Some(Found {
-        clock: store.clock().ok()?.is_some(),
-        carrier: store.carrier(sample.carrier).ok()?,
-        lrn: store.lrn(sample.lrn).ok()?,
-        code: store.code(sample.code).ok()?,
-        block: store.block(sample.block).ok()?.is_some(),
-        version: store.version(1).ok()?.is_some(),
-        in_force: store.version_in_force(sample.subject).ok()?.is_some(),
-        opened: store.open_version(sample.subject).ok()?.is_some(),
-        broadcast: store.broadcast(KEY).ok()?.is_some(),
-        last_of_another: store.is_last_wait(another_wait()?).ok()?,
-    })
+// Whether a clock, a carrier, a routing number, a code and a block stand under the sample's keys.
+fn registered(store: &mut MemoryStore, sample: &Sample) -> Option<[bool; 5]> {
+    Some([
+        store.clock().ok()?.is_some(),
+        store.carrier(sample.carrier).ok()?,
+        store.lrn(sample.lrn).ok()? == Some(sample.carrier),
+        store.code(sample.code).ok()? == Some(sample.carrier),
+        store.block(sample.block).ok()?.is_some(),
+    ])
+}
+
+// Whether a version does, in force, open, and a broadcast, and whether another's download is the last.
+fn ported(store: &mut MemoryStore, sample: &Sample) -> Option<[bool; 5]> {
+    Some([
+        store.version(1).ok()?.is_some(),
+        store.version_in_force(sample.subject).ok()?.is_some(),
+        store.open_version(sample.subject).ok()?.is_some(),
+        store.broadcast(KEY).ok()?.is_some(),
+        store.is_last_wait(another_wait()?).ok()?,
+    ])
 }
 
 // How many rows each list has.
@@ -142,21 +134,14 @@ fn is_committed(store: &mut MemoryStore, changes: &Changes) -> bool {
     store.commit(changes).is_ok()
 }
 
-// What is found after a commit, which was done or refused.
-fn wanted(sample: &Sample, done: bool) -> Found {
-    let carrier = if done { Some(sample.carrier) } else { None };
-    Found {
-        clock: false,
-        carrier: done,
-        lrn: carrier,
-        code: carrier,
-        block: done,
-        version: done,
-        in_force: done,
-        opened: false,
-        broadcast: done,
-        last_of_another: !done,
-    }
+// Whether that is found after a commit that was done, or was refused.
+fn is_read(store: &mut MemoryStore, sample: &Sample, done: bool) -> Option<bool> {
+    let registered = registered(store, sample)?;
+    let ported = ported(store, sample)?;
+    let lists = listed(store, sample)?;
+    let are_rows = registered == [false, done, done, done, done];
+    let are_versions = ported == [done, done, false, done, !done];
+    Some(are_rows && are_versions && lists == [usize::from(done); 5] && store.failures() == 0)
 }
 
 fn is_found(alloc: Global) -> Option<bool> {
@@ -164,10 +149,7 @@ fn is_found(alloc: Global) -> Option<bool> {
     let changes = changes(alloc, &sample)?;
     let mut store = MemoryStore::new(alloc);
     let done = is_committed(&mut store, &changes);
-    let found = look_up(&mut store, &sample)?;
-    let lists = listed(&mut store, &sample)?;
-    let rows = [usize::from(done); 5];
-    Some(found == wanted(&sample, done) && lists == rows && store.failures() == 0)
+    is_read(&mut store, &sample, done)
 }
 
 #[test]
@@ -212,18 +194,22 @@ fn is_second_due(store: &mut MemoryStore, done: bool) -> Option<bool> {
     Some(early.is_none() && least_due(store, 10)? == second && least_due(store, 1000)? == second)
 }
 
-fn is_least_found(alloc: Global) -> Option<bool> {
-    let mut store = MemoryStore::new(alloc);
-    let done = are_committed(alloc, &mut store, &FIRST)?;
-    let at_first = is_second_due(&mut store, done)?;
-    let changed = are_committed(alloc, &mut store, &NEXT)?;
+fn is_least_found_in(alloc: Global, store: &mut MemoryStore) -> Option<bool> {
+    let done = are_committed(alloc, store, &FIRST)?;
+    let at_first = is_second_due(store, done)?;
+    let changed = are_committed(alloc, store, &NEXT)?;
     let least = match (done, changed) {
         (true, true) => Some(3),
         (true, false) => Some(2),
         (false, true) => Some(5),
         (false, false) => None,
     };
-    Some(at_first && least_due(&mut store, 1000)? == least)
+    Some(at_first && least_due(store, 1000)? == least)
+}
+
+fn is_least_found(alloc: Global) -> Option<bool> {
+    let mut store = MemoryStore::new(alloc);
+    is_least_found_in(alloc, &mut store)
 }
 
 #[test]

@@ -5,8 +5,10 @@ ghost use Rattle.numbers.specs.declared.minute.Minute.{Minute as MinuteSeen};
 use crate::port::{FIRST_PORT, Said, Texts, answer, asked, is_so, new_register, whole};
 use api::{Options, Ticks, serve};
 use numbers::Minute;
+use register::Register;
 use std::alloc::{AllocError, Global};
 use std::process::Abort;
+use store::MemoryStore;
 
 /// Minutes that are handed in one after the other, and then none.
 #[derive(Drop)]
@@ -77,27 +79,41 @@ fn ticks() -> Option<[Option<Minute>; 10]> {
 }
 
 // The texts are answered so while these minutes are handed in.
-fn are_answered<T: Abort + AllocGlobal>(rt: &T, ticks: &[Option<Minute>], texts: &Texts) {
+fn hears_beside<T: Abort + AllocGlobal>(
+    rt: &T,
+    register: &mut Register<MemoryStore>,
+    ticks: &[Option<Minute>],
+    texts: &Texts,
+) {
     let mut bytes = Vec::new(rt.alloc());
-    let served = match new_register(rt.alloc()) {
-        Some(mut register) => serve(
-            rt.alloc(),
-            &mut register,
-            &mut Told { ticks },
-            &Options { clock_route: false },
-            &mut texts.asked.as_bytes(),
-            &mut bytes,
-        ),
-        None => whole(0),
-    };
+    let options = Options { clock_route: false };
+    let mut told = Told { ticks };
+    let mut reader = texts.asked.as_bytes();
+    let served = serve(
+        rt.alloc(),
+        register,
+        &mut told,
+        &options,
+        &mut reader,
+        &mut bytes,
+    );
     is_so(rt, &bytes, texts.answered.as_str(), served, whole(11));
+}
+
+fn are_answered<T: Abort + AllocGlobal>(
+    rt: &T,
+    ticks: &[Option<Minute>],
+    texts: &Texts,
+) -> Option<()> {
+    let mut register = new_register(rt.alloc())?;
+    hears_beside(rt, &mut register, ticks, texts);
+    Some(())
 }
 
 fn is_moved<T: Abort + AllocGlobal>(rt: &T) -> Option<()> {
     let mut texts = Texts::new(rt.alloc());
     add_all(rt.alloc(), &mut texts).ok()?;
-    are_answered(rt, &ticks()?, &texts);
-    Some(())
+    are_answered(rt, &ticks()?, &texts)
 }
 
 // A minute ends the first window, one that has passed is dropped, none changes nothing, and one

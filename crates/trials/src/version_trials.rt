@@ -18,7 +18,7 @@ const WINDOWS: Windows = Windows {
 };
 
 fn create(creator: Creator) -> Option<Create> {
-    create_of("2025331234", 5000, creator)
+    create_of("2025331234", Minute::new(5000)?, creator)
 }
 
 // What is known of the number: BBBB serves it, and this version of it is open.
@@ -62,10 +62,13 @@ static PHASES: [(u64, Phase); 3] = [
 ];
 
 fn has_phases(version: &Version) -> bool {
-    PHASES.iter().all(|(number, phase)| match Minute::new(*number) {
-        Some(minute) => version.phase(minute, &WINDOWS) == Some(*phase),
-        None => false,
-    })
+    for (number, phase) in &PHASES {
+        let minute = Minute::new(*number).unwrap_or(Minute::ZERO);
+        if version.phase(minute, &WINDOWS) != Some(*phase) {
+            return false;
+        }
+    }
+    true
 }
 
 fn deadline_of(version: &Version) -> Option<u64> {
@@ -78,11 +81,14 @@ fn is_offered(version: &Version) -> bool {
     stands && version.status == Status::Pending && deadline_of(version) == Some(1680)
 }
 
+fn is_first() -> Option<bool> {
+    let version = first()?;
+    Some(is_offered(&version) && has_phases(&version))
+}
+
 #[test]
 fn a_first_create_waits(rt: HostRuntime) {
-    let version = first();
-    assert!(rt; version.is_some_and(|version| is_offered(&version)));
-    assert!(rt; version.is_some_and(|version| has_phases(&version)));
+    assert!(rt; is_first() == Some(true));
 }
 
 // Whether a version with both creates is routed, has no phase, and is over at 48200.
@@ -90,12 +96,6 @@ fn is_agreed(version: &Version) -> Option<bool> {
     let phase = version.phase(Minute::new(1140)?, &WINDOWS);
     let is_routed = version.routing == Some(routing()?);
     Some(is_routed && phase.is_none() && deadline_of(version) == Some(48_200))
-}
-
-#[test]
-fn a_second_create_ends_the_phases(rt: HostRuntime) {
-    let agreed = second().and_then(|version| is_agreed(&version));
-    assert_eq!(rt; agreed, Some(true));
 }
 
 // The version as it is activated in a minute, or why it is not.
@@ -117,13 +117,6 @@ fn is_completed(both: &Version) -> Option<bool> {
     let minute = Minute::new(5003)?;
     let active = sent.completed(minute);
     Some(active == sent.entering(Status::Active, minute) && active.deadline(&WINDOWS).is_none())
-}
-
-#[test]
-fn an_activation_is_completed(rt: HostRuntime) {
-    let both = second();
-    assert_eq!(rt; both.and_then(|both| is_sent_when_due(&both)), Some(true));
-    assert_eq!(rt; both.and_then(|both| is_completed(&both)), Some(true));
 }
 
 // A status, whether a broadcast was acknowledged, and the status after its window.
@@ -174,8 +167,18 @@ fn are_ended(both: &Version) -> Option<bool> {
     Some(planned.fired(end, false) == both.sending(Action::Delete, end))
 }
 
+// What a second create, an activation and the end of a window make of it.
+fn goes_on() -> Option<[bool; 4]> {
+    let both = second()?;
+    Some([
+        is_agreed(&both)?,
+        is_sent_when_due(&both)?,
+        is_completed(&both)?,
+        are_ended(&both)?,
+    ])
+}
+
 #[test]
-fn minutes_end_what_waits(rt: HostRuntime) {
-    let found = second().and_then(|both| are_ended(&both));
-    assert_eq!(rt; found, Some(true));
+fn a_second_create_goes_on(rt: HostRuntime) {
+    assert_eq!(rt; goes_on(), Some([true; 4]));
 }

@@ -1,6 +1,6 @@
 //! Files of windows that are read, and files that are refused.
 use std::alloc::Global;
-use windows::{WindowFault, Windows, fault_is_the_least};
+use windows::{WindowFault, Windows};
 
 const EIGHT: &str =
     "initial_concurrence = 1\nfinal_concurrence = 2\nconflict_restriction = 3\nconflict_resolution = 4\nconflict_expiration = 5\ncancellation_initial = 6\ncancellation_final = 7\npending_retention = 8\n";
@@ -27,11 +27,15 @@ fn minutes_of(windows: &Windows) -> [u32; 9] {
     ]
 }
 
+fn all_minutes(alloc: Global) -> Result<[u32; 9], WindowFault> {
+    let windows = read_with(alloc, "broadcast = 525600")?;
+    Ok(minutes_of(&windows))
+}
+
 #[test]
 fn each_key_is_read(rt: HostRuntime) {
-    let found = read_with(rt.alloc(), "broadcast = 525600").map(|windows| minutes_of(&windows));
-    assert_eq!(rt; found, Ok([1, 2, 3, 4, 5, 6, 7, 8, 525_600]));
-    fault_is_the_least();
+    let minutes = [1, 2, 3, 4, 5, 6, 7, 8, 525_600];
+    assert_eq!(rt; all_minutes(rt.alloc()), Ok(minutes));
 }
 
 // An end of the file, and the name of its fault.
@@ -59,9 +63,17 @@ fn reading(alloc: Global, end: &str) -> &'static str {
     }
 }
 
+// The first of the ends that is read otherwise.
+fn misread(alloc: Global) -> Option<&'static str> {
+    for (end, wanted) in &ENDS {
+        if reading(alloc, end) != *wanted {
+            return Some(end);
+        }
+    }
+    None
+}
+
 #[test]
 fn the_least_fault_is_told(rt: HostRuntime) {
-    for (end, wanted) in &ENDS {
-        assert_eq!(rt; reading(rt.alloc(), end), *wanted, "{end}");
-    }
+    assert_eq!(rt; misread(rt.alloc()), None);
 }

@@ -1,0 +1,32 @@
+//! The functions that state a law return.
+use api::{
+    body_asks_once, cuts_of_the_input, message_steps_once, storage_tells_of_a_failure,
+    uris_need_no_escape,
+};
+use meaning::laws::{
+    law_of_answers, law_of_firings, law_of_routing, law_of_service, laws_of_minutes,
+};
+use numbers::subjects_in_order_of_texts;
+use register::law_of_new_stores;
+use telnp::{answers_are_in_order, faults_are_in_order, tel_uris_are_read};
+use windows::fault_is_the_least;
+
+#[test]
+fn laws_return(_rt: HostRuntime) {
+    laws_of_minutes();
+    law_of_firings();
+    law_of_service();
+    law_of_routing();
+    law_of_answers();
+    subjects_in_order_of_texts();
+    tel_uris_are_read();
+    faults_are_in_order();
+    answers_are_in_order();
+    fault_is_the_least();
+    law_of_new_stores();
+    cuts_of_the_input();
+    body_asks_once();
+    message_steps_once();
+    storage_tells_of_a_failure();
+    uris_need_no_escape();
+}
