@@ -11,14 +11,16 @@ use Rattle.numbers.specs.declared.block_id.BlockId.{BlockId}
 use Rattle.numbers.specs.declared.code_id.CodeId.{CodeId}
 use Rattle.numbers.specs.declared.lrn.Lrn.{Lrn}
 use Rattle.numbers.specs.declared.spid.Spid.{Spid}
-use Rattle.meaning.specs.Content.{Content}
+use Rattle.numbers.specs.Subjects.{Subject}
+use Rattle.meaning.specs.Content.{Content, wait_cmp}
 use Rattle.delivery.specs.declared.broadcast.Broadcast.{Broadcast}
 use Rattle.settle.specs.declared.rows.BlockRow.{BlockRow}
 use Rattle.settle.specs.declared.rows.BroadcastKey.{BroadcastKey}
+use Rattle.settle.specs.declared.rows.ClockRow.{ClockRow}
 use Rattle.store.specs.Maps.{map_of, set, IsSame, IsSet}
 use Rattle.store.specs.Places.{Place, IsPutAt, carriers, lrns, codes, blocks, broadcasts}
 use Rattle.store.specs.Tables.{content_of, KeepIndexes, IsKept, IsSpare, AddNoSpare}
-use Rattle.store.specs.Tables.IndexKey.{Held, Opened, Due, About}
+use Rattle.store.specs.Tables.IndexKey.{Held, Opened, Due}
 use Rattle.store.specs.declared.tables.Tables.{Tables}
 use Rattle.store.proofs.Maps.{same_map_of, set_map_of, still_there, back}
 use Rattle.store.proofs.Orders.{broadcast_total, broadcast_exact}
@@ -41,7 +43,7 @@ pub record IsPlace {K X L Y : Type 0} {R : L → L → Ordering} (place : Place 
   pub spares : (t : Tables) (m : BTreeMap K X) → AddNoSpare t (place.with_table t m)
 
 keeps-then : (a b c : Tables) → KeepIndexes a b → KeepIndexes b c → KeepIndexes a c
-keeps-then a b c p q = (λ k had. q.0 k (p.0 k had), λ k had. q.1 k (p.1 k had), λ k had. q.2 k (p.2 k had), λ k had. q.3 k (p.3 k had))
+keeps-then a b c p q = (λ k had. q.0 k (p.0 k had), λ k had. q.1 k (p.1 k had), λ k had. q.2 k (p.2 k had))
 
 module _ {K X L Y : Type 0} {R : L → L → Ordering} (place : Place K X L Y R) (is : IsPlace place) where
   abbrev shown : BTreeMap K X → FinMap R Y
@@ -85,12 +87,22 @@ module _ {K X L Y : Type 0} {R : L → L → Ordering} (place : Place K X L Y R)
 
 -- ---- each of the tables
 
+-- other rows in tables that no index goes with make no key spare
 beside_indexes : (t : Tables) (a : BTreeMap Spid (Unit {0})) (b : BTreeMap Lrn Spid) (c : BTreeMap CodeId Spid) (d : BTreeMap BlockId BlockRow) (e : BTreeMap BroadcastKey Broadcast) →
     AddNoSpare t (record t { carriers = a; lrns = b; codes = c; blocks = d; broadcasts = e })
 beside_indexes t a b c d e (Held k) spare = spare
 beside_indexes t a b c d e (Opened k) spare = spare
 beside_indexes t a b c d e (Due k) spare = spare
-beside_indexes t a b c d e (About k) spare = spare
+
+-- nor do another clock, and other downloads
+pub beside_taken : (t : Tables) (clock : Option ClockRow) (e : BTreeMap BroadcastKey Broadcast) (w : FinMap wait_cmp Subject) → AddNoSpare t (record t { clock = clock; broadcasts = e; waits = w })
+beside_taken t clock e w (Held k) spare = spare
+beside_taken t clock e w (Opened k) spare = spare
+beside_taken t clock e w (Due k) spare = spare
+
+-- a download that was put
+pub wait-unindexed : (start mid now : Tables) (w : FinMap wait_cmp Subject) → mid ≡ record start { waits = w } → AddNoSpare mid now → AddNoSpare start now
+wait-unindexed start mid now w put later k spare = beside_taken start start.clock start.broadcasts w k (subst (λ t. IsSpare t k) put (later k spare))
 
 pub carriers-is : IsPlace carriers
 carriers-is = record {

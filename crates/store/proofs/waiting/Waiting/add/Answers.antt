@@ -1,0 +1,21 @@
+use Rattle.std.proofs.Common.{rules, ◌≡◌, Bool, true, false, ap, sym, ◌∙◌, ◌++◌, ◌∷◌, [], subst, refl, map}
+use Rattle.std.specs.Prelude.{◌==◌, not}
+use Rattle.numbers.specs.Views.{subject_of, key_of}
+use Rattle.numbers.proofs.SubjectKeys.{subject_key-exact}
+use Rattle.settle.specs.Views.{spid_of}
+use Rattle.store.specs.WaitRows.{IsAdded}
+use Rattle.store.proofs.Found.{equal_number}
+use Rattle.store.proofs.OneRow.{added}
+use Rattle.store.proofs.waiting.Waiting.add.Goals as goal
+
+untrue : (b : Bool) → not b ≡ false → b ≡ true
+untrue true e = refl
+untrue false e = let no : true ≡ false = e in cc
+
+pub returns-in_ok-push-clause-added : goal.returns-in_ok-push-clause-added
+returns-in_ok-push-clause-added c =
+    let keys : (key_of c.args.self.now.subject == key_of c.args.subject) ≡ true = untrue _ (sym c.ne.ensures ∙ c.if-ne.false) in
+    let same : subject_of c.args.self.now.subject ≡ subject_of c.args.subject = subject_key-exact (subject_of c.args.self.now.subject) (subject_of c.args.subject) (equal_number (key_of c.args.self.now.subject) (key_of c.args.subject) keys) in
+    subst (λ ks. IsAdded c.args.carrier.number (subject_of c.args.subject) (subject_of c.args.self.now.subject, map spid_of c.args.self.now.carriers.items) (subject_of c.args.self.now.subject, map spid_of ks))
+    (sym c.in_ok-push.ensures.items)
+    (added (subject_of c.args.subject) c.args.carrier.number c.args.self.now.carriers.items c.args.carrier (subject_of c.args.self.now.subject) refl same)

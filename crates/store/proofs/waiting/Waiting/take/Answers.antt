@@ -1,0 +1,6 @@
+use Rattle.numbers.specs.Views.{subject_of}
+use Rattle.store.proofs.OneRow.{without}
+use Rattle.store.proofs.waiting.Waiting.take.Goals as goal
+
+pub returns : goal.returns
+returns c = without c.args.carrier.number c.args.self.now.carriers.items c.take_out.new.carriers.items (subject_of c.args.self.now.subject) c.take_out.ensures

@@ -1,0 +1,138 @@
+-- Who waits for each broadcast, as one row a broadcast, and the downloads that this says.
+use Rattle.std.specs.Prelude.{◌≡◌, ℕ, Bool, true, List, [], ◌∷◌, ◌++◌, map, Option, Some, None, ◌==◌, cond, is_some, option_map, ◌⊎◌, refl}
+use Rattle.std.specs.List.{list_any}
+use Rattle.std.specs.declared.cmp.Ordering.{Ordering}
+use Rattle.std.specs.Ordering.{nat_cmp, ordering_then}
+use Rattle.std.specs.BTreeMap.{BTreeMap}
+use Rattle.std.specs.FinMap.{FinMap, from_entries, entries, get, code}
+use mathlib.Core.Logic.{inl, inr}
+use Rattle.std.specs.Coded.{Coded, code_by, coded×, coded⊎, coded_ℕ}
+use Rattle.numbers.specs.Subjects.{Subject, Number, Block, subject_key}
+use Rattle.numbers.specs.Views.{subject_of}
+use Rattle.meaning.specs.Content.{WaitKey, wait_cmp}
+use Rattle.delivery.specs.declared.download.DownloadKey.{DownloadKey as DownloadKeyCode}
+use Rattle.settle.specs.Views.{spid_of}
+use Rattle.store.specs.Maps.{map_of}
+use Rattle.store.specs.declared.keys.SubjectDownload.{SubjectDownload as SubjectDownloadCode}
+use Rattle.store.specs.declared.waiting.Waiting.{Waiting as WaitingCode}
+
+-- a download without its carrier
+pub record Download : Type 0 where
+  pub minute : ℕ
+  pub id : ℕ
+  pub attempt : ℕ
+
+abbrev pub download_cmp : Download → Download → Ordering
+download_cmp a b = ordering_then (nat_cmp a.minute b.minute) (ordering_then (nat_cmp a.id b.id) (nat_cmp a.attempt b.attempt))
+
+abbrev pub download_of : WaitKey → Download
+download_of k = record { minute = k.minute; id = k.id; attempt = k.attempt }
+
+abbrev pub wait_for : Download → (carrier : ℕ) → WaitKey
+wait_for d carrier = record { carrier = carrier; minute = d.minute; id = d.id; attempt = d.attempt }
+
+-- a broadcast's subject, and the carriers for which it waits
+abbrev pub Waiting : Type 0
+Waiting = Subject × List ℕ
+
+-- the downloads that a broadcast's row says
+abbrev pub waits_of_row : Download → Waiting → List (WaitKey × Subject)
+waits_of_row d w = map {B = WaitKey × Subject} (λ c. (wait_for d c, w.0)) w.1
+
+unfoldable pub waits_of_rows : List (Download × Waiting) → List (WaitKey × Subject)
+waits_of_rows [] = []
+waits_of_rows (e ∷ es) = waits_of_row e.0 e.1 ++ waits_of_rows es
+
+unfoldable pub waits_of : FinMap download_cmp Waiting → FinMap wait_cmp Subject
+waits_of m = from_entries (waits_of_rows (entries m))
+
+-- the subject of the broadcast, if it waits for the carrier
+abbrev pub awaited : Option Waiting → (carrier : ℕ) → Option Subject
+awaited None carrier = None
+awaited (Some w) carrier = cond (list_any (λ k. carrier == k) w.1) (Some w.0) None
+
+-- ---- the rows of the code
+
+abbrev pub download_key_of : DownloadKeyCode → Download
+download_key_of k = record { minute = k.minute.number; id = k.id; attempt = k.attempt }
+
+abbrev pub waiting_of : WaitingCode → Waiting
+waiting_of w = (subject_of w.subject, map spid_of w.carriers.items)
+
+abbrev pub rows_of : BTreeMap DownloadKeyCode WaitingCode → FinMap download_cmp Waiting
+rows_of m = map_of download_key_of waiting_of m
+
+-- ---- the index by subjects
+
+-- a broadcast by its subject
+pub record SubjectDownload : Type 0 where
+  pub subject : Subject
+  pub minute : ℕ
+  pub id : ℕ
+  pub attempt : ℕ
+
+abbrev pub subject_download_cmp : SubjectDownload → SubjectDownload → Ordering
+subject_download_cmp a b =
+    ordering_then (nat_cmp (subject_key a.subject) (subject_key b.subject)) (ordering_then (nat_cmp a.minute b.minute) (ordering_then (nat_cmp a.id b.id) (nat_cmp a.attempt b.attempt)))
+
+abbrev pub subject_download_of : SubjectDownloadCode → SubjectDownload
+subject_download_of k = record { subject = subject_of k.subject; minute = k.minute.number; id = k.id; attempt = k.attempt }
+
+abbrev pub about_of : BTreeMap SubjectDownloadCode (Unit {0}) → FinMap subject_download_cmp (Unit {0})
+about_of m = map_of subject_download_of (λ u. u) m
+
+abbrev pub key_about : Subject → Download → SubjectDownload
+key_about s d = record { subject = s; minute = d.minute; id = d.id; attempt = d.attempt }
+
+abbrev pub download_about : SubjectDownload → Download
+download_about k = record { minute = k.minute; id = k.id; attempt = k.attempt }
+
+-- each broadcast's row stands in the index under its subject
+abbrev pub AreAbout : FinMap download_cmp Waiting → FinMap subject_download_cmp (Unit {0}) → Type 0
+AreAbout rows about = (d : Download) (w : Waiting) → get rows d ≡ Some w → is_some (get about (key_about w.0 d)) ≡ true
+
+-- and whatever stands in the index a row needs
+abbrev pub AboutIsNeeded : FinMap download_cmp Waiting → FinMap subject_download_cmp (Unit {0}) → Type 0
+AboutIsNeeded rows about = (k : SubjectDownload) → is_some (get about k) ≡ true → option_map (λ (w : Waiting). w.0) (get rows (download_about k)) ≡ Some k.subject
+
+-- ---- one row changed
+
+-- the row of the first carrier
+abbrev pub IsFirst : (carrier : ℕ) → Subject → Waiting → Type 0
+IsFirst carrier s w = (k : ℕ) → awaited (Some w) k ≡ cond (k == carrier) (Some s) None
+
+-- a carrier is among those of the row, and all others are as they were
+pub record IsAdded (carrier : ℕ) (s : Subject) (old new : Waiting) : Type 0 where
+  pub subject : old.0 ≡ s
+  pub same : new.0 ≡ s
+  pub each : (k : ℕ) → awaited (Some new) k ≡ cond (k == carrier) (Some s) (awaited (Some old) k)
+
+-- the carrier is not among those of the row, and all others are as they were
+pub record IsWithout (carrier : ℕ) (old new : Waiting) : Type 0 where
+  pub same : new.0 ≡ old.0
+  pub each : (k : ℕ) → awaited (Some new) k ≡ cond (k == carrier) None (awaited (Some old) k)
+
+-- ---- codes
+
+abbrev pub coded_wait_key : Coded WaitKey
+coded_wait_key = code_by (ℕ × (ℕ × (ℕ × ℕ))) (coded× coded_ℕ (coded× coded_ℕ (coded× coded_ℕ coded_ℕ)))
+    (λ k. (k.carrier, (k.minute, (k.id, k.attempt)))) (λ t. record { carrier = t.0; minute = t.1.0; id = t.1.1.0; attempt = t.1.1.1 }) (λ k. refl)
+
+pub subject_cases : Subject → ℕ ⊎ ℕ
+subject_cases (Number n) = inl n
+subject_cases (Block n) = inr n
+
+pub subject_from : ℕ ⊎ ℕ → Subject
+subject_from (inl n) = Number n
+subject_from (inr n) = Block n
+
+pub from-cases : (s : Subject) → subject_from (subject_cases s) ≡ s
+unfolding subject_cases subject_from
+from-cases (Number n) = refl
+from-cases (Block n) = refl
+
+abbrev pub coded_subject : Coded Subject
+coded_subject = code_by (ℕ ⊎ ℕ) (coded⊎ coded_ℕ coded_ℕ) subject_cases subject_from from-cases
+
+abbrev pub coded_waits : Coded (FinMap wait_cmp Subject)
+coded_waits = code coded_wait_key coded_subject

@@ -1,0 +1,74 @@
+//! For whom one broadcast waits.
+ghost use Rattle.std.specs.Prelude.{◌≡◌, ◌==◌, Some, IfOk, OnErr, not, filter, option_map};
+ghost use Rattle.std.specs.List.{list_any};
+ghost use Rattle.numbers.specs.Views.{subject_of};
+ghost use Rattle.numbers.specs.declared.spid.Spid.{Spid};
+ghost use Rattle.store.specs.WaitRows.{waiting_of, awaited, IsFirst, IsAdded, IsWithout};
+
+use numbers::{Spid, Subject};
+use std::alloc::{AllocError, Global};
+
+/// The subject of a broadcast, and the carriers for which it waits.
+#[derive(Drop)]
+pub struct Waiting {
+    pub subject: Subject,
+    pub carriers: Vec<Spid>,
+}
+
+fn is_among(carrier: Spid, carriers: &[Spid]) -> bool
+    ensures { result ≡ list_any (λ (k : Spid). carrier.number == k.number) carriers.now }
+{
+    carriers.iter().any(|each| carrier.number == each.number)
+}
+
+fn take_out(carrier: Spid, carriers: &mut Vec<Spid>)
+    ensures { carriers.new.items ≡ filter (λ (k : Spid). not (carrier.number == k.number)) carriers.old.items }
+{
+    carriers.retain(|each| carrier.number != each.number);
+}
+
+impl Waiting {
+    /// A broadcast that waits for one carrier.
+    pub fn of(alloc: Global, carrier: Spid, subject: Subject) -> Result<Waiting, AllocError>
+        ensures { IfOk result (λ row. IsFirst carrier.number (subject_of subject) (waiting_of row)) }
+    {
+        let mut carriers = Vec::new(alloc);
+        carriers.push(carrier)?;
+        Ok(Waiting { subject, carriers })
+    }
+
+    /// The subject, if the broadcast waits for the carrier.
+    pub fn subject_for(&self, carrier: Spid) -> Option<Subject>
+        ensures { option_map subject_of result ≡ awaited (Some (waiting_of self.now)) carrier.number }
+    {
+        if is_among(carrier, &self.carriers) {
+            Some(self.subject)
+        } else {
+            None
+        }
+    }
+
+    /// Adds a carrier, and hands back the subject if it was there. A broadcast has one subject, so
+    /// another one is refused.
+    pub fn add(&mut self, carrier: Spid, subject: Subject) -> Result<Option<Subject>, AllocError>
+        ensures before { IfOk result (λ before. option_map subject_of before ≡ awaited (Some (waiting_of self.old)) carrier.number) }
+        ensures added { IfOk result (λ before. IsAdded carrier.number (subject_of subject) (waiting_of self.old) (waiting_of self.new)) }
+        ensures refused { OnErr result (waiting_of self.new ≡ waiting_of self.old) }
+    {
+        if self.subject != subject {
+            return Err(AllocError);
+        }
+        let before = self.subject_for(carrier);
+        if before.is_none() {
+            self.carriers.push(carrier)?;
+        }
+        Ok(before)
+    }
+
+    /// Takes a carrier away.
+    pub fn take(&mut self, carrier: Spid)
+        ensures { IsWithout carrier.number (waiting_of self.old) (waiting_of self.new) }
+    {
+        take_out(carrier, &mut self.carriers);
+    }
+}

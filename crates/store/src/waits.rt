@@ -1,0 +1,168 @@
+//! The downloads that wait.
+ghost use Rattle.std.specs.Prelude.{◌≡◌, Some, None, IfSome, IfOk, OnOk, OnErr, option_map};
+ghost use Rattle.std.specs.FinMap.{get, empty};
+ghost use Rattle.numbers.specs.Views.{subject_of};
+ghost use Rattle.meaning.specs.Content.{empty_content};
+ghost use Rattle.settle.specs.Reads.{AreWaitsAbout};
+ghost use Rattle.settle.specs.Views.{spid_of, wait_key_of};
+ghost use Rattle.store.specs.Maps.{set};
+ghost use Rattle.store.specs.WaitRows.{download_key_of, download_of, subject_download_of, key_about};
+
+use crate::keys::SubjectDownload;
+use crate::waiting::Waiting;
+use delivery::DownloadKey;
+use numbers::{Minute, Spid, Subject};
+use settle::WaitKey;
+use std::alloc::{AllocError, Global};
+use std::collections::BTreeMap;
+use std::marker::Model;
+
+/// The downloads that wait: for each broadcast one row, its subject and the carriers for which it waits,
+/// and an index of the broadcasts by their subjects.
+///
+/// A broadcast has one subject. Downloads of one broadcast under two subjects, which no register makes,
+/// have no place here and are refused like those for which there is no memory.
+#[derive(Drop)]
+pub struct Waits {
+    alloc: Global,
+    rows: BTreeMap<DownloadKey, Waiting>,
+    about: BTreeMap<SubjectDownload, ()>,
+}
+
+impl Model for Waits {
+    ghost use Rattle.std.specs.FinMap.{FinMap};
+    ghost use Rattle.numbers.specs.Subjects.{Subject};
+    ghost use Rattle.meaning.specs.Content.{wait_cmp};
+    ghost use Rattle.store.specs.WaitRows.{AreAbout, AboutIsNeeded, waits_of, rows_of, about_of, coded_waits};
+
+    ghost Value = { FinMap wait_cmp Subject };
+
+    ghost coded = { coded_waits };
+
+    ghost view = { λ w. waits_of (rows_of w.rows) };
+
+    ghost invariant = { λ w. AreAbout (rows_of w.rows) (about_of w.about) × AboutIsNeeded (rows_of w.rows) (about_of w.about) };
+}
+
+/// The broadcast of a download.
+pub fn broadcast_of(key: WaitKey) -> DownloadKey
+    ensures { download_key_of result ≡ download_of (wait_key_of key) }
+{
+    DownloadKey {
+        minute: key.minute,
+        id: key.id,
+        attempt: key.attempt,
+    }
+}
+
+// The key under which a broadcast is found by its subject.
+fn about(subject: Subject, download: DownloadKey) -> SubjectDownload
+    ensures { subject_download_of result ≡ key_about (subject_of subject) (download_key_of download) }
+{
+    SubjectDownload {
+        subject,
+        minute: download.minute,
+        id: download.id,
+        attempt: download.attempt,
+    }
+}
+
+impl Waits {
+    /// No download.
+    pub fn new(alloc: Global) -> Waits
+        ensures { result ≡ empty }
+    {
+        Waits {
+            alloc,
+            rows: BTreeMap::new(alloc),
+            about: BTreeMap::new(alloc),
+        }
+    }
+
+    /// The subject of a download.
+    pub fn get(&self, key: WaitKey) -> Option<Subject>
+        ensures { option_map subject_of result ≡ get self.now (wait_key_of key) }
+    {
+        self.rows.get(&broadcast_of(key))?.subject_for(key.carrier)
+    }
+
+    /// Puts a download, and hands the subject back if it was there. Where it is refused nothing is changed.
+    pub fn put(&mut self, key: WaitKey, subject: Subject) -> Result<Option<Subject>, AllocError>
+        ensures before { IfOk result (λ before. option_map subject_of before ≡ get self.old (wait_key_of key)) }
+        ensures same { IfOk result (λ before. IfSome before (λ was. subject_of was ≡ subject_of subject)) }
+        ensures ok { OnOk result (self.new ≡ set self.old (wait_key_of key) (Some (subject_of subject))) }
+        ensures err { OnErr result (self.new ≡ self.old) }
+    {
+        let broadcast = broadcast_of(key);
+        if let Some(row) = self.rows.get_mut(&broadcast) {
+            return row.add(key.carrier, subject);
+        }
+        let row = Waiting::of(self.alloc, key.carrier, subject)?;
+        let _ = self.about.insert(about(subject, broadcast), ())?;
+        match self.rows.insert(broadcast, row) {
+            Ok(_) => Ok(None),
+            Err(_) => {
+                let _ = self.about.remove(&about(subject, broadcast));
+                Err(AllocError)
+            }
+        }
+    }
+
+    /// Takes a download away, and hands its subject back.
+    pub fn take(&mut self, key: WaitKey) -> Option<Subject>
+        ensures before { option_map subject_of result ≡ get self.old (wait_key_of key) }
+        ensures taken { self.new ≡ set self.old (wait_key_of key) None }
+    {
+        let broadcast = broadcast_of(key);
+        let Some(row) = self.rows.get_mut(&broadcast) else {
+            return None;
+        };
+        let before = row.subject_for(key.carrier);
+        row.take(key.carrier);
+        if row.carriers.is_empty() {
+            let subject = row.subject;
+            let _ = self.rows.remove(&broadcast);
+            let _ = self.about.remove(&about(subject, broadcast));
+        }
+        before
+    }
+
+    /// The downloads of the subject that wait for the carrier, earliest first.
+    pub fn about(
+        &self,
+        alloc: Global,
+        carrier: Spid,
+        subject: Subject,
+    ) -> Result<Vec<DownloadKey>, AllocError>
+        ensures { IfOk result (λ downloads. AreWaitsAbout (record empty_content { waits = self.now }) (spid_of carrier) (subject_of subject) downloads.items) }
+    {
+        let first = SubjectDownload {
+            subject,
+            minute: Minute::ZERO,
+            id: 0,
+            attempt: 0,
+        };
+        let last = SubjectDownload {
+            subject,
+            minute: Minute {
+                number: Minute::LIMIT - 1,
+            },
+            id: u64::MAX,
+            attempt: u64::MAX,
+        };
+        let mut found = Vec::new(alloc);
+        for (key, _) in self.about.range(first..=last) {
+            let broadcast = DownloadKey {
+                minute: key.minute,
+                id: key.id,
+                attempt: key.attempt,
+            };
+            if let Some(row) = self.rows.get(&broadcast)
+                && row.subject_for(carrier) == Some(subject)
+            {
+                found.push(broadcast)?;
+            }
+        }
+        Ok(found)
+    }
+}
