@@ -44,7 +44,7 @@ find-row k d s (c ∷ cs) rest =
     go false true y = refl
     go false false y = refl
 
-tied : (r : Ordering) → is_eq r ≡ true → r ≡ Equal
+pub tied : (r : Ordering) → is_eq r ≡ true → r ≡ Equal
 tied Equal e = refl
 tied Less e = let no : false ≡ true = e in cc
 tied Greater e = let no : false ≡ true = e in cc

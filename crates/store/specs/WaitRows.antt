@@ -1,17 +1,21 @@
 -- Who waits for each broadcast, as one row a broadcast, and the downloads that this says.
-use Rattle.std.specs.Prelude.{◌≡◌, ℕ, Bool, true, List, [], ◌∷◌, ◌++◌, map, Option, Some, None, ◌==◌, cond, is_some, option_map, ◌⊎◌, refl}
+use Rattle.std.specs.Prelude.{◌≡◌, ℕ, Bool, true, List, [], ◌∷◌, ◌++◌, map, Option, Some, None, ◌==◌, cond, is_some, option_map, ◌⊎◌, ◌<◌, ◌&&◌, if◌then◌else◌, refl}
 use Rattle.std.specs.List.{list_any}
 use Rattle.std.specs.declared.cmp.Ordering.{Ordering}
-use Rattle.std.specs.Ordering.{nat_cmp, ordering_then}
+use Rattle.std.specs.Ordering.{nat_cmp, ordering_then, on}
+use Rattle.std.specs.BTreeMap as tree
 use Rattle.std.specs.BTreeMap.{BTreeMap}
 use Rattle.std.specs.FinMap.{FinMap, from_entries, entries, get, code}
 use mathlib.Core.Logic.{inl, inr}
 use Rattle.std.specs.Coded.{Coded, code_by, coded×, coded⊎, coded_ℕ}
 use Rattle.numbers.specs.Subjects.{Subject, Number, Block, subject_key}
-use Rattle.numbers.specs.Views.{subject_of}
+use Rattle.numbers.specs.Views.{subject_of, key_of}
+use Rattle.numbers.specs.declared.ported.Subject.{Subject as SubjectCode}
+use Rattle.numbers.specs.declared.spid.Spid.{Spid}
 use Rattle.meaning.specs.Content.{WaitKey, wait_cmp}
 use Rattle.delivery.specs.declared.download.DownloadKey.{DownloadKey as DownloadKeyCode}
 use Rattle.settle.specs.Views.{spid_of}
+use Rattle.store.specs.Lists.{is_subject}
 use Rattle.store.specs.Maps.{map_of}
 use Rattle.store.specs.declared.keys.SubjectDownload.{SubjectDownload as SubjectDownloadCode}
 use Rattle.store.specs.declared.waiting.Waiting.{Waiting as WaitingCode}
@@ -87,9 +91,13 @@ key_about s d = record { subject = s; minute = d.minute; id = d.id; attempt = d.
 abbrev pub download_about : SubjectDownload → Download
 download_about k = record { minute = k.minute; id = k.id; attempt = k.attempt }
 
+-- the numbers of a key of the code
+abbrev pub IsDownload : Download → Type 0
+IsDownload d = (d.minute < 1099511627776) × (d.id < 18446744073709551616) × (d.attempt < 18446744073709551616)
+
 -- each broadcast's row stands in the index under its subject
 abbrev pub AreAbout : FinMap download_cmp Waiting → FinMap subject_download_cmp (Unit {0}) → Type 0
-AreAbout rows about = (d : Download) (w : Waiting) → get rows d ≡ Some w → is_some (get about (key_about w.0 d)) ≡ true
+AreAbout rows about = (d : Download) (w : Waiting) → get rows d ≡ Some w → IsDownload d × (is_some (get about (key_about w.0 d)) ≡ true)
 
 -- and whatever stands in the index a row needs
 abbrev pub AboutIsNeeded : FinMap download_cmp Waiting → FinMap subject_download_cmp (Unit {0}) → Type 0
@@ -98,8 +106,9 @@ AboutIsNeeded rows about = (k : SubjectDownload) → is_some (get about k) ≡ t
 -- ---- one row changed
 
 -- the row of the first carrier
-abbrev pub IsFirst : (carrier : ℕ) → Subject → Waiting → Type 0
-IsFirst carrier s w = (k : ℕ) → awaited (Some w) k ≡ cond (k == carrier) (Some s) None
+pub record IsFirst (carrier : ℕ) (s : Subject) (w : Waiting) : Type 0 where
+  pub same : w.0 ≡ s
+  pub each : (k : ℕ) → awaited (Some w) k ≡ cond (k == carrier) (Some s) None
 
 -- a carrier is among those of the row, and all others are as they were
 pub record IsAdded (carrier : ℕ) (s : Subject) (old new : Waiting) : Type 0 where
@@ -136,3 +145,16 @@ coded_subject = code_by (ℕ ⊎ ℕ) (coded⊎ coded_ℕ coded_ℕ) subject_cas
 
 abbrev pub coded_waits : Coded (FinMap wait_cmp Subject)
 coded_waits = code coded_wait_key coded_subject
+
+-- ---- the index gone over
+
+abbrev pub download_in : SubjectDownloadCode → DownloadKeyCode
+download_in k = record { minute = k.minute; id = k.id; attempt = k.attempt }
+
+-- the broadcast waits for the carrier, under this subject
+abbrev pub is_for : BTreeMap DownloadKeyCode WaitingCode → DownloadKeyCode → Spid → SubjectCode → Bool
+is_for rows b carrier subject = is_subject (subject_of subject) (awaited (option_map waiting_of (tree.get (on download_key_of download_cmp) rows b)) carrier.number)
+
+-- a broadcast of the index, if it is about the subject and waits for the carrier
+abbrev pub listed_about : BTreeMap DownloadKeyCode WaitingCode → Spid → SubjectCode → SubjectDownloadCode → Option DownloadKeyCode
+listed_about rows carrier subject k = if (key_of k.subject == key_of subject) && is_for rows (download_in k) carrier subject then Some (download_in k) else None

@@ -6,7 +6,7 @@ ghost use Rattle.meaning.specs.Content.{empty_content};
 ghost use Rattle.settle.specs.Reads.{AreWaitsAbout};
 ghost use Rattle.settle.specs.Views.{spid_of, wait_key_of};
 ghost use Rattle.store.specs.Maps.{set};
-ghost use Rattle.store.specs.WaitRows.{download_key_of, download_of, subject_download_of, key_about};
+ghost use Rattle.store.specs.WaitRows.{download_key_of, download_of, subject_download_of, key_about, is_for};
 
 use crate::keys::SubjectDownload;
 use crate::waiting::Waiting;
@@ -64,6 +64,21 @@ fn about(subject: Subject, download: DownloadKey) -> SubjectDownload
         minute: download.minute,
         id: download.id,
         attempt: download.attempt,
+    }
+}
+
+// Whether the broadcast waits for the carrier, under this subject.
+fn is_for(
+    rows: &BTreeMap<DownloadKey, Waiting>,
+    broadcast: DownloadKey,
+    carrier: Spid,
+    subject: Subject,
+) -> bool
+    ensures { result ≡ is_for rows.now broadcast carrier subject }
+{
+    match rows.get(&broadcast) {
+        None => false,
+        Some(row) => row.subject_for(carrier) == Some(subject),
     }
 }
 
@@ -157,9 +172,7 @@ impl Waits {
                 id: key.id,
                 attempt: key.attempt,
             };
-            if let Some(row) = self.rows.get(&broadcast)
-                && row.subject_for(carrier) == Some(subject)
-            {
+            if key.subject == subject && is_for(&self.rows, broadcast, carrier, subject) {
                 found.push(broadcast)?;
             }
         }

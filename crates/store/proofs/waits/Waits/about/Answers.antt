@@ -1,0 +1,21 @@
+use Rattle.std.proofs.Common.{rules, ◌≡◌, [], ap, sym, subst}
+use Rattle.std.specs.Ordering.{on}
+use Rattle.std.specs.BTreeMap.Range.{entries_between}
+use Rattle.std.specs.declared.ops.Bound.TheVariants.{Included}
+use Rattle.std.specs.FinMap.{FinMap}
+use Rattle.numbers.specs.Subjects.{Subject}
+use Rattle.numbers.specs.Views.{subject_of}
+use Rattle.meaning.specs.Content.{wait_cmp, empty_content}
+use Rattle.settle.specs.Reads.{AreWaitsAbout}
+use Rattle.settle.specs.Views.{spid_of}
+use Rattle.store.specs.WaitRows.{subject_download_of, subject_download_cmp}
+use Rattle.store.proofs.AboutListed.{about-are}
+use Rattle.store.proofs.waits.Waits.about.Goals as goal
+
+pub returns : goal.returns
+returns c =
+    let end : c.loop-key.key-iterator ≡ [] = search rules in
+    let part : c.into_iter-key-iterator.result ≡ entries_between (on subject_download_of subject_download_cmp) (Included c.new.result.start) (Included c.new.result.end) c.self.inside.about.entries = search rules in
+    subst (λ (m : FinMap wait_cmp Subject). AreWaitsAbout (record empty_content { waits = m }) (spid_of c.args.carrier) (subject_of c.args.subject) c.loop-key.found.items) c.self.view_is
+    (about-are c.self.inside.rows c.args.carrier c.args.subject c.self.inside.about c.new.result.start c.new.result.end c.loop-key.found.items c.loop-key.key-iterator c.into_iter-key-iterator.result
+    c.self.invariant.0 c.range-key-items.ensures.ordered (ap subject_download_of c.new.ensures.start) (ap subject_download_of c.new.ensures.end) part c.loop-key.invariant end)
