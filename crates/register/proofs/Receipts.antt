@@ -1,11 +1,9 @@
 -- What an acknowledgement owes at each of its ends, over what its code reads.
-use Rattle.std.proofs.Common.{◌≡◌, ℕ, Bool, true, false, ◌&&◌, List, [], ◌∷◌, ◌++◌, map, Option, Some, None, refl, ap, sym, ◌∙◌, subst}
+use Rattle.std.proofs.Common.{◌≡◌, ℕ, Bool, true, false, ◌&&◌, List, [], ◌∷◌, ◌++◌, Option, Some, None, refl, ap, sym, ◌∙◌, subst}
 use Rattle.std.specs.Prelude.{◌==◌, nat_lt, is_some, find, if◌then◌else◌, Result, Ok, Err, IfOk, IfErr, OnErr}
-use Rattle.std.specs.List.{list_all}
 use Rattle.std.specs.FinMap.{get}
 use Rattle.numbers.specs.Subjects.{Subject}
 use Rattle.numbers.specs.Views.{subject_of}
-use Rattle.numbers.specs.declared.spid.Spid.{Spid}
 use Rattle.meaning.specs.Views.{status_of}
 use Rattle.meaning.specs.declared.words.Outcome.TheVariants.{Open, SomeAcknowledged}
 use Rattle.meaning.specs.Windows.{Windows}
@@ -25,7 +23,7 @@ use Rattle.delivery.specs.Queues.{is_key, key_refusal}
 use Rattle.delivery.specs.Broadcasts.{answered, broadcast_row}
 use Rattle.settle.specs.declared.rows.NumberedRow.{NumberedRow}
 use Rattle.settle.specs.declared.rows.VersionRow.TheInside.{Inside}
-use Rattle.settle.specs.Views.{version_row_of, spid_of}
+use Rattle.settle.specs.Views.{version_row_of}
 use Rattle.settle.specs.Reads.{AreWaitsAbout}
 use Rattle.settle.specs.Changes.{IsChanged}
 use Rattle.settle.specs.Settling.{IsSettled}

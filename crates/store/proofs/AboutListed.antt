@@ -1,7 +1,6 @@
 -- The broadcasts about a subject that wait for a carrier, listed by the index.
 use Rattle.std.proofs.Common.{◌≡◌, ◌<◌, ℕ, Bool, true, false, cond, List, [], ◌++◌, Option, Some, None, refl, ap, sym, ◌∙◌, subst, arith}
-use Rattle.std.specs.Prelude.{◌==◌, ◌&&◌, not, option_map, is_some, All, if◌then◌else◌}
-use Rattle.std.specs.declared.cmp.Ordering.{Ordering}
+use Rattle.std.specs.Prelude.{◌==◌, ◌&&◌, not, option_map, is_some, if◌then◌else◌}
 use Rattle.std.specs.declared.cmp.Ordering.TheVariants.{Less, Equal}
 use Rattle.std.specs.declared.ops.Bound.TheVariants.{Included}
 use Rattle.std.specs.List.{AllByRecursion, filter_map, list_any}
@@ -19,16 +18,16 @@ use Rattle.numbers.specs.Views.{subject_of, key_of}
 use Rattle.numbers.specs.declared.ported.Subject.{Subject as SubjectCode}
 use Rattle.numbers.specs.declared.spid.Spid.{Spid}
 use Rattle.numbers.proofs.SubjectKeys.{subject_key-exact}
-use Rattle.meaning.specs.Content.{Content, WaitKey, empty_content}
+use Rattle.meaning.specs.Content.{Content, empty_content}
 use Rattle.delivery.specs.declared.download.DownloadKey.{DownloadKey}
 use Rattle.settle.specs.Views.{spid_of}
 use Rattle.settle.specs.Reads.{AreWaitsAbout, IsWaiting, download_cmp as queue_cmp}
 use Rattle.store.specs.Lists.{is_subject}
-use Rattle.store.specs.WaitRows.{Download, download_of, download_key_of, download_cmp, Waiting, waiting_of, rows_of, about_of, waits_of, awaited, listed_about, is_for, download_in, IsDownload, SubjectDownload, subject_download_of, subject_download_cmp, key_about, AreAbout}
+use Rattle.store.specs.WaitRows.{Download, download_key_of, download_cmp, Waiting, waiting_of, rows_of, about_of, waits_of, awaited, listed_about, is_for, download_in, IsDownload, SubjectDownload, subject_download_of, subject_download_cmp, key_about, AreAbout}
 use Rattle.store.specs.declared.keys.SubjectDownload.{SubjectDownload as SubjectDownloadCode}
 use Rattle.store.specs.declared.waiting.Waiting.{Waiting as WaitingCode}
 use Rattle.store.proofs.Maps.{get-map_of, entry-of}
-use Rattle.store.proofs.Listed.{Among, contained, all-places, among-here, filter_map-filter, all-listed, listed-sorted, found-listed, equal_cmp}
+use Rattle.store.proofs.Listed.{Among, contained, all-places, filter_map-filter, all-listed, listed-sorted, found-listed, equal_cmp}
 use Rattle.store.proofs.Found.{same_number, equal_number, both}
 use Rattle.store.proofs.RowsFlat.{download_total, download_exact, get-waits_of, tied}
 use Rattle.store.proofs.RowsChanged.{subject_download_total, subject_download_exact}

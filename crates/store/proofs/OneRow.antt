@@ -1,12 +1,12 @@
 -- A broadcast's row, with a carrier more or less.
-use Rattle.std.proofs.Common.{◌≡◌, ℕ, Bool, true, false, cond, List, [], ◌∷◌, ◌++◌, map, Option, Some, None, refl, ap, sym, ◌∙◌, ◌||◌, arith}
-use Rattle.std.specs.Prelude.{◌==◌, not, filter, option_map}
+use Rattle.std.proofs.Common.{◌≡◌, ℕ, Bool, true, false, cond, List, [], ◌∷◌, ◌++◌, map, Some, None, refl, ap, sym, ◌∙◌, ◌||◌, arith}
+use Rattle.std.specs.Prelude.{◌==◌, not, filter}
 use Rattle.std.specs.List.{list_any}
 use Rattle.std.proofs.lemmas.Bool.Decides.{nat_tests}
 use Rattle.numbers.specs.Subjects.{Subject}
 use Rattle.numbers.specs.declared.spid.Spid.{Spid}
 use Rattle.settle.specs.Views.{spid_of}
-use Rattle.store.specs.WaitRows.{Waiting, awaited, IsAdded, IsWithout}
+use Rattle.store.specs.WaitRows.{IsAdded, IsWithout}
 
 pub any-seen : (c : ℕ) (ks : List Spid) → list_any (λ k. c == k) (map spid_of ks) ≡ list_any (λ (k : Spid). c == k.number) ks
 any-seen c [] = refl

@@ -1,8 +1,6 @@
 -- One broadcast's row changed: what the downloads are then, and that the index by subjects agrees.
 use Rattle.std.proofs.Common.{◌≡◌, ℕ, Bool, true, false, cond, Option, Some, None, refl, ap, sym, ◌∙◌, subst, ◌&&◌, arith}
 use Rattle.std.specs.Prelude.{◌==◌, is_some, option_map}
-use Rattle.std.specs.declared.cmp.Ordering.{Ordering}
-use Rattle.std.specs.declared.cmp.Ordering.TheVariants.{Less, Equal, Greater}
 use Rattle.std.specs.Ordering.{nat_cmp, ordering_then, is_eq, eq_by_cmp}
 use Rattle.std.specs.Cmp.{IsTotalOrder, nat_cmp_total, tied_itself}
 use Rattle.std.proofs.lemmas.Cmp.{then_total, on_total}
@@ -10,7 +8,7 @@ use Rattle.std.proofs.lemmas.Bool.Decides.{nat_tests}
 use Rattle.std.specs.FinMap.{FinMap, get, same_map, IsAntisymmetric, nat_cmp-IsAntisymmetric}
 use Rattle.numbers.specs.Subjects.{Subject, subject_key}
 use Rattle.numbers.proofs.SubjectKeys.{subject_key-exact}
-use Rattle.meaning.specs.Content.{WaitKey, wait_cmp}
+use Rattle.meaning.specs.Content.{WaitKey}
 use Rattle.store.specs.Maps.{set}
 use Rattle.store.specs.WaitRows.{Download, download_cmp, download_of, Waiting, waits_of, awaited, SubjectDownload, subject_download_cmp, key_about, download_about, IsDownload, AreAbout, AboutIsNeeded}
 use Rattle.store.proofs.Maps.{get-set}

@@ -1,8 +1,8 @@
 -- The downloads of the rows of the code, one of which is put or taken away.
-use Rattle.std.proofs.Common.{◌≡◌, ℕ, Bool, true, false, cond, List, [], ◌∷◌, length, Option, Some, None, refl, ap, sym, ◌∙◌, subst, arith}
-use Rattle.std.specs.Prelude.{◌==◌, Result, Ok, Err, IfOk, OnOk, OnErr, IfSome, option_map, is_some}
+use Rattle.std.proofs.Common.{◌≡◌, ℕ, Bool, true, false, cond, List, [], ◌∷◌, length, Option, Some, None, refl, ap, sym, ◌∙◌, arith}
+use Rattle.std.specs.Prelude.{◌==◌, Result, Ok, Err, IfOk, OnOk, OnErr, IfSome, option_map}
 use Rattle.std.specs.List.{list_any}
-use Rattle.std.specs.Ordering.{on, eq_by_cmp, is_eq}
+use Rattle.std.specs.Ordering.{on, eq_by_cmp}
 use Rattle.std.specs.BTreeMap as tree
 use Rattle.std.specs.BTreeMap.{BTreeMap}
 use Rattle.std.specs.FinMap.{FinMap, get, empty, get-empty, from_entries, same_map}
@@ -11,14 +11,14 @@ use Rattle.numbers.specs.Views.{subject_of}
 use Rattle.numbers.specs.declared.ported.Subject.{Subject as SubjectCode}
 use Rattle.meaning.specs.Content.{WaitKey, wait_cmp}
 use Rattle.delivery.specs.declared.download.DownloadKey.{DownloadKey as DownloadKeyCode}
-use Rattle.store.specs.Maps.{set, map_of, seen_entries, IsSet}
+use Rattle.store.specs.Maps.{set, seen_entries, IsSet}
 use Rattle.store.specs.WaitRows.{Download, download_cmp, download_of, download_key_of, Waiting, waiting_of, rows_of, about_of, waits_of, awaited, subject_download_of, subject_download_cmp, SubjectDownload, IsFirst, IsAdded, IsWithout}
 use Rattle.store.specs.declared.keys.SubjectDownload.{SubjectDownload as SubjectDownloadCode}
 use Rattle.store.specs.declared.waiting.Waiting.{Waiting as WaitingCode}
 use Rattle.store.proofs.Maps.{get-map_of, set_map_of, get-set}
 use Rattle.store.proofs.Orders.{wait_total, wait_exact, no_entry, no_key}
 use Rattle.store.proofs.RowsFlat.{download_total, download_exact, get-waits_of, tied}
-use Rattle.store.proofs.RowsChanged.{IsRow, IsKey, Agrees, row-changed, row-same, subject_download_total, subject_download_exact}
+use Rattle.store.proofs.RowsChanged.{IsRow, IsKey, Agrees, row-changed, subject_download_total, subject_download_exact}
 
 -- ---- no rows
 

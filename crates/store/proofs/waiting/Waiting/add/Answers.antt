@@ -1,4 +1,4 @@
-use Rattle.std.proofs.Common.{rules, ◌≡◌, Bool, true, false, ap, sym, ◌∙◌, ◌++◌, ◌∷◌, [], subst, refl, map}
+use Rattle.std.proofs.Common.{◌≡◌, Bool, true, false, sym, ◌∙◌, subst, refl, map}
 use Rattle.std.specs.Prelude.{◌==◌, not}
 use Rattle.numbers.specs.Views.{subject_of, key_of}
 use Rattle.numbers.proofs.SubjectKeys.{subject_key-exact}

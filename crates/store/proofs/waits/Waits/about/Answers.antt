@@ -1,4 +1,4 @@
-use Rattle.std.proofs.Common.{rules, ◌≡◌, [], ap, sym, subst}
+use Rattle.std.proofs.Common.{rules, ◌≡◌, [], ap, subst}
 use Rattle.std.specs.Ordering.{on}
 use Rattle.std.specs.BTreeMap.Range.{entries_between}
 use Rattle.std.specs.declared.ops.Bound.TheVariants.{Included}

@@ -1,4 +1,4 @@
-use Rattle.std.proofs.Common.{rules, ◌≡◌, Some, None, ap, sym, ◌∙◌, option_map, subst}
+use Rattle.std.proofs.Common.{rules, ◌≡◌, Some, None, ap, sym, ◌∙◌, subst}
 use Rattle.std.specs.Ordering.{on}
 use Rattle.std.specs.BTreeMap as tree
 use Rattle.std.specs.FinMap.{FinMap, get, from_entries}
@@ -8,8 +8,8 @@ use Rattle.meaning.specs.Content.{wait_cmp}
 use Rattle.settle.specs.Views.{wait_key_of}
 use Rattle.store.specs.Maps.{set, seen_entries, IsSet}
 use Rattle.store.specs.WaitRows.{download_key_of, download_cmp, download_of, waiting_of, rows_of, about_of, key_about, subject_download_of, IsDownload}
-use Rattle.store.proofs.RowsChanged.{IsRow, IsKey, Agrees, agrees-kept, agrees-new, agrees-back, row-same}
-use Rattle.store.proofs.WaitsKept.{row-at, wait-at, row-written, key-written, if-ok-then, on-ok-from, on-err-then, subject-stays, added-waits, same-subject, first-waits}
+use Rattle.store.proofs.RowsChanged.{IsRow, Agrees, agrees-kept, agrees-new, agrees-back, row-same}
+use Rattle.store.proofs.WaitsKept.{row-at, wait-at, row-written, key-written, if-ok-then, on-ok-from, on-err-then, subject-stays, added-waits, first-waits}
 use Rattle.store.proofs.waits.Waits.put.Goals as goal
 
 -- ---- a row that is there

@@ -1,15 +1,13 @@
-use Rattle.std.proofs.Common.{rules, ◌≡◌, Some, None, ap, sym, ◌∙◌, option_map, subst, [], map}
+use Rattle.std.proofs.Common.{rules, ◌≡◌, Some, None, ap, sym, ◌∙◌, subst, [], map}
 use Rattle.std.specs.Ordering.{on}
 use Rattle.std.specs.BTreeMap as tree
 use Rattle.std.specs.FinMap.{FinMap, get}
 use Rattle.numbers.specs.Subjects.{Subject}
-use Rattle.numbers.specs.Views.{subject_of}
-use Rattle.numbers.specs.declared.spid.Spid.{Spid}
 use Rattle.meaning.specs.Content.{wait_cmp}
 use Rattle.settle.specs.Views.{spid_of, wait_key_of}
 use Rattle.store.specs.Maps.{set}
 use Rattle.store.specs.WaitRows.{download_key_of, download_cmp, download_of, waiting_of, rows_of, about_of, key_about, subject_download_of, waits_of}
-use Rattle.store.proofs.RowsChanged.{IsRow, IsKey, Agrees, agrees-kept, agrees-gone}
+use Rattle.store.proofs.RowsChanged.{IsRow, Agrees, agrees-kept, agrees-gone}
 use Rattle.store.proofs.WaitsKept.{row-at, wait-at, row-written, key-written, row-gone, without-waits, gone-waits, not-there, none-left}
 use Rattle.store.proofs.waits.Waits.take.Goals as goal
 
