@@ -4,12 +4,13 @@
 //! within calls would end this test by the depth of the stack.
 use crate::commands::{create_of, routing};
 use crate::port::{FIRST_PORT, Texts, asked, new_register, served, whole};
+use calls::Command;
 use meaning::{Action, Status};
 use numbers::{Minute, Spid};
-use register::{Command, Register};
+use register::Register;
 use std::alloc::{AllocError, Global};
 use store::MemoryStore;
-use version::{Create, Creator};
+use version::{Create, Creator, VersionCommand};
 
 /// How many versions are sent and not acknowledged.
 const COUNT: u64 = 200_000;
@@ -55,7 +56,10 @@ fn sends_all(alloc: Global, register: &mut Desk) -> Option<()> {
         let line = id.saturating_add(399_999);
         let number = format!(in alloc; "2025{line}").ok()?;
         creates(register, number.as_str())?;
-        register.do_it(caller, &Command::Activate { id }).ok()?;
+        let command = VersionCommand::Activate;
+        register
+            .do_it(caller, &Command::OnVersion { id, command })
+            .ok()?;
     }
     Some(())
 }

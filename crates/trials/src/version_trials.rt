@@ -2,7 +2,7 @@
 use crate::commands::{create_of, routing};
 use meaning::{Action, Refusal, Side, Status};
 use numbers::{Minute, Spid};
-use version::{Create, CreateFacts, Created, Creator, Phase, Version};
+use version::{Create, CreateFacts, Created, Creator, Phase, Version, VersionCommand};
 use windows::{Window, Windows};
 
 const WINDOWS: Windows = Windows {
@@ -101,7 +101,14 @@ fn is_agreed(version: &Version) -> Option<bool> {
 // The version as it is activated in a minute, or why it is not.
 fn activated(both: &Version, number: u64) -> Option<Result<Version, Refusal>> {
     let minute = Minute::new(number)?;
-    Some(both.activated(both.new_provider, minute, &WINDOWS))
+    let step = both.commanded(
+        VersionCommand::Activate,
+        both.new_provider,
+        false,
+        minute,
+        &WINDOWS,
+    );
+    Some(step.map(|step| step.version))
 }
 
 // Whether it is refused before its due minute, and sent in it.
