@@ -1,0 +1,55 @@
+-- A version that waits for its creates has one of them.
+use Rattle.std.proofs.Common.{◌≡◌, ℕ, Bool, true, false, ◌||◌, Option, refl, sym, ◌∙◌, is_some}
+use Rattle.meaning.specs.declared.words.Action.{Action}
+use Rattle.meaning.specs.declared.words.Action.TheVariants.{Create, Delete}
+use Rattle.meaning.specs.declared.words.Outcome.{Outcome}
+use Rattle.meaning.specs.declared.words.Outcome.TheVariants.{Open, AllAcknowledged}
+use Rattle.meaning.specs.Statuses.{Status}
+use Rattle.meaning.specs.Versions.{Version}
+use Rattle.meaning.specs.Changes.{status_after, outcome_at_end}
+use Rattle.meaning.proofs.Moves.{MovesKeep, is_before_sending}
+
+abbrev pub HasCreateAs : (old_at new_at : Option ℕ) → Status → Type 0
+HasCreateAs old_at new_at status = is_before_sending status ≡ true → (is_some old_at || is_some new_at) ≡ true
+
+abbrev pub HasCreate : Version → Type 0
+HasCreate v = HasCreateAs v.old_at v.new_at v.status
+
+or_true : (b : Bool) → (b || true) ≡ true
+or_true true = refl
+or_true false = refl
+
+-- what was sent waits for creates no more
+closed_needs_none : (action : Action) (outcome : Outcome) → is_before_sending (status_after action outcome) ≡ false
+closed_needs_none action Open = refl
+closed_needs_none Create _ = refl
+closed_needs_none Delete _ = refl
+
+needs_none : (old_at new_at : Option ℕ) (status : Status) → is_before_sending status ≡ false → HasCreateAs old_at new_at status
+needs_none old_at new_at status none = λ needs. absurd (let no : true ≡ false = sym needs ∙ none in cc)
+
+-- every move keeps it
+pub create_kept : MovesKeep (λ m cs v. HasCreate v)
+create_kept = record {
+  later = λ m n cs v up is. is;
+  joined = λ m cs v c is. is;
+  made_old = λ m cs id old_provider new_provider due some needs. refl;
+  made_new = λ m cs id old_provider new_provider due routing some needs. refl;
+  made_sent = λ m cs id old_provider new_provider due routing protective some needs. cc;
+  old_create = λ m cs v awaits is needs. refl;
+  new_create = λ m cs v routing awaits is needs. or_true (is_some v.old_at);
+  pending = λ m cs v from is needs. is from;
+  conflict = λ m cs v spent from is needs. is from;
+  cancel_pending = λ m cs v by from is needs. is from;
+  canceled = λ m cs v from is needs. cc;
+  active = λ m cs v from is needs. cc;
+  planned = λ m cs v release from left is needs. cc;
+  old = λ m cs v force is needs. cc;
+  activated = λ m cs v from left is needs. cc;
+  disconnected = λ m cs v from left is needs. cc;
+  released = λ m cs v from is needs. cc;
+  ended = λ m cs v action from is. needs_none v.old_at v.new_at (status_after action (outcome_at_end v.broadcasts)) (closed_needs_none action (outcome_at_end v.broadcasts));
+  answered = λ m cs v c attempt among missing is. is;
+  closed = λ m cs v c attempt action among from is. needs_none v.old_at v.new_at (status_after action AllAcknowledged) (closed_needs_none action AllAcknowledged);
+  whole = λ m cs v c attempt among from is needs. cc;
+}
