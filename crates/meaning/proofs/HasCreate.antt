@@ -1,5 +1,5 @@
 -- A version that waits for its creates has one of them.
-use Rattle.std.proofs.Common.{◌≡◌, ℕ, Bool, true, false, ◌||◌, Option, refl, sym, ◌∙◌, is_some}
+use Rattle.std.proofs.Common.{◌≡◌, ℕ, true, false, ◌||◌, Option, refl, sym, ◌∙◌, is_some}
 use Rattle.meaning.specs.declared.words.Action.{Action}
 use Rattle.meaning.specs.declared.words.Action.TheVariants.{Create, Delete}
 use Rattle.meaning.specs.declared.words.Outcome.{Outcome}
@@ -7,6 +7,7 @@ use Rattle.meaning.specs.declared.words.Outcome.TheVariants.{Open, AllAcknowledg
 use Rattle.meaning.specs.Statuses.{Status}
 use Rattle.meaning.specs.Versions.{Version}
 use Rattle.meaning.specs.Changes.{status_after, outcome_at_end}
+use Rattle.meaning.proofs.Small.{or_true}
 use Rattle.meaning.proofs.Moves.{MovesKeep, is_before_sending}
 
 abbrev pub HasCreateAs : (old_at new_at : Option ℕ) → Status → Type 0
@@ -14,10 +15,6 @@ HasCreateAs old_at new_at status = is_before_sending status ≡ true → (is_som
 
 abbrev pub HasCreate : Version → Type 0
 HasCreate v = HasCreateAs v.old_at v.new_at v.status
-
-or_true : (b : Bool) → (b || true) ≡ true
-or_true true = refl
-or_true false = refl
 
 -- what was sent waits for creates no more
 closed_needs_none : (action : Action) (outcome : Outcome) → is_before_sending (status_after action outcome) ≡ false

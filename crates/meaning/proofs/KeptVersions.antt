@@ -1,5 +1,5 @@
 -- What each move keeps, every version of every record has.
-use Rattle.std.proofs.Common.{◌≡◌, ℕ, suc, Bool, true, false, cond, not, ◌&&◌, ◌||◌, List, [], ◌∷◌, map, Option, Some, None, refl, ap, sym, ◌∙◌, subst, arith}
+use Rattle.std.proofs.Common.{◌≡◌, ℕ, suc, Bool, true, false, cond, not, ◌&&◌, ◌||◌, List, [], ◌∷◌, map, Option, Some, None, refl, ap, ◌∙◌, arith}
 use Rattle.std.specs.Prelude.{◌==◌, find, if◌then◌else◌}
 use Rattle.std.specs.List.{AllByRecursion}
 use Rattle.std.proofs.lemmas.Bool.Decides.{nat_tests}
@@ -15,38 +15,11 @@ use Rattle.meaning.specs.Reading.{State, record_now}
 use Rattle.meaning.specs.Machine.{IsHistory}
 use Rattle.meaning.proofs.Ids.{AreGiven}
 use Rattle.meaning.proofs.Entered.{given_now}
+use Rattle.meaning.proofs.Lists.{each, each_two, found_has}
 use Rattle.meaning.proofs.Kept.{record_after, kept}
 use Rattle.meaning.proofs.Moves.{MovesKeep, judged_kept, done_kept, made_kept}
 
--- ---- lists
-
--- what holds of each holds of one that is found
-pub found_has : {A : Type 0} (Q : A → Type 0) (test : A → Bool) (xs : List A) (x : A) → AllByRecursion Q xs → find test xs ≡ Some x → Q x
-found_has Q test [] x all found = cc
-found_has Q test (y ∷ ys) x all found = go (λ e. found_has Q test ys x all.1 e) (test y) found
-  where
-    same : Some y ≡ Some x → y ≡ x
-    same e = cc
-
-    go : (find test ys ≡ Some x → Q x) → (b : Bool) → cond b (Some y) (find test ys) ≡ Some x → Q x
-    go later true e = subst Q (same e) all.0
-    go later false e = later e
-
--- what is found passes the test
-pub found_passes : {A : Type 0} (test : A → Bool) (xs : List A) (x : A) → find test xs ≡ Some x → test x ≡ true
-found_passes test [] x found = cc
-found_passes test (y ∷ ys) x found = go (λ e. found_passes test ys x e) (test y) refl found
-  where
-    same : Some y ≡ Some x → y ≡ x
-    same e = cc
-
-    go : (find test ys ≡ Some x → test x ≡ true) → (b : Bool) → test y ≡ b → cond b (Some y) (find test ys) ≡ Some x → test x ≡ true
-    go later true is e = ap test (sym (same e)) ∙ is
-    go later false is e = later e
-
-each : {A : Type 0} {Q R : A → Type 0} → ((x : A) → Q x → R x) → (xs : List A) → AllByRecursion Q xs → AllByRecursion R xs
-each step [] all = tt
-each step (x ∷ xs) all = (step x all.0, each step xs all.1)
+-- ---- each found by its id
 
 -- each version is the one that is found by its id
 abbrev AreFound : List Version → List Version → Type 0
@@ -109,14 +82,10 @@ module _ {P : ℕ → List ℕ → Version → Type 0} (keeps : MovesKeep P) whe
         let change : Version → Version = done_to s e.caller e.minute r.carriers e.request in
         with_new cs (λ id. made_version id e.caller e.minute r.carriers donor e.request) (changed_at e.minute change r.versions)
         (changed_kept e.minute cs change r.versions
-        (both (λ v found p. done_kept keeps st is.3 s e.caller e.request is.2 v found p) r.versions (all_found (made_by w h) s r.versions (given_now st is.3 s)) all))
+        (each_two (λ v found p. done_kept keeps st is.3 s e.caller e.request is.2 v found p) r.versions (all_found (made_by w h) s r.versions (given_now st is.3 s)) all))
         (id_among s (next_after (made_by w h)) (makes e.request (record_now st)))
         (λ id made. made_kept keeps st is.3 s e.caller donor (next_after (made_by w h)) id e.request is.2 made)
       where
-        both : {Q R T : Version → Type 0} → ((v : Version) → Q v → R v → T v) → (vs : List Version) → AllByRecursion Q vs → AllByRecursion R vs → AllByRecursion T vs
-        both step [] qs rs = tt
-        both step (v ∷ vs) qs rs = (step v qs.0 rs.0, both step vs qs.1 rs.1)
-
         with_new : (cs : List ℕ) (made : ℕ → Version) (vs : List Version) → AllByRecursion (P e.minute cs) vs →
             (o : Option ℕ) → ((id : ℕ) → o ≡ Some id → P e.minute cs (made id)) → AllByRecursion (P e.minute cs) (with_made o made vs)
         with_new cs made vs olds None new = olds

@@ -22,6 +22,7 @@ use Rattle.meaning.specs.History.{Request, Commands, Acknowledges, carriers, car
 use Rattle.meaning.specs.Reading.{State, SubjectVersion, record_now, version_of_id, is_carrier}
 use Rattle.meaning.specs.Refusals.{Requests, refusal, tests, is_full_of_carriers, attempts_too_often}
 use Rattle.meaning.specs.Machine.{IsHistory}
+use Rattle.meaning.proofs.Small.{true-false, denied, and_first, and_second, or_first, or_second, some_is}
 use Rattle.meaning.proofs.Accepted.{AcceptedCommand, accepted_command, none_holds}
 use Rattle.meaning.proofs.Ids.{same_id, same_subject}
 use Rattle.meaning.proofs.Entries.{named_test, is_active-is}
@@ -68,7 +69,7 @@ pub record MovesKeep (P : ℕ → List ℕ → Version → Type 0) : Type 0 wher
       P m cs (record (blank_version id old_provider new_provider due m) { new_at = Some m; routing = Some routing })
   pub made_sent : (m : ℕ) (cs : List ℕ) (id old_provider new_provider due : ℕ) (routing : Routing) (protective : Bool) → is_nonempty cs ≡ true →
       P m cs (sent Create cs m (record (blank_version id old_provider new_provider due m) { routing = Some routing; protective = protective }))
-  -- a second create comes
+  -- a or_second create comes
   pub old_create : (m : ℕ) (cs : List ℕ) (v : Version) → awaits_creates v.status ≡ true → P m cs v → P m cs (record v { old_at = Some m })
   pub new_create : (m : ℕ) (cs : List ℕ) (v : Version) (routing : Routing) → awaits_creates v.status ≡ true → P m cs v → P m cs (record v { new_at = Some m; routing = Some routing })
   -- it enters a status at once
@@ -93,29 +94,6 @@ pub record MovesKeep (P : ℕ → List ℕ → Version → Type 0) : Type 0 wher
   pub whole : (m : ℕ) (cs : List ℕ) (v : Version) (c attempt : ℕ) → is_among c cs ≡ true → v.status ≡ PartialFailure → P m cs v → P m cs (enters Active m (answered_by c attempt v))
 
 -- ---- what the table says
-
-true-false : {P : Type 0} (b : Bool) → b ≡ true → b ≡ false → P
-true-false b e f = let never : true ≡ false = sym e ∙ f in cc
-
-denied : (b : Bool) → not b ≡ false → b ≡ true
-denied true e = refl
-denied false e = cc
-
-first : (a b : Bool) → (a || b) ≡ false → a ≡ false
-first true b e = cc
-first false b e = refl
-
-second : (a b : Bool) → (a || b) ≡ false → b ≡ false
-second true b e = cc
-second false b e = e
-
-and_first : (a b : Bool) → (a && b) ≡ true → a ≡ true
-and_first true b e = refl
-and_first false b e = cc
-
-and_second : (a b : Bool) → (a && b) ≡ true → b ≡ true
-and_second true b e = e
-and_second false b e = cc
 
 left_by : (attempt : ℕ) → has_no_attempt_left attempt ≡ false → attempt + 1 < limit
 left_by attempt e = grind (arith, nat_tests)
@@ -155,11 +133,8 @@ last_in_force s (u ∷ us) v sound block found force = go (u.id == v.id) found
     none [] out e = cc
     none (x ∷ xs) out e = pick (λ rest. none xs out.1 rest) (x.id == v.id) e
       where
-        same : (a b : Version) → Some a ≡ Some b → a ≡ b
-        same a b f = cc
-
         pick : (find (λ y. y.id == v.id) xs ≡ Some v → in_force v ≡ false) → (b : Bool) → cond b (Some x) (find (λ y. y.id == v.id) xs) ≡ Some v → in_force v ≡ false
-        pick rest true f = ap in_force (sym (same x v f)) ∙ out.0
+        pick rest true f = ap in_force (sym (some_is x v f)) ∙ out.0
         pick rest false f = rest f
 
     go : (b : Bool) → cond b (Some u) (find (λ x. x.id == v.id) us) ≡ Some v → Some u ≡ Some v
@@ -179,15 +154,15 @@ made_by_carrier : (st : State) (caller : ℕ) (s : Subject) (from id : ℕ) (req
     id_among s from (makes request (record_now st)) ≡ Some id → is_nonempty (carriers st.history) ≡ true
 made_by_carrier st caller s from id (Commands (OldProviderCreate tn old_provider new_provider due authorized)) ok made =
     some_carrier old_provider (carriers st.history) (denied (is_carrier st old_provider)
-    (first (not (is_carrier st old_provider)) _ (first _ _ (accepted_command st caller (OldProviderCreate tn old_provider new_provider due authorized) ok).unknown_carrier)))
+    (or_first (not (is_carrier st old_provider)) _ (or_first _ _ (accepted_command st caller (OldProviderCreate tn old_provider new_provider due authorized) ok).unknown_carrier)))
 made_by_carrier st caller s from id (Commands (NewProviderCreate tn old_provider new_provider due lrn cic)) ok made =
     some_carrier old_provider (carriers st.history) (denied (is_carrier st old_provider)
-    (first (not (is_carrier st old_provider)) _ (first _ _ (accepted_command st caller (NewProviderCreate tn old_provider new_provider due lrn cic) ok).unknown_carrier)))
+    (or_first (not (is_carrier st old_provider)) _ (or_first _ _ (accepted_command st caller (NewProviderCreate tn old_provider new_provider due lrn cic) ok).unknown_carrier)))
 made_by_carrier st caller s from id (Commands (Donate block used lrn cic)) ok made =
     some_carrier caller (carriers st.history) (itself_known (is_carrier st caller) (accepted_command st caller (Donate block used lrn cic) ok).unknown_carrier)
 made_by_carrier st caller s from id (Commands (Assign block holder lrn cic)) ok made =
     some_carrier holder (carriers st.history) (denied (is_carrier st holder)
-    (first (not (is_carrier st holder)) _ (first _ _ (accepted_command st caller (Assign block holder lrn cic) ok).unknown_carrier)))
+    (or_first (not (is_carrier st holder)) _ (or_first _ _ (accepted_command st caller (Assign block holder lrn cic) ok).unknown_carrier)))
 made_by_carrier st caller s from id _ ok made = cc
 
 -- an acknowledgement that was accepted is a carrier's
@@ -234,7 +209,7 @@ module _ {P : ℕ → List ℕ → Version → Type 0} (keeps : MovesKeep P) whe
         go true e = complete v.status refl
         go false e = keeps.answered m cs v c attempt among (λ awaits. e) p
 
-    -- by a second create
+    -- by a or_second create
     old_create_kept : (authorized : Bool) → awaits_creates v.status ≡ true → P m cs (with_old_create authorized m v)
     old_create_kept true awaits = keeps.old_create m cs v awaits p
     old_create_kept false awaits = keeps.conflict m cs (record v { old_at = Some m }) true (awaiting_before v.status awaits) (keeps.old_create m cs v awaits p)
@@ -273,7 +248,7 @@ module _ {P : ℕ → List ℕ → Version → Type 0} (keeps : MovesKeep P) whe
     test = named_test st s (given_now st is s)
 
     attempts_left : (caller : ℕ) (c : Command) → AcceptedCommand st caller c → attempts_too_often st caller c ≡ false
-    attempts_left caller c accepted = second (is_full_of_carriers st caller c) (attempts_too_often st caller c) (first (is_full_of_carriers st caller c || attempts_too_often st caller c) _ accepted.full)
+    attempts_left caller c accepted = or_second (is_full_of_carriers st caller c) (attempts_too_often st caller c) (or_first (is_full_of_carriers st caller c || attempts_too_often st caller c) _ accepted.full)
 
     -- by a command on the version
     change_kept : (caller id : ℕ) (c : VersionCommand) → AcceptedCommand st caller (OnVersion id c) → (v : Version) → version_with id (record_now st s) ≡ Some v →
