@@ -24,7 +24,7 @@ use Rattle.settle.specs.Reads.{is_last_wait}
 use Rattle.settle.specs.Settling.{IsSettled}
 use Rattle.register.specs.Answers.{Stands}
 use Rattle.register.specs.Settling.{LeavesOthers}
-use Rattle.register.proofs.Settled.{due_lags, leaves_but, of_id_found, wait_subject}
+use Rattle.register.proofs.Settled.{leaves_but, of_id_found, wait_subject}
 use Rattle.register.specs.Acknowledging.{is_sending, answered_row, completed_if, own_rows, acknowledging}
 use Rattle.register.proofs.Alone.{one_in_force}
 use Rattle.register.proofs.Touched.{RegistryShows, touched-stands}
