@@ -55,43 +55,55 @@ awaits_answers _ = false
 
 -- ---- the moves
 
+abbrev pub HasAttemptLeft : Version → Type 0
+HasAttemptLeft v = v.attempt + 1 < limit
+
+-- it failed before, or is pending and has the new provider's create
+abbrev pub MayBeActivated : Version → Type 0
+MayBeActivated v = (v.status ≡ Failed) ⊎ ((v.status ≡ Pending) × (is_some v.new_at ≡ true))
+
 -- one more carrier has acknowledged an attempt
 abbrev pub answered_by : ℕ → ℕ → Version → Version
 answered_by c attempt v = record v { broadcasts = map (acknowledged_broadcast c attempt) v.broadcasts }
 
--- P is of a minute, the carriers that there are and a version: each move keeps it
+-- P is of a minute, the carriers that there are and a version. Where the version is so, what becomes of it has P again
+abbrev pub Move : (ℕ → List ℕ → Version → Type 0) → (List ℕ → Version → Type 0) → (ℕ → List ℕ → Version → Version) → Type 0
+Move P when becomes = (m : ℕ) (cs : List ℕ) (v : Version) → when cs v → P m cs v → P m cs (becomes m cs v)
+
+-- a version that is made has P; somebody is a carrier, since a request made it
+abbrev pub Makes : (ℕ → List ℕ → Version → Type 0) → (ℕ → List ℕ → Version → Version) → Type 0
+Makes P becomes = (m : ℕ) (cs : List ℕ) (id old_provider new_provider due : ℕ) → is_nonempty cs ≡ true → P m cs (becomes m cs (blank_version id old_provider new_provider due m))
+
+-- each move keeps P
 pub record MovesKeep (P : ℕ → List ℕ → Version → Type 0) : Type 0 where
+  -- time goes by, and a carrier registers
   pub later : (m n : ℕ) (cs : List ℕ) (v : Version) → m ≤ n → P m cs v → P n cs v
-  pub joined : (m : ℕ) (cs : List ℕ) (v : Version) (c : ℕ) → P m cs v → P m (with_number c cs) (joined_by c v)
-  -- a version is made
-  pub made_old : (m : ℕ) (cs : List ℕ) (id old_provider new_provider due : ℕ) → is_nonempty cs ≡ true → P m cs (record (blank_version id old_provider new_provider due m) { old_at = Some m })
-  pub made_new : (m : ℕ) (cs : List ℕ) (id old_provider new_provider due : ℕ) (routing : Routing) → is_nonempty cs ≡ true →
-      P m cs (record (blank_version id old_provider new_provider due m) { new_at = Some m; routing = Some routing })
-  pub made_sent : (m : ℕ) (cs : List ℕ) (id old_provider new_provider due : ℕ) (routing : Routing) (protective : Bool) → is_nonempty cs ≡ true →
-      P m cs (sent Create cs m (record (blank_version id old_provider new_provider due m) { routing = Some routing; protective = protective }))
-  -- a or_second create comes
-  pub old_create : (m : ℕ) (cs : List ℕ) (v : Version) → awaits_creates v.status ≡ true → P m cs v → P m cs (record v { old_at = Some m })
-  pub new_create : (m : ℕ) (cs : List ℕ) (v : Version) (routing : Routing) → awaits_creates v.status ≡ true → P m cs v → P m cs (record v { new_at = Some m; routing = Some routing })
+  pub joined : (c m : ℕ) (cs : List ℕ) (v : Version) → P m cs v → P m (with_number c cs) (joined_by c v)
+  -- a version is made: by a create, and by a donation or an assignment, which send it
+  pub made_old : Makes P (λ m cs b. record b { old_at = Some m })
+  pub made_new : (routing : Routing) → Makes P (λ m cs b. record b { new_at = Some m; routing = Some routing })
+  pub made_sent : (routing : Routing) (protective : Bool) → Makes P (λ m cs b. sent Create cs m (record b { routing = Some routing; protective = protective }))
+  -- a second create comes
+  pub old_create : Move P (λ cs v. awaits_creates v.status ≡ true) (λ m cs v. record v { old_at = Some m })
+  pub new_create : (routing : Routing) → Move P (λ cs v. awaits_creates v.status ≡ true) (λ m cs v. record v { new_at = Some m; routing = Some routing })
   -- it enters a status at once
-  pub pending : (m : ℕ) (cs : List ℕ) (v : Version) → is_before_sending v.status ≡ true → P m cs v → P m cs (enters Pending m v)
-  pub conflict : (m : ℕ) (cs : List ℕ) (v : Version) (spent : Bool) → is_before_sending v.status ≡ true → P m cs v → P m cs (record (enters Conflict m v) { spent = spent })
-  pub cancel_pending : (m : ℕ) (cs : List ℕ) (v : Version) (by : Side) → is_before_sending v.status ≡ true → P m cs v → P m cs (enters (CancelPending by) m v)
-  pub canceled : (m : ℕ) (cs : List ℕ) (v : Version) → is_unserved v.status ≡ true → P m cs v → P m cs (enters Canceled m v)
-  pub active : (m : ℕ) (cs : List ℕ) (v : Version) → is_planned v.status ≡ true → P m cs v → P m cs (enters Active m v)
-  pub planned : (m : ℕ) (cs : List ℕ) (v : Version) (release : ℕ) → v.status ≡ Active → v.attempt + 1 < limit → P m cs v → P m cs (enters (DisconnectPending release) m v)
-  pub old : (m : ℕ) (cs : List ℕ) (v : Version) → in_force v ≡ true → P m cs v → P m cs (enters Old m v)
-  -- it is sent: by an activation, a disconnect or a release, and when its release minute comes
-  pub activated : (m : ℕ) (cs : List ℕ) (v : Version) → (v.status ≡ Failed) ⊎ ((v.status ≡ Pending) × (is_some v.new_at ≡ true)) → v.attempt + 1 < limit → P m cs v → P m cs (sent Create cs m v)
-  pub disconnected : (m : ℕ) (cs : List ℕ) (v : Version) → v.status ≡ Active → v.attempt + 1 < limit → P m cs v → P m cs (sent Delete cs m v)
-  pub released : (m : ℕ) (cs : List ℕ) (v : Version) → is_planned v.status ≡ true → P m cs v → P m cs (sent Delete cs m v)
+  pub pending : Move P (λ cs v. is_before_sending v.status ≡ true) (λ m cs v. enters Pending m v)
+  pub conflict : (spent : Bool) → Move P (λ cs v. is_before_sending v.status ≡ true) (λ m cs v. record (enters Conflict m v) { spent = spent })
+  pub cancel_pending : (by : Side) → Move P (λ cs v. is_before_sending v.status ≡ true) (λ m cs v. enters (CancelPending by) m v)
+  pub canceled : Move P (λ cs v. is_unserved v.status ≡ true) (λ m cs v. enters Canceled m v)
+  pub active : Move P (λ cs v. is_planned v.status ≡ true) (λ m cs v. enters Active m v)
+  pub planned : (release : ℕ) → Move P (λ cs v. (v.status ≡ Active) × HasAttemptLeft v) (λ m cs v. enters (DisconnectPending release) m v)
+  pub old : Move P (λ cs v. in_force v ≡ true) (λ m cs v. enters Old m v)
+  -- it is sent: by an activation, by a disconnect or a block's release, and when its release minute comes
+  pub activated : Move P (λ cs v. MayBeActivated v × HasAttemptLeft v) (λ m cs v. sent Create cs m v)
+  pub disconnected : Move P (λ cs v. (v.status ≡ Active) × HasAttemptLeft v) (λ m cs v. sent Delete cs m v)
+  pub released : Move P (λ cs v. is_planned v.status ≡ true) (λ m cs v. sent Delete cs m v)
   -- its window ends
-  pub ended : (m : ℕ) (cs : List ℕ) (v : Version) (action : Action) → v.status ≡ Sending action → P m cs v → P m cs (closed_with action (outcome_at_end v.broadcasts) m v)
-  -- a carrier acknowledges, and it may be the last one that was missing
-  pub answered : (m : ℕ) (cs : List ℕ) (v : Version) (c attempt : ℕ) → is_among c cs ≡ true →
-      (awaits_answers v.status ≡ true → nobody_is_missing (answered_by c attempt v).broadcasts ≡ false) → P m cs v → P m cs (answered_by c attempt v)
-  pub closed : (m : ℕ) (cs : List ℕ) (v : Version) (c attempt : ℕ) (action : Action) → is_among c cs ≡ true → v.status ≡ Sending action →
-      P m cs v → P m cs (closed_with action AllAcknowledged m (answered_by c attempt v))
-  pub whole : (m : ℕ) (cs : List ℕ) (v : Version) (c attempt : ℕ) → is_among c cs ≡ true → v.status ≡ PartialFailure → P m cs v → P m cs (enters Active m (answered_by c attempt v))
+  pub ended : (action : Action) → Move P (λ cs v. v.status ≡ Sending action) (λ m cs v. closed_with action (outcome_at_end v.broadcasts) m v)
+  -- a carrier acknowledges, and somebody is still missing or nothing waits for it; or it was the last one
+  pub answered : (c attempt : ℕ) → Move P (λ cs v. (is_among c cs ≡ true) × (awaits_answers v.status ≡ true → nobody_is_missing (answered_by c attempt v).broadcasts ≡ false)) (λ m cs v. answered_by c attempt v)
+  pub closed : (c attempt : ℕ) (action : Action) → Move P (λ cs v. (is_among c cs ≡ true) × (v.status ≡ Sending action)) (λ m cs v. closed_with action AllAcknowledged m (answered_by c attempt v))
+  pub whole : (c attempt : ℕ) → Move P (λ cs v. (is_among c cs ≡ true) × (v.status ≡ PartialFailure)) (λ m cs v. enters Active m (answered_by c attempt v))
 
 -- ---- what the table says
 
@@ -181,10 +193,10 @@ module _ {P : ℕ → List ℕ → Version → Type 0} (keeps : MovesKeep P) whe
       over : (status : Status) → v.status ≡ status → P m cs (ended cs m v status)
       over Pending e = keeps.canceled m cs v (ap is_unserved e) p
       over Conflict e = keeps.canceled m cs v (ap is_unserved e) p
-      over (CancelPending OldProvider) e = keeps.conflict m cs v v.spent (ap is_before_sending e) p
+      over (CancelPending OldProvider) e = keeps.conflict v.spent m cs v (ap is_before_sending e) p
       over (CancelPending NewProvider) e = keeps.canceled m cs v (ap is_unserved e) p
       over (DisconnectPending release) e = keeps.released m cs v (ap is_planned e) p
-      over (Sending action) e = keeps.ended m cs v action e p
+      over (Sending action) e = keeps.ended action m cs v e p
       over _ e = p
 
       go : (b : Bool) → P m cs (if b then ended cs m v v.status else v)
@@ -201,24 +213,24 @@ module _ {P : ℕ → List ℕ → Version → Type 0} (keeps : MovesKeep P) whe
     acknowledged_kept c attempt among = go (nobody_is_missing (answered_by c attempt v).broadcasts) refl
       where
         complete : (status : Status) → v.status ≡ status → P m cs (completed status m (answered_by c attempt v))
-        complete (Sending action) e = keeps.closed m cs v c attempt action among e p
-        complete PartialFailure e = keeps.whole m cs v c attempt among e p
-        complete _ e = keeps.answered m cs v c attempt among (λ awaits. true-false (awaits_answers v.status) awaits (ap awaits_answers e)) p
+        complete (Sending action) e = keeps.closed c attempt action m cs v (among, e) p
+        complete PartialFailure e = keeps.whole c attempt m cs v (among, e) p
+        complete _ e = keeps.answered c attempt m cs v (among, λ awaits. true-false (awaits_answers v.status) awaits (ap awaits_answers e)) p
 
         go : (b : Bool) → nobody_is_missing (answered_by c attempt v).broadcasts ≡ b → P m cs (if b then completed v.status m (answered_by c attempt v) else answered_by c attempt v)
         go true e = complete v.status refl
-        go false e = keeps.answered m cs v c attempt among (λ awaits. e) p
+        go false e = keeps.answered c attempt m cs v (among, λ awaits. e) p
 
-    -- by a or_second create
+    -- by a second create
     old_create_kept : (authorized : Bool) → awaits_creates v.status ≡ true → P m cs (with_old_create authorized m v)
     old_create_kept true awaits = keeps.old_create m cs v awaits p
-    old_create_kept false awaits = keeps.conflict m cs (record v { old_at = Some m }) true (awaiting_before v.status awaits) (keeps.old_create m cs v awaits p)
+    old_create_kept false awaits = keeps.conflict true m cs (record v { old_at = Some m }) (awaiting_before v.status awaits) (keeps.old_create m cs v awaits p)
 
     cancelled_kept : (caller : ℕ) (status : Status) → v.status ≡ status → not (can_cancel status) ≡ false → P m cs (cancelled_by status caller m v)
     cancelled_kept caller status at may = go status at may
       where
         waiting : is_before_sending v.status ≡ true → is_unserved v.status ≡ true → (b : Bool) → P m cs (if b then enters (CancelPending (side_of caller v.old_provider)) m v else enters Canceled m v)
-        waiting before unserved true = keeps.cancel_pending m cs v (side_of caller v.old_provider) before p
+        waiting before unserved true = keeps.cancel_pending (side_of caller v.old_provider) m cs v before p
         waiting before unserved false = keeps.canceled m cs v unserved p
 
         go : (to : Status) → v.status ≡ to → not (can_cancel to) ≡ false → P m cs (cancelled_by to caller m v)
@@ -229,12 +241,12 @@ module _ {P : ℕ → List ℕ → Version → Type 0} (keeps : MovesKeep P) whe
         go _ e is = cc
 
     disconnected_kept : (release : Option ℕ) → v.status ≡ Active → v.attempt + 1 < limit → P m cs (disconnected release cs m v)
-    disconnected_kept None active left = keeps.disconnected m cs v active left p
+    disconnected_kept None active left = keeps.disconnected m cs v (active, left) p
     disconnected_kept (Some release) active left = go (nat_lt m release)
       where
         go : (b : Bool) → P m cs (if b then enters (DisconnectPending release) m v else sent Delete cs m v)
-        go true = keeps.planned m cs v release active left p
-        go false = keeps.disconnected m cs v active left p
+        go true = keeps.planned release m cs v (active, left) p
+        go false = keeps.disconnected m cs v (active, left) p
 
   module _ (st : State) (is : IsHistory st.windows st.history st.now) (s : Subject) where
     abbrev everyone : List ℕ
@@ -253,11 +265,12 @@ module _ {P : ℕ → List ℕ → Version → Type 0} (keeps : MovesKeep P) whe
     -- by a command on the version
     change_kept : (caller id : ℕ) (c : VersionCommand) → AcceptedCommand st caller (OnVersion id c) → (v : Version) → version_with id (record_now st s) ≡ Some v →
         P st.now everyone v → P st.now everyone (change_of caller st.now everyone c v)
-    change_kept caller id Activate accepted v found p = keeps.activated st.now everyone v
-        (activated_from st.windows st.now v.new_at v.old_at v.since v.status (test id v (λ u. not (can_activate u.status)) found accepted.wrong_status)
-        (test id v (λ u. lacks_concurrence st.windows st.now u.status u.old_at u.new_at u.since) found accepted.not_concurred))
-        (left_by v.attempt (test id v (λ u. has_no_attempt_left u.attempt) found (attempts_left caller (OnVersion id Activate) accepted))) p
-    change_kept caller id PutInConflict accepted v found p = keeps.conflict st.now everyone v true (pending_before v.status (test id v (λ u. not (is_pending u.status)) found accepted.wrong_status)) p
+    change_kept caller id Activate accepted v found p = keeps.activated st.now everyone v (
+      activated_from st.windows st.now v.new_at v.old_at v.since v.status (test id v (λ u. not (can_activate u.status)) found accepted.wrong_status)
+          (test id v (λ u. lacks_concurrence st.windows st.now u.status u.old_at u.new_at u.since) found accepted.not_concurred),
+      left_by v.attempt (test id v (λ u. has_no_attempt_left u.attempt) found (attempts_left caller (OnVersion id Activate) accepted)),
+    ) p
+    change_kept caller id PutInConflict accepted v found p = keeps.conflict true st.now everyone v (pending_before v.status (test id v (λ u. not (is_pending u.status)) found accepted.wrong_status)) p
     change_kept caller id RemoveFromConflict accepted v found p = keeps.pending st.now everyone v (conflict_before v.status (test id v (λ u. not (is_conflict u.status)) found accepted.wrong_status)) p
     change_kept caller id Cancel accepted v found p = cancelled_kept st.now everyone v p caller v.status refl (test id v (λ u. not (can_cancel u.status)) found accepted.wrong_status)
     change_kept caller id OldProviderCancellationAcknowledge accepted v found p =
@@ -276,14 +289,15 @@ module _ {P : ℕ → List ℕ → Version → Type 0} (keeps : MovesKeep P) whe
         let last : first_of_versions (record_now st s).versions ≡ Some v =
         last_in_force s (record_now st s).versions v (sound_now st is s) (ap is_block same) found (and_second (subject_eq s (Block block)) (in_force v) released) in
         let last_is : last_version (record_now st (Block block)) ≡ Some v = ap (λ t. last_version (record_now st t)) (sym same) ∙ last in
-        keeps.disconnected st.now everyone v
-        (is_active-is v.status (ap (holds_of (λ (u : Version). not (is_active u.status))) (sym last_is) ∙ accepted.wrong_status))
-        (left_by v.attempt (ap (holds_of (λ (u : Version). has_no_attempt_left u.attempt)) (sym last_is) ∙ attempts_left caller (Release block) accepted)) p
+        keeps.disconnected st.now everyone v (
+          is_active-is v.status (ap (holds_of (λ (u : Version). not (is_active u.status))) (sym last_is) ∙ accepted.wrong_status),
+          left_by v.attempt (ap (holds_of (λ (u : Version). has_no_attempt_left u.attempt)) (sym last_is) ∙ attempts_left caller (Release block) accepted),
+        ) p
 
     -- by an accepted request, of a version of the subject
     pub done_kept : (caller : ℕ) (request : Request) → refusal st (Requests caller request) ≡ None → (v : Version) → version_with v.id (record_now st s) ≡ Some v →
         P st.now everyone v → P st.now (carrier_added (carrier_named request) everyone) (done_to s caller st.now everyone request v)
-    done_kept caller (Commands (RegisterCarrier spid)) ok v found p = keeps.joined st.now everyone v spid p
+    done_kept caller (Commands (RegisterCarrier spid)) ok v found p = keeps.joined spid st.now everyone v p
     done_kept caller (Commands (OldProviderCreate tn old_provider new_provider due authorized)) ok v found p =
         either st.now everyone v p (subject_eq s (Number tn) && lacks_old_create old_provider new_provider v) (with_old_create authorized st.now v)
         (λ lacks. old_create_kept st.now everyone v p authorized (awaits lacks))
@@ -292,7 +306,7 @@ module _ {P : ℕ → List ℕ → Version → Type 0} (keeps : MovesKeep P) whe
         awaits lacks = and_first (awaits_creates v.status) _ (and_first _ _ (and_second (subject_eq s (Number tn)) (lacks_old_create old_provider new_provider v) lacks))
     done_kept caller (Commands (NewProviderCreate tn old_provider new_provider due lrn cic)) ok v found p =
         either st.now everyone v p (subject_eq s (Number tn) && lacks_new_create old_provider new_provider v) (with_new_create (record { lrn = lrn; cic = cic }) st.now v)
-        (λ lacks. keeps.new_create st.now everyone v (record { lrn = lrn; cic = cic }) (awaits lacks) p)
+        (λ lacks. keeps.new_create (record { lrn = lrn; cic = cic }) st.now everyone v (awaits lacks) p)
       where
         awaits : (subject_eq s (Number tn) && lacks_new_create old_provider new_provider v) ≡ true → awaits_creates v.status ≡ true
         awaits lacks = and_first (awaits_creates v.status) _ (and_first _ _ (and_second (subject_eq s (Number tn)) (lacks_new_create old_provider new_provider v) lacks))
@@ -312,8 +326,8 @@ module _ {P : ℕ → List ℕ → Version → Type 0} (keeps : MovesKeep P) whe
         go : (r : Request) → is_nonempty everyone ≡ true → id_among s from (makes r (record_now st)) ≡ Some id → P st.now (carrier_added (carrier_named r) everyone) (made_version id caller st.now everyone donor r)
         go (Commands (OldProviderCreate tn old_provider new_provider due true)) some is_made = keeps.made_old st.now everyone id old_provider new_provider due some
         go (Commands (OldProviderCreate tn old_provider new_provider due false)) some is_made =
-            keeps.conflict st.now everyone (record (blank_version id old_provider new_provider due st.now) { old_at = Some st.now }) true refl (keeps.made_old st.now everyone id old_provider new_provider due some)
-        go (Commands (NewProviderCreate tn old_provider new_provider due lrn cic)) some is_made = keeps.made_new st.now everyone id old_provider new_provider due (record { lrn = lrn; cic = cic }) some
-        go (Commands (Donate block used lrn cic)) some is_made = keeps.made_sent st.now everyone id caller caller st.now (record { lrn = lrn; cic = cic }) true some
-        go (Commands (Assign block holder lrn cic)) some is_made = keeps.made_sent st.now everyone id (unwrap_or donor 0) holder st.now (record { lrn = lrn; cic = cic }) false some
+            keeps.conflict true st.now everyone (record (blank_version id old_provider new_provider due st.now) { old_at = Some st.now }) refl (keeps.made_old st.now everyone id old_provider new_provider due some)
+        go (Commands (NewProviderCreate tn old_provider new_provider due lrn cic)) some is_made = keeps.made_new (record { lrn = lrn; cic = cic }) st.now everyone id old_provider new_provider due some
+        go (Commands (Donate block used lrn cic)) some is_made = keeps.made_sent (record { lrn = lrn; cic = cic }) true st.now everyone id caller caller st.now some
+        go (Commands (Assign block holder lrn cic)) some is_made = keeps.made_sent (record { lrn = lrn; cic = cic }) false st.now everyone id (unwrap_or donor 0) holder st.now some
         go _ some is_made = cc
