@@ -1,47 +1,21 @@
 -- What each move keeps, every version of every record has.
-use Rattle.std.proofs.Common.{◌≡◌, ℕ, suc, Bool, true, false, cond, not, ◌&&◌, ◌||◌, List, [], ◌∷◌, map, Option, Some, None, refl, ap, ◌∙◌, arith}
-use Rattle.std.specs.Prelude.{◌==◌, find, if◌then◌else◌}
+use Rattle.std.proofs.Common.{◌≡◌, ℕ, suc, Bool, true, false, not, ◌&&◌, List, [], ◌∷◌, map, Option, Some, None, refl, arith}
+use Rattle.std.specs.Prelude.{◌==◌, if◌then◌else◌}
 use Rattle.std.specs.List.{AllByRecursion}
-use Rattle.std.proofs.lemmas.Bool.Decides.{nat_tests}
 use Rattle.numbers.specs.Subjects.{Subject}
 use Rattle.meaning.specs.Statuses.{Old}
 use Rattle.meaning.specs.Windows.{Windows}
 use Rattle.meaning.specs.Versions.{Version, Record, in_force, version_with}
 use Rattle.meaning.specs.Changes.{enters, changed_at, retired}
-use Rattle.meaning.specs.Concerns.{has_id}
 use Rattle.meaning.specs.Judge.{judge, judged_version}
 use Rattle.meaning.specs.History.{Entry, effect, replay, makes, made_by, made_version, with_made, done_to, next_after, id_among, carrier_named, carrier_added, donor_of, assigned_block}
 use Rattle.meaning.specs.Reading.{State, record_now}
 use Rattle.meaning.specs.Machine.{IsHistory}
-use Rattle.meaning.proofs.Ids.{AreGiven}
+use Rattle.meaning.proofs.Ids.{all_found}
 use Rattle.meaning.proofs.Entered.{given_now}
 use Rattle.meaning.proofs.Lists.{each, each_two, found_has}
 use Rattle.meaning.proofs.Kept.{record_after, kept}
 use Rattle.meaning.proofs.Moves.{MovesKeep, judged_kept, done_kept, made_kept}
-
--- ---- each found by its id
-
--- each version is the one that is found by its id
-abbrev AreFound : List Version → List Version → Type 0
-AreFound whole vs = AllByRecursion (λ v. find (λ u. u.id == v.id) whole ≡ Some v) vs
-
-found_more : (u : Version) (whole vs : List Version) → has_id u.id vs ≡ false → AreFound whole vs → AreFound (u ∷ whole) vs
-found_more u whole [] none found = tt
-found_more u whole (v ∷ vs) none found = go (λ e. found_more u whole vs e found.1) (v.id == u.id) refl none
-  where
-    turned : (v.id == u.id) ≡ false → (u.id == v.id) ≡ false
-    turned e = grind (arith, nat_tests)
-
-    go : (has_id u.id vs ≡ false → AreFound (u ∷ whole) vs) → (b : Bool) → (v.id == u.id) ≡ b → (b || has_id u.id vs) ≡ false → AreFound (u ∷ whole) (v ∷ vs)
-    go later true e f = cc
-    go later false e f = (ap (λ b. cond b (Some u) (find (λ x. x.id == v.id) whole)) (turned e) ∙ found.0, later f)
-
-all_found : (made : List Subject) (s : Subject) (vs : List Version) → AreGiven made s vs → AreFound vs vs
-all_found made s [] given = tt
-all_found made s (v ∷ vs) given = (
-  ap (λ b. cond b (Some v) (find (λ x. x.id == v.id) vs)) (let same : (v.id == v.id) ≡ true = grind (arith, nat_tests) in same),
-  found_more v vs vs given.1 (all_found made s vs given.2),
-)
 
 -- ---- records
 

@@ -93,6 +93,10 @@ found-among test (y ∷ ys) x found = go (λ e. found-among test ys x e) (test y
 
 -- ---- of each of them
 
+pub everywhere : {A : Type 0} {P : A → Type 0} → ((x : A) → P x) → (xs : List A) → AllByRecursion P xs
+everywhere step [] = tt
+everywhere step (x ∷ xs) = (step x, everywhere step xs)
+
 pub each : {A : Type 0} {P Q : A → Type 0} → ((x : A) → P x → Q x) → (xs : List A) → AllByRecursion P xs → AllByRecursion Q xs
 each step [] all = tt
 each step (x ∷ xs) all = (step x all.0, each step xs all.1)

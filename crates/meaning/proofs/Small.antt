@@ -32,6 +32,9 @@ pub or_second : (b c : Bool) → (b || c) ≡ false → c ≡ false
 or_second true c e = cc
 or_second false c e = e
 
+pub neither : (b c : Bool) → (b || c) ≡ false → (b ≡ false) × (c ≡ false)
+neither b c e = (or_first b c e, or_second b c e)
+
 pub or_true : (b : Bool) → (b || true) ≡ true
 or_true true = refl
 or_true false = refl
