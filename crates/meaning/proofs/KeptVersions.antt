@@ -15,11 +15,11 @@ use Rattle.meaning.proofs.Ids.{all_found}
 use Rattle.meaning.proofs.Entered.{given_now}
 use Rattle.meaning.proofs.Lists.{each, each_two, found_has}
 use Rattle.meaning.proofs.Kept.{record_after, kept}
-use Rattle.meaning.proofs.Moves.{MovesKeep, judged_kept, done_kept, made_kept}
+use Rattle.meaning.proofs.Moves.{Property, MovesKeep, judged_kept, done_kept, made_kept}
 
 -- ---- records
 
-module _ {P : ℕ → List ℕ → Version → Type 0} (keeps : MovesKeep P) where
+module _ {P : Property} (keeps : MovesKeep P) where
   abbrev AllKept : ℕ → Record → Type 0
   AllKept m r = AllByRecursion (P m r.carriers) r.versions
 

@@ -13,7 +13,7 @@ use Rattle.meaning.specs.declared.words.Side.TheVariants.{OldProvider, NewProvid
 use Rattle.meaning.specs.Statuses.{Status, Pending, Conflict, CancelPending, Sending, Active, PartialFailure, Failed, DisconnectPending, Old, Canceled}
 use Rattle.meaning.specs.Windows.{Windows}
 use Rattle.meaning.specs.Sound.{NoneInForce, AreSound, is_block}
-use Rattle.meaning.specs.Versions.{Version, in_force, is_among, with_number, first_of_versions, last_version, version_with}
+use Rattle.meaning.specs.Versions.{Version, in_force, in_force_status, is_among, with_number, first_of_versions, last_version, version_with}
 use Rattle.meaning.specs.Changes.{enters, sent, closed_with, outcome_at_end, nobody_is_missing, completed, acknowledged_by, acknowledged_broadcast, joined_by}
 use Rattle.meaning.specs.Conditions.{limit, holds_of, can_activate, can_cancel, is_pending, is_conflict, is_cancel_pending, is_active, lacks_concurrence, has_no_attempt_left}
 use Rattle.meaning.specs.Content.{is_nonempty}
@@ -53,57 +53,90 @@ awaits_answers (Sending action) = true
 awaits_answers PartialFailure = true
 awaits_answers _ = false
 
--- ---- the moves
+-- ---- when a move comes
 
-abbrev pub HasAttemptLeft : Version → Type 0
-HasAttemptLeft v = v.attempt + 1 < limit
+-- the version has a status of these
+abbrev pub IsIn : (Status → Bool) → List ℕ → Version → Type 0
+IsIn test cs v = test v.status ≡ true
 
--- it failed before, or is pending and has the new provider's create
-abbrev pub MayBeActivated : Version → Type 0
-MayBeActivated v = (v.status ≡ Failed) ⊎ ((v.status ≡ Pending) × (is_some v.new_at ≡ true))
+abbrev pub Sends : Action → List ℕ → Version → Type 0
+Sends action cs v = v.status ≡ Sending action
+
+-- it failed before, or is pending and has the new provider's create, and an attempt is left
+abbrev pub MayActivate : List ℕ → Version → Type 0
+MayActivate cs v =
+    ((v.status ≡ Failed) ⊎ ((v.status ≡ Pending) × (is_some v.new_at ≡ true)))
+    × (v.attempt + 1 < limit)
+
+-- it is active, and an attempt is left
+abbrev pub MayDisconnect : List ℕ → Version → Type 0
+MayDisconnect cs v = (v.status ≡ Active) × (v.attempt + 1 < limit)
 
 -- one more carrier has acknowledged an attempt
 abbrev pub answered_by : ℕ → ℕ → Version → Version
 answered_by c attempt v = record v { broadcasts = map (acknowledged_broadcast c attempt) v.broadcasts }
 
--- P is of a minute, the carriers that there are and a version. Where the version is so, what becomes of it has P again
-abbrev pub Move : (ℕ → List ℕ → Version → Type 0) → (List ℕ → Version → Type 0) → (ℕ → List ℕ → Version → Version) → Type 0
-Move P when becomes = (m : ℕ) (cs : List ℕ) (v : Version) → when cs v → P m cs v → P m cs (becomes m cs v)
+-- a carrier acknowledges, and somebody is still missing or nothing waits for the last one
+abbrev pub MayAnswer : (c attempt : ℕ) → List ℕ → Version → Type 0
+MayAnswer c attempt cs v =
+    (is_among c cs ≡ true)
+    × (awaits_answers v.status ≡ true → nobody_is_missing (answered_by c attempt v).broadcasts ≡ false)
+
+-- ---- the moves
+
+-- a property of a minute, the carriers that there are and a version
+abbrev pub Property : Type 1
+Property = ℕ → List ℕ → Version → Type 0
+
+-- where the version is so, what becomes of it has P again
+abbrev pub Move : Property → (List ℕ → Version → Type 0) → (ℕ → List ℕ → Version → Version) → Type 0
+Move P when becomes =
+    (m : ℕ) (cs : List ℕ) (v : Version) → when cs v → P m cs v → P m cs (becomes m cs v)
 
 -- a version that is made has P; somebody is a carrier, since a request made it
-abbrev pub Makes : (ℕ → List ℕ → Version → Type 0) → (ℕ → List ℕ → Version → Version) → Type 0
-Makes P becomes = (m : ℕ) (cs : List ℕ) (id old_provider new_provider due : ℕ) → is_nonempty cs ≡ true → P m cs (becomes m cs (blank_version id old_provider new_provider due m))
+abbrev pub Makes : Property → (ℕ → List ℕ → Version → Version) → Type 0
+Makes P becomes =
+    (m : ℕ) (cs : List ℕ) (id old_provider new_provider due : ℕ) → is_nonempty cs ≡ true →
+    P m cs (becomes m cs (blank_version id old_provider new_provider due m))
 
 -- each move keeps P
-pub record MovesKeep (P : ℕ → List ℕ → Version → Type 0) : Type 0 where
+pub record MovesKeep (P : Property) : Type 0 where
   -- time goes by, and a carrier registers
   pub later : (m n : ℕ) (cs : List ℕ) (v : Version) → m ≤ n → P m cs v → P n cs v
   pub joined : (c m : ℕ) (cs : List ℕ) (v : Version) → P m cs v → P m (with_number c cs) (joined_by c v)
   -- a version is made: by a create, and by a donation or an assignment, which send it
   pub made_old : Makes P (λ m cs b. record b { old_at = Some m })
   pub made_new : (routing : Routing) → Makes P (λ m cs b. record b { new_at = Some m; routing = Some routing })
-  pub made_sent : (routing : Routing) (protective : Bool) → Makes P (λ m cs b. sent Create cs m (record b { routing = Some routing; protective = protective }))
+  pub made_sent : (routing : Routing) (protective : Bool) →
+      Makes P (λ m cs b. sent Create cs m (record b { routing = Some routing; protective = protective }))
   -- a second create comes
-  pub old_create : Move P (λ cs v. awaits_creates v.status ≡ true) (λ m cs v. record v { old_at = Some m })
-  pub new_create : (routing : Routing) → Move P (λ cs v. awaits_creates v.status ≡ true) (λ m cs v. record v { new_at = Some m; routing = Some routing })
+  pub old_create : Move P (IsIn awaits_creates) (λ m cs v. record v { old_at = Some m })
+  pub new_create : (routing : Routing) →
+      Move P (IsIn awaits_creates) (λ m cs v. record v { new_at = Some m; routing = Some routing })
   -- it enters a status at once
-  pub pending : Move P (λ cs v. is_before_sending v.status ≡ true) (λ m cs v. enters Pending m v)
-  pub conflict : (spent : Bool) → Move P (λ cs v. is_before_sending v.status ≡ true) (λ m cs v. record (enters Conflict m v) { spent = spent })
-  pub cancel_pending : (by : Side) → Move P (λ cs v. is_before_sending v.status ≡ true) (λ m cs v. enters (CancelPending by) m v)
-  pub canceled : Move P (λ cs v. is_unserved v.status ≡ true) (λ m cs v. enters Canceled m v)
-  pub active : Move P (λ cs v. is_planned v.status ≡ true) (λ m cs v. enters Active m v)
-  pub planned : (release : ℕ) → Move P (λ cs v. (v.status ≡ Active) × HasAttemptLeft v) (λ m cs v. enters (DisconnectPending release) m v)
-  pub old : Move P (λ cs v. in_force v ≡ true) (λ m cs v. enters Old m v)
+  pub pending : Move P (IsIn is_before_sending) (λ m cs v. enters Pending m v)
+  pub conflict : (spent : Bool) →
+      Move P (IsIn is_before_sending) (λ m cs v. record (enters Conflict m v) { spent = spent })
+  pub cancel_pending : (by : Side) → Move P (IsIn is_before_sending) (λ m cs v. enters (CancelPending by) m v)
+  pub canceled : Move P (IsIn is_unserved) (λ m cs v. enters Canceled m v)
+  pub active : Move P (IsIn is_planned) (λ m cs v. enters Active m v)
+  pub planned : (release : ℕ) → Move P MayDisconnect (λ m cs v. enters (DisconnectPending release) m v)
+  pub old : Move P (IsIn in_force_status) (λ m cs v. enters Old m v)
   -- it is sent: by an activation, by a disconnect or a block's release, and when its release minute comes
-  pub activated : Move P (λ cs v. MayBeActivated v × HasAttemptLeft v) (λ m cs v. sent Create cs m v)
-  pub disconnected : Move P (λ cs v. (v.status ≡ Active) × HasAttemptLeft v) (λ m cs v. sent Delete cs m v)
-  pub released : Move P (λ cs v. is_planned v.status ≡ true) (λ m cs v. sent Delete cs m v)
+  pub activated : Move P MayActivate (λ m cs v. sent Create cs m v)
+  pub disconnected : Move P MayDisconnect (λ m cs v. sent Delete cs m v)
+  pub released : Move P (IsIn is_planned) (λ m cs v. sent Delete cs m v)
   -- its window ends
-  pub ended : (action : Action) → Move P (λ cs v. v.status ≡ Sending action) (λ m cs v. closed_with action (outcome_at_end v.broadcasts) m v)
-  -- a carrier acknowledges, and somebody is still missing or nothing waits for it; or it was the last one
-  pub answered : (c attempt : ℕ) → Move P (λ cs v. (is_among c cs ≡ true) × (awaits_answers v.status ≡ true → nobody_is_missing (answered_by c attempt v).broadcasts ≡ false)) (λ m cs v. answered_by c attempt v)
-  pub closed : (c attempt : ℕ) (action : Action) → Move P (λ cs v. (is_among c cs ≡ true) × (v.status ≡ Sending action)) (λ m cs v. closed_with action AllAcknowledged m (answered_by c attempt v))
-  pub whole : (c attempt : ℕ) → Move P (λ cs v. (is_among c cs ≡ true) × (v.status ≡ PartialFailure)) (λ m cs v. enters Active m (answered_by c attempt v))
+  pub ended : (action : Action) →
+      Move P (Sends action) (λ m cs v. closed_with action (outcome_at_end v.broadcasts) m v)
+  -- a carrier acknowledges, and then the last one, which closes the broadcast or makes a partial failure whole
+  pub answered : (c attempt : ℕ) → Move P (MayAnswer c attempt) (λ m cs v. answered_by c attempt v)
+  pub closed : (c attempt : ℕ) (action : Action) →
+      Move P (λ cs v. (is_among c cs ≡ true) × Sends action cs v)
+      (λ m cs v. closed_with action AllAcknowledged m (answered_by c attempt v))
+  pub whole : (c attempt : ℕ) →
+      Move P (λ cs v. (is_among c cs ≡ true) × (v.status ≡ PartialFailure))
+      (λ m cs v. enters Active m (answered_by c attempt v))
 
 -- ---- what the table says
 
@@ -184,7 +217,7 @@ by_carrier st caller id attempt ok = denied (is_among caller (carriers st.histor
 
 -- ---- what is kept
 
-module _ {P : ℕ → List ℕ → Version → Type 0} (keeps : MovesKeep P) where
+module _ {P : Property} (keeps : MovesKeep P) where
   -- by a minute
   pub judged_kept : (w : Windows) (cs : List ℕ) (m : ℕ) (v : Version) → P m cs v → P m cs (judged_version w cs m v)
   unfolding judged_version
