@@ -11,13 +11,11 @@ use Rattle.meaning.specs.Judge.{judge, judged_version}
 use Rattle.meaning.specs.History.{Entry, effect, replay, makes, made_by, made_version, with_made, done_to, next_after, id_among, carrier_named, carrier_added, donor_of, assigned_block}
 use Rattle.meaning.specs.Reading.{State, record_now}
 use Rattle.meaning.specs.Machine.{IsHistory}
-use Rattle.meaning.proofs.Ids.{all_found}
+use Rattle.meaning.proofs.Ids.{given_apart, all_found}
 use Rattle.meaning.proofs.Entered.{given_now}
 use Rattle.meaning.proofs.Lists.{each, each_two, found_has}
 use Rattle.meaning.proofs.Kept.{record_after, kept}
 use Rattle.meaning.proofs.Moves.{Property, MovesKeep, judged_kept, done_kept, made_kept}
-
--- ---- records
 
 module _ {P : Property} (keeps : MovesKeep P) where
   abbrev AllKept : ℕ → Record → Type 0
@@ -56,7 +54,7 @@ module _ {P : Property} (keeps : MovesKeep P) where
         let change : Version → Version = done_to s e.caller e.minute r.carriers e.request in
         with_new cs (λ id. made_version id e.caller e.minute r.carriers donor e.request) (changed_at e.minute change r.versions)
         (changed_kept e.minute cs change r.versions
-        (each_two (λ v found p. done_kept keeps st is.3 s e.caller e.request is.2 v found p) r.versions (all_found (made_by w h) s r.versions (given_now st is.3 s)) all))
+        (each_two (λ v found p. done_kept keeps st is.3 s e.caller e.request is.2 v found p) r.versions (all_found r.versions (given_apart (made_by w h) s r.versions (given_now st is.3 s))) all))
         (id_among s (next_after (made_by w h)) (makes e.request (record_now st)))
         (λ id made. made_kept keeps st is.3 s e.caller donor (next_after (made_by w h)) id e.request is.2 made)
       where

@@ -1,6 +1,7 @@
 -- What may become of a version, move by move. Whatever an accepted request or a minute makes of a version is one of the moves.
 use Rattle.std.proofs.Common.{◌≡◌, ℕ, ◌+◌, ◌<◌, ◌≤◌, ◌⊎◌, inl, inr, Bool, true, false, cond, not, ◌&&◌, ◌||◌, List, [], ◌∷◌, map, Option, Some, None, refl, ap, sym, ◌∙◌, subst, arith, is_some}
 use Rattle.std.specs.Prelude.{◌==◌, nat_lt, find, unwrap_or, if◌then◌else◌}
+use Rattle.std.specs.List.{AllByRecursion}
 use Rattle.std.proofs.lemmas.Bool.Decides.{nat_tests}
 use Rattle.numbers.specs.Subjects.{Subject, Number, Block, subject_eq}
 use Rattle.numbers.specs.Routings.{Routing}
@@ -22,7 +23,8 @@ use Rattle.meaning.specs.History.{Request, Commands, Acknowledges, carriers, car
 use Rattle.meaning.specs.Reading.{State, SubjectVersion, record_now, version_of_id, is_carrier}
 use Rattle.meaning.specs.Refusals.{Requests, refusal, tests, is_full_of_carriers, attempts_too_often}
 use Rattle.meaning.specs.Machine.{IsHistory}
-use Rattle.meaning.proofs.Small.{true-false, denied, and_first, and_second, or_first, or_second, some_is}
+use Rattle.meaning.proofs.Small.{true-false, denied, and_first, and_second, or_first, or_second}
+use Rattle.meaning.proofs.Lists.{found_has}
 use Rattle.meaning.proofs.Accepted.{AcceptedCommand, accepted_command, none_holds}
 use Rattle.meaning.proofs.Ids.{same_id, same_subject}
 use Rattle.meaning.proofs.Entries.{named_test, is_active-is}
@@ -174,17 +176,13 @@ last_in_force : (s : Subject) (vs : List Version) (v : Version) → AreSound s v
 last_in_force s [] v sound block found force = cc
 last_in_force s (u ∷ us) v sound block found force = go (u.id == v.id) found
   where
-    none : (xs : List Version) → NoneInForce xs → find (λ x. x.id == v.id) xs ≡ Some v → in_force v ≡ false
-    none [] out e = cc
-    none (x ∷ xs) out e = pick (λ rest. none xs out.1 rest) (x.id == v.id) e
-      where
-        pick : (find (λ y. y.id == v.id) xs ≡ Some v → in_force v ≡ false) → (b : Bool) → cond b (Some x) (find (λ y. y.id == v.id) xs) ≡ Some v → in_force v ≡ false
-        pick rest true f = ap in_force (sym (some_is x v f)) ∙ out.0
-        pick rest false f = rest f
+    none : (xs : List Version) → NoneInForce xs → AllByRecursion (λ x. in_force x ≡ false) xs
+    none [] out = tt
+    none (x ∷ xs) out = (out.0, none xs out.1)
 
     go : (b : Bool) → cond b (Some u) (find (λ x. x.id == v.id) us) ≡ Some v → Some u ≡ Some v
     go true e = e
-    go false e = true-false (in_force v) force (none us (sound.3 block).1 e)
+    go false e = true-false (in_force v) force (found_has (λ x. in_force x ≡ false) (λ x. x.id == v.id) us v (none us (sound.3 block).1) e)
 
 -- whoever makes a version names a carrier, or is one
 some_carrier : (c : ℕ) (cs : List ℕ) → is_among c cs ≡ true → is_nonempty cs ≡ true
