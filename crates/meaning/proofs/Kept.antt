@@ -8,7 +8,8 @@ use Rattle.meaning.specs.History.{Entry, effect, after, meaning, replay, makes, 
 use Rattle.meaning.specs.Machine.{IsHistory}
 
 -- a history is one at every later minute
-pub later-history : (w : Windows) (h : List Entry) (now m : ℕ) → now ≤ m → IsHistory w h now → IsHistory w h m
+pub later-history : (w : Windows) (h : List Entry) (now m : ℕ) → now ≤ m → IsHistory w h now →
+    IsHistory w h m
 later-history w [] now m up is = tt
 later-history w (e ∷ h) now m up is = (let before : e.minute ≤ now = is.0 in omega arith, is.1, is.2, is.3)
 
@@ -20,19 +21,23 @@ record_after w s h e =
 -- P is of a history, a minute that is not before its last entry, and the record of s then. Each step may cite whatever is known of the history so far
 pub record IsKept (w : Windows) (s : Subject) (P : List Entry → ℕ → Record → Type 0) : Type 0 where
   pub first : (m : ℕ) → P [] m nothing
-  pub minute : (h : List Entry) (m : ℕ) → IsHistory w h m → P h m (replay w s h m) → P h (suc m) (judge w (suc m) (replay w s h m))
-  pub entry : (h : List Entry) (e : Entry) → IsHistory w (e ∷ h) e.minute → P h e.minute (replay w s h e.minute) → P (e ∷ h) e.minute (record_after w s h e)
+  pub minute : (h : List Entry) (m : ℕ) → IsHistory w h m → P h m (replay w s h m) →
+      P h (suc m) (judge w (suc m) (replay w s h m))
+  pub entry : (h : List Entry) (e : Entry) → IsHistory w (e ∷ h) e.minute →
+      P h e.minute (replay w s h e.minute) → P (e ∷ h) e.minute (record_after w s h e)
 
 module _ (w : Windows) (s : Subject) (P : List Entry → ℕ → Record → Type 0) (keeps : IsKept w s P) where
   moved : (h : List Entry) (a b : ℕ) (x y : Record) → a ≡ b → x ≡ y → P h a x → P h b y
   moved h a b x y e f is = subst (λ k. P h k y) e (subst (λ r. P h a r) f is)
 
   -- the record so many minutes after the entry
-  minutes_after : (h : List Entry) (e : Entry) (n : ℕ) → replay w s (e ∷ h) (e.minute + n) ≡ judged_for w e.minute n (record_after w s h e)
+  minutes_after : (h : List Entry) (e : Entry) (n : ℕ) →
+      replay w s (e ∷ h) (e.minute + n) ≡ judged_for w e.minute n (record_after w s h e)
   unfolding meaning after
   minutes_after h e n = ap (λ k. judged_for w e.minute k (record_after w s h e)) (let same : (e.minute + n) - e.minute ≡ n = omega arith in same)
 
-  kept_after : (h : List Entry) (e : Entry) → IsHistory w (e ∷ h) e.minute → P (e ∷ h) e.minute (record_after w s h e) → (n : ℕ) →
+  kept_after : (h : List Entry) (e : Entry) → IsHistory w (e ∷ h) e.minute →
+      P (e ∷ h) e.minute (record_after w s h e) → (n : ℕ) →
       P (e ∷ h) (e.minute + n) (replay w s (e ∷ h) (e.minute + n))
   unfolding judged_for
   kept_after h e is now zero =

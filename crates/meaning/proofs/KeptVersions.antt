@@ -21,7 +21,8 @@ module _ {P : Property} (keeps : MovesKeep P) where
   abbrev AllKept : ℕ → Record → Type 0
   AllKept m r = AllByRecursion (P m r.carriers) r.versions
 
-  retired_kept : (b : Bool) (m : ℕ) (cs : List ℕ) (vs : List Version) → AllByRecursion (P m cs) vs → AllByRecursion (P m cs) (map (retired b m) vs)
+  retired_kept : (b : Bool) (m : ℕ) (cs : List ℕ) (vs : List Version) → AllByRecursion (P m cs) vs →
+      AllByRecursion (P m cs) (map (retired b m) vs)
   retired_kept b m cs [] all = tt
   retired_kept b m cs (v ∷ vs) all = (go b (in_force v) refl, retired_kept b m cs vs all.1)
     where
@@ -31,20 +32,24 @@ module _ {P : Property} (keeps : MovesKeep P) where
       go false y e = all.0
 
   -- a change that is right for each of them
-  changed_kept : (m : ℕ) (cs : List ℕ) (change : Version → Version) (vs : List Version) → AllByRecursion (λ v. P m cs (change v)) vs → AllByRecursion (P m cs) (changed_at m change vs)
+  changed_kept : (m : ℕ) (cs : List ℕ) (change : Version → Version) (vs : List Version) →
+      AllByRecursion (λ v. P m cs (change v)) vs → AllByRecursion (P m cs) (changed_at m change vs)
   changed_kept m cs change [] all = tt
   changed_kept m cs change (v ∷ vs) all = (all.0, retired_kept (not (in_force v) && in_force (change v)) m cs (changed_at m change vs) (changed_kept m cs change vs all.1))
 
   -- a minute
-  pub judge_kept : (w : Windows) (m : ℕ) (r : Record) → AllByRecursion (P m r.carriers) r.versions → AllByRecursion (P m (judge w m r).carriers) (judge w m r).versions
+  pub judge_kept : (w : Windows) (m : ℕ) (r : Record) → AllByRecursion (P m r.carriers) r.versions →
+      AllByRecursion (P m (judge w m r).carriers) (judge w m r).versions
   unfolding judge
   judge_kept w m r all = changed_kept m r.carriers (judged_version w r.carriers m) r.versions (each (λ v p. judged_kept keeps w r.carriers m v p) r.versions all)
 
   module _ (w : Windows) (s : Subject) where
-    minute_kept : (h : List Entry) (m : ℕ) → IsHistory w h m → AllKept m (replay w s h m) → AllKept (suc m) (judge w (suc m) (replay w s h m))
+    minute_kept : (h : List Entry) (m : ℕ) → IsHistory w h m → AllKept m (replay w s h m) →
+        AllKept (suc m) (judge w (suc m) (replay w s h m))
     minute_kept h m is all = judge_kept w (suc m) (replay w s h m) (each (λ v p. keeps.later m (suc m) (replay w s h m).carriers v (omega arith) p) (replay w s h m).versions all)
 
-    entry_kept : (h : List Entry) (e : Entry) → IsHistory w (e ∷ h) e.minute → AllKept e.minute (replay w s h e.minute) → AllKept e.minute (record_after w s h e)
+    entry_kept : (h : List Entry) (e : Entry) → IsHistory w (e ∷ h) e.minute →
+        AllKept e.minute (replay w s h e.minute) → AllKept e.minute (record_after w s h e)
     unfolding effect
     entry_kept h e is all =
         let st : State = record { windows = w; history = h; now = e.minute } in
@@ -58,15 +63,19 @@ module _ {P : Property} (keeps : MovesKeep P) where
         (id_among s (next_after (made_by w h)) (makes e.request (record_now st)))
         (λ id made. made_kept keeps st is.3 s e.caller donor (next_after (made_by w h)) id e.request is.2 made)
       where
-        with_new : (cs : List ℕ) (made : ℕ → Version) (vs : List Version) → AllByRecursion (P e.minute cs) vs →
+        with_new : (cs : List ℕ) (made : ℕ → Version) (vs : List Version) →
+            AllByRecursion (P e.minute cs) vs →
             (o : Option ℕ) → ((id : ℕ) → o ≡ Some id → P e.minute cs (made id)) → AllByRecursion (P e.minute cs) (with_made o made vs)
         with_new cs made vs olds None new = olds
         with_new cs made vs olds (Some id) new = (new id refl, olds)
 
     -- every version of every record of every history
-    pub versions_kept : (h : List Entry) (m : ℕ) → IsHistory w h m → AllByRecursion (P m (replay w s h m).carriers) (replay w s h m).versions
+    pub versions_kept : (h : List Entry) (m : ℕ) → IsHistory w h m →
+        AllByRecursion (P m (replay w s h m).carriers) (replay w s h m).versions
     versions_kept = kept w s (λ h m r. AllKept m r) (record { first = λ m. tt; minute = minute_kept; entry = entry_kept })
 
   -- of this minute
-  pub version_now : (st : State) → IsHistory st.windows st.history st.now → (s : Subject) (id : ℕ) (v : Version) → version_with id (record_now st s) ≡ Some v → P st.now (record_now st s).carriers v
+  pub version_now : (st : State) → IsHistory st.windows st.history st.now →
+      (s : Subject) (id : ℕ) (v : Version) → version_with id (record_now st s) ≡ Some v →
+      P st.now (record_now st s).carriers v
   version_now st is s id v found = found_has (P st.now (record_now st s).carriers) (λ (u : Version). u.id == id) (record_now st s).versions v (versions_kept st.windows s st.history st.now is) found

@@ -108,7 +108,8 @@ pub record MovesKeep (P : Property) : Type 0 where
   pub joined : (c m : ℕ) (cs : List ℕ) (v : Version) → P m cs v → P m (with_number c cs) (joined_by c v)
   -- a version is made: by a create, and by a donation or an assignment, which send it
   pub made_old : Makes P (λ m cs b. record b { old_at = Some m })
-  pub made_new : (routing : Routing) → Makes P (λ m cs b. record b { new_at = Some m; routing = Some routing })
+  pub made_new : (routing : Routing) →
+      Makes P (λ m cs b. record b { new_at = Some m; routing = Some routing })
   pub made_sent : (routing : Routing) (protective : Bool) →
       Makes P (λ m cs b. sent Create cs m (record b { routing = Some routing; protective = protective }))
   -- a second create comes
@@ -119,7 +120,8 @@ pub record MovesKeep (P : Property) : Type 0 where
   pub pending : Move P (IsIn is_before_sending) (λ m cs v. enters Pending m v)
   pub conflict : (spent : Bool) →
       Move P (IsIn is_before_sending) (λ m cs v. record (enters Conflict m v) { spent = spent })
-  pub cancel_pending : (by : Side) → Move P (IsIn is_before_sending) (λ m cs v. enters (CancelPending by) m v)
+  pub cancel_pending : (by : Side) →
+      Move P (IsIn is_before_sending) (λ m cs v. enters (CancelPending by) m v)
   pub canceled : Move P (IsIn is_unserved) (λ m cs v. enters Canceled m v)
   pub active : Move P (IsIn is_planned) (λ m cs v. enters Active m v)
   pub planned : (release : ℕ) → Move P MayDisconnect (λ m cs v. enters (DisconnectPending release) m v)
@@ -142,9 +144,11 @@ pub record MovesKeep (P : Property) : Type 0 where
 
 -- ---- what the table says
 
+-- where the limit's test fails, an attempt is left
 left_by : (attempt : ℕ) → has_no_attempt_left attempt ≡ false → attempt + 1 < limit
 left_by attempt e = grind (arith, nat_tests)
 
+-- a status that passed a command's test
 pending_before : (status : Status) → not (is_pending status) ≡ false → is_before_sending status ≡ true
 pending_before Pending may = refl
 pending_before _ may = cc
@@ -153,7 +157,8 @@ conflict_before : (status : Status) → not (is_conflict status) ≡ false → i
 conflict_before Conflict may = refl
 conflict_before _ may = cc
 
-cancelled_before : (status : Status) → not (is_cancel_pending status) ≡ false → is_unserved status ≡ true
+cancelled_before : (status : Status) → not (is_cancel_pending status) ≡ false →
+    is_unserved status ≡ true
 cancelled_before (CancelPending by) may = refl
 cancelled_before _ may = cc
 
@@ -163,7 +168,8 @@ awaiting_before Conflict awaits = refl
 awaiting_before _ awaits = cc
 
 -- what is activated failed before, or is pending and has the new provider's create
-activated_from : (w : Windows) (now : ℕ) (new_at old_at : Option ℕ) (since : ℕ) (status : Status) → not (can_activate status) ≡ false →
+activated_from : (w : Windows) (now : ℕ) (new_at old_at : Option ℕ) (since : ℕ) (status : Status) →
+    not (can_activate status) ≡ false →
     lacks_concurrence w now status old_at new_at since ≡ false → (status ≡ Failed) ⊎ ((status ≡ Pending) × (is_some new_at ≡ true))
 activated_from w now new_at old_at since Failed may concurred = inl refl
 activated_from w now (Some m) old_at since Pending may concurred = inr (refl, refl)
@@ -171,7 +177,8 @@ activated_from w now None old_at since Pending may concurred = cc
 activated_from w now new_at old_at since _ may concurred = cc
 
 -- of a block's versions only the last is in force
-last_in_force : (s : Subject) (vs : List Version) (v : Version) → AreSound s vs → is_block s ≡ true → find (λ u. u.id == v.id) vs ≡ Some v → in_force v ≡ true →
+last_in_force : (s : Subject) (vs : List Version) (v : Version) → AreSound s vs →
+    is_block s ≡ true → find (λ u. u.id == v.id) vs ≡ Some v → in_force v ≡ true →
     first_of_versions vs ≡ Some v
 last_in_force s [] v sound block found force = cc
 last_in_force s (u ∷ us) v sound block found force = go (u.id == v.id) found
@@ -184,7 +191,6 @@ last_in_force s (u ∷ us) v sound block found force = go (u.id == v.id) found
     go true e = e
     go false e = true-false (in_force v) force (found_has (λ x. in_force x ≡ false) (λ x. x.id == v.id) us v (none us (sound.3 block).1) e)
 
--- whoever makes a version names a carrier, or is one
 some_carrier : (c : ℕ) (cs : List ℕ) → is_among c cs ≡ true → is_nonempty cs ≡ true
 some_carrier c [] is = cc
 some_carrier c (d ∷ ds) is = refl
@@ -193,7 +199,9 @@ itself_known : (b : Bool) → (not false && not b && not (false && true)) ≡ fa
 itself_known true e = refl
 itself_known false e = cc
 
-made_by_carrier : (st : State) (caller : ℕ) (s : Subject) (from id : ℕ) (request : Request) → refusal st (Requests caller request) ≡ None →
+-- whoever makes a version names a carrier, or is one: somebody is a carrier
+made_by_carrier : (st : State) (caller : ℕ) (s : Subject) (from id : ℕ) (request : Request) →
+    refusal st (Requests caller request) ≡ None →
     id_among s from (makes request (record_now st)) ≡ Some id → is_nonempty (carriers st.history) ≡ true
 made_by_carrier st caller s from id (Commands (OldProviderCreate tn old_provider new_provider due authorized)) ok made =
     some_carrier old_provider (carriers st.history) (denied (is_carrier st old_provider)
@@ -209,7 +217,9 @@ made_by_carrier st caller s from id (Commands (Assign block holder lrn cic)) ok 
 made_by_carrier st caller s from id _ ok made = cc
 
 -- an acknowledgement that was accepted is a carrier's
-by_carrier : (st : State) (caller id attempt : ℕ) → refusal st (Requests caller (Acknowledges id attempt)) ≡ None → is_among caller (carriers st.history) ≡ true
+by_carrier : (st : State) (caller id attempt : ℕ) →
+    refusal st (Requests caller (Acknowledges id attempt)) ≡ None →
+    is_among caller (carriers st.history) ≡ true
 unfolding tests
 by_carrier st caller id attempt ok = denied (is_among caller (carriers st.history)) (none_holds (tests st (Requests caller (Acknowledges id attempt))) ok).0
 
@@ -217,7 +227,8 @@ by_carrier st caller id attempt ok = denied (is_among caller (carriers st.histor
 
 module _ {P : Property} (keeps : MovesKeep P) where
   -- by a minute
-  pub judged_kept : (w : Windows) (cs : List ℕ) (m : ℕ) (v : Version) → P m cs v → P m cs (judged_version w cs m v)
+  pub judged_kept : (w : Windows) (cs : List ℕ) (m : ℕ) (v : Version) → P m cs v →
+      P m cs (judged_version w cs m v)
   unfolding judged_version
   judged_kept w cs m v p = go (is_over w m v v.status)
     where
@@ -243,39 +254,47 @@ module _ {P : Property} (keeps : MovesKeep P) where
     acknowledged_kept : (c attempt : ℕ) → is_among c cs ≡ true → P m cs (acknowledged_by c attempt m v)
     acknowledged_kept c attempt among = go (nobody_is_missing (answered_by c attempt v).broadcasts) refl
       where
-        complete : (status : Status) → v.status ≡ status → P m cs (completed status m (answered_by c attempt v))
+        complete : (status : Status) → v.status ≡ status →
+            P m cs (completed status m (answered_by c attempt v))
         complete (Sending action) e = keeps.closed c attempt action m cs v (among, e) p
         complete PartialFailure e = keeps.whole c attempt m cs v (among, e) p
         complete _ e = keeps.answered c attempt m cs v (among, λ awaits. true-false (awaits_answers v.status) awaits (ap awaits_answers e)) p
 
-        go : (b : Bool) → nobody_is_missing (answered_by c attempt v).broadcasts ≡ b → P m cs (if b then completed v.status m (answered_by c attempt v) else answered_by c attempt v)
+        go : (b : Bool) → nobody_is_missing (answered_by c attempt v).broadcasts ≡ b →
+            P m cs (if b then completed v.status m (answered_by c attempt v) else answered_by c attempt v)
         go true e = complete v.status refl
         go false e = keeps.answered c attempt m cs v (among, λ awaits. e) p
 
     -- by a second create
-    old_create_kept : (authorized : Bool) → awaits_creates v.status ≡ true → P m cs (with_old_create authorized m v)
+    old_create_kept : (authorized : Bool) → awaits_creates v.status ≡ true →
+        P m cs (with_old_create authorized m v)
     old_create_kept true awaits = keeps.old_create m cs v awaits p
     old_create_kept false awaits = keeps.conflict true m cs (record v { old_at = Some m }) (awaiting_before v.status awaits) (keeps.old_create m cs v awaits p)
 
-    cancelled_kept : (caller : ℕ) (status : Status) → v.status ≡ status → not (can_cancel status) ≡ false → P m cs (cancelled_by status caller m v)
-    cancelled_kept caller status at may = go status at may
-      where
-        waiting : is_before_sending v.status ≡ true → is_unserved v.status ≡ true → (b : Bool) → P m cs (if b then enters (CancelPending (side_of caller v.old_provider)) m v else enters Canceled m v)
-        waiting before unserved true = keeps.cancel_pending (side_of caller v.old_provider) m cs v before p
-        waiting before unserved false = keeps.canceled m cs v unserved p
+    -- by a cancel
+    waiting_kept : (caller : ℕ) → is_before_sending v.status ≡ true → is_unserved v.status ≡ true → (b : Bool) →
+        P m cs (if b then enters (CancelPending (side_of caller v.old_provider)) m v else enters Canceled m v)
+    waiting_kept caller before unserved true = keeps.cancel_pending (side_of caller v.old_provider) m cs v before p
+    waiting_kept caller before unserved false = keeps.canceled m cs v unserved p
 
-        go : (to : Status) → v.status ≡ to → not (can_cancel to) ≡ false → P m cs (cancelled_by to caller m v)
-        go Pending e is = waiting (ap is_before_sending e) (ap is_unserved e) (has_both_creates v.old_at v.new_at)
-        go Conflict e is = waiting (ap is_before_sending e) (ap is_unserved e) (has_both_creates v.old_at v.new_at)
-        go Failed e is = keeps.canceled m cs v (ap is_unserved e) p
-        go (DisconnectPending release) e is = keeps.active m cs v (ap is_planned e) p
-        go _ e is = cc
+    cancelled_kept : (caller : ℕ) (status : Status) → v.status ≡ status → not (can_cancel status) ≡ false →
+        P m cs (cancelled_by status caller m v)
+    cancelled_kept caller Pending e may =
+        waiting_kept caller (ap is_before_sending e) (ap is_unserved e) (has_both_creates v.old_at v.new_at)
+    cancelled_kept caller Conflict e may =
+        waiting_kept caller (ap is_before_sending e) (ap is_unserved e) (has_both_creates v.old_at v.new_at)
+    cancelled_kept caller Failed e may = keeps.canceled m cs v (ap is_unserved e) p
+    cancelled_kept caller (DisconnectPending release) e may = keeps.active m cs v (ap is_planned e) p
+    cancelled_kept caller _ e may = cc
 
-    disconnected_kept : (release : Option ℕ) → v.status ≡ Active → v.attempt + 1 < limit → P m cs (disconnected release cs m v)
+    -- by a disconnect
+    disconnected_kept : (release : Option ℕ) → v.status ≡ Active → v.attempt + 1 < limit →
+        P m cs (disconnected release cs m v)
     disconnected_kept None active left = keeps.disconnected m cs v (active, left) p
     disconnected_kept (Some release) active left = go (nat_lt m release)
       where
-        go : (b : Bool) → P m cs (if b then enters (DisconnectPending release) m v else sent Delete cs m v)
+        go : (b : Bool) →
+            P m cs (if b then enters (DisconnectPending release) m v else sent Delete cs m v)
         go true = keeps.planned release m cs v (active, left) p
         go false = keeps.disconnected m cs v (active, left) p
 
@@ -286,15 +305,19 @@ module _ {P : Property} (keeps : MovesKeep P) where
     carriers_are : everyone ≡ carriers st.history
     carriers_are = record-carriers st.windows st.history s st.now
 
-    test : (id : ℕ) (v : Version) (is_so : Version → Bool) → version_with id (record_now st s) ≡ Some v →
+    test : (id : ℕ) (v : Version) (is_so : Version → Bool) →
+        version_with id (record_now st s) ≡ Some v →
         holds_of (λ (e : SubjectVersion). is_so e.version) (version_of_id st id) ≡ false → is_so v ≡ false
     test = named_test st s (given_now st is s)
 
-    attempts_left : (caller : ℕ) (c : Command) → AcceptedCommand st caller c → attempts_too_often st caller c ≡ false
+    attempts_left : (caller : ℕ) (c : Command) → AcceptedCommand st caller c →
+        attempts_too_often st caller c ≡ false
     attempts_left caller c accepted = or_second (is_full_of_carriers st caller c) (attempts_too_often st caller c) (or_first (is_full_of_carriers st caller c || attempts_too_often st caller c) _ accepted.full)
 
     -- by a command on the version
-    change_kept : (caller id : ℕ) (c : VersionCommand) → AcceptedCommand st caller (OnVersion id c) → (v : Version) → version_with id (record_now st s) ≡ Some v →
+    change_kept : (caller id : ℕ) (c : VersionCommand) →
+        AcceptedCommand st caller (OnVersion id c) → (v : Version) →
+        version_with id (record_now st s) ≡ Some v →
         P st.now everyone v → P st.now everyone (change_of caller st.now everyone c v)
     change_kept caller id Activate accepted v found p = keeps.activated st.now everyone v (
       activated_from st.windows st.now v.new_at v.old_at v.since v.status (test id v (λ u. not (can_activate u.status)) found accepted.wrong_status)
@@ -313,7 +336,8 @@ module _ {P : Property} (keeps : MovesKeep P) where
         (left_by v.attempt (test id v (λ u. has_no_attempt_left u.attempt) found (attempts_left caller (OnVersion id (Disconnect release)) accepted)))
 
     -- by the release of a block: its last version is active
-    released_kept : (caller block : ℕ) → AcceptedCommand st caller (Release block) → (v : Version) → version_with v.id (record_now st s) ≡ Some v →
+    released_kept : (caller block : ℕ) → AcceptedCommand st caller (Release block) → (v : Version) →
+        version_with v.id (record_now st s) ≡ Some v →
         (subject_eq s (Block block) && in_force v) ≡ true → P st.now everyone v → P st.now everyone (sent Delete everyone st.now v)
     released_kept caller block accepted v found released p =
         let same : s ≡ Block block = sym (same_subject s (Block block) (and_first (subject_eq s (Block block)) (in_force v) released)) in
@@ -326,20 +350,23 @@ module _ {P : Property} (keeps : MovesKeep P) where
         ) p
 
     -- by an accepted request, of a version of the subject
-    pub done_kept : (caller : ℕ) (request : Request) → refusal st (Requests caller request) ≡ None → (v : Version) → version_with v.id (record_now st s) ≡ Some v →
+    pub done_kept : (caller : ℕ) (request : Request) → refusal st (Requests caller request) ≡ None →
+        (v : Version) → version_with v.id (record_now st s) ≡ Some v →
         P st.now everyone v → P st.now (carrier_added (carrier_named request) everyone) (done_to s caller st.now everyone request v)
     done_kept caller (Commands (RegisterCarrier spid)) ok v found p = keeps.joined spid st.now everyone v p
     done_kept caller (Commands (OldProviderCreate tn old_provider new_provider due authorized)) ok v found p =
         either st.now everyone v p (subject_eq s (Number tn) && lacks_old_create old_provider new_provider v) (with_old_create authorized st.now v)
         (λ lacks. old_create_kept st.now everyone v p authorized (awaits lacks))
       where
-        awaits : (subject_eq s (Number tn) && lacks_old_create old_provider new_provider v) ≡ true → awaits_creates v.status ≡ true
+        awaits : (subject_eq s (Number tn) && lacks_old_create old_provider new_provider v) ≡ true →
+            awaits_creates v.status ≡ true
         awaits lacks = and_first (awaits_creates v.status) _ (and_first _ _ (and_second (subject_eq s (Number tn)) (lacks_old_create old_provider new_provider v) lacks))
     done_kept caller (Commands (NewProviderCreate tn old_provider new_provider due lrn cic)) ok v found p =
         either st.now everyone v p (subject_eq s (Number tn) && lacks_new_create old_provider new_provider v) (with_new_create (record { lrn = lrn; cic = cic }) st.now v)
         (λ lacks. keeps.new_create (record { lrn = lrn; cic = cic }) st.now everyone v (awaits lacks) p)
       where
-        awaits : (subject_eq s (Number tn) && lacks_new_create old_provider new_provider v) ≡ true → awaits_creates v.status ≡ true
+        awaits : (subject_eq s (Number tn) && lacks_new_create old_provider new_provider v) ≡ true →
+            awaits_creates v.status ≡ true
         awaits lacks = and_first (awaits_creates v.status) _ (and_first _ _ (and_second (subject_eq s (Number tn)) (lacks_new_create old_provider new_provider v) lacks))
     done_kept caller (Commands (OnVersion id c)) ok v found p = either st.now everyone v p (v.id == id) (change_of caller st.now everyone c v)
         (λ named. change_kept caller id c (accepted_command st caller (OnVersion id c) ok) v (subst (λ k. version_with k (record_now st s) ≡ Some v) (same_id v.id id named) found) p)
@@ -350,11 +377,14 @@ module _ {P : Property} (keeps : MovesKeep P) where
     done_kept caller _ ok v found p = p
 
     -- by the version that a request makes
-    pub made_kept : (caller : ℕ) (donor : Option ℕ) (from id : ℕ) (request : Request) → refusal st (Requests caller request) ≡ None →
+    pub made_kept : (caller : ℕ) (donor : Option ℕ) (from id : ℕ) (request : Request) →
+        refusal st (Requests caller request) ≡ None →
         id_among s from (makes request (record_now st)) ≡ Some id → P st.now (carrier_added (carrier_named request) everyone) (made_version id caller st.now everyone donor request)
     made_kept caller donor from id request ok made = go request (ap is_nonempty carriers_are ∙ made_by_carrier st caller s from id request ok made) made
       where
-        go : (r : Request) → is_nonempty everyone ≡ true → id_among s from (makes r (record_now st)) ≡ Some id → P st.now (carrier_added (carrier_named r) everyone) (made_version id caller st.now everyone donor r)
+        go : (r : Request) → is_nonempty everyone ≡ true →
+            id_among s from (makes r (record_now st)) ≡ Some id →
+            P st.now (carrier_added (carrier_named r) everyone) (made_version id caller st.now everyone donor r)
         go (Commands (OldProviderCreate tn old_provider new_provider due true)) some is_made = keeps.made_old st.now everyone id old_provider new_provider due some
         go (Commands (OldProviderCreate tn old_provider new_provider due false)) some is_made =
             keeps.conflict true st.now everyone (record (blank_version id old_provider new_provider due st.now) { old_at = Some st.now }) refl (keeps.made_old st.now everyone id old_provider new_provider due some)
