@@ -478,9 +478,6 @@ move_refused : (st : State) (m k : ℕ) → MachineRefused k ≡ out st (Moment 
 unfolding out tests
 move_refused st m k e = only_back (nat_lt m st.now) m k e
 
-pub move_stands : (old new : Content) (minute : ℕ) (reply : Reply) → AnswersAs old new (Moment minute) (Some reply) → (st : State) → Stands old st → Stands new (next st (Moment minute))
-move_stands old new minute reply h st s = (h st s).1
-
 -- the device or memory failed, and nothing has happened
 abbrev WithholdsMove : (from to : ℕ) → Refusal → State → Content → Type 0
 WithholdsMove from to r st new = Withholds from to st (failure_text (Refused r)) st × Stands new st

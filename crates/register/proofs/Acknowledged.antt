@@ -15,7 +15,8 @@ use Rattle.meaning.specs.Content.{Content, VersionRow, BroadcastRow, BlockRow, B
 use Rattle.meaning.proofs.Ids.{same_id, same_subject}
 use Rattle.meaning.proofs.Entered.{judged-now, given_now, sound_now, entered-elsewhere, none_elsewhere, none_with}
 use Rattle.meaning.proofs.Shown.{some_is, own, others}
-use Rattle.meaning.proofs.Tended.{IsTended, replay-tended, found_tended}
+use Rattle.meaning.proofs.Tended.{IsTended, tended_kept}
+use Rattle.meaning.proofs.KeptVersions.{version_now}
 use Rattle.meaning.proofs.Recipients.{AreKnown, broadcast_known}
 use Rattle.settle.specs.Changes.{Changes, IsChanged, AreOfVersion, ArePutsOf, AreKeysOf, put_rows, take_rows, same_broadcast}
 use Rattle.settle.proofs.Aside.{lagging_aside}
@@ -23,7 +24,7 @@ use Rattle.settle.specs.Reads.{is_last_wait}
 use Rattle.settle.specs.Settling.{IsSettled}
 use Rattle.register.specs.Answers.{Stands}
 use Rattle.register.specs.Settling.{LeavesOthers}
-use Rattle.register.proofs.Settled.{due_lags, leaves_but, of_id_found, wait_subject}
+use Rattle.register.proofs.Settled.{leaves_but, of_id_found, wait_subject}
 use Rattle.register.specs.Acknowledging.{is_sending, answered_row, completed_if, own_rows, acknowledging}
 use Rattle.register.proofs.Alone.{one_in_force}
 use Rattle.register.proofs.Touched.{RegistryShows, touched-stands}
@@ -173,7 +174,7 @@ module _ (st : State) (old new : Content) (stands : Stands old st) (caller : ℕ
   change = acknowledged_by caller attempt st.now
 
   tended : IsTended (record_now st s).carriers is.version
-  tended = found_tended (record_now st s).carriers (λ (u : Version). u.id == id) (record_now st s).versions is.version (replay-tended st.windows st.history st.now stands.represents.history s st.now) is.found
+  tended = version_now tended_kept st stands.represents.history s id is.version is.found
 
   is_left : last ≡ is_empty (unacknowledged (acknowledged_one caller is.broadcast))
   is_left = last_one ∙ last_left st old stands caller s due minute id attempt is
