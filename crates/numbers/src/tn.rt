@@ -38,12 +38,7 @@ impl Tn {
         ensures some { IfSome result (λ value. text.now ≡ tn_text value.number) }
         ensures none { IfNone result ((n : ℕ) → IsTn n → text.now ≢ tn_text n) }
     {
-        let number = read_digits(text, 10)?;
-        if number / 1_000_000_000 >= 2 && number / 1_000_000 % 10 >= 2 {
-            Some(Tn { number })
-        } else {
-            None
-        }
+        Tn::new(read_digits(text, 10)?)
     }
 
     /// Appends the ten digits, or leaves the `String` as it was.
