@@ -83,7 +83,7 @@ pub enum Fault {
 }
 
 // Carries out a message, after the minute that the ticks hand in, and writes its answer.
-fn carry_out<S: Store, T: Ticks>(
+fn tick_and_answer<S: Store, T: Ticks>(
     alloc: Global,
     register: &mut Register<S>,
     clock: bool,
@@ -124,7 +124,7 @@ fn respond<S: Store, T: Ticks>(
 {
     match next {
         Next::Message(request) => {
-            carry_out(alloc, register, clock, ticks, &request, body, room);
+            tick_and_answer(alloc, register, clock, ticks, &request, body, room);
             if request.closes {
                 Some(End::Closed)
             } else {

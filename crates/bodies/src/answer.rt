@@ -48,11 +48,6 @@ fn put_head(out: &mut String, status: StatusCode, length: u64)
     put(out, "\r\n\r\n");
 }
 
-/// The head of an answer fits its room.
-pub fn head_fits()
-    ensures { (code len : ℕ) → IsAnswered code → len < 2 ^ 64 → length (head code len) ≤ HEAD_ROOM }
-{}
-
 impl Room {
     ghost use Rattle.bodies.specs.Rooms.{HasRoom, IsEmpty, IsWritten};
 

@@ -87,7 +87,7 @@ fn feed<R: Read, W: Write>(
     }
 }
 
-fn carry_out<T: Files + AllocGlobal, R: Read, W: Write>(
+fn run_subcommand<T: Files + AllocGlobal, R: Read, W: Write>(
     rt: &T,
     line: &Line<'_>,
     reader: &mut R,
@@ -132,7 +132,7 @@ pub fn run<T: Files + AllocGlobal, R: Read, W: Write, E: Write>(
         Err(usage) if usage.status == 3 => return tell(errors, Fault::NoMemory),
         Err(usage) => return show(errors, &usage),
     };
-    match carry_out(rt, &line, reader, writer) {
+    match run_subcommand(rt, &line, reader, writer) {
         Ok(()) => 0,
         Err(fault) => tell(errors, fault),
     }

@@ -1,7 +1,7 @@
 use Rattle.std.proofs.Common.{ℕ, Option, option_map}
 use Rattle.numbers.specs.declared.minute.Minute.{Minute}
 use Rattle.api.proofs.StepLemmas.{tick_then, tick_withheld}
-use Rattle.api.proofs.serving.carry_out.Goals as goal
+use Rattle.api.proofs.serving.tick_and_answer.Goals as goal
 
 -- the minute that was handed in
 abbrev minute_of : Option Minute → Option ℕ
