@@ -1,7 +1,7 @@
 -- Worked examples, computed from the definitions.
 use Rattle.std.specs.Prelude.{ℕ, zero, suc, ◌+◌, true, false, List, [], ◌∷◌, ◌++◌, map, Option, Some, None, ◌≡◌, refl, option_map, length, filter, ◌==◌, if◌then◌else◌}
 use Rattle.numbers.specs.Subjects.{Number}
-use Rattle.meaning.specs.Commands.{Command, RegisterCarrier, RegisterRoutingNumber, OpenCode, OldProviderCreate, NewProviderCreate, Activate, PutInConflict, RemoveFromConflict, Cancel, OldProviderCancellationAcknowledge, NewProviderCancellationAcknowledge, Disconnect, Donate, Assign, Release}
+use Rattle.meaning.specs.Commands.{Command, RegisterCarrier, RegisterRoutingNumber, OpenCode, OldProviderCreate, NewProviderCreate, OnVersion, Activate, PutInConflict, RemoveFromConflict, Cancel, OldProviderCancellationAcknowledge, NewProviderCancellationAcknowledge, Disconnect, Donate, Assign, Release}
 use Rattle.meaning.specs.Statuses.{Status, Pending, Conflict, CancelPending, Sending, Active, PartialFailure, Failed, DisconnectPending, Old, Canceled}
 use Rattle.meaning.specs.declared.words.Outcome.{Outcome}
 use Rattle.meaning.specs.declared.words.Outcome.TheVariants.{AllAcknowledged, SomeAcknowledged}
@@ -61,11 +61,11 @@ setup_is_accepted : length start.history ≡ 7
 unfolding next meaning after effect judge judged_for judged_version queue tests out
 setup_is_accepted = refl
 
-before_due_at_99 : refusal (state_after start (both_creates 100 ++ Moment 99 ∷ [])) (Requests a (Commands (Activate 1))) ≡ Some 17
+before_due_at_99 : refusal (state_after start (both_creates 100 ++ Moment 99 ∷ [])) (Requests a (Commands (OnVersion 1 Activate))) ≡ Some 17
 unfolding next meaning after effect judge judged_for judged_version queue tests out
 before_due_at_99 = refl
 
-sending_at_100 : standing (state_after start (both_creates 100 ++ Moment 100 ∷ Requests a (Commands (Activate 1)) ∷ [])) 1 ≡ Some (Sending Create, 100, 1)
+sending_at_100 : standing (state_after start (both_creates 100 ++ Moment 100 ∷ Requests a (Commands (OnVersion 1 Activate)) ∷ [])) 1 ≡ Some (Sending Create, 100, 1)
 unfolding next meaning after effect judge judged_for judged_version queue tests out
 sending_at_100 = refl
 
@@ -75,11 +75,11 @@ does caller command = Requests caller (Commands command)
 abbrev pub refused_after : State → List Input → Input → Option ℕ
 refused_after st inputs input = refusal (state_after st inputs) input
 
-creator_alone_119 : refused_after start (does a (NewProviderCreate n b a 100 2025440000 None) ∷ Moment 119 ∷ []) (does a (Activate 1)) ≡ Some 16
+creator_alone_119 : refused_after start (does a (NewProviderCreate n b a 100 2025440000 None) ∷ Moment 119 ∷ []) (does a (OnVersion 1 Activate)) ≡ Some 16
 unfolding next meaning after effect judge judged_for judged_version queue tests out
 creator_alone_119 = refl
 
-creator_alone_120 : refused_after start (does a (NewProviderCreate n b a 100 2025440000 None) ∷ Moment 120 ∷ []) (does a (Activate 1)) ≡ None
+creator_alone_120 : refused_after start (does a (NewProviderCreate n b a 100 2025440000 None) ∷ Moment 120 ∷ []) (does a (OnVersion 1 Activate)) ≡ None
 unfolding next meaning after effect judge judged_for judged_version queue tests out
 creator_alone_120 = refl
 
@@ -90,7 +90,7 @@ silent_new_provider = refl
 
 -- sent at 200, acknowledged by one carrier at 214, then at 215
 abbrev pub sent_at_200 : List Input
-sent_at_200 = both_creates 200 ++ Moment 200 ∷ does a (Activate 1) ∷ []
+sent_at_200 = both_creates 200 ++ Moment 200 ∷ does a (OnVersion 1 Activate) ∷ []
 
 abbrev pub part_at_215 : State
 part_at_215 = state_after start (sent_at_200 ++ Moment 214 ∷ Requests c (Acknowledges 1 1) ∷ Moment 215 ∷ [])
@@ -124,7 +124,7 @@ active_at_201 = state_after start (sent_at_200 ++ Moment 201 ∷ Requests a (Ack
 
 -- a disconnect that nobody acknowledges
 abbrev pub kept : State
-kept = state_after active_at_201 (Moment 300 ∷ does a (Disconnect 1 (Some 400)) ∷ Moment 399 ∷ Moment 1000 ∷ [])
+kept = state_after active_at_201 (Moment 300 ∷ does a (OnVersion 1 (Disconnect (Some 400))) ∷ Moment 399 ∷ Moment 1000 ∷ [])
 
 kept_since : standing kept 1 ≡ Some (Active, 415, 2)
 unfolding next meaning after effect judge judged_for judged_version queue tests out
@@ -139,7 +139,7 @@ unfolding next meaning after effect judge judged_for judged_version queue tests 
 kept_queues = refl
 
 -- a silent new provider: conflict at 130, canceled at 1130
-cancel_by_old : standing (state_after start (both_creates 5000 ++ Moment 10 ∷ does b (Cancel 1) ∷ Moment 2000 ∷ [])) 1 ≡ Some (Canceled, 1130, 0)
+cancel_by_old : standing (state_after start (both_creates 5000 ++ Moment 10 ∷ does b (OnVersion 1 Cancel) ∷ Moment 2000 ∷ [])) 1 ≡ Some (Canceled, 1130, 0)
 unfolding next meaning after effect judge judged_for judged_version queue tests out
 cancel_by_old = refl
 
@@ -151,7 +151,7 @@ one_failed = donated ++ Moment 5 ∷ Requests a (Acknowledges 1 1) ∷ Requests 
 
 abbrev pub assigned : List Input
 assigned =
-    one_failed ++ does b (Activate 2) ∷ Moment 21 ∷ Requests a (Acknowledges 2 2) ∷ Requests b (Acknowledges 2 2) ∷ Requests c (Acknowledges 2 2)
+    one_failed ++ does b (OnVersion 2 Activate) ∷ Moment 21 ∷ Requests a (Acknowledges 2 2) ∷ Requests b (Acknowledges 2 2) ∷ Requests c (Acknowledges 2 2)
     ∷ Moment 22 ∷ does npac (Assign 2025337 c 2025550000 None) ∷ Moment 23 ∷ Requests a (Acknowledges 3 1) ∷ Requests b (Acknowledges 3 1) ∷ Requests c (Acknowledges 3 1) ∷ []
 
 donation : out start (does b (Donate 2025337 (2 ∷ 1 ∷ 2 ∷ []) 2025330000 None)) ≡ Donated 2025337 (1 ∷ 2 ∷ [])
@@ -162,7 +162,7 @@ open_port : refused_after start one_failed (does npac (Assign 2025337 c 20255500
 unfolding next meaning after effect judge judged_for judged_version queue tests out
 open_port = refl
 
-protective : refused_after start one_failed (does b (Cancel 2)) ≡ Some 21
+protective : refused_after start one_failed (does b (OnVersion 2 Cancel)) ≡ Some 21
 unfolding next meaning after effect judge judged_for judged_version queue tests out
 protective = refl
 
@@ -180,7 +180,7 @@ queued st k = map (λ d. (d.id, d.attempt)) (queue st k)
 -- ---- a second port, from AAAA to CCCC, that fails
 
 abbrev pub second_port : State
-second_port = state_after active_at_201 (does c (NewProviderCreate n a c 202 2025550000 None) ∷ does a (OldProviderCreate n a c 202 true) ∷ Moment 202 ∷ does c (Activate 2) ∷ Moment 217 ∷ [])
+second_port = state_after active_at_201 (does c (NewProviderCreate n a c 202 2025550000 None) ∷ does a (OldProviderCreate n a c 202 true) ∷ Moment 202 ∷ does c (OnVersion 2 Activate) ∷ Moment 217 ∷ [])
 
 second_fails : standing second_port 2 ≡ Some (Failed, 217, 1)
 unfolding next meaning after effect judge judged_for judged_version queue tests out published copy_of
@@ -198,11 +198,11 @@ still_routed : routing_of second_port n ≡ Some (record { lrn = 2025440000; cic
 unfolding next meaning after effect judge judged_for judged_version queue tests out published copy_of
 still_routed = refl
 
-activated_again : standing (state_after second_port (does c (Activate 2) ∷ [])) 2 ≡ Some (Sending Create, 217, 2)
+activated_again : standing (state_after second_port (does c (OnVersion 2 Activate) ∷ [])) 2 ≡ Some (Sending Create, 217, 2)
 unfolding next meaning after effect judge judged_for judged_version queue tests out published copy_of
 activated_again = refl
 
-takes_over : map (standing (state_after second_port (does c (Activate 2) ∷ Moment 220 ∷ acks 2 2 (a ∷ b ∷ c ∷ [])))) (1 ∷ 2 ∷ []) ≡ Some (Old, 220, 1) ∷ Some (Active, 220, 2) ∷ []
+takes_over : map (standing (state_after second_port (does c (OnVersion 2 Activate) ∷ Moment 220 ∷ acks 2 2 (a ∷ b ∷ c ∷ [])))) (1 ∷ 2 ∷ []) ≡ Some (Old, 220, 1) ∷ Some (Active, 220, 2) ∷ []
 unfolding next meaning after effect judge judged_for judged_version queue tests out published copy_of
 takes_over = refl
 
@@ -212,7 +212,7 @@ abbrev pub d : ℕ
 d = 0x44444444
 
 abbrev pub sent_at_400 : List Input
-sent_at_400 = both_creates 400 ++ Moment 400 ∷ does a (Activate 1) ∷ Requests c (Acknowledges 1 1) ∷ []
+sent_at_400 = both_creates 400 ++ Moment 400 ∷ does a (OnVersion 1 Activate) ∷ Requests c (Acknowledges 1 1) ∷ []
 
 newcomer_waits : queued (state_after start (sent_at_400 ++ Moment 414 ∷ does npac (RegisterCarrier d) ∷ [])) d ≡ (1, 1) ∷ []
 unfolding next meaning after effect judge judged_for judged_version queue tests out published copy_of
@@ -232,27 +232,27 @@ newcomer_late_rows = refl
 
 -- ---- conflicts
 
-conflict_at_70 : refused_after start (both_creates 100 ++ Moment 70 ∷ []) (does b (PutInConflict 1)) ≡ None
+conflict_at_70 : refused_after start (both_creates 100 ++ Moment 70 ∷ []) (does b (OnVersion 1 PutInConflict)) ≡ None
 unfolding next meaning after effect judge judged_for judged_version queue tests out published copy_of
 conflict_at_70 = refl
 
-conflict_at_71 : refused_after start (both_creates 100 ++ Moment 71 ∷ []) (does b (PutInConflict 1)) ≡ Some 19
+conflict_at_71 : refused_after start (both_creates 100 ++ Moment 71 ∷ []) (does b (OnVersion 1 PutInConflict)) ≡ Some 19
 unfolding next meaning after effect judge judged_for judged_version queue tests out published copy_of
 conflict_at_71 = refl
 
-conflict_twice : refused_after start (both_creates 100 ++ Moment 70 ∷ does b (PutInConflict 1) ∷ Moment 71 ∷ does b (RemoveFromConflict 1) ∷ []) (does b (PutInConflict 1)) ≡ Some 18
+conflict_twice : refused_after start (both_creates 100 ++ Moment 70 ∷ does b (OnVersion 1 PutInConflict) ∷ Moment 71 ∷ does b (OnVersion 1 RemoveFromConflict) ∷ []) (does b (OnVersion 1 PutInConflict)) ≡ Some 18
 unfolding next meaning after effect judge judged_for judged_version queue tests out published copy_of
 conflict_twice = refl
 
-removal_at_169 : refused_after start (both_creates 100 ++ Moment 50 ∷ does b (PutInConflict 1) ∷ Moment 169 ∷ []) (does a (RemoveFromConflict 1)) ≡ Some 20
+removal_at_169 : refused_after start (both_creates 100 ++ Moment 50 ∷ does b (OnVersion 1 PutInConflict) ∷ Moment 169 ∷ []) (does a (OnVersion 1 RemoveFromConflict)) ≡ Some 20
 unfolding next meaning after effect judge judged_for judged_version queue tests out published copy_of
 removal_at_169 = refl
 
-removal_at_170 : standing (state_after start (both_creates 100 ++ Moment 50 ∷ does b (PutInConflict 1) ∷ Moment 170 ∷ does a (RemoveFromConflict 1) ∷ [])) 1 ≡ Some (Pending, 170, 0)
+removal_at_170 : standing (state_after start (both_creates 100 ++ Moment 50 ∷ does b (OnVersion 1 PutInConflict) ∷ Moment 170 ∷ does a (OnVersion 1 RemoveFromConflict) ∷ [])) 1 ≡ Some (Pending, 170, 0)
 unfolding next meaning after effect judge judged_for judged_version queue tests out published copy_of
 removal_at_170 = refl
 
-removal_by_old : standing (state_after start (both_creates 100 ++ Moment 50 ∷ does b (PutInConflict 1) ∷ Moment 51 ∷ does b (RemoveFromConflict 1) ∷ [])) 1 ≡ Some (Pending, 51, 0)
+removal_by_old : standing (state_after start (both_creates 100 ++ Moment 50 ∷ does b (OnVersion 1 PutInConflict) ∷ Moment 51 ∷ does b (OnVersion 1 RemoveFromConflict) ∷ [])) 1 ≡ Some (Pending, 51, 0)
 unfolding next meaning after effect judge judged_for judged_version queue tests out published copy_of
 removal_by_old = refl
 
@@ -260,50 +260,50 @@ removal_by_old = refl
 abbrev pub unauthorized : List Input
 unauthorized = does b (OldProviderCreate n b a 100 false) ∷ Moment 1 ∷ []
 
-unauthorized_removal : refused_after start unauthorized (does b (RemoveFromConflict 1)) ≡ Some 16
+unauthorized_removal : refused_after start unauthorized (does b (OnVersion 1 RemoveFromConflict)) ≡ Some 16
 unfolding next meaning after effect judge judged_for judged_version queue tests out published copy_of
 unauthorized_removal = refl
 
-unauthorized_119 : refused_after start (unauthorized ++ Moment 2 ∷ does a (NewProviderCreate n b a 100 2025440000 None) ∷ Moment 119 ∷ []) (does a (RemoveFromConflict 1)) ≡ Some 20
+unauthorized_119 : refused_after start (unauthorized ++ Moment 2 ∷ does a (NewProviderCreate n b a 100 2025440000 None) ∷ Moment 119 ∷ []) (does a (OnVersion 1 RemoveFromConflict)) ≡ Some 20
 unfolding next meaning after effect judge judged_for judged_version queue tests out published copy_of
 unauthorized_119 = refl
 
-unauthorized_120 : standing (state_after start (unauthorized ++ Moment 2 ∷ does a (NewProviderCreate n b a 100 2025440000 None) ∷ Moment 120 ∷ does a (RemoveFromConflict 1) ∷ does a (Activate 1) ∷ [])) 1 ≡ Some (Sending Create, 120, 1)
+unauthorized_120 : standing (state_after start (unauthorized ++ Moment 2 ∷ does a (NewProviderCreate n b a 100 2025440000 None) ∷ Moment 120 ∷ does a (OnVersion 1 RemoveFromConflict) ∷ does a (OnVersion 1 Activate) ∷ [])) 1 ≡ Some (Sending Create, 120, 1)
 unfolding next meaning after effect judge judged_for judged_version queue tests out published copy_of
 unauthorized_120 = refl
 
 -- ---- cancellations
 
-conflict_at_130 : standing (state_after start (both_creates 5000 ++ Moment 10 ∷ does b (Cancel 1) ∷ Moment 1129 ∷ [])) 1 ≡ Some (Conflict, 130, 0)
+conflict_at_130 : standing (state_after start (both_creates 5000 ++ Moment 10 ∷ does b (OnVersion 1 Cancel) ∷ Moment 1129 ∷ [])) 1 ≡ Some (Conflict, 130, 0)
 unfolding next meaning after effect judge judged_for judged_version queue tests out published copy_of
 conflict_at_130 = refl
 
-new_cancels : standing (state_after start (both_creates 5000 ++ Moment 10 ∷ does a (Cancel 1) ∷ Moment 130 ∷ [])) 1 ≡ Some (Canceled, 130, 0)
+new_cancels : standing (state_after start (both_creates 5000 ++ Moment 10 ∷ does a (OnVersion 1 Cancel) ∷ Moment 130 ∷ [])) 1 ≡ Some (Canceled, 130, 0)
 unfolding next meaning after effect judge judged_for judged_version queue tests out published copy_of
 new_cancels = refl
 
 -- who cancelled lacks no acknowledgement of its own
-acknowledgements_after_old : map (refused_after start (both_creates 5000 ++ Moment 10 ∷ does b (Cancel 1) ∷ []))
-    (does b (OldProviderCancellationAcknowledge 1) ∷ does a (OldProviderCancellationAcknowledge 1) ∷ does b (NewProviderCancellationAcknowledge 1) ∷ does a (NewProviderCancellationAcknowledge 1) ∷ [])
+acknowledgements_after_old : map (refused_after start (both_creates 5000 ++ Moment 10 ∷ does b (OnVersion 1 Cancel) ∷ []))
+    (does b (OnVersion 1 OldProviderCancellationAcknowledge) ∷ does a (OnVersion 1 OldProviderCancellationAcknowledge) ∷ does b (OnVersion 1 NewProviderCancellationAcknowledge) ∷ does a (OnVersion 1 NewProviderCancellationAcknowledge) ∷ [])
     ≡ Some 11 ∷ Some 11 ∷ Some 11 ∷ None ∷ []
 unfolding next meaning after effect judge judged_for judged_version queue tests out published copy_of
 acknowledgements_after_old = refl
 
-acknowledgements_after_new : map (refused_after start (both_creates 5000 ++ Moment 10 ∷ does a (Cancel 1) ∷ []))
-    (does b (OldProviderCancellationAcknowledge 1) ∷ does a (OldProviderCancellationAcknowledge 1) ∷ does b (NewProviderCancellationAcknowledge 1) ∷ does a (NewProviderCancellationAcknowledge 1) ∷ [])
+acknowledgements_after_new : map (refused_after start (both_creates 5000 ++ Moment 10 ∷ does a (OnVersion 1 Cancel) ∷ []))
+    (does b (OnVersion 1 OldProviderCancellationAcknowledge) ∷ does a (OnVersion 1 OldProviderCancellationAcknowledge) ∷ does b (OnVersion 1 NewProviderCancellationAcknowledge) ∷ does a (OnVersion 1 NewProviderCancellationAcknowledge) ∷ [])
     ≡ None ∷ Some 11 ∷ Some 11 ∷ Some 11 ∷ []
 unfolding next meaning after effect judge judged_for judged_version queue tests out published copy_of
 acknowledgements_after_new = refl
 
-acknowledged_cancel : standing (state_after start (both_creates 5000 ++ Moment 10 ∷ does b (Cancel 1) ∷ Moment 20 ∷ does a (NewProviderCancellationAcknowledge 1) ∷ [])) 1 ≡ Some (Canceled, 20, 0)
+acknowledged_cancel : standing (state_after start (both_creates 5000 ++ Moment 10 ∷ does b (OnVersion 1 Cancel) ∷ Moment 20 ∷ does a (OnVersion 1 NewProviderCancellationAcknowledge) ∷ [])) 1 ≡ Some (Canceled, 20, 0)
 unfolding next meaning after effect judge judged_for judged_version queue tests out published copy_of
 acknowledged_cancel = refl
 
-waits_for_new_provider : standing (state_after start (both_creates 5000 ++ Moment 10 ∷ does b (Cancel 1) ∷ [])) 1 ≡ Some (CancelPending OldProvider, 10, 0)
+waits_for_new_provider : standing (state_after start (both_creates 5000 ++ Moment 10 ∷ does b (OnVersion 1 Cancel) ∷ [])) 1 ≡ Some (CancelPending OldProvider, 10, 0)
 unfolding next meaning after effect judge judged_for judged_version queue tests out published copy_of
 waits_for_new_provider = refl
 
-unspent : refused_after start (both_creates 5000 ++ Moment 10 ∷ does b (Cancel 1) ∷ Moment 131 ∷ does b (RemoveFromConflict 1) ∷ Moment 200 ∷ []) (does b (PutInConflict 1)) ≡ None
+unspent : refused_after start (both_creates 5000 ++ Moment 10 ∷ does b (OnVersion 1 Cancel) ∷ Moment 131 ∷ does b (OnVersion 1 RemoveFromConflict) ∷ Moment 200 ∷ []) (does b (OnVersion 1 PutInConflict)) ≡ None
 unfolding next meaning after effect judge judged_for judged_version queue tests out published copy_of
 unspent = refl
 
@@ -326,21 +326,21 @@ unfolding next meaning after effect judge judged_for judged_version queue tests 
 retained_from_create = refl
 
 -- and so does the minute since which it is pending: removed from conflict at 200
-retained_from_since : map (λ m. standing (state_after start (both_creates 100 ++ Moment 50 ∷ does b (PutInConflict 1) ∷ Moment 200 ∷ does b (RemoveFromConflict 1) ∷ Moment m ∷ [])) 1) (699 ∷ 700 ∷ []) ≡ Some (Pending, 200, 0) ∷ Some (Canceled, 700, 0) ∷ []
+retained_from_since : map (λ m. standing (state_after start (both_creates 100 ++ Moment 50 ∷ does b (OnVersion 1 PutInConflict) ∷ Moment 200 ∷ does b (OnVersion 1 RemoveFromConflict) ∷ Moment m ∷ [])) 1) (699 ∷ 700 ∷ []) ≡ Some (Pending, 200, 0) ∷ Some (Canceled, 700, 0) ∷ []
 unfolding next meaning after effect judge judged_for judged_version queue tests out published copy_of
 retained_from_since = refl
 
 -- ---- disconnects
 
-release_past : refused_after active_at_201 (Moment 300 ∷ []) (does a (Disconnect 1 (Some 299))) ≡ Some 14
+release_past : refused_after active_at_201 (Moment 300 ∷ []) (does a (OnVersion 1 (Disconnect (Some 299)))) ≡ Some 14
 unfolding next meaning after effect judge judged_for judged_version queue tests out published copy_of
 release_past = refl
 
-release_now : standing (state_after active_at_201 (Moment 300 ∷ does a (Disconnect 1 (Some 300)) ∷ [])) 1 ≡ Some (Sending Delete, 300, 2)
+release_now : standing (state_after active_at_201 (Moment 300 ∷ does a (OnVersion 1 (Disconnect (Some 300))) ∷ [])) 1 ≡ Some (Sending Delete, 300, 2)
 unfolding next meaning after effect judge judged_for judged_version queue tests out published copy_of
 release_now = refl
 
-release_planned : standing (state_after active_at_201 (Moment 300 ∷ does a (Disconnect 1 (Some 400)) ∷ [])) 1 ≡ Some (DisconnectPending 400, 300, 1)
+release_planned : standing (state_after active_at_201 (Moment 300 ∷ does a (OnVersion 1 (Disconnect (Some 400))) ∷ [])) 1 ≡ Some (DisconnectPending 400, 300, 1)
 unfolding next meaning after effect judge judged_for judged_version queue tests out published copy_of
 release_planned = refl
 
@@ -348,18 +348,18 @@ release_planned = refl
 abbrev pub release_shown : List Input → Option ℕ
 release_shown inputs = elim (version_of_id (state_after active_at_201 inputs) 1) [ None ↦ None | Some e ↦ (view_of (state_after active_at_201 inputs) e).release ]
 
-releases_shown : map release_shown ((Moment 300 ∷ does a (Disconnect 1 (Some 400)) ∷ []) ∷ (Moment 300 ∷ does a (Disconnect 1 (Some 400)) ∷ Moment 400 ∷ []) ∷ (Moment 300 ∷ does a (Disconnect 1 (Some 300)) ∷ []) ∷ []) ≡ Some 400 ∷ None ∷ None ∷ []
+releases_shown : map release_shown ((Moment 300 ∷ does a (OnVersion 1 (Disconnect (Some 400))) ∷ []) ∷ (Moment 300 ∷ does a (OnVersion 1 (Disconnect (Some 400))) ∷ Moment 400 ∷ []) ∷ (Moment 300 ∷ does a (OnVersion 1 (Disconnect (Some 300))) ∷ []) ∷ []) ≡ Some 400 ∷ None ∷ None ∷ []
 unfolding next meaning after effect judge judged_for judged_version queue tests out published copy_of
 releases_shown = refl
 
-release_cancelled : standing (state_after active_at_201 (Moment 300 ∷ does a (Disconnect 1 (Some 400)) ∷ Moment 350 ∷ does a (Cancel 1) ∷ [])) 1 ≡ Some (Active, 350, 1)
+release_cancelled : standing (state_after active_at_201 (Moment 300 ∷ does a (OnVersion 1 (Disconnect (Some 400))) ∷ Moment 350 ∷ does a (OnVersion 1 Cancel) ∷ [])) 1 ≡ Some (Active, 350, 1)
 unfolding next meaning after effect judge judged_for judged_version queue tests out published copy_of
 release_cancelled = refl
 
 -- a download that waits while the number is ported again
 abbrev pub waiting_delete : State
-waiting_delete = state_after active_at_201 (Moment 210 ∷ does a (Disconnect 1 None) ∷ Moment 211 ∷ acks 1 2 (a ∷ c ∷ [])
-    ++ Moment 230 ∷ does a (NewProviderCreate n b a 230 2025440000 None) ∷ does b (OldProviderCreate n b a 230 true) ∷ does a (Activate 2) ∷ [])
+waiting_delete = state_after active_at_201 (Moment 210 ∷ does a (OnVersion 1 (Disconnect None)) ∷ Moment 211 ∷ acks 1 2 (a ∷ c ∷ [])
+    ++ Moment 230 ∷ does a (NewProviderCreate n b a 230 2025440000 None) ∷ does b (OldProviderCreate n b a 230 true) ∷ does a (OnVersion 2 Activate) ∷ [])
 
 old_at_225 : standing waiting_delete 1 ≡ Some (Old, 225, 2)
 unfolding next meaning after effect judge judged_for judged_version queue tests out published copy_of
@@ -431,7 +431,7 @@ release_with_ports : refused_after start (assigned ++ Moment 24 ∷ does a (NewP
 unfolding next meaning after effect judge judged_for judged_version queue tests out published copy_of
 release_with_ports = refl
 
-release_while_sending : refused_after start (one_failed ++ does b (Activate 2) ∷ Moment 21 ∷ acks 2 2 (a ∷ b ∷ c ∷ []) ++ Moment 22 ∷ does npac (Assign 2025337 c 2025550000 None) ∷ []) (does c (Release 2025337)) ≡ Some 13
+release_while_sending : refused_after start (one_failed ++ does b (OnVersion 2 Activate) ∷ Moment 21 ∷ acks 2 2 (a ∷ b ∷ c ∷ []) ++ Moment 22 ∷ does npac (Assign 2025337 c 2025550000 None) ∷ []) (does c (Release 2025337)) ≡ Some 13
 unfolding next meaning after effect judge judged_for judged_version queue tests out published copy_of
 release_while_sending = refl
 
@@ -465,14 +465,14 @@ pending_phases : phases (does a (NewProviderCreate n b a 100 2025440000 None) �
 unfolding next meaning after effect judge judged_for judged_version queue tests out
 pending_phases = refl
 
-cancellation_phases : phases (both_creates 5000 ++ Moment 10 ∷ does b (Cancel 1) ∷ []) (69 ∷ 70 ∷ 129 ∷ 130 ∷ []) ≡ Some Initial ∷ Some Final ∷ Some Final ∷ None ∷ []
+cancellation_phases : phases (both_creates 5000 ++ Moment 10 ∷ does b (OnVersion 1 Cancel) ∷ []) (69 ∷ 70 ∷ 129 ∷ 130 ∷ []) ≡ Some Initial ∷ Some Final ∷ Some Final ∷ None ∷ []
 unfolding next meaning after effect judge judged_for judged_version queue tests out
 cancellation_phases = refl
 
 -- a number of the block is ported to AAAA
 abbrev pub ported_in_block : List Input
 ported_in_block =
-    does a (NewProviderCreate 2025337500 b a 0 2025440000 None) ∷ does b (OldProviderCreate 2025337500 b a 0 true) ∷ does a (Activate 1) ∷ acks 1 1 (a ∷ b ∷ c ∷ [])
+    does a (NewProviderCreate 2025337500 b a 0 2025440000 None) ∷ does b (OldProviderCreate 2025337500 b a 0 true) ∷ does a (OnVersion 1 Activate) ∷ acks 1 1 (a ∷ b ∷ c ∷ [])
 
 contaminated_by_port : map (λ k. refused_after start ported_in_block (does b (Donate 2025337 (lines_below k) 2025330000 None))) (99 ∷ 100 ∷ []) ≡ None ∷ Some 22 ∷ []
 unfolding next meaning after effect judge judged_for judged_version queue tests out
@@ -514,8 +514,8 @@ from_0_on = refl
 -- version 1 deleted at 25 with one acknowledgement, version 2 active at 30
 abbrev pub ported_again : State
 ported_again = state_after start (
-    both_creates 0 ++ does a (Activate 1) ∷ acks 1 1 (a ∷ b ∷ c ∷ []) ++ Moment 10 ∷ does a (Disconnect 1 None) ∷ acks 1 2 (a ∷ [])
-    ++ Moment 30 ∷ both_creates 30 ++ does a (Activate 2) ∷ acks 1 2 (b ∷ c ∷ []) ++ acks 2 1 (a ∷ b ∷ c ∷ []))
+    both_creates 0 ++ does a (OnVersion 1 Activate) ∷ acks 1 1 (a ∷ b ∷ c ∷ []) ++ Moment 10 ∷ does a (OnVersion 1 (Disconnect None)) ∷ acks 1 2 (a ∷ [])
+    ++ Moment 30 ∷ both_creates 30 ++ does a (OnVersion 2 Activate) ∷ acks 1 2 (b ∷ c ∷ []) ++ acks 2 1 (a ∷ b ∷ c ∷ []))
 
 -- the same, but version 1 as it stood at 10
 abbrev pub still_sending : Version → Version

@@ -4,7 +4,7 @@ use Rattle.std.specs.List.{list_any}
 use Rattle.numbers.specs.Digits.{number_in}
 use Rattle.numbers.specs.Subjects.{subject_eq, Subject, Number, Block}
 use Rattle.numbers.specs.Routings.{Routing}
-use Rattle.meaning.specs.Commands.{Command, RegisterCarrier, RegisterRoutingNumber, OpenCode, OldProviderCreate, NewProviderCreate, Activate, PutInConflict, RemoveFromConflict, Cancel, OldProviderCancellationAcknowledge, NewProviderCancellationAcknowledge, Disconnect, Donate, Assign, Release}
+use Rattle.meaning.specs.Commands.{Command, VersionCommand, RegisterCarrier, RegisterRoutingNumber, OpenCode, OldProviderCreate, NewProviderCreate, OnVersion, Activate, PutInConflict, RemoveFromConflict, Cancel, OldProviderCancellationAcknowledge, NewProviderCancellationAcknowledge, Disconnect, Donate, Assign, Release}
 use Rattle.meaning.specs.declared.words.Action.TheVariants.{Create, Delete}
 use Rattle.meaning.specs.Statuses.{Status, Pending, Conflict, CancelPending, Sending, Active, PartialFailure, Failed, DisconnectPending, Old, Canceled}
 use Rattle.meaning.specs.declared.words.Side.{Side}
@@ -38,13 +38,7 @@ HasLines (Commands (RegisterRoutingNumber lrn)) = ⊤
 HasLines (Commands (OpenCode code spid)) = ⊤
 HasLines (Commands (OldProviderCreate tn old_provider new_provider due authorized)) = ⊤
 HasLines (Commands (NewProviderCreate tn old_provider new_provider due lrn cic)) = ⊤
-HasLines (Commands (Activate id)) = ⊤
-HasLines (Commands (PutInConflict id)) = ⊤
-HasLines (Commands (RemoveFromConflict id)) = ⊤
-HasLines (Commands (Cancel id)) = ⊤
-HasLines (Commands (OldProviderCancellationAcknowledge id)) = ⊤
-HasLines (Commands (NewProviderCancellationAcknowledge id)) = ⊤
-HasLines (Commands (Disconnect id release)) = ⊤
+HasLines (Commands (OnVersion id command)) = ⊤
 HasLines (Commands (Assign block holder lrn cic)) = ⊤
 HasLines (Commands (Release block)) = ⊤
 HasLines (Acknowledges id attempt) = ⊤
@@ -172,6 +166,16 @@ disconnected (Some release) everyone minute v =
     then enters (DisconnectPending release) minute v
     else sent Delete everyone minute v
 
+-- what a command makes of the version that it names
+abbrev pub change_of : (caller minute : ℕ) → (everyone : List ℕ) → VersionCommand → Version → Version
+change_of caller minute everyone Activate v = sent Create everyone minute v
+change_of caller minute everyone PutInConflict v = record (enters Conflict minute v) { spent = true }
+change_of caller minute everyone RemoveFromConflict v = enters Pending minute v
+change_of caller minute everyone Cancel v = cancelled_by v.status caller minute v
+change_of caller minute everyone OldProviderCancellationAcknowledge v = enters Canceled minute v
+change_of caller minute everyone NewProviderCancellationAcknowledge v = enters Canceled minute v
+change_of caller minute everyone (Disconnect release) v = disconnected release everyone minute v
+
 -- a version of the subject s after a request
 abbrev pub done_to : Subject → ℕ → ℕ → List ℕ → Request → Version → Version
 done_to s caller minute everyone (Commands (RegisterCarrier spid)) v = joined_by spid v
@@ -181,13 +185,7 @@ done_to s caller minute everyone (Commands (OldProviderCreate tn old_provider ne
     if subject_eq s (Number tn) && lacks_old_create old_provider new_provider v then with_old_create authorized minute v else v
 done_to s caller minute everyone (Commands (NewProviderCreate tn old_provider new_provider due lrn cic)) v =
     if subject_eq s (Number tn) && lacks_new_create old_provider new_provider v then with_new_create (record { lrn = lrn; cic = cic }) minute v else v
-done_to s caller minute everyone (Commands (Activate id)) v = of_id id (sent Create everyone minute) v
-done_to s caller minute everyone (Commands (PutInConflict id)) v = of_id id (λ u. record (enters Conflict minute u) { spent = true }) v
-done_to s caller minute everyone (Commands (RemoveFromConflict id)) v = of_id id (enters Pending minute) v
-done_to s caller minute everyone (Commands (Cancel id)) v = of_id id (λ u. cancelled_by u.status caller minute u) v
-done_to s caller minute everyone (Commands (OldProviderCancellationAcknowledge id)) v = of_id id (enters Canceled minute) v
-done_to s caller minute everyone (Commands (NewProviderCancellationAcknowledge id)) v = of_id id (enters Canceled minute) v
-done_to s caller minute everyone (Commands (Disconnect id release)) v = of_id id (disconnected release everyone minute) v
+done_to s caller minute everyone (Commands (OnVersion id c)) v = of_id id (change_of caller minute everyone c) v
 done_to s caller minute everyone (Commands (Donate block used lrn cic)) v = v
 done_to s caller minute everyone (Commands (Assign block holder lrn cic)) v = v
 done_to s caller minute everyone (Commands (Release block)) v =
@@ -216,13 +214,7 @@ makes (Commands (Assign block holder lrn cic)) at = Block block ∷ []
 makes (Commands (RegisterCarrier spid)) at = []
 makes (Commands (RegisterRoutingNumber lrn)) at = []
 makes (Commands (OpenCode code spid)) at = []
-makes (Commands (Activate id)) at = []
-makes (Commands (PutInConflict id)) at = []
-makes (Commands (RemoveFromConflict id)) at = []
-makes (Commands (Cancel id)) at = []
-makes (Commands (OldProviderCancellationAcknowledge id)) at = []
-makes (Commands (NewProviderCancellationAcknowledge id)) at = []
-makes (Commands (Disconnect id release)) at = []
+makes (Commands (OnVersion id command)) at = []
 makes (Commands (Release block)) at = []
 makes (Acknowledges id attempt) at = []
 
@@ -257,13 +249,7 @@ made_version id caller minute everyone donor (Commands (Assign block holder lrn 
 made_version id caller minute everyone donor (Commands (RegisterCarrier spid)) = blank_version id caller caller minute minute
 made_version id caller minute everyone donor (Commands (RegisterRoutingNumber lrn)) = blank_version id caller caller minute minute
 made_version id caller minute everyone donor (Commands (OpenCode code spid)) = blank_version id caller caller minute minute
-made_version id caller minute everyone donor (Commands (Activate its_id)) = blank_version id caller caller minute minute
-made_version id caller minute everyone donor (Commands (PutInConflict its_id)) = blank_version id caller caller minute minute
-made_version id caller minute everyone donor (Commands (RemoveFromConflict its_id)) = blank_version id caller caller minute minute
-made_version id caller minute everyone donor (Commands (Cancel its_id)) = blank_version id caller caller minute minute
-made_version id caller minute everyone donor (Commands (OldProviderCancellationAcknowledge its_id)) = blank_version id caller caller minute minute
-made_version id caller minute everyone donor (Commands (NewProviderCancellationAcknowledge its_id)) = blank_version id caller caller minute minute
-made_version id caller minute everyone donor (Commands (Disconnect its_id release)) = blank_version id caller caller minute minute
+made_version id caller minute everyone donor (Commands (OnVersion its_id command)) = blank_version id caller caller minute minute
 made_version id caller minute everyone donor (Commands (Release block)) = blank_version id caller caller minute minute
 made_version id caller minute everyone donor (Acknowledges its_id attempt) = blank_version id caller caller minute minute
 
@@ -280,13 +266,7 @@ assigned_block (Commands (RegisterRoutingNumber lrn)) = 0
 assigned_block (Commands (OpenCode code spid)) = 0
 assigned_block (Commands (OldProviderCreate tn old_provider new_provider due authorized)) = 0
 assigned_block (Commands (NewProviderCreate tn old_provider new_provider due lrn cic)) = 0
-assigned_block (Commands (Activate id)) = 0
-assigned_block (Commands (PutInConflict id)) = 0
-assigned_block (Commands (RemoveFromConflict id)) = 0
-assigned_block (Commands (Cancel id)) = 0
-assigned_block (Commands (OldProviderCancellationAcknowledge id)) = 0
-assigned_block (Commands (NewProviderCancellationAcknowledge id)) = 0
-assigned_block (Commands (Disconnect id release)) = 0
+assigned_block (Commands (OnVersion id command)) = 0
 assigned_block (Commands (Donate block used lrn cic)) = 0
 assigned_block (Commands (Release block)) = 0
 assigned_block (Acknowledges id attempt) = 0

@@ -8,6 +8,7 @@ pub mod Judge
 pub mod Conditions
 pub mod History
 pub mod Reading
+pub mod OnVersion
 pub mod Refusals
 pub mod Machine
 pub mod Content

@@ -1,6 +1,6 @@
 -- Worked examples of which refusal comes first, of limits and of jumps, computed from the definitions.
 use Rattle.std.specs.Prelude.{ℕ, zero, suc, ◌+◌, true, List, [], ◌∷◌, ◌++◌, map, Some, None, ◌≡◌, refl}
-use Rattle.meaning.specs.Commands.{RegisterCarrier, OldProviderCreate, Activate, PutInConflict, RemoveFromConflict, Cancel, OldProviderCancellationAcknowledge, NewProviderCancellationAcknowledge, Disconnect, Donate, Release}
+use Rattle.meaning.specs.Commands.{RegisterCarrier, OldProviderCreate, Activate, PutInConflict, RemoveFromConflict, Cancel, OldProviderCancellationAcknowledge, NewProviderCancellationAcknowledge, Disconnect, Donate, Release, OnVersion}
 use Rattle.meaning.specs.Statuses.{Pending, Canceled}
 use Rattle.meaning.specs.Judge.{judged_version, judge, judged_for}
 use Rattle.meaning.specs.History.{Acknowledges, effect, after, meaning}
@@ -12,17 +12,17 @@ use Rattle.meaning.specs.Examples.{a, b, c, n, start, both_creates, standing, do
 -- ---- who may not is told so before what the status does not allow
 
 -- an active version
-not_yours_before_wrong_status : map (refusal active_at_201) (does b (Activate 1) ∷ does a (PutInConflict 1) ∷ does c (RemoveFromConflict 1) ∷ does c (Cancel 1) ∷ does a (OldProviderCancellationAcknowledge 1) ∷ does b (NewProviderCancellationAcknowledge 1) ∷ []) ≡ Some 11 ∷ Some 11 ∷ Some 11 ∷ Some 11 ∷ Some 11 ∷ Some 11 ∷ []
+not_yours_before_wrong_status : map (refusal active_at_201) (does b (OnVersion 1 Activate) ∷ does a (OnVersion 1 PutInConflict) ∷ does c (OnVersion 1 RemoveFromConflict) ∷ does c (OnVersion 1 Cancel) ∷ does a (OnVersion 1 OldProviderCancellationAcknowledge) ∷ does b (OnVersion 1 NewProviderCancellationAcknowledge) ∷ []) ≡ Some 11 ∷ Some 11 ∷ Some 11 ∷ Some 11 ∷ Some 11 ∷ Some 11 ∷ []
 unfolding next meaning after effect judge judged_for judged_version queue tests out
 not_yours_before_wrong_status = refl
 
 -- the same by those who may
-wrong_status_of_active : map (refusal active_at_201) (does a (Activate 1) ∷ does b (PutInConflict 1) ∷ does b (RemoveFromConflict 1) ∷ does a (Cancel 1) ∷ does b (OldProviderCancellationAcknowledge 1) ∷ does a (NewProviderCancellationAcknowledge 1) ∷ []) ≡ Some 13 ∷ Some 13 ∷ Some 13 ∷ Some 13 ∷ Some 13 ∷ Some 13 ∷ []
+wrong_status_of_active : map (refusal active_at_201) (does a (OnVersion 1 Activate) ∷ does b (OnVersion 1 PutInConflict) ∷ does b (OnVersion 1 RemoveFromConflict) ∷ does a (OnVersion 1 Cancel) ∷ does b (OnVersion 1 OldProviderCancellationAcknowledge) ∷ does a (OnVersion 1 NewProviderCancellationAcknowledge) ∷ []) ≡ Some 13 ∷ Some 13 ∷ Some 13 ∷ Some 13 ∷ Some 13 ∷ Some 13 ∷ []
 unfolding next meaning after effect judge judged_for judged_version queue tests out
 wrong_status_of_active = refl
 
 -- a canceled version, and a block that was released
-disconnect_of_canceled : map (refused_after start (does b (OldProviderCreate n b a 0 true) ∷ does b (Cancel 1) ∷ [])) (does b (Disconnect 1 None) ∷ does a (Disconnect 1 None) ∷ []) ≡ Some 11 ∷ Some 13 ∷ []
+disconnect_of_canceled : map (refused_after start (does b (OldProviderCreate n b a 0 true) ∷ does b (OnVersion 1 Cancel) ∷ [])) (does b (OnVersion 1 (Disconnect None)) ∷ does a (OnVersion 1 (Disconnect None)) ∷ []) ≡ Some 11 ∷ Some 13 ∷ []
 unfolding next meaning after effect judge judged_for judged_version queue tests out
 disconnect_of_canceled = refl
 
@@ -62,6 +62,6 @@ unfolding next meaning after effect judge judged_for judged_version queue tests 
 silent_until = refl
 
 -- a cancellation and the conflict that it ends in, in steps
-cancel_in_steps : standing (state_after start (both_creates 5000 ++ Moment 10 ∷ does b (Cancel 1) ∷ Moment 130 ∷ Moment 1129 ∷ Moment 1130 ∷ [])) 1 ≡ Some (Canceled, 1130, 0)
+cancel_in_steps : standing (state_after start (both_creates 5000 ++ Moment 10 ∷ does b (OnVersion 1 Cancel) ∷ Moment 130 ∷ Moment 1129 ∷ Moment 1130 ∷ [])) 1 ≡ Some (Canceled, 1130, 0)
 unfolding next meaning after effect judge judged_for judged_version queue tests out
 cancel_in_steps = refl

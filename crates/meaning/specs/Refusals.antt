@@ -1,12 +1,13 @@
 -- What is asked of the register, and which refusal it meets: the least number whose condition holds.
-use Rattle.std.specs.Prelude.{ℕ, ◌+◌, Bool, true, false, not, ◌&&◌, ◌||◌, ◌==◌, nat_lt, nat_le, List, [], ◌∷◌, ◌++◌, map, filter, find, length, Option, Some, None, is_some, is_none, option_map, option_and_then, if◌then◌else◌}
+use Rattle.std.specs.Prelude.{ℕ, ◌+◌, Bool, true, false, not, ◌&&◌, ◌||◌, ◌==◌, nat_lt, nat_le, List, [], ◌∷◌, ◌++◌, map, filter, find, length, Option, Some, None, is_some, is_none, option_map, if◌then◌else◌}
 use Rattle.std.specs.List.{list_any}
 use Rattle.numbers.specs.Digits.{code_of, block_of, block_code_of}
 use Rattle.numbers.specs.Subjects.{subject_eq, Subject, Number, Block}
-use Rattle.meaning.specs.Commands.{Command, RegisterCarrier, RegisterRoutingNumber, OpenCode, OldProviderCreate, NewProviderCreate, Activate, PutInConflict, RemoveFromConflict, Cancel, OldProviderCancellationAcknowledge, NewProviderCancellationAcknowledge, Disconnect, Donate, Assign, Release}
+use Rattle.meaning.specs.Commands.{Command, RegisterCarrier, RegisterRoutingNumber, OpenCode, OldProviderCreate, NewProviderCreate, OnVersion, Donate, Assign, Release}
 use Rattle.meaning.specs.Versions.{Version, in_force, is_open, version_in_force, open_version, last_version}
-use Rattle.meaning.specs.Conditions.{limit, holds_of, is_the, is_cancel_pending, is_active, can_activate, can_cancel, is_pending, is_conflict, takes_block, has_no_room, is_past, is_another_due, is_late_conflict, lacks_concurrence, is_not_yet_due, has_no_attempt_left, is_neither, may_not_cancel, is_cancellers, is_early_removal, is_protected}
-use Rattle.meaning.specs.History.{Request, Commands, Acknowledges, carriers, lrn_owner, code_holder, donor_of, next_id, used_numbers, lacks_old_create, lacks_new_create, has_both_creates, makes}
+use Rattle.meaning.specs.Conditions.{limit, holds_of, is_the, is_active, takes_block, has_no_room, is_past, is_another_due, is_late_conflict, has_no_attempt_left}
+use Rattle.meaning.specs.History.{Request, Commands, Acknowledges, carriers, lrn_owner, code_holder, donor_of, next_id, used_numbers, lacks_old_create, lacks_new_create, makes}
+use Rattle.meaning.specs.OnVersion.{version_tests, holds_at}
 use Rattle.meaning.specs.Reading.{State, SubjectVersion, Download, Server, InPool, record_now, is_carrier, all_versions, version_of_id, serving, is_served_by, queue, is_before}
 
 pub data Question : Type 0 where
@@ -38,13 +39,7 @@ named_carriers (NewProviderCreate tn old_provider new_provider due lrn cic) = ol
 named_carriers (Assign block holder lrn cic) = holder ∷ []
 named_carriers (RegisterCarrier spid) = []
 named_carriers (RegisterRoutingNumber lrn) = []
-named_carriers (Activate id) = []
-named_carriers (PutInConflict id) = []
-named_carriers (RemoveFromConflict id) = []
-named_carriers (Cancel id) = []
-named_carriers (OldProviderCancellationAcknowledge id) = []
-named_carriers (NewProviderCancellationAcknowledge id) = []
-named_carriers (Disconnect id release) = []
+named_carriers (OnVersion id c) = []
 named_carriers (Donate block used lrn cic) = []
 named_carriers (Release block) = []
 
@@ -56,19 +51,20 @@ is_for_administrator (Assign block holder lrn cic) = true
 is_for_administrator (RegisterRoutingNumber lrn) = false
 is_for_administrator (OldProviderCreate tn old_provider new_provider due authorized) = false
 is_for_administrator (NewProviderCreate tn old_provider new_provider due lrn cic) = false
-is_for_administrator (Activate id) = false
-is_for_administrator (PutInConflict id) = false
-is_for_administrator (RemoveFromConflict id) = false
-is_for_administrator (Cancel id) = false
-is_for_administrator (OldProviderCancellationAcknowledge id) = false
-is_for_administrator (NewProviderCancellationAcknowledge id) = false
-is_for_administrator (Disconnect id release) = false
+is_for_administrator (OnVersion id c) = false
 is_for_administrator (Donate block used lrn cic) = false
 is_for_administrator (Release block) = false
 
 abbrev pub is_release : Command → Bool
 is_release (Release block) = true
-is_release _ = false
+is_release (RegisterCarrier spid) = false
+is_release (RegisterRoutingNumber lrn) = false
+is_release (OpenCode code spid) = false
+is_release (OldProviderCreate tn old_provider new_provider due authorized) = false
+is_release (NewProviderCreate tn old_provider new_provider due lrn cic) = false
+is_release (OnVersion id c) = false
+is_release (Donate block used lrn cic) = false
+is_release (Assign block holder lrn cic) = false
 
 -- whether a question has a caller, and may be the administrator's
 abbrev pub has_caller : Question → Bool
@@ -104,13 +100,7 @@ create_of (NewProviderCreate tn old_provider new_provider due lrn cic) = Some (r
 create_of (RegisterCarrier spid) = None
 create_of (RegisterRoutingNumber lrn) = None
 create_of (OpenCode code spid) = None
-create_of (Activate id) = None
-create_of (PutInConflict id) = None
-create_of (RemoveFromConflict id) = None
-create_of (Cancel id) = None
-create_of (OldProviderCancellationAcknowledge id) = None
-create_of (NewProviderCancellationAcknowledge id) = None
-create_of (Disconnect id release) = None
+create_of (OnVersion id c) = None
 create_of (Donate block used lrn cic) = None
 create_of (Assign block holder lrn cic) = None
 create_of (Release block) = None
@@ -119,35 +109,9 @@ create_of (Release block) = None
 abbrev pub second_of : State → Creates → Option Version
 second_of st c = find c.lacks (record_now st (Number c.tn)).versions
 
--- the id that a version command names
-abbrev pub id_of : Command → Option ℕ
-id_of (Activate id) = Some id
-id_of (PutInConflict id) = Some id
-id_of (RemoveFromConflict id) = Some id
-id_of (Cancel id) = Some id
-id_of (OldProviderCancellationAcknowledge id) = Some id
-id_of (NewProviderCancellationAcknowledge id) = Some id
-id_of (Disconnect id release) = Some id
-id_of (RegisterCarrier spid) = None
-id_of (RegisterRoutingNumber lrn) = None
-id_of (OpenCode code spid) = None
-id_of (OldProviderCreate tn old_provider new_provider due authorized) = None
-id_of (NewProviderCreate tn old_provider new_provider due lrn cic) = None
-id_of (Donate block used lrn cic) = None
-id_of (Assign block holder lrn cic) = None
-id_of (Release block) = None
-
 abbrev pub is_number : Subject → Bool
 is_number (Number n) = true
 is_number (Block b) = false
-
--- the version that a version command names
-abbrev pub named_version : State → Command → Option SubjectVersion
-named_version st c = option_and_then (version_of_id st) (id_of c)
-
--- whether the named version passes a test that goes by the command
-abbrev pub holds_of_named : State → Command → (Version → Bool) → Bool
-holds_of_named st c test = holds_of (λ (e : SubjectVersion). test e.version) (named_version st c)
 
 -- the block that a block command names
 abbrev pub block_named : Command → Option ℕ
@@ -159,13 +123,7 @@ block_named (RegisterRoutingNumber lrn) = None
 block_named (OpenCode code spid) = None
 block_named (OldProviderCreate tn old_provider new_provider due authorized) = None
 block_named (NewProviderCreate tn old_provider new_provider due lrn cic) = None
-block_named (Activate id) = None
-block_named (PutInConflict id) = None
-block_named (RemoveFromConflict id) = None
-block_named (Cancel id) = None
-block_named (OldProviderCancellationAcknowledge id) = None
-block_named (NewProviderCancellationAcknowledge id) = None
-block_named (Disconnect id release) = None
+block_named (OnVersion id c) = None
 
 -- the numbers of a block, as far as they are spoken of
 abbrev pub is_in_block : ℕ → Subject → Bool
@@ -196,8 +154,31 @@ number_is_busy st n =
     (option_map (λ (v : Version). v.status) (version_in_force (record_now st (Number n))))
     (option_map (λ (v : Version). v.status) (version_in_force (record_now st (Block (block_of n)))))
 
+-- whether a subject has an open version
+abbrev pub has_open : State → Subject → Bool
+has_open st s = is_some (open_version s (record_now st s))
+
 -- the rest of the table is on commands
 module _ (st : State) (caller : ℕ) where
+  -- the tests of a command on a version, over the version that it names
+  abbrev pub tests_on_version : Command → List (ℕ × Bool)
+  tests_on_version (OnVersion id c) = version_tests st.windows st.now caller (has_open st) c (version_of_id st id)
+  tests_on_version (RegisterCarrier spid) = []
+  tests_on_version (RegisterRoutingNumber lrn) = []
+  tests_on_version (OpenCode code spid) = []
+  tests_on_version (OldProviderCreate tn old_provider new_provider due authorized) = []
+  tests_on_version (NewProviderCreate tn old_provider new_provider due lrn cic) = []
+  tests_on_version (Donate block used lrn cic) = []
+  tests_on_version (Assign block holder lrn cic) = []
+  tests_on_version (Release block) = []
+
+  abbrev pub holds_on_version : ℕ → Command → Bool
+  holds_on_version number c = holds_at number (tests_on_version c)
+
+  -- a create by the test, and a command on a version by its own of this number
+  abbrev pub holds_of_create : ℕ → (Creates → Bool) → Command → Bool
+  holds_of_create number test c = elim (create_of c) [ Some n ↦ test n | None ↦ holds_on_version number c ]
+
   -- 2: a command of the administrator's by another
   abbrev pub not_admin : Command → Bool
   not_admin c = is_for_administrator c && not (caller == npac)
@@ -211,17 +192,38 @@ module _ (st : State) (caller : ℕ) where
   -- 4: the carrier is registered already, or is the administrator
   abbrev pub carrier_taken : Command → Bool
   carrier_taken (RegisterCarrier spid) = is_carrier st spid || (spid == npac)
-  carrier_taken _ = false
+  carrier_taken (RegisterRoutingNumber lrn) = false
+  carrier_taken (OpenCode code spid) = false
+  carrier_taken (OldProviderCreate tn old_provider new_provider due authorized) = false
+  carrier_taken (NewProviderCreate tn old_provider new_provider due lrn cic) = false
+  carrier_taken (OnVersion id c) = false
+  carrier_taken (Donate block used lrn cic) = false
+  carrier_taken (Assign block holder lrn cic) = false
+  carrier_taken (Release block) = false
 
   -- 5: the code is opened already
   abbrev pub code_taken : Command → Bool
   code_taken (OpenCode code spid) = is_some (code_holder code st.history)
-  code_taken _ = false
+  code_taken (RegisterCarrier spid) = false
+  code_taken (RegisterRoutingNumber lrn) = false
+  code_taken (OldProviderCreate tn old_provider new_provider due authorized) = false
+  code_taken (NewProviderCreate tn old_provider new_provider due lrn cic) = false
+  code_taken (OnVersion id c) = false
+  code_taken (Donate block used lrn cic) = false
+  code_taken (Assign block holder lrn cic) = false
+  code_taken (Release block) = false
 
   -- 6: the routing number is registered already
   abbrev pub lrn_taken : Command → Bool
   lrn_taken (RegisterRoutingNumber lrn) = is_some (lrn_owner lrn st.history)
-  lrn_taken _ = false
+  lrn_taken (RegisterCarrier spid) = false
+  lrn_taken (OpenCode code spid) = false
+  lrn_taken (OldProviderCreate tn old_provider new_provider due authorized) = false
+  lrn_taken (NewProviderCreate tn old_provider new_provider due lrn cic) = false
+  lrn_taken (OnVersion id c) = false
+  lrn_taken (Donate block used lrn cic) = false
+  lrn_taken (Assign block holder lrn cic) = false
+  lrn_taken (Release block) = false
 
   -- 7: the routing number is not one of the carrier that is to be routed to
   abbrev pub bad_lrn : Command → Bool
@@ -232,13 +234,7 @@ module _ (st : State) (caller : ℕ) where
   bad_lrn (RegisterRoutingNumber lrn) = false
   bad_lrn (OpenCode code spid) = false
   bad_lrn (OldProviderCreate tn old_provider new_provider due authorized) = false
-  bad_lrn (Activate id) = false
-  bad_lrn (PutInConflict id) = false
-  bad_lrn (RemoveFromConflict id) = false
-  bad_lrn (Cancel id) = false
-  bad_lrn (OldProviderCancellationAcknowledge id) = false
-  bad_lrn (NewProviderCancellationAcknowledge id) = false
-  bad_lrn (Disconnect id release) = false
+  bad_lrn (OnVersion id c) = false
   bad_lrn (Release block) = false
 
   -- 8: a create for a number that nobody serves
@@ -253,19 +249,19 @@ module _ (st : State) (caller : ℕ) where
   abbrev pub not_found : Command → Bool
   not_found (Assign block holder lrn cic) = is_none (donor_of block st.history)
   not_found (Release block) = is_none (donor_of block st.history) || is_none (last_version (record_now st (Block block)))
-  not_found c = is_some (id_of c) && not (holds_of (λ (e : SubjectVersion). is_number e.subject) (named_version st c))
+  not_found (OnVersion id c) = not (holds_of (λ (e : SubjectVersion). is_number e.subject) (version_of_id st id))
+  not_found (RegisterCarrier spid) = false
+  not_found (RegisterRoutingNumber lrn) = false
+  not_found (OpenCode code spid) = false
+  not_found (OldProviderCreate tn old_provider new_provider due authorized) = false
+  not_found (NewProviderCreate tn old_provider new_provider due lrn cic) = false
+  not_found (Donate block used lrn cic) = false
 
   -- 11: the caller is not the one who may
   abbrev pub not_yours : Command → Bool
   not_yours (OldProviderCreate tn old_provider new_provider due authorized) = not (caller == old_provider)
   not_yours (NewProviderCreate tn old_provider new_provider due lrn cic) = not (caller == new_provider)
-  not_yours (Activate id) = holds_of_named st (Activate id) (λ v. not (caller == v.new_provider))
-  not_yours (PutInConflict id) = holds_of_named st (PutInConflict id) (λ v. not (caller == v.old_provider))
-  not_yours (RemoveFromConflict id) = holds_of_named st (RemoveFromConflict id) (λ v. is_neither caller v.old_provider v.new_provider)
-  not_yours (Cancel id) = holds_of_named st (Cancel id) (λ v. is_neither caller v.old_provider v.new_provider || may_not_cancel caller v.old_provider v.new_provider v.old_at v.new_at v.status)
-  not_yours (OldProviderCancellationAcknowledge id) = holds_of_named st (OldProviderCancellationAcknowledge id) (λ v. not (caller == v.old_provider) || is_cancellers caller v.old_provider v.new_provider v.status)
-  not_yours (NewProviderCancellationAcknowledge id) = holds_of_named st (NewProviderCancellationAcknowledge id) (λ v. not (caller == v.new_provider) || is_cancellers caller v.old_provider v.new_provider v.status)
-  not_yours (Disconnect id release) = holds_of_named st (Disconnect id release) (λ v. not (caller == v.new_provider))
+  not_yours (OnVersion id c) = holds_on_version 11 (OnVersion id c)
   not_yours (Donate block used lrn cic) = not (is_the caller (code_holder (block_code_of block) st.history))
   not_yours (Release block) = not (caller == npac) && holds_of (λ (v : Version). not (caller == v.new_provider)) (last_version (record_now st (Block block)))
   not_yours (RegisterCarrier spid) = false
@@ -275,18 +271,11 @@ module _ (st : State) (caller : ℕ) where
 
   -- 12: a first create where there is no room for it, or a disconnect beside an open version
   abbrev pub busy : Command → Bool
-  busy (Disconnect id release) = holds_of (λ (e : SubjectVersion). is_some (open_version e.subject (record_now st e.subject))) (named_version st (Disconnect id release))
-  busy c = holds_of (λ (n : Creates). is_none (second_of st n) && number_is_busy st n.tn) (create_of c)
+  busy c = holds_of_create 12 (λ n. is_none (second_of st n) && number_is_busy st n.tn) c
 
   -- 13: the version's status does not allow it
   abbrev pub wrong_status : Command → Bool
-  wrong_status (Activate id) = holds_of_named st (Activate id) (λ v. not (can_activate v.status))
-  wrong_status (PutInConflict id) = holds_of_named st (PutInConflict id) (λ v. not (is_pending v.status))
-  wrong_status (RemoveFromConflict id) = holds_of_named st (RemoveFromConflict id) (λ v. not (is_conflict v.status))
-  wrong_status (Cancel id) = holds_of_named st (Cancel id) (λ v. not (can_cancel v.status))
-  wrong_status (OldProviderCancellationAcknowledge id) = holds_of_named st (OldProviderCancellationAcknowledge id) (λ v. not (is_cancel_pending v.status))
-  wrong_status (NewProviderCancellationAcknowledge id) = holds_of_named st (NewProviderCancellationAcknowledge id) (λ v. not (is_cancel_pending v.status))
-  wrong_status (Disconnect id release) = holds_of_named st (Disconnect id release) (λ v. not (is_active v.status))
+  wrong_status (OnVersion id c) = holds_on_version 13 (OnVersion id c)
   wrong_status (Release block) = holds_of (λ (v : Version). not (is_active v.status)) (last_version (record_now st (Block block)))
   wrong_status (RegisterCarrier spid) = false
   wrong_status (RegisterRoutingNumber lrn) = false
@@ -298,8 +287,7 @@ module _ (st : State) (caller : ℕ) where
 
   -- 14: a first create, or a disconnect's release, in the past
   abbrev pub due_past : Command → Bool
-  due_past (Disconnect id release) = holds_of (is_past st.now) release
-  due_past c = holds_of (λ (n : Creates). is_none (second_of st n) && is_past st.now n.due) (create_of c)
+  due_past c = holds_of_create 14 (λ n. is_none (second_of st n) && is_past st.now n.due) c
 
   -- 15: a second create with another due minute
   abbrev pub due_mismatch : Command → Bool
@@ -307,85 +295,27 @@ module _ (st : State) (caller : ℕ) where
 
   -- 16: activation of a pending version without the creates that it needs; removal without both
   abbrev pub not_concurred : Command → Bool
-  not_concurred (Activate id) = holds_of_named st (Activate id) (λ v. lacks_concurrence st.windows st.now v.status v.old_at v.new_at v.since)
-  not_concurred (RemoveFromConflict id) = holds_of_named st (RemoveFromConflict id) (λ v. not (has_both_creates v.old_at v.new_at))
-  not_concurred (RegisterCarrier spid) = false
-  not_concurred (RegisterRoutingNumber lrn) = false
-  not_concurred (OpenCode code spid) = false
-  not_concurred (OldProviderCreate tn old_provider new_provider due authorized) = false
-  not_concurred (NewProviderCreate tn old_provider new_provider due lrn cic) = false
-  not_concurred (PutInConflict id) = false
-  not_concurred (Cancel id) = false
-  not_concurred (OldProviderCancellationAcknowledge id) = false
-  not_concurred (NewProviderCancellationAcknowledge id) = false
-  not_concurred (Disconnect id release) = false
-  not_concurred (Donate block used lrn cic) = false
-  not_concurred (Assign block holder lrn cic) = false
-  not_concurred (Release block) = false
+  not_concurred c = holds_on_version 16 c
 
   -- 17: activation of a pending version before it is due
   abbrev pub before_due : Command → Bool
-  before_due (Activate id) = holds_of_named st (Activate id) (λ v. is_not_yet_due st.now v.status v.due)
-  before_due (RegisterCarrier spid) = false
-  before_due (RegisterRoutingNumber lrn) = false
-  before_due (OpenCode code spid) = false
-  before_due (OldProviderCreate tn old_provider new_provider due authorized) = false
-  before_due (NewProviderCreate tn old_provider new_provider due lrn cic) = false
-  before_due (PutInConflict id) = false
-  before_due (RemoveFromConflict id) = false
-  before_due (Cancel id) = false
-  before_due (OldProviderCancellationAcknowledge id) = false
-  before_due (NewProviderCancellationAcknowledge id) = false
-  before_due (Disconnect id release) = false
-  before_due (Donate block used lrn cic) = false
-  before_due (Assign block holder lrn cic) = false
-  before_due (Release block) = false
+  before_due c = holds_on_version 17 c
 
   -- 18: a second conflict
   abbrev pub conflict_spent : Command → Bool
-  conflict_spent (PutInConflict id) = holds_of_named st (PutInConflict id) (λ v. v.spent)
-  conflict_spent c = holds_of (λ (n : Creates). n.unauthorized && holds_of (λ (v : Version). v.spent) (second_of st n)) (create_of c)
+  conflict_spent c = holds_of_create 18 (λ n. n.unauthorized && holds_of (λ (v : Version). v.spent) (second_of st n)) c
 
   -- 19: a conflict too near to the due minute
   abbrev pub too_late : Command → Bool
-  too_late (PutInConflict id) = holds_of_named st (PutInConflict id) (λ v. is_late_conflict st.windows st.now v.due)
-  too_late c = holds_of (λ (n : Creates). n.unauthorized && is_late_conflict st.windows st.now n.due) (create_of c)
+  too_late c = holds_of_create 19 (λ n. n.unauthorized && is_late_conflict st.windows st.now n.due) c
 
   -- 20: a removal by the new provider before the conflict may be resolved
   abbrev pub too_early : Command → Bool
-  too_early (RemoveFromConflict id) = holds_of_named st (RemoveFromConflict id) (λ v. is_early_removal st.windows st.now caller v.new_provider v.since)
-  too_early (RegisterCarrier spid) = false
-  too_early (RegisterRoutingNumber lrn) = false
-  too_early (OpenCode code spid) = false
-  too_early (OldProviderCreate tn old_provider new_provider due authorized) = false
-  too_early (NewProviderCreate tn old_provider new_provider due lrn cic) = false
-  too_early (Activate id) = false
-  too_early (PutInConflict id) = false
-  too_early (Cancel id) = false
-  too_early (OldProviderCancellationAcknowledge id) = false
-  too_early (NewProviderCancellationAcknowledge id) = false
-  too_early (Disconnect id release) = false
-  too_early (Donate block used lrn cic) = false
-  too_early (Assign block holder lrn cic) = false
-  too_early (Release block) = false
+  too_early c = holds_on_version 20 c
 
   -- 21: a failed protective version stays
   abbrev pub protected : Command → Bool
-  protected (Cancel id) = holds_of_named st (Cancel id) (λ v. is_protected v.status v.protective)
-  protected (RegisterCarrier spid) = false
-  protected (RegisterRoutingNumber lrn) = false
-  protected (OpenCode code spid) = false
-  protected (OldProviderCreate tn old_provider new_provider due authorized) = false
-  protected (NewProviderCreate tn old_provider new_provider due lrn cic) = false
-  protected (Activate id) = false
-  protected (PutInConflict id) = false
-  protected (RemoveFromConflict id) = false
-  protected (OldProviderCancellationAcknowledge id) = false
-  protected (NewProviderCancellationAcknowledge id) = false
-  protected (Disconnect id release) = false
-  protected (Donate block used lrn cic) = false
-  protected (Assign block holder lrn cic) = false
-  protected (Release block) = false
+  protected c = holds_on_version 21 c
 
   -- the numbers of a block that are named as used, or have a version in force
   abbrev pub contaminated_numbers : ℕ → List ℕ → List Subject
@@ -397,7 +327,14 @@ module _ (st : State) (caller : ℕ) where
   -- 22: too many numbers of the block are in use
   abbrev pub contaminated : Command → Bool
   contaminated (Donate block used lrn cic) = nat_lt 100 (length (contaminated_numbers block used))
-  contaminated _ = false
+  contaminated (RegisterCarrier spid) = false
+  contaminated (RegisterRoutingNumber lrn) = false
+  contaminated (OpenCode code spid) = false
+  contaminated (OldProviderCreate tn old_provider new_provider due authorized) = false
+  contaminated (NewProviderCreate tn old_provider new_provider due lrn cic) = false
+  contaminated (OnVersion id c) = false
+  contaminated (Assign block holder lrn cic) = false
+  contaminated (Release block) = false
 
   -- a number of the block with an open version and none in force
   abbrev pub has_open_port : ℕ → Bool
@@ -416,36 +353,31 @@ module _ (st : State) (caller : ℕ) where
   block_taken (OpenCode code spid) = false
   block_taken (OldProviderCreate tn old_provider new_provider due authorized) = false
   block_taken (NewProviderCreate tn old_provider new_provider due lrn cic) = false
-  block_taken (Activate id) = false
-  block_taken (PutInConflict id) = false
-  block_taken (RemoveFromConflict id) = false
-  block_taken (Cancel id) = false
-  block_taken (OldProviderCancellationAcknowledge id) = false
-  block_taken (NewProviderCancellationAcknowledge id) = false
-  block_taken (Disconnect id release) = false
+  block_taken (OnVersion id c) = false
   block_taken (Release block) = false
 
   -- the attempt that a command sends, or plans
   abbrev pub attempts_too_often : Command → Bool
-  attempts_too_often (Activate id) = holds_of_named st (Activate id) (λ v. has_no_attempt_left v.attempt)
-  attempts_too_often (Disconnect id release) = holds_of_named st (Disconnect id release) (λ v. has_no_attempt_left v.attempt)
+  attempts_too_often (OnVersion id c) = holds_on_version 28 (OnVersion id c)
   attempts_too_often (Release block) = holds_of (λ (v : Version). has_no_attempt_left v.attempt) (last_version (record_now st (Block block)))
   attempts_too_often (RegisterCarrier spid) = false
   attempts_too_often (RegisterRoutingNumber lrn) = false
   attempts_too_often (OpenCode code spid) = false
   attempts_too_often (OldProviderCreate tn old_provider new_provider due authorized) = false
   attempts_too_often (NewProviderCreate tn old_provider new_provider due lrn cic) = false
-  attempts_too_often (PutInConflict id) = false
-  attempts_too_often (RemoveFromConflict id) = false
-  attempts_too_often (Cancel id) = false
-  attempts_too_often (OldProviderCancellationAcknowledge id) = false
-  attempts_too_often (NewProviderCancellationAcknowledge id) = false
   attempts_too_often (Donate block used lrn cic) = false
   attempts_too_often (Assign block holder lrn cic) = false
 
   abbrev pub is_full_of_carriers : Command → Bool
   is_full_of_carriers (RegisterCarrier spid) = nat_le 100 (length (carriers st.history))
-  is_full_of_carriers _ = false
+  is_full_of_carriers (RegisterRoutingNumber lrn) = false
+  is_full_of_carriers (OpenCode code spid) = false
+  is_full_of_carriers (OldProviderCreate tn old_provider new_provider due authorized) = false
+  is_full_of_carriers (NewProviderCreate tn old_provider new_provider due lrn cic) = false
+  is_full_of_carriers (OnVersion id c) = false
+  is_full_of_carriers (Donate block used lrn cic) = false
+  is_full_of_carriers (Assign block holder lrn cic) = false
+  is_full_of_carriers (Release block) = false
 
   -- 28: a hundred carriers, or an id or an attempt past the last. The test of ids stands for every command, and is right also for one
   -- that makes no version, because the next id never passes the limit

@@ -1,7 +1,7 @@
 -- Worked examples of who serves a number and where calls are routed, computed from the definitions.
 use Rattle.std.specs.Prelude.{true, [], ◌∷◌, ◌++◌, map, Some, None, ◌≡◌, refl}
 use Rattle.numbers.specs.Subjects.{Number}
-use Rattle.meaning.specs.Commands.{OldProviderCreate, NewProviderCreate, Activate, Donate, Assign, Release, RegisterCarrier}
+use Rattle.meaning.specs.Commands.{OldProviderCreate, NewProviderCreate, Activate, Donate, Assign, Release, RegisterCarrier, OnVersion}
 use Rattle.meaning.specs.Statuses.{Sending, Active, Failed}
 use Rattle.meaning.specs.declared.words.Action.TheVariants.{Create}
 use Rattle.meaning.specs.Judge.{judged_version, judge, judged_for}
@@ -19,7 +19,7 @@ unfolding next meaning after effect judge judged_for judged_version queue tests 
 no_version = refl
 
 -- a routing with a carrier's code
-with_cic : out (state_after start (does a (NewProviderCreate n b a 0 2025440000 (Some 288)) ∷ does b (OldProviderCreate n b a 0 true) ∷ does a (Activate 1) ∷ acks 1 1 (a ∷ b ∷ c ∷ []))) (Asks a (Query n)) ≡ Answered (Opened (Some (record { lrn = 2025440000; cic = Some 288 })))
+with_cic : out (state_after start (does a (NewProviderCreate n b a 0 2025440000 (Some 288)) ∷ does b (OldProviderCreate n b a 0 true) ∷ does a (OnVersion 1 Activate) ∷ acks 1 1 (a ∷ b ∷ c ∷ []))) (Asks a (Query n)) ≡ Answered (Opened (Some (record { lrn = 2025440000; cic = Some 288 })))
 unfolding next meaning after effect judge judged_for judged_version queue tests out
 with_cic = refl
 
@@ -56,7 +56,7 @@ port_failed : standing (state_after start one_failed) 2 ≡ Some (Failed, 15, 1)
 unfolding next meaning after effect judge judged_for judged_version queue tests out
 port_failed = refl
 
-port_again : map (standing (state_after start (one_failed ++ does b (Activate 2) ∷ Moment 21 ∷ acks 2 2 (a ∷ b ∷ c ∷ []) ++ Moment 22 ∷ does npac (Assign 2025337 c 2025550000 None) ∷ []))) (2 ∷ 3 ∷ []) ≡ Some (Active, 21, 2) ∷ Some (Sending Create, 22, 1) ∷ []
+port_again : map (standing (state_after start (one_failed ++ does b (OnVersion 2 Activate) ∷ Moment 21 ∷ acks 2 2 (a ∷ b ∷ c ∷ []) ++ Moment 22 ∷ does npac (Assign 2025337 c 2025550000 None) ∷ []))) (2 ∷ 3 ∷ []) ≡ Some (Active, 21, 2) ∷ Some (Sending Create, 22, 1) ∷ []
 unfolding next meaning after effect judge judged_for judged_version queue tests out
 port_again = refl
 

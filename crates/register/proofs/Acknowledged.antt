@@ -11,11 +11,10 @@ use Rattle.meaning.specs.History.{Acknowledges, effect, after, meaning, donor_of
 use Rattle.meaning.specs.Reading.{State, View, record_now, view_of}
 use Rattle.meaning.specs.Refusals.{Requests, refusal}
 use Rattle.meaning.specs.Machine.{IsHistory, Shown, accepted, answer_of}
-use Rattle.meaning.specs.Content.{Content, VersionRow, BroadcastRow, BlockRow, BroadcastKey, ClockRow, SameRows, Shows, Represents, Lags, row_of, of_subject, stored_broadcast, stored_wait, broadcast_with}
+use Rattle.meaning.specs.Content.{Content, VersionRow, BroadcastRow, BlockRow, BroadcastKey, ClockRow, SameRows, Shows, row_of, of_subject, stored_broadcast, stored_wait, broadcast_with}
 use Rattle.meaning.proofs.Ids.{same_id, same_subject}
 use Rattle.meaning.proofs.Entered.{judged-now, given_now, sound_now, entered-elsewhere, none_elsewhere, none_with}
 use Rattle.meaning.proofs.Shown.{some_is, own, others}
-use Rattle.meaning.proofs.Represented.{same_rows_lag}
 use Rattle.meaning.proofs.Tended.{IsTended, replay-tended, found_tended}
 use Rattle.meaning.proofs.Recipients.{AreKnown, broadcast_known}
 use Rattle.settle.specs.Changes.{Changes, IsChanged, AreOfVersion, ArePutsOf, AreKeysOf, put_rows, take_rows, same_broadcast}
@@ -27,6 +26,7 @@ use Rattle.register.specs.Settling.{LeavesOthers}
 use Rattle.register.proofs.Settled.{due_lags, leaves_but, of_id_found, wait_subject}
 use Rattle.register.specs.Acknowledging.{is_sending, answered_row, completed_if, own_rows, acknowledging}
 use Rattle.register.proofs.Alone.{one_in_force}
+use Rattle.register.proofs.Touched.{RegistryShows, touched-stands}
 use Rattle.register.proofs.OnVersion.{acknowledge-names, clock_same, shown_is}
 use Rattle.settle.proofs.Tables.{same_broadcast_with}
 use Rattle.settle.proofs.Taking.{sends_create-open, retired_broadcasts, version_after, others_after}
@@ -354,29 +354,25 @@ module _ (st : State) (old new : Content) (stands : Stands old st) (caller : ℕ
           (ap (λ (x : Record). option_map (λ (u : Version). u.id) (last_version x)) (acknowledged-record st caller id attempt s)
           ∙ last-same st.now id change (acknowledged_id caller attempt st.now) (record_now st s).versions)
 
-      lags_at : (t : Subject) (b : Bool) → subject_eq s t ≡ b → Lags st.windows new st.now t (record_now after_it t)
-      lags_at t false e = subst (Lags st.windows new st.now t) (sym (elsewhere t e)) (same_rows_lag st.windows st.now t old new (record_now st t) (other_rows t e) (stands.represents.subjects t))
-      lags_at t true e = subst (λ u. Lags st.windows new st.now u (record_now after_it u)) (sym (same_subject s t e))
-          (due_lags new after_it history_after s (subst (Shows st.windows new s) (sym (acknowledged-record st caller id attempt s)) own_shows)
-          (subst (λ (x : Record). IsQuiet st.windows st.now x.versions) (sym (acknowledged-record st caller id attempt s))
-          (acknowledging-quiet st.windows st.now caller id attempt (record_now st s).versions due.quiet)))
+      here : (t : Subject) → subject_eq s t ≡ true → IsSettled new after_it t
+      here t e = subst (IsSettled new after_it) (sym (same_subject s t e)) (record {
+        shows = subst (Shows st.windows new s) (sym (acknowledged-record st caller id attempt s)) own_shows;
+        quiet = subst (λ (x : Record). IsQuiet st.windows st.now x.versions) (sym (acknowledged-record st caller id attempt s)) (acknowledging-quiet st.windows st.now caller id attempt (record_now st s).versions due.quiet);
+      })
 
-      represents_after : Represents new after_it
-      represents_after = record {
-        windows = stands.represents.windows;
-        early = stands.represents.early;
-        history = history_after;
+      registry : RegistryShows new after_it
+      registry = record {
         clock = clock_same st caller (Acknowledges id attempt) s id is.version (acknowledge-names id attempt) stands.represents.history is.found old new changed.clock clock clock_is stands.represents.clock;
+        written = ap is_some changed.clock ∙ stands.written;
         carriers = λ k. ap is_some (changed.carriers k) ∙ stands.represents.carriers k;
         lrns = λ k. changed.lrns k ∙ stands.represents.lrns k;
         codes = λ k. changed.codes k ∙ stands.represents.codes k;
         blocks = λ b. changed.blocks b ∙ stands.represents.blocks b
             ∙ sym (ap (λ o. option_map (λ donor. let row : BlockRow = record { donor = donor; last = o } in row) (donor_of b st.history)) (last_id b (subject_eq s (Block b)) refl));
-        subjects = λ t. lags_at t (subject_eq s t) refl;
       }
 
       pub acknowledged-stands : Stands new after_it
-      acknowledged-stands = record { represents = represents_after; written = ap is_some changed.clock ∙ stands.written }
+      acknowledged-stands = touched-stands st old new caller (Acknowledges id attempt) (subject_eq s) stands none tt registry (λ t e. (elsewhere t e, other_rows t e)) here
 
       pub acknowledged-answer : (view : View) → view ≡ view_of after_it (record { subject = s; version = finished }) → Shown (Some view) ≡ answer_of st after_it (Requests caller (Acknowledges id attempt))
       acknowledged-answer view seen =

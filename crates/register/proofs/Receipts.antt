@@ -36,7 +36,7 @@ use Rattle.settle.specs.Fired.{retired_rows, IsEarlier}
 use Rattle.register.specs.Acknowledging.{is_sending, answered_row, completed_if, own_rows, acknowledging, completes, IsFound, all_changes}
 use Rattle.register.proofs.Composed.{answers_refused_same, answers_accepted, answers_without}
 use Rattle.register.proofs.OnVersion.{clock_of, clock_is_of}
-use Rattle.register.proofs.Activated.{row_version}
+use Rattle.register.proofs.RowVersion.{row_version}
 use Rattle.meaning.proofs.Entered.{given_now}
 use Rattle.settle.proofs.KeptRows.{retired_read, puts_of, the_replaced}
 use Rattle.register.proofs.Alone.{one_in_force}

@@ -2,6 +2,8 @@ pub mod Ends
 pub mod Changed
 pub mod Made
 pub mod Refused
+pub mod Commanded
+pub mod Cancelled
 pub mod CreateRefused
 pub mod Fired
 pub mod Judged

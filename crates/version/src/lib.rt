@@ -3,12 +3,17 @@
 
 mod acknowledgement;
 mod activation;
+mod cancellation;
+mod command;
+mod conflict;
 mod create;
 mod deadline;
+mod disconnect;
 mod firing;
 mod phase;
 mod version;
 
+pub use command::{Step, VersionCommand};
 pub use create::{Create, CreateFacts, Created, Creator};
 pub use phase::Phase;
 pub use version::{FIRST_ID, ID_LIMIT, Version};
