@@ -81,6 +81,36 @@ BBBB /subscriptionVersionOldSP-Create old-taken authorized=false due=79 new=CCCC
 BBBB /subscriptionVersionOldSP-Create old-free authorized=false due=49
      409 due_past 14
 
+# the same of the other provider's create
+AAAA /subscriptionVersionNewSP-Create closed old=ZZZZ
+     403 unknown_carrier 1
+ZZZZ /subscriptionVersionNewSP-Create taken
+     403 unknown_carrier 1
+ZZZZ /subscriptionVersionNewSP-Create free due=49
+     403 unknown_carrier 1
+CCCC /subscriptionVersionOldSP-Create old-free new=ZZZZ old=CCCC
+     403 unknown_carrier 1
+ZZZZ /subscriptionVersionOldSP-Create old-free
+     403 unknown_carrier 1
+BBBB /subscriptionVersionOldSP-Create old-closed new=BBBB
+     404 unknown_code 3
+AAAA /subscriptionVersionOldSP-Create old-closed
+     404 unknown_code 3
+BBBB /subscriptionVersionOldSP-Create old-closed due=49
+     404 unknown_code 3
+BBBB /subscriptionVersionOldSP-Create old-free old=CCCC
+     409 wrong_old 9
+CCCC /subscriptionVersionOldSP-Create old-taken old=CCCC
+     409 wrong_old 9
+CCCC /subscriptionVersionOldSP-Create old-free due=49 old=CCCC
+     409 wrong_old 9
+AAAA /subscriptionVersionOldSP-Create old-taken new=CCCC
+     403 not_yours 11
+AAAA /subscriptionVersionOldSP-Create old-free due=49
+     403 not_yours 11
+BBBB /subscriptionVersionOldSP-Create old-taken due=49 new=CCCC
+     409 busy 12
+
 # each of them alone
 AAAA /subscriptionVersionNewSP-Create closed
      404 unknown_code 3

@@ -25,6 +25,10 @@ ZZZZ /subscriptionVersionOldSP-Create unspent due=99
      403 unknown_carrier 1
 ZZZZ /subscriptionVersionOldSP-Create spent
      403 unknown_carrier 1
+ZZZZ /subscriptionVersionNewSP-Create answer
+     403 unknown_carrier 1
+ZZZZ /subscriptionVersionNewSP-Create answer due=99
+     403 unknown_carrier 1
 
 # the routing number is another's; and the caller is another, the due minute is another
 BBBB /subscriptionVersionNewSP-Create answer lrn=2025330000
@@ -36,6 +40,8 @@ AAAA /subscriptionVersionNewSP-Create answer due=99 lrn=2025550000
 AAAA /subscriptionVersionOldSP-Create unspent due=99
      403 not_yours 11
 AAAA /subscriptionVersionOldSP-Create spent
+     403 not_yours 11
+BBBB /subscriptionVersionNewSP-Create answer due=99
      403 not_yours 11
 
 # the due minute is another, and the conflict is spent; each alone
