@@ -2,9 +2,8 @@
 use Rattle.std.proofs.Common.{◌≡◌, ◌⊎◌, ℕ, List, Bool, true, false, Option, Some, None, IsSomeAnd, inl, inr, ap, subst, sym, ◌∙◌}
 use Rattle.numbers.specs.declared.spid.Spid.{Spid}
 use Rattle.serde_json.specs.Data.{Data}
-use Rattle.meaning.specs.History.{Commands, Acknowledges}
 use Rattle.meaning.specs.Reading.{State}
-use Rattle.meaning.specs.Refusals.{Input, Requests, Asks, Knows, ShowVersion, Query}
+use Rattle.meaning.specs.Refusals.{Input, Asks, Knows, ShowVersion, Query, Ids}
 use Rattle.meaning.specs.Machine.{Reply, Refused, Known, out}
 use Rattle.telnp.specs.declared.fault.TelFault.{TelFault}
 use Rattle.bodies.specs.declared.fault.Failure.TheVariants.{Uri}
@@ -12,12 +11,13 @@ use Rattle.messages.specs.declared.fault.MessageFault.{MessageFault}
 use Rattle.messages.specs.declared.message.Request.{Request}
 use Rattle.messages.specs.declared.paths.Method.{Method}
 use Rattle.messages.specs.declared.paths.Route.{Route}
-use Rattle.messages.specs.declared.paths.Route.TheVariants.{Carriers, Clock, RoutingNumbers, Codes, OldProviderCreate, NewProviderCreate, Activate, Acknowledge, Query as QueryPath, Version}
+use Rattle.messages.specs.declared.paths.Route.TheVariants.{Carriers, Clock, RoutingNumbers, Codes, OldProviderCreate, NewProviderCreate, OnVersion, Acknowledge, Query as QueryPath, Version, Number}
 use Rattle.messages.specs.Table.{takes, among_offered}
-use Rattle.bodies.specs.Forms.{Asked, Orders, Confirms, Seeks, Moves, Shows, HasForm, json_of}
+use Rattle.calls.specs.Calls.{Called, Wonders, input_of}
+use Rattle.bodies.specs.Forms.{Asked, Calling, Seeking, HasForm, json_of}
 use Rattle.bodies.specs.Failures.{failure_text}
 use Rattle.bodies.specs.RefusalTexts.{refusal_text}
-use Rattle.api.specs.Step.{Step, Meets, MeetsPath, Calls, PathAsks, Answers, AnswersMove, AnswersQuery, AnswersUri, Refuses, Withholds, WithholdsTick, Takes, IsOnce, IsWithheld, ticked, routed_text}
+use Rattle.api.specs.Step.{Step, Meets, MeetsPath, Calls, PathAsks, Answers, AnswersAdmitted, turned_away, AnswersQuery, AnswersUri, Refuses, Withholds, WithholdsTick, IsOnce, IsWithheld, ticked, routed_text}
 use Rattle.telnp.specs.Answer.{Uri as TelUri}
 use Rattle.bodies.proofs.ClearLemmas.{same_form}
 use Rattle.api.proofs.UriLemmas.{faultless, not_asked, same_fault, same_uri, same_number as same_asked_number}
@@ -28,12 +28,6 @@ refuses_once st fault text said after later x y = inr (inr (x.0 ∙ sym y.0, x.1
 withheld : (from to : ℕ) (st : State) (text : List ℕ) (after : State) → Withholds from to st text after → IsWithheld text
 withheld from to st text after (inl x, e) = inl x.0
 withheld from to st text after (inr x, e) = inr x
-
-takes_once : (from to from' to' : ℕ) (st : State) (input : Input) (text said : List ℕ) (after later : State) →
-    Withholds from to st text after ⊎ Takes st input text after → Withholds from' to' st said later ⊎ Takes st input said later → IsOnce text said after later
-takes_once from to from' to' st input text said after later (inl x) y = inl (withheld from to st text after x)
-takes_once from to from' to' st input text said after later (inr x) (inl y) = inr (inl (withheld from' to' st said later y))
-takes_once from to from' to' st input text said after later (inr x) (inr y) = inr (inr (x.0 ∙ sym y.0, x.1 ∙ sym y.1))
 
 not_both : (reply : Reply) (k : ℕ) → reply ≡ Refused k → ¬ (reply ≡ Known)
 not_both reply k e f = let h : Refused k ≡ Known = sym e ∙ f in cc
@@ -63,22 +57,19 @@ query_once st caller uri text said (inr (inr x)) (inr (inr y)) =
     let moved : AnswersUri st caller y.1.0 text = subst (λ (u : TelUri). AnswersUri st caller u text) e x.1.2 in
     uri_once st caller y.1.0 text said moved y.1.2
 
-move_once : (st : State) (caller minute : ℕ) (text said : List ℕ) (after later : State) → AnswersMove st caller minute text after → AnswersMove st caller minute said later → (text ≡ said) × (after ≡ later)
-move_once st caller minute text said after later (inl x) (inl y) = (x.1.0 ∙ sym y.1.0, x.1.1 ∙ sym y.1.1)
-move_once st caller minute text said after later (inl x) (inr y) = absurd (y.0 x.0)
-move_once st caller minute text said after later (inr x) (inl y) = absurd (x.0 y.0)
-move_once st caller minute text said after later (inr x) (inr y) = (x.1 ∙ sym y.1, x.2 ∙ sym y.2)
+-- a call is refused for its caller in one way, or taken in one way
+admitted_once : (st : State) (away : Option ℕ) (input : Input) (text said : List ℕ) (after later : State) → AnswersAdmitted st away input text after → AnswersAdmitted st away input said later → (text ≡ said) × (after ≡ later)
+admitted_once st (Some number) input text said after later x y = (x.0 ∙ sym y.0, x.1 ∙ sym y.1)
+admitted_once st None input text said after later x y = (x.0 ∙ sym y.0, x.1 ∙ sym y.1)
 
 answers_once : (from to from' to' : ℕ) (st : State) (caller : ℕ) (asked : Asked) (text said : List ℕ) (after later : State) → Answers from to st caller asked text after → Answers from' to' st caller asked said later → IsOnce text said after later
-answers_once from to from' to' st caller (Orders command) text said after later x y = takes_once from to from' to' st (Requests caller (Commands command)) text said after later x y
-answers_once from to from' to' st caller (Confirms id attempt) text said after later x y = takes_once from to from' to' st (Requests caller (Acknowledges id attempt)) text said after later x y
-answers_once from to from' to' st caller (Seeks uri) text said after later (inl x) y = inl (withheld from to st text after x)
-answers_once from to from' to' st caller (Seeks uri) text said after later (inr x) (inl y) = inr (inl (withheld from' to' st said later y))
-answers_once from to from' to' st caller (Seeks uri) text said after later (inr x) (inr y) = inr (inr (query_once st caller uri text said x.0 y.0, x.1 ∙ sym y.1))
-answers_once from to from' to' st caller (Moves minute) text said after later (inl x) y = inl (withheld from to st text after x)
-answers_once from to from' to' st caller (Moves minute) text said after later (inr x) (inl y) = inr (inl (withheld from' to' st said later y))
-answers_once from to from' to' st caller (Moves minute) text said after later (inr x) (inr y) = inr (inr (move_once st caller minute text said after later x y))
-answers_once from to from' to' st caller (Shows id) text said after later x y = takes_once from to from' to' st (Asks caller (ShowVersion id)) text said after later x y
+answers_once from to from' to' st caller (Calling called) text said after later (inl x) y = inl (withheld from to st text after x)
+answers_once from to from' to' st caller (Calling called) text said after later (inr x) (inl y) = inr (inl (withheld from' to' st said later y))
+answers_once from to from' to' st caller (Calling called) text said after later (inr x) (inr y) =
+    inr (inr (admitted_once st (turned_away st caller called) (input_of caller called) text said after later x y))
+answers_once from to from' to' st caller (Seeking uri) text said after later (inl x) y = inl (withheld from to st text after x)
+answers_once from to from' to' st caller (Seeking uri) text said after later (inr x) (inl y) = inr (inl (withheld from' to' st said later y))
+answers_once from to from' to' st caller (Seeking uri) text said after later (inr x) (inr y) = inr (inr (query_once st caller uri text said x.0 y.0, x.1 ∙ sym y.1))
 
 same_asked : (route : Route) (read : Option Data) (a b : Asked) → IsSomeAnd read (λ (d : Data). HasForm route d a) → IsSomeAnd read (λ (d : Data). HasForm route d b) → a ≡ b
 same_asked route None a b x y = absurd x
@@ -89,14 +80,15 @@ some_number n m e = cc
 
 -- a message on a path asks one thing at most
 asks_once : (route : Route) (body : List ℕ) (a b : Asked) → PathAsks route body a → PathAsks route body b → a ≡ b
-asks_once (Version number) body a b x y = x.3 ∙ ap Shows (some_number x.0 y.0 (sym x.1 ∙ y.1)) ∙ sym y.3
+asks_once (Version number) body a b x y = x.3 ∙ ap (λ (id : ℕ). Calling (Wonders (ShowVersion id))) (some_number x.0 y.0 (sym x.1 ∙ y.1)) ∙ sym y.3
+asks_once (Number number) body a b x y = x.4 ∙ ap (λ (tn : ℕ). Calling (Wonders (Ids tn))) (some_number x.0 y.0 (sym x.1 ∙ y.1)) ∙ sym y.4
 asks_once Carriers body a b x y = same_asked Carriers (json_of body) a b x y
 asks_once Clock body a b x y = same_asked Clock (json_of body) a b x y
 asks_once RoutingNumbers body a b x y = same_asked RoutingNumbers (json_of body) a b x y
 asks_once Codes body a b x y = same_asked Codes (json_of body) a b x y
 asks_once OldProviderCreate body a b x y = same_asked OldProviderCreate (json_of body) a b x y
 asks_once NewProviderCreate body a b x y = same_asked NewProviderCreate (json_of body) a b x y
-asks_once Activate body a b x y = same_asked Activate (json_of body) a b x y
+asks_once (OnVersion path) body a b x y = same_asked (OnVersion path) (json_of body) a b x y
 asks_once Acknowledge body a b x y = same_asked Acknowledge (json_of body) a b x y
 asks_once QueryPath body a b x y = same_asked QueryPath (json_of body) a b x y
 

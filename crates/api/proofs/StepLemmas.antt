@@ -5,31 +5,33 @@ use Rattle.std.specs.Prelude.{not, ◌==◌, nat_lt, if◌then◌else◌}
 use Rattle.meaning.specs.declared.refusal.Refusal.{Refusal}
 use Rattle.meaning.specs.declared.refusal.Refusal.TheVariants.{UnknownCarrier, NotAdmin, UnknownCode, CarrierTaken, CodeTaken, LrnTaken, BadLrn, InPool, WrongOld, NotFound, NotYours, Busy, WrongStatus, DuePast, DueMismatch, NotConcurred, BeforeDue, ConflictSpent, TooLate, TooEarly, Protected, Contaminated, OpenPorts, BlockTaken, NotQueued, OutOfOrder, ClockBack, Full, Storage, NoMemory}
 use Rattle.meaning.specs.RefusalNumbers.{number_of}
-use Rattle.meaning.specs.Commands.{Command, RegisterCarrier, RegisterRoutingNumber, OpenCode, OldProviderCreate, NewProviderCreate, Activate, PutInConflict, RemoveFromConflict, Cancel, OldProviderCancellationAcknowledge, NewProviderCancellationAcknowledge, Disconnect, Donate, Assign, Release}
+use Rattle.meaning.specs.Commands.{Command, RegisterCarrier, RegisterRoutingNumber, OpenCode, OldProviderCreate, NewProviderCreate, OnVersion, Donate, Assign, Release}
 use Rattle.meaning.specs.Content.{Content}
-use Rattle.meaning.specs.History.{Commands}
+use Rattle.meaning.specs.History.{Commands, Acknowledges}
 use Rattle.meaning.specs.Reading.{State, InForce, all_in_force}
-use Rattle.meaning.specs.Refusals.{Input, Question, Moment, Requests, Asks, Knows, Query, AllInForce, npac, refusal, tests}
-use Rattle.meaning.specs.Machine.{Reply, Refused as MachineRefused, Moved, Registered, LrnAdded, CodeOpened, Shown, Donated, Known, Fetched, Answered, Rows, Awaited, Found, Answer, out, next, unless_refused, refused_or, reply_of, accepted}
+use Rattle.meaning.specs.Refusals.{Input, Question, Moment, Requests, Asks, Knows, Fetch, ShowVersion, Query, AllInForce, Waiting, Ids, npac, refusal, tests}
+use Rattle.meaning.specs.Machine.{Reply, Refused as MachineRefused, Moved, Registered, LrnAdded, CodeOpened, Shown, Donated, Known, Fetched, Answered, Rows, Awaited, Found, Answer, out, next, unless_refused, refused_or, reply_of, answer_of, accepted}
 use Rattle.settle.specs.Reads.{HasRisen}
 use Rattle.register.specs.Answers.{Stands, AnswersAs}
-use Rattle.register.specs.Calls.{refused_with}
+use Rattle.calls.specs.Calls.{Called, Wants, Wonders, Moves, input_of, refused_with, replied}
 use Rattle.bodies.specs.declared.fault.Failure.{Failure}
-use Rattle.bodies.specs.declared.fault.Failure.TheVariants.{Refused, Uri}
+use Rattle.bodies.specs.declared.fault.Failure.TheVariants.{Refused, Uri, Message}
+use Rattle.messages.specs.declared.fault.MessageFault.{MessageFault}
+use Rattle.messages.specs.declared.fault.MessageFault.TheVariants.{BadRequest}
 use Rattle.telnp.specs.declared.fault.TelFault.{TelFault}
 use Rattle.telnp.specs.Answer.{Uri as TelUri}
 use Rattle.telnp.specs.Faults.{fault_of}
 use Rattle.bodies.specs.Failures.{failure_text}
-use Rattle.bodies.specs.Forms.{Asked, Orders, Confirms, Seeks, Moves, Shows, HasForm, json_of}
+use Rattle.bodies.specs.Forms.{Asked, Calling, Seeking, HasForm, json_of}
 use Rattle.bodies.specs.RefusalTexts.{refusal_text}
-use Rattle.api.specs.Step.{Step, Meets, MeetsPath, Calls, Answers, AnswersMove, WithholdsTick, ticked, BodyAsks, NumberAsks, PathAsks, IsShort, Outgrows, Withholds, Takes, IsUri, AsksFor, ComesBack, AnswersQuery, Carries, success, told, reply_text, routed_text}
-use Rattle.bodies.specs.Texts.{looked_up, now_text, uri_text}
+use Rattle.api.specs.Step.{Step, Meets, MeetsPath, Calls, Answers, AnswersAdmitted, AnswersCall, Admits, TurnsAway, turned_away, WithholdsTick, ticked, BodyAsks, IdAsks, NumberAsks, PathAsks, IsShort, Outgrows, Withholds, Takes, IsUri, AsksFor, ComesBack, AnswersQuery, Carried, Carries, success, told, reply_text, routed_text}
+use Rattle.bodies.specs.Texts.{looked_up, uri_text}
 use Rattle.numbers.specs.declared.spid.Spid.{Spid}
 use Rattle.serde_json.specs.Data.{Data}
 use Rattle.messages.specs.declared.message.Request.{Request}
 use Rattle.messages.specs.declared.paths.Method.{Method}
 use Rattle.messages.specs.declared.paths.Route.{Route}
-use Rattle.messages.specs.declared.paths.Route.TheVariants.{Carriers, Clock, RoutingNumbers, Codes, OldProviderCreate as OldProviderPath, NewProviderCreate as NewProviderPath, Activate as ActivatePath, Acknowledge, Query as QueryPath, Version}
+use Rattle.messages.specs.declared.paths.Route.TheVariants.{Carriers, Clock, RoutingNumbers, Codes, OldProviderCreate as OldProviderPath, NewProviderCreate as NewProviderPath, OnVersion as VersionPaths, Acknowledge, Query as QueryPath, Version, Number}
 use Rattle.messages.specs.Table.{takes, among_offered}
 use Rattle.bodies.proofs.RefusalLemmas.{text_by_number}
 use Rattle.std.proofs.Math.Nat.{le_trans}
@@ -76,37 +78,81 @@ BlamesRightly from to old r = (st : State) → Stands old st → r ≡ Storage �
 pub blames_since : (from between to : ℕ) (old mid : Content) (r : Refusal) → from ≤ between → between ≤ to → ((st : State) → Stands old st → Stands mid st) → BlamesRightly between to mid r → BlamesRightly from to old r
 blames_since from between to old mid r before behind same blames = λ st s e. risen_since from between to before behind (blames st (same st s) e)
 
+-- ---- what a refusal means
+
+-- the device's, memory's, or the machine's
+kind : (r : Refusal) → (r ≡ Storage) ⊎ ((r ≡ NoMemory) ⊎ (nat_lt (number_of r) 29 ≡ true))
+kind UnknownCarrier = inr (inr refl)
+kind NotAdmin = inr (inr refl)
+kind UnknownCode = inr (inr refl)
+kind CarrierTaken = inr (inr refl)
+kind CodeTaken = inr (inr refl)
+kind LrnTaken = inr (inr refl)
+kind BadLrn = inr (inr refl)
+kind InPool = inr (inr refl)
+kind WrongOld = inr (inr refl)
+kind NotFound = inr (inr refl)
+kind NotYours = inr (inr refl)
+kind Busy = inr (inr refl)
+kind WrongStatus = inr (inr refl)
+kind DuePast = inr (inr refl)
+kind DueMismatch = inr (inr refl)
+kind NotConcurred = inr (inr refl)
+kind BeforeDue = inr (inr refl)
+kind ConflictSpent = inr (inr refl)
+kind TooLate = inr (inr refl)
+kind TooEarly = inr (inr refl)
+kind Protected = inr (inr refl)
+kind Contaminated = inr (inr refl)
+kind OpenPorts = inr (inr refl)
+kind BlockTaken = inr (inr refl)
+kind NotQueued = inr (inr refl)
+kind OutOfOrder = inr (inr refl)
+kind ClockBack = inr (inr refl)
+kind Full = inr (inr refl)
+kind Storage = inl refl
+kind NoMemory = inr (inl refl)
+
+-- the device or memory failed and nothing happened, or the machine refuses too
+abbrev Judged : (from to : ℕ) → Refusal → State → Input → Content → Type 0
+Judged from to r st input new = (IsShort from to r × Stands new st) ⊎ ((out st input ≡ MachineRefused (number_of r)) × Stands new (next st input))
+
+abbrev OfMachine : (old new : Content) → Input → ℕ → Bool → Type 0
+OfMachine old new input k b = AnswersAs old new input (if b then Some (MachineRefused k) else None)
+
+judged : (r : Refusal) (from to : ℕ) (old new : Content) (input : Input) → AnswersAs old new input (refused_with (number_of r)) → BlamesRightly from to old r → (st : State) → Stands old st → Judged from to r st input new
+judged r from to old new input h blames st s = go (kind r)
+  where
+    go : (r ≡ Storage) ⊎ ((r ≡ NoMemory) ⊎ (nat_lt (number_of r) 29 ≡ true)) → Judged from to r st input new
+    go (inl e) = inl (inl (e, blames st s e), subst (λ (t : Refusal). AnswersAs old new input (refused_with (number_of t))) e h st s)
+    go (inr (inl e)) = inl (inr e, subst (λ (t : Refusal). AnswersAs old new input (refused_with (number_of t))) e h st s)
+    go (inr (inr less)) = let x = subst (OfMachine old new input (number_of r)) less h st s in inr (sym x.0, x.1)
+
+pub short_text : (r : Refusal) (from to : ℕ) → IsShort from to r → ((failure_text (Refused r) ≡ refusal_text 29) × HasRisen from to) ⊎ (failure_text (Refused r) ≡ refusal_text 30)
+short_text r from to (inl x) = inl (ap (λ (t : Refusal). failure_text (Refused t)) x.0 ∙ text_by_number Storage, x.1)
+short_text r from to (inr e) = inr (ap (λ (t : Refusal). failure_text (Refused t)) e ∙ text_by_number NoMemory)
+
+-- the same of the text that tells it
+abbrev Outcome : (from to : ℕ) → Refusal → State → Input → Content → Type 0
+Outcome from to r st input new =
+    ((((failure_text (Refused r) ≡ refusal_text 29) × HasRisen from to) ⊎ (failure_text (Refused r) ≡ refusal_text 30)) × Stands new st)
+    ⊎ ((k : ℕ) × (out st input ≡ MachineRefused k) × (failure_text (Refused r) ≡ refusal_text k) × Stands new (next st input))
+
+told_by : (r : Refusal) (from to : ℕ) (st : State) (input : Input) (new : Content) → Judged from to r st input new → Outcome from to r st input new
+told_by r from to st input new (inl x) = inl (short_text r from to x.0, x.1)
+told_by r from to st input new (inr x) = inr (number_of r, x.0, text_by_number r, x.1)
+
+outcome : (r : Refusal) (from to : ℕ) (old new : Content) (input : Input) → AnswersAs old new input (refused_with (number_of r)) → BlamesRightly from to old r → (st : State) → Stands old st → Outcome from to r st input new
+outcome r from to old new input h blames st s = told_by r from to st input new (judged r from to old new input h blames st s)
+
+-- ---- the rows in force
+
+rows_fail : (r : Refusal) (from to : ℕ) (st : State) (new : Content) → Judged from to r st (Asks 0 AllInForce) new → IsShort from to r
+rows_fail r from to st new (inl x) = x.0
+rows_fail r from to st new (inr x) = absurd (never_refused st (number_of r) (sym x.0))
+
 pub rows_short : (r : Refusal) (from to : ℕ) (old new : Content) → AnswersAs old new (Asks 0 AllInForce) (refused_with (number_of r)) → BlamesRightly from to old r → (st : State) → Stands old st → IsShort from to r
-rows_short UnknownCarrier from to old new h blames st s = absurd (never_refused st 1 (h st s).0)
-rows_short NotAdmin from to old new h blames st s = absurd (never_refused st 2 (h st s).0)
-rows_short UnknownCode from to old new h blames st s = absurd (never_refused st 3 (h st s).0)
-rows_short CarrierTaken from to old new h blames st s = absurd (never_refused st 4 (h st s).0)
-rows_short CodeTaken from to old new h blames st s = absurd (never_refused st 5 (h st s).0)
-rows_short LrnTaken from to old new h blames st s = absurd (never_refused st 6 (h st s).0)
-rows_short BadLrn from to old new h blames st s = absurd (never_refused st 7 (h st s).0)
-rows_short InPool from to old new h blames st s = absurd (never_refused st 8 (h st s).0)
-rows_short WrongOld from to old new h blames st s = absurd (never_refused st 9 (h st s).0)
-rows_short NotFound from to old new h blames st s = absurd (never_refused st 10 (h st s).0)
-rows_short NotYours from to old new h blames st s = absurd (never_refused st 11 (h st s).0)
-rows_short Busy from to old new h blames st s = absurd (never_refused st 12 (h st s).0)
-rows_short WrongStatus from to old new h blames st s = absurd (never_refused st 13 (h st s).0)
-rows_short DuePast from to old new h blames st s = absurd (never_refused st 14 (h st s).0)
-rows_short DueMismatch from to old new h blames st s = absurd (never_refused st 15 (h st s).0)
-rows_short NotConcurred from to old new h blames st s = absurd (never_refused st 16 (h st s).0)
-rows_short BeforeDue from to old new h blames st s = absurd (never_refused st 17 (h st s).0)
-rows_short ConflictSpent from to old new h blames st s = absurd (never_refused st 18 (h st s).0)
-rows_short TooLate from to old new h blames st s = absurd (never_refused st 19 (h st s).0)
-rows_short TooEarly from to old new h blames st s = absurd (never_refused st 20 (h st s).0)
-rows_short Protected from to old new h blames st s = absurd (never_refused st 21 (h st s).0)
-rows_short Contaminated from to old new h blames st s = absurd (never_refused st 22 (h st s).0)
-rows_short OpenPorts from to old new h blames st s = absurd (never_refused st 23 (h st s).0)
-rows_short BlockTaken from to old new h blames st s = absurd (never_refused st 24 (h st s).0)
-rows_short NotQueued from to old new h blames st s = absurd (never_refused st 25 (h st s).0)
-rows_short OutOfOrder from to old new h blames st s = absurd (never_refused st 26 (h st s).0)
-rows_short ClockBack from to old new h blames st s = absurd (never_refused st 27 (h st s).0)
-rows_short Full from to old new h blames st s = absurd (never_refused st 28 (h st s).0)
-rows_short Storage from to old new h blames st s = inl (refl, blames st s refl)
-rows_short NoMemory from to old new h blames st s = inr refl
+rows_short r from to old new h blames st s = rows_fail r from to st new (judged r from to old new (Asks 0 AllInForce) h blames st s)
 
 -- ---- a registration
 
@@ -117,22 +163,33 @@ same_registration st None new caller (RegisterRoutingNumber lrn) provider rows e
 same_registration st None new caller (OpenCode code holder) provider rows e = let x : ⊥ = cc in absurd x
 same_registration st None new caller (OldProviderCreate tn old_provider new_provider due authorized) provider rows e = let x : ⊥ = cc in absurd x
 same_registration st None new caller (NewProviderCreate tn old_provider new_provider due lrn cic) provider rows e = let x : ⊥ = cc in absurd x
-same_registration st None new caller (Activate id) provider rows e = let x : ⊥ = cc in absurd x
-same_registration st None new caller (PutInConflict id) provider rows e = let x : ⊥ = cc in absurd x
-same_registration st None new caller (RemoveFromConflict id) provider rows e = let x : ⊥ = cc in absurd x
-same_registration st None new caller (Cancel id) provider rows e = let x : ⊥ = cc in absurd x
-same_registration st None new caller (OldProviderCancellationAcknowledge id) provider rows e = let x : ⊥ = cc in absurd x
-same_registration st None new caller (NewProviderCancellationAcknowledge id) provider rows e = let x : ⊥ = cc in absurd x
-same_registration st None new caller (Disconnect id release) provider rows e = let x : ⊥ = cc in absurd x
+same_registration st None new caller (OnVersion id command) provider rows e = let x : ⊥ = cc in absurd x
 same_registration st None new caller (Donate block used lrn cic) provider rows e = let x : ⊥ = cc in absurd x
 same_registration st None new caller (Assign block holder lrn cic) provider rows e = let x : ⊥ = cc in absurd x
 same_registration st None new caller (Release block) provider rows e = let x : ⊥ = cc in absurd x
 
-pub registered_of : (st : State) (caller : ℕ) (c : Command) (spid : ℕ) (rows : List InForce) → Registered spid rows ≡ out st (Requests caller (Commands c)) → (c ≡ RegisterCarrier spid) × (rows ≡ all_in_force st)
-unfolding out
-registered_of st caller c spid rows e = same_registration st (refusal st (Requests caller (Commands c))) (accepted st (Requests caller (Commands c))) caller c spid rows e
+abbrev IsRegistration : State → Called → (spid : ℕ) → List InForce → Type 0
+IsRegistration st called spid rows = (called ≡ Wants (Commands (RegisterCarrier spid))) × (rows ≡ all_in_force st)
 
-not_outgrown : (st : State) (caller : ℕ) (c : Command) (reply : Reply) (count : ℕ) → reply ≡ out st (Requests caller (Commands c)) → ((spid : ℕ) → c ≡ RegisterCarrier spid → length (all_in_force st) ≡ count) → ¬ (Outgrows count reply)
+registered_by : (st : State) (r : Option ℕ) (new : State) (caller : ℕ) (called : Called) (spid : ℕ) (rows : List InForce) → Registered spid rows ≡ refused_or r (answer_of st new (input_of caller called)) → IsRegistration st called spid rows
+registered_by st (Some k) new caller called spid rows e = let x : ⊥ = cc in absurd x
+registered_by st None new caller (Wants (Commands c)) spid rows e =
+    let found = same_registration st None new caller c spid rows e in (ap (λ (command : Command). Wants (Commands command)) found.0, found.1)
+registered_by st None new caller (Wants (Acknowledges id attempt)) spid rows e = let x : ⊥ = cc in absurd x
+registered_by st None new caller (Wonders Knows) spid rows e = let x : ⊥ = cc in absurd x
+registered_by st None new caller (Wonders (Fetch n)) spid rows e = let x : ⊥ = cc in absurd x
+registered_by st None new caller (Wonders (ShowVersion id)) spid rows e = let x : ⊥ = cc in absurd x
+registered_by st None new caller (Wonders (Query tn)) spid rows e = let x : ⊥ = cc in absurd x
+registered_by st None new caller (Wonders AllInForce) spid rows e = let x : ⊥ = cc in absurd x
+registered_by st None new caller (Wonders Waiting) spid rows e = let x : ⊥ = cc in absurd x
+registered_by st None new caller (Wonders (Ids tn)) spid rows e = let x : ⊥ = cc in absurd x
+registered_by st None new caller (Moves minute) spid rows e = let x : ⊥ = cc in absurd x
+
+registered_of : (st : State) (caller : ℕ) (called : Called) (spid : ℕ) (rows : List InForce) → Registered spid rows ≡ out st (input_of caller called) → IsRegistration st called spid rows
+unfolding out
+registered_of st caller called spid rows e = registered_by st (refusal st (input_of caller called)) (accepted st (input_of caller called)) caller called spid rows e
+
+not_outgrown : (st : State) (caller : ℕ) (c : Called) (reply : Reply) (count : ℕ) → reply ≡ out st (input_of caller c) → ((spid : ℕ) → c ≡ Wants (Commands (RegisterCarrier spid)) → length (all_in_force st) ≡ count) → ¬ (Outgrows count reply)
 not_outgrown st caller c (Registered spid rows) count e counted x =
     let found = registered_of st caller c spid rows e in
     let long : length rows ≡ length (all_in_force st) = ap length found.1 in
@@ -152,85 +209,101 @@ not_outgrown st caller c (Rows rows) count e counted x = x
 not_outgrown st caller c (Awaited subjects) count e counted x = x
 not_outgrown st caller c (Found in_force opened) count e counted x = x
 
--- ---- what a refusal means
+-- ---- calls
 
--- the device or memory failed and nothing happened, or the machine refuses too
-abbrev Outcome : (from to : ℕ) → Refusal → State → Input → Content → Type 0
-Outcome from to r st input new =
-    ((((failure_text (Refused r) ≡ refusal_text 29) × HasRisen from to) ⊎ (failure_text (Refused r) ≡ refusal_text 30)) × Stands new st)
-    ⊎ ((k : ℕ) × (out st input ≡ MachineRefused k) × (failure_text (Refused r) ≡ refusal_text k) × Stands new (next st input))
+-- a caller that may not make the call
+pub away_carried : (r : Refusal) (from to : ℕ) (new : Content) (st : State) (caller : ℕ) (called : Called) → Stands new st → TurnsAway from to st caller called r →
+    Carried from to new st caller (Calling called) (failure_text (Refused r))
+away_carried r from to new st caller called s (inl short) = (st, inl (short_text r from to short, refl), s)
+away_carried r from to new st caller called s (inr e) =
+    (st, inr (subst (λ (o : Option ℕ). AnswersAdmitted st o (input_of caller called) (failure_text (Refused r)) st) (sym e) (text_by_number r, refl)), s)
 
-outcome : (r : Refusal) (from to : ℕ) (old new : Content) (input : Input) → AnswersAs old new input (refused_with (number_of r)) → BlamesRightly from to old r → (st : State) → Stands old st → Outcome from to r st input new
-outcome UnknownCarrier from to old new input h blames st s = inr (1, sym (h st s).0, text_by_number UnknownCarrier, (h st s).1)
-outcome NotAdmin from to old new input h blames st s = inr (2, sym (h st s).0, text_by_number NotAdmin, (h st s).1)
-outcome UnknownCode from to old new input h blames st s = inr (3, sym (h st s).0, text_by_number UnknownCode, (h st s).1)
-outcome CarrierTaken from to old new input h blames st s = inr (4, sym (h st s).0, text_by_number CarrierTaken, (h st s).1)
-outcome CodeTaken from to old new input h blames st s = inr (5, sym (h st s).0, text_by_number CodeTaken, (h st s).1)
-outcome LrnTaken from to old new input h blames st s = inr (6, sym (h st s).0, text_by_number LrnTaken, (h st s).1)
-outcome BadLrn from to old new input h blames st s = inr (7, sym (h st s).0, text_by_number BadLrn, (h st s).1)
-outcome InPool from to old new input h blames st s = inr (8, sym (h st s).0, text_by_number InPool, (h st s).1)
-outcome WrongOld from to old new input h blames st s = inr (9, sym (h st s).0, text_by_number WrongOld, (h st s).1)
-outcome NotFound from to old new input h blames st s = inr (10, sym (h st s).0, text_by_number NotFound, (h st s).1)
-outcome NotYours from to old new input h blames st s = inr (11, sym (h st s).0, text_by_number NotYours, (h st s).1)
-outcome Busy from to old new input h blames st s = inr (12, sym (h st s).0, text_by_number Busy, (h st s).1)
-outcome WrongStatus from to old new input h blames st s = inr (13, sym (h st s).0, text_by_number WrongStatus, (h st s).1)
-outcome DuePast from to old new input h blames st s = inr (14, sym (h st s).0, text_by_number DuePast, (h st s).1)
-outcome DueMismatch from to old new input h blames st s = inr (15, sym (h st s).0, text_by_number DueMismatch, (h st s).1)
-outcome NotConcurred from to old new input h blames st s = inr (16, sym (h st s).0, text_by_number NotConcurred, (h st s).1)
-outcome BeforeDue from to old new input h blames st s = inr (17, sym (h st s).0, text_by_number BeforeDue, (h st s).1)
-outcome ConflictSpent from to old new input h blames st s = inr (18, sym (h st s).0, text_by_number ConflictSpent, (h st s).1)
-outcome TooLate from to old new input h blames st s = inr (19, sym (h st s).0, text_by_number TooLate, (h st s).1)
-outcome TooEarly from to old new input h blames st s = inr (20, sym (h st s).0, text_by_number TooEarly, (h st s).1)
-outcome Protected from to old new input h blames st s = inr (21, sym (h st s).0, text_by_number Protected, (h st s).1)
-outcome Contaminated from to old new input h blames st s = inr (22, sym (h st s).0, text_by_number Contaminated, (h st s).1)
-outcome OpenPorts from to old new input h blames st s = inr (23, sym (h st s).0, text_by_number OpenPorts, (h st s).1)
-outcome BlockTaken from to old new input h blames st s = inr (24, sym (h st s).0, text_by_number BlockTaken, (h st s).1)
-outcome NotQueued from to old new input h blames st s = inr (25, sym (h st s).0, text_by_number NotQueued, (h st s).1)
-outcome OutOfOrder from to old new input h blames st s = inr (26, sym (h st s).0, text_by_number OutOfOrder, (h st s).1)
-outcome ClockBack from to old new input h blames st s = inr (27, sym (h st s).0, text_by_number ClockBack, (h st s).1)
-outcome Full from to old new input h blames st s = inr (28, sym (h st s).0, text_by_number Full, (h st s).1)
-outcome Storage from to old new input h blames st s = inl (inl (text_by_number Storage, blames st s refl), h st s)
-outcome NoMemory from to old new input h blames st s = inl (inr (text_by_number NoMemory), h st s)
+-- what is told of a refusal
+pub refused_as : {A : Type 0} (from to : ℕ) (new : Content) (st : State) (caller : ℕ) (asked : Asked) (result : Result A Failure) (body : List ℕ) (r : Refusal) → result ≡ Err (Refused r) →
+    Carried from to new st caller asked (failure_text (Refused r)) → Carried from to new st caller asked (told result body)
+refused_as from to new st caller asked result body r e x = subst (λ (o : Result _ Failure). Carried from to new st caller asked (told o body)) (sym e) x
 
-pub short_text : (r : Refusal) (from to : ℕ) → IsShort from to r → ((failure_text (Refused r) ≡ refusal_text 29) × HasRisen from to) ⊎ (failure_text (Refused r) ≡ refusal_text 30)
-short_text r from to (inl x) = inl (ap (λ (t : Refusal). failure_text (Refused t)) x.0 ∙ text_by_number Storage, x.1)
-short_text r from to (inr e) = inr (ap (λ (t : Refusal). failure_text (Refused t)) e ∙ text_by_number NoMemory)
+module _ (from to : ℕ) (new : Content) (st : State) (caller : ℕ) (called : Called) where
+  -- no room for what it answers
+  pub short_carried : (r : Refusal) → Stands new st → IsShort from to r → Carried from to new st caller (Calling called) (failure_text (Refused r))
+  short_carried r s short = (st, inl (short_text r from to short, refl), s)
 
--- ---- commands and acknowledgements
+  module _ (admits : Admits st caller called) where
+    taken : (text : List ℕ) → text ≡ reply_text (out st (input_of caller called)) → AnswersCall st caller called text (next st (input_of caller called))
+    taken text e = subst (λ (o : Option ℕ). AnswersAdmitted st o (input_of caller called) text (next st (input_of caller called))) (sym admits) (e, refl)
 
--- the machine took the input, or it was withheld
-abbrev pub Carried : (from to : ℕ) → (old new : Content) → Input → List ℕ → Type 0
-Carried from to old new input text = (st : State) → Stands old st → (after : State) × (Withholds from to st text after ⊎ Takes st input text after) × Stands new after
+    refused_by : (r : Refusal) → Outcome from to r st (input_of caller called) new → Carried from to new st caller (Calling called) (failure_text (Refused r))
+    refused_by r (inl x) = (st, inl (x.0, refl), x.1)
+    refused_by r (inr x) = (next st (input_of caller called), inr (taken (failure_text (Refused r)) (x.2 ∙ ap reply_text (sym x.1))), x.3)
 
-carried_by : (r : Refusal) (from to : ℕ) (st : State) (input : Input) (new : Content) → Outcome from to r st input new →
-    (after : State) × (Withholds from to st (failure_text (Refused r)) after ⊎ Takes st input (failure_text (Refused r)) after) × Stands new after
-carried_by r from to st input new (inl x) = (st, inl (x.0, refl), x.1)
-carried_by r from to st input new (inr x) = (next st input, inr (x.2 ∙ ap reply_text (sym x.1), refl), x.3)
+    -- what the register refuses
+    pub refused_carried : (r : Refusal) (mid : Content) → AnswersAs mid new (input_of caller called) (refused_with (number_of r)) → BlamesRightly from to mid r → Stands mid st →
+        Carried from to new st caller (Calling called) (failure_text (Refused r))
+    refused_carried r mid h blames s = refused_by r (outcome r from to mid new (input_of caller called) h blames st s)
 
-pub refused_carried : (r : Refusal) (from to : ℕ) (old new : Content) (input : Input) → AnswersAs old new input (refused_with (number_of r)) → BlamesRightly from to old r → Carried from to old new input (failure_text (Refused r))
-refused_carried r from to old new input h blames = λ st s. carried_by r from to st input new (outcome r from to old new input h blames st s)
+    -- and what it answers
+    pub reply_carried : {A : Type 0} (mid : Content) (reply : Reply) (count : ℕ) (result : Result A Failure) (body : List ℕ) → Stands mid st →
+        ((spid : ℕ) → called ≡ Wants (Commands (RegisterCarrier spid)) → length (all_in_force st) ≡ count) →
+        AnswersAs mid new (input_of caller called) (Some reply) → OnOk result (success body ≡ reply_text reply) → OnErr result (Outgrows count reply) →
+        Carried from to new st caller (Calling called) (told result body)
+    reply_carried mid reply count (Ok done) body s counted h text more = (next st (input_of caller called), inr (taken (success body) (text ∙ ap reply_text (h st s).0)), (h st s).1)
+    reply_carried mid reply count (Err failure) body s counted h text more = absurd (not_outgrown st caller called reply count (h st s).0 counted more)
 
-pub refused_then_carried : (r : Refusal) (from between to : ℕ) (old mid new : Content) (input : Input) → from ≤ between → between ≤ to → ((st : State) → Stands old st → Stands mid st) →
-    AnswersAs mid new input (refused_with (number_of r)) → BlamesRightly between to mid r → Carried from to old new input (failure_text (Refused r))
-refused_then_carried r from between to old mid new input before behind same h blames = λ st s.
-    refused_carried r from to mid new input h (blames_since from between to mid mid r before behind (λ x y. y) blames) st (same st s)
+-- ---- who may ask for the ids of a number
 
-pub short_carried : (r : Refusal) (from to : ℕ) (old new : Content) (input : Input) → ((st : State) → Stands old st → Stands new st) → ((st : State) → Stands old st → IsShort from to r) → Carried from to old new input (failure_text (Refused r))
-short_carried r from to old new input same short = λ st s. (st, inl (short_text r from to (short st s), refl), same st s)
+known_by : (o : Option ℕ) → Known ≡ refused_or o Known → o ≡ None
+known_by None e = refl
+known_by (Some k) e = let x : ⊥ = cc in absurd x
 
-pub taken_carried : (from to : ℕ) (old new : Content) (input : Input) (reply : Reply) (text : List ℕ) → AnswersAs old new input (Some reply) → text ≡ reply_text reply → Carried from to old new input text
-taken_carried from to old new input reply text h e = λ st s. (next st input, inr (e ∙ ap reply_text (h st s).0, refl), (h st s).1)
+refused_for : (o : Option ℕ) (k : ℕ) → refused_or o Known ≡ MachineRefused k → o ≡ Some k
+refused_for None k e = let x : ⊥ = cc in absurd x
+refused_for (Some n) k e = cc
 
-pub reply_carried : {A : Type 0} (from to : ℕ) (old mid new : Content) (caller : ℕ) (c : Command) (reply : Reply) (count : ℕ) (result : Result A Failure) (body : List ℕ) →
-    ((st : State) → Stands old st → Stands mid st) →
-    ((st : State) → Stands old st → (spid : ℕ) → c ≡ RegisterCarrier spid → length (all_in_force st) ≡ count) →
-    AnswersAs mid new (Requests caller (Commands c)) (Some reply) →
-    OnOk result (success body ≡ reply_text reply) → OnErr result (Outgrows count reply) →
-    Carries from to old new caller (Orders c) (told result body)
-reply_carried from to old mid new caller c reply count (Ok done) body same counted h text more = λ st s.
-    (next st (Requests caller (Commands c)), inr (text ∙ ap reply_text (h st (same st s)).0, refl), (h st (same st s)).1)
-reply_carried from to old mid new caller c reply count (Err failure) body same counted h text more = λ st s.
-    absurd (not_outgrown st caller c reply count (h st (same st s)).0 (counted st s) more)
+pub known_admitted : (st : State) (caller : ℕ) → Known ≡ out st (Asks caller Knows) → refusal st (Asks caller Knows) ≡ None
+unfolding out
+known_admitted st caller e = known_by (refusal st (Asks caller Knows)) e
+
+unknown_refused : (st : State) (caller k : ℕ) → out st (Asks caller Knows) ≡ MachineRefused k → refusal st (Asks caller Knows) ≡ Some k
+unfolding out
+unknown_refused st caller k e = refused_for (refusal st (Asks caller Knows)) k e
+
+unknown_by : (r : Refusal) (from to : ℕ) (st : State) (caller tn : ℕ) (new : Content) → Judged from to r st (Asks caller Knows) new → TurnsAway from to st caller (Wonders (Ids tn)) r
+unknown_by r from to st caller tn new (inl x) = inl x.0
+unknown_by r from to st caller tn new (inr x) = inr (unknown_refused st caller (number_of r) x.0)
+
+pub unknown_turned_away : (r : Refusal) (from to : ℕ) (old new : Content) (caller tn : ℕ) → AnswersAs old new (Asks caller Knows) (refused_with (number_of r)) → BlamesRightly from to old r →
+    (st : State) → Stands old st → TurnsAway from to st caller (Wonders (Ids tn)) r
+unknown_turned_away r from to old new caller tn h blames st s = unknown_by r from to st caller tn new (judged r from to old new (Asks caller Knows) h blames st s)
+
+-- by what the register answers
+pub known_or_not : (U : Type 0) (result : Result Unit Refusal) (old new : Content) (caller tn : ℕ) → (U → AnswersAs old new (Asks caller Knows) (replied (λ done. Known) result)) →
+    OnOk result (U → (st : State) → Stands old st → Admits st caller (Wonders (Ids tn)))
+known_or_not U (Ok done) old new caller tn h = λ u st s. known_admitted st caller (h u st s).0
+known_or_not U (Err r) old new caller tn h = tt
+
+pub away_or_not : (U : Type 0) (result : Result Unit Refusal) (from to : ℕ) (old new : Content) (caller tn : ℕ) → (U → AnswersAs old new (Asks caller Knows) (replied (λ done. Known) result)) →
+    (U → (st : State) → Stands old st → result ≡ Err Storage → HasRisen from to) → IfErr result (λ r. U → (st : State) → Stands old st → TurnsAway from to st caller (Wonders (Ids tn)) r)
+away_or_not U (Ok done) from to old new caller tn h blames = tt
+away_or_not U (Err r) from to old new caller tn h blames = λ u st s. unknown_turned_away r from to old new caller tn (h u) (λ st s e. blames u st s (ap Err e)) st s
+
+-- ---- who may move the clock
+
+abbrev only_if : Bool → Option ℕ
+only_if b = if b then None else Some 2
+
+by_test : (b : Bool) → not b ≡ true → only_if b ≡ Some 2
+by_test false e = refl
+by_test true e = let x : ⊥ = cc in absurd x
+
+admitted_by : (b : Bool) → not b ≡ false → only_if b ≡ None
+admitted_by true e = refl
+admitted_by false e = let x : ⊥ = cc in absurd x
+
+pub stranger_turned_away : (st : State) (caller minute : ℕ) → not (caller == npac) ≡ true → turned_away st caller (Moves minute) ≡ Some 2
+stranger_turned_away st caller minute other = by_test (caller == npac) other
+
+pub administrator_admitted : (st : State) (caller minute : ℕ) → not (caller == npac) ≡ false → Admits st caller (Moves minute)
+administrator_admitted st caller minute is = admitted_by (caller == npac) is
 
 -- ---- queries
 
@@ -239,10 +312,10 @@ query_known : (r : Refusal) (from to : ℕ) (st : State) (caller : ℕ) (uri : L
 query_known r from to st caller uri new (inl x) = (st, inl (x.0, refl), x.1)
 query_known r from to st caller uri new (inr x) = (st, inr (inl (x.0, x.1, x.2), refl), stays new st caller Knows x.3)
 
-pub unknown_carried : (r : Refusal) (from to : ℕ) (old new : Content) (caller : ℕ) (uri : List ℕ) → AnswersAs old new (Asks caller Knows) (refused_with (number_of r)) → BlamesRightly from to old r → Carries from to old new caller (Seeks uri) (failure_text (Refused r))
+pub unknown_carried : (r : Refusal) (from to : ℕ) (old new : Content) (caller : ℕ) (uri : List ℕ) → AnswersAs old new (Asks caller Knows) (refused_with (number_of r)) → BlamesRightly from to old r → Carries from to old new caller (Seeking uri) (failure_text (Refused r))
 unknown_carried r from to old new caller uri h blames = λ st s. query_known r from to st caller uri new (outcome r from to old new (Asks caller Knows) h blames st s)
 
-pub faulty_carried : (fault : TelFault) (from to : ℕ) (old new : Content) (caller : ℕ) (uri : List ℕ) → AnswersAs old new (Asks caller Knows) (Some Known) → fault_of uri ≡ Some fault → Carries from to old new caller (Seeks uri) (failure_text (Uri fault))
+pub faulty_carried : (fault : TelFault) (from to : ℕ) (old new : Content) (caller : ℕ) (uri : List ℕ) → AnswersAs old new (Asks caller Knows) (Some Known) → fault_of uri ≡ Some fault → Carries from to old new caller (Seeking uri) (failure_text (Uri fault))
 faulty_carried fault from to old new caller uri h e = λ st s.
     (st, inr (inr (inl (sym (h st s).0, (fault, e, refl))), refl), stays new st caller Knows (h st s).1)
 
@@ -253,7 +326,7 @@ query_asked r from to st caller uri read tn new parts asks known (inr x) =
     (st, inr (inr (inr (known, (read, parts, inr (tn, asks, x.2 ∙ ap (routed_text read) (sym x.1))))), refl), stays new st caller (Query tn) x.3)
 
 pub refused_query_carried : (r : Refusal) (from between to : ℕ) (old mid new : Content) (caller : ℕ) (uri : List ℕ) (read : TelUri) (tn : ℕ) → from ≤ between → between ≤ to → IsUri uri read → AsksFor read tn → AnswersAs old mid (Asks caller Knows) (Some Known) →
-    AnswersAs mid new (Asks caller (Query tn)) (refused_with (number_of r)) → BlamesRightly between to mid r → Carries from to old new caller (Seeks uri) (failure_text (Refused r))
+    AnswersAs mid new (Asks caller (Query tn)) (refused_with (number_of r)) → BlamesRightly between to mid r → Carries from to old new caller (Seeking uri) (failure_text (Refused r))
 refused_query_carried r from between to old mid new caller uri read tn before behind parts asks h k blames = λ st s.
     query_asked r from to st caller uri read tn new parts asks (sym (h st s).0)
     (outcome r from to mid new (Asks caller (Query tn)) k (blames_since from between to mid mid r before behind (λ x y. y) blames) st (stays mid st caller Knows (h st s).1))
@@ -269,7 +342,7 @@ answered_or_short from to st caller uri text said new h s (inl e) = (st, inr (su
 answered_or_short from to st caller uri text said new h s (inr e) = (st, inl (inr e, refl), s)
 
 pub unasked_carried : {A : Type 0} (from to : ℕ) (old new : Content) (caller : ℕ) (uri : List ℕ) (read : TelUri) (result : Result A Failure) (body : List ℕ) → IsUri uri read → ComesBack read → AnswersAs old new (Asks caller Knows) (Some Known) →
-    OnOk result (body ≡ uri_text uri) → IfErr result (λ failure. failure ≡ Refused NoMemory) → Carries from to old new caller (Seeks uri) (told result body)
+    OnOk result (body ≡ uri_text uri) → IfErr result (λ failure. failure ≡ Refused NoMemory) → Carries from to old new caller (Seeking uri) (told result body)
 unasked_carried from to old new caller uri read result body parts back h same short = λ st s.
     answered_or_short from to st caller uri (told result body) (success (uri_text uri)) new
     (inr (inr (sym (h st s).0, (read, parts, inl (back, ap (λ (t : List ℕ). success (uri_text t)) (sym parts.same))))))
@@ -277,7 +350,7 @@ unasked_carried from to old new caller uri read result body parts back h same sh
 
 pub query_carried : {A : Type 0} (from to : ℕ) (old mid new : Content) (caller : ℕ) (uri : List ℕ) (read : TelUri) (tn : ℕ) (a : Answer) (result : Result A Failure) (body : List ℕ) → IsUri uri read → AsksFor read tn →
     AnswersAs old mid (Asks caller Knows) (Some Known) → AnswersAs mid new (Asks caller (Query tn)) (Some (Answered a)) →
-    OnOk result (body ≡ uri_text (looked_up read a)) → IfErr result (λ failure. failure ≡ Refused NoMemory) → Carries from to old new caller (Seeks uri) (told result body)
+    OnOk result (body ≡ uri_text (looked_up read a)) → IfErr result (λ failure. failure ≡ Refused NoMemory) → Carries from to old new caller (Seeking uri) (told result body)
 query_carried from to old mid new caller uri read tn a result body parts asks h k same short = λ st s.
     let s1 : Stands mid st = stays mid st caller Knows (h st s).1 in
     let k1 = k st s1 in
@@ -285,32 +358,10 @@ query_carried from to old mid new caller uri read tn a result body parts asks h 
     (inr (inr (sym (h st s).0, (read, parts, inr (tn, asks, ap (routed_text read) k1.0)))))
     (stays new st caller (Query tn) k1.1) (told_or_short result body (uri_text (looked_up read a)) same short)
 
--- ---- the clock
-
-pub is_npac : (n : ℕ) → not (n == npac) ≡ false → n ≡ npac
-is_npac n h = grind (arith, nat_tests, h)
-
-pub is_other : (n : ℕ) → not (n == npac) ≡ true → ¬ (n ≡ npac)
-is_other n h e = let same : not (npac == npac) ≡ true = subst (λ (m : ℕ). not (m == npac) ≡ true) e h in cc
-
-moved_by : (r : Refusal) (from to : ℕ) (st : State) (caller minute : ℕ) (new : Content) → caller ≡ npac → Outcome from to r st (Moment minute) new →
-    (after : State) × (Withholds from to st (failure_text (Refused r)) after ⊎ AnswersMove st caller minute (failure_text (Refused r)) after) × Stands new after
-moved_by r from to st caller minute new is (inl x) = (st, inl (x.0, refl), x.1)
-moved_by r from to st caller minute new is (inr x) = (next st (Moment minute), inr (inl (is, (x.2 ∙ ap reply_text (sym x.1), refl))), x.3)
-
-pub refused_move_carried : (r : Refusal) (from to : ℕ) (old new : Content) (caller minute : ℕ) → caller ≡ npac → AnswersAs old new (Moment minute) (refused_with (number_of r)) → BlamesRightly from to old r → Carries from to old new caller (Moves minute) (failure_text (Refused r))
-refused_move_carried r from to old new caller minute is h blames = λ st s. moved_by r from to st caller minute new is (outcome r from to old new (Moment minute) h blames st s)
-
-pub move_carried : (from to : ℕ) (old new : Content) (caller minute now : ℕ) (text : List ℕ) → caller ≡ npac → AnswersAs old new (Moment minute) (Some (Moved now)) → text ≡ success (now_text now) → Carries from to old new caller (Moves minute) text
-move_carried from to old new caller minute now text is h e = λ st s. (next st (Moment minute), inr (inl (is, (e ∙ ap reply_text (h st s).0, refl))), (h st s).1)
-
-pub stranger_carried : (from to : ℕ) (content : Content) (caller minute : ℕ) → ¬ (caller ≡ npac) → Carries from to content content caller (Moves minute) (failure_text (Refused NotAdmin))
-stranger_carried from to content caller minute other = λ st s. (st, inr (inr (other, text_by_number NotAdmin, refl)), s)
-
 -- ---- messages
 
 pub calls_carried : (from to : ℕ) (new : Content) (st : State) (route : Route) (caller : ℕ) (body : List ℕ) (d : Data) (asked : Asked) (text : List ℕ) → Some d ≡ json_of body → HasForm route d asked →
-    (after : State) × Answers from to st caller asked text after × Stands new after → (after : State) × Calls from to st (BodyAsks route body) caller text after × Stands new after
+    Carried from to new st caller asked text → (after : State) × Calls from to st (BodyAsks route body) caller text after × Stands new after
 calls_carried from to new st route caller body d asked text e form x =
     let asks : BodyAsks route body asked = subst (λ (o : Option Data). IsSomeAnd o (λ (given : Data). HasForm route given asked)) e form in
     (x.0, inr (inr (asked, asks, x.1)), x.2)
@@ -319,23 +370,32 @@ pub no_body : (body : List ℕ) → (length body == 0) ≡ true → body ≡ []
 no_body [] h = refl
 no_body (b ∷ bs) h = let x : ⊥ = grind (arith, nat_tests, h) in absurd x
 
-pub number_carried : (from to : ℕ) (new : Content) (st : State) (number : Option ℕ) (id caller : ℕ) (body text : List ℕ) → number ≡ Some id → body ≡ [] →
-    (after : State) × Answers from to st caller (Shows id) text after × Stands new after → (after : State) × Calls from to st (NumberAsks number body) caller text after × Stands new after
-number_carried from to new st number id caller body text is bare x = (x.0, inr (inr (Shows id, (id, is, bare, refl), x.1)), x.2)
+-- what the path asks is carried
+pub asked_carried : (from to : ℕ) (new : Content) (st : State) (IsAsked : Asked → Type 0) (asked : Asked) (caller : ℕ) (text : List ℕ) → IsAsked asked → Carried from to new st caller asked text →
+    (after : State) × Calls from to st IsAsked caller text after × Stands new after
+asked_carried from to new st IsAsked asked caller text asks x = (x.0, inr (inr (asked, asks, x.1)), x.2)
 
--- on a path that ends in no number, the body asks
-pub path_carried : (from to : ℕ) (new : Content) (st : State) (route : Route) (caller : ℕ) (body text : List ℕ) → ((number : Option ℕ) → route ≢ Version number) →
+-- or it asks nothing
+pub unasked_refused : {A : Type 0} (from to : ℕ) (new : Content) (st : State) (IsAsked : Asked → Type 0) (caller : ℕ) (result : Result A Failure) (body : List ℕ) (fault : MessageFault) → result ≡ Err (Message fault) → fault ≡ BadRequest →
+    ((asked : Asked) → ¬ (IsAsked asked)) → Stands new st → (after : State) × Calls from to st IsAsked caller (told result body) after × Stands new after
+unasked_refused from to new st IsAsked caller result body fault e bad none s =
+    let text : told result body ≡ failure_text (Message BadRequest) = ap (λ (o : Result _ Failure). told o body) e ∙ ap (λ (f : MessageFault). failure_text (Message f)) bad in
+    (st, inr (inl (none, (text, refl))), s)
+
+-- on a path that ends in no id and no number, the body asks
+pub path_carried : (from to : ℕ) (new : Content) (st : State) (route : Route) (caller : ℕ) (body text : List ℕ) → ((number : Option ℕ) → route ≢ Version number) → ((number : Option ℕ) → route ≢ Number number) →
     (after : State) × Calls from to st (BodyAsks route body) caller text after × Stands new after → (after : State) × Calls from to st (PathAsks route body) caller text after × Stands new after
-path_carried from to new st Carriers caller body text other x = x
-path_carried from to new st Clock caller body text other x = x
-path_carried from to new st RoutingNumbers caller body text other x = x
-path_carried from to new st Codes caller body text other x = x
-path_carried from to new st OldProviderPath caller body text other x = x
-path_carried from to new st NewProviderPath caller body text other x = x
-path_carried from to new st ActivatePath caller body text other x = x
-path_carried from to new st Acknowledge caller body text other x = x
-path_carried from to new st QueryPath caller body text other x = x
-path_carried from to new st (Version number) caller body text other x = absurd (other number refl)
+path_carried from to new st Carriers caller body text other another x = x
+path_carried from to new st Clock caller body text other another x = x
+path_carried from to new st RoutingNumbers caller body text other another x = x
+path_carried from to new st Codes caller body text other another x = x
+path_carried from to new st OldProviderPath caller body text other another x = x
+path_carried from to new st NewProviderPath caller body text other another x = x
+path_carried from to new st (VersionPaths path) caller body text other another x = x
+path_carried from to new st Acknowledge caller body text other another x = x
+path_carried from to new st QueryPath caller body text other another x = x
+path_carried from to new st (Version number) caller body text other another x = absurd (other number refl)
+path_carried from to new st (Number number) caller body text other another x = absurd (another number refl)
 
 pub calls_met : (offered : Bool) (from to : ℕ) (new : Content) (st : State) (request : Request) (route : Route) (caller : Spid) (body text : List ℕ) → from ≤ to → among_offered offered request.route ≡ Some route → takes route request.method ≡ true → request.caller ≡ Some caller →
     (after : State) × Calls from to st (PathAsks route body) caller.number text after × Stands new after → (after : State) × Step offered None from to st request body text after × Stands new after
@@ -358,11 +418,11 @@ or_since from between to st text after before behind (inl x) = inl (withheld_sin
 or_since from between to st text after before behind (inr x) = inr x
 
 answers_since : (from between to : ℕ) (st : State) (caller : ℕ) (asked : Asked) (text : List ℕ) (after : State) → from ≤ between → between ≤ to → Answers between to st caller asked text after → Answers from to st caller asked text after
-answers_since from between to st caller (Orders c) text after before behind x = or_since from between to st text after before behind x
-answers_since from between to st caller (Confirms id attempt) text after before behind x = or_since from between to st text after before behind x
-answers_since from between to st caller (Seeks uri) text after before behind x = or_since from between to st text after before behind x
-answers_since from between to st caller (Moves minute) text after before behind x = or_since from between to st text after before behind x
-answers_since from between to st caller (Shows id) text after before behind x = or_since from between to st text after before behind x
+answers_since from between to st caller (Calling called) text after before behind x = or_since from between to st text after before behind x
+answers_since from between to st caller (Seeking uri) text after before behind x = or_since from between to st text after before behind x
+
+pub carried_since : (from between to : ℕ) (new : Content) (st : State) (caller : ℕ) (asked : Asked) (text : List ℕ) → from ≤ between → between ≤ to → Carried between to new st caller asked text → Carried from to new st caller asked text
+carried_since from between to new st caller asked text before behind x = (x.0, answers_since from between to st caller asked text x.0 before behind x.1, x.2)
 
 calls_since : (from between to : ℕ) (st : State) (IsAsked : Asked → Type 0) (caller : ℕ) (text : List ℕ) (after : State) → from ≤ between → between ≤ to → Calls between to st IsAsked caller text after → Calls from to st IsAsked caller text after
 calls_since from between to st IsAsked caller text after before behind (inl x) = inl (withheld_since from between to st text after before behind x)

@@ -1,20 +1,21 @@
 -- The answer that storage fails is no answer of the machine, nor that of a message that is refused.
 use Rattle.std.proofs.Common.{◌≡◌, ◌⊎◌, ◌≤◌, ◌<◌, ℕ, List, [], ◌∷◌, ◌++◌, length, get_or, decimal, codes, Bool, true, false, Option, Some, None, inl, inr, refl, ap, sym, subst, ◌∙◌, arith}
-use Rattle.std.specs.Prelude.{if◌then◌else◌, ⊤}
+use Rattle.std.specs.Prelude.{◌==◌, if◌then◌else◌, ⊤}
 use Rattle.itoa.proofs.Decimal.{decimal_two, pair}
 use Rattle.numbers.specs.declared.spid.Spid.{Spid}
 use Rattle.settle.specs.Reads.{HasRisen}
-use Rattle.meaning.specs.Commands.{Command, RegisterCarrier, RegisterRoutingNumber, OpenCode, OldProviderCreate, NewProviderCreate, Activate, PutInConflict, RemoveFromConflict, Cancel, OldProviderCancellationAcknowledge, NewProviderCancellationAcknowledge, Disconnect, Donate, Assign, Release}
+use Rattle.meaning.specs.Commands.{Command, RegisterCarrier, RegisterRoutingNumber, OpenCode, OldProviderCreate, NewProviderCreate, OnVersion, Donate, Assign, Release}
 use Rattle.meaning.specs.History.{Commands, Acknowledges}
 use Rattle.meaning.specs.Machine.{Reply, Refused, Moved, Registered, LrnAdded, CodeOpened, Shown, Donated, Known, Fetched, Answered, Rows, Awaited, Found, out, accepted, refused_or, reply_of, answer_of}
 use Rattle.meaning.specs.Reading.{State}
-use Rattle.meaning.specs.Refusals.{Input, Moment, Requests, Asks, Knows, ShowVersion, Query, refusal, tests, command_tests, first_that_holds}
+use Rattle.meaning.specs.Refusals.{Input, Moment, Requests, Asks, Question, Knows, Fetch, ShowVersion, Query, AllInForce, Waiting, Ids, npac, refusal, tests, command_tests, first_that_holds}
 use Rattle.bodies.specs.Answer.{answer, refusal_body, phrase}
 use Rattle.bodies.specs.Failures.{failure_text}
-use Rattle.bodies.specs.Forms.{Asked, Orders, Confirms, Seeks, Moves, Shows}
+use Rattle.calls.specs.Calls.{Called, Wants, Wonders, Moves, input_of}
+use Rattle.bodies.specs.Forms.{Asked, Calling, Seeking}
 use Rattle.bodies.specs.RefusalTexts.{refusal_text}
-use Rattle.api.specs.Step.{Step, Meets, MeetsPath, Calls, Answers, AnswersMove, AnswersQuery, AnswersUri, Withholds, WithholdsTick, Takes, ticked, success, reply_text, routed_text}
-use Rattle.bodies.specs.Texts.{registered_text, routing_number_text, opened_code_text, now_text, view_text, looked_up, uri_text}
+use Rattle.api.specs.Step.{Step, Meets, MeetsPath, Calls, Answers, AnswersAdmitted, turned_away, AnswersQuery, AnswersUri, Withholds, WithholdsTick, Takes, ticked, success, reply_text, routed_text}
+use Rattle.bodies.specs.Texts.{registered_text, routing_number_text, opened_code_text, ids_text, now_text, view_text, looked_up, uri_text}
 use Rattle.bodies.specs.declared.fault.Failure.TheVariants.{Uri, Message}
 use Rattle.messages.specs.declared.fault.MessageFault.TheVariants.{BadRequest, NoPath, BadMethod}
 use Rattle.telnp.specs.declared.fault.TelFault.{TelFault}
@@ -140,21 +141,19 @@ acknowledgements_differ : (st : State) (caller id attempt : ℕ) → AllDiffer (
 unfolding tests refusal_text failure_text
 acknowledgements_differ st caller id attempt = (by_number 1 refl, (by_number 10 refl, (by_number 25 refl, (by_number 26 refl, tt))))
 
-knowing_differs : (st : State) (caller : ℕ) → AllDiffer (tests st (Asks caller Knows))
-unfolding tests refusal_text failure_text
-knowing_differs st caller = (by_number 1 refl, tt)
-
-queries_differ : (st : State) (caller tn : ℕ) → AllDiffer (tests st (Asks caller (Query tn)))
-unfolding tests refusal_text failure_text
-queries_differ st caller tn = (by_number 1 refl, tt)
-
 moments_differ : (st : State) (minute : ℕ) → AllDiffer (tests st (Moment minute))
 unfolding tests refusal_text failure_text
 moments_differ st minute = (by_number 27 refl, tt)
 
-versions_differ : (st : State) (caller id : ℕ) → AllDiffer (tests st (Asks caller (ShowVersion id)))
+questions_differ : (st : State) (caller : ℕ) (q : Question) → AllDiffer (tests st (Asks caller q))
 unfolding tests refusal_text failure_text
-versions_differ st caller id = (by_number 1 refl, (by_number 10 refl, tt))
+questions_differ st caller Knows = (by_number 1 refl, tt)
+questions_differ st caller (Fetch n) = (by_number 1 refl, tt)
+questions_differ st caller (ShowVersion id) = (by_number 1 refl, (by_number 10 refl, tt))
+questions_differ st caller (Query tn) = (by_number 1 refl, tt)
+questions_differ st caller AllInForce = (by_number 1 refl, tt)
+questions_differ st caller Waiting = (by_number 1 refl, tt)
+questions_differ st caller (Ids tn) = (by_number 1 refl, tt)
 
 all_differ : (st : State) (caller : ℕ) (c : Command) → AllDiffer (tests st (Requests caller (Commands c)))
 unfolding tests
@@ -176,13 +175,7 @@ reply_accepts st new caller (RegisterRoutingNumber lrn) k e = cc
 reply_accepts st new caller (OpenCode code holder) k e = cc
 reply_accepts st new caller (OldProviderCreate tn old_provider new_provider due authorized) k e = cc
 reply_accepts st new caller (NewProviderCreate tn old_provider new_provider due lrn cic) k e = cc
-reply_accepts st new caller (Activate id) k e = cc
-reply_accepts st new caller (PutInConflict id) k e = cc
-reply_accepts st new caller (RemoveFromConflict id) k e = cc
-reply_accepts st new caller (Cancel id) k e = cc
-reply_accepts st new caller (OldProviderCancellationAcknowledge id) k e = cc
-reply_accepts st new caller (NewProviderCancellationAcknowledge id) k e = cc
-reply_accepts st new caller (Disconnect id release) k e = cc
+reply_accepts st new caller (OnVersion id command) k e = cc
 reply_accepts st new caller (Donate block used lrn cic) k e = cc
 reply_accepts st new caller (Assign block holder lrn cic) k e = cc
 reply_accepts st new caller (Release block) k e = cc
@@ -205,7 +198,7 @@ reply_differs (Fetched downloads) machine = nothing
 reply_differs (Answered answered) machine = nothing
 reply_differs (Rows rows) machine = nothing
 reply_differs (Awaited subjects) machine = nothing
-reply_differs (Found in_force opened) machine = nothing
+reply_differs (Found in_force opened) machine = succeeds (ids_text in_force opened)
 
 routed_differs : (uri : TelUri) (reply : Reply) → ((k : ℕ) → reply ≡ Refused k → Differs (refusal_text k)) → Differs (routed_text uri reply)
 routed_differs uri (Refused number) machine = machine number refl
@@ -225,37 +218,62 @@ routed_differs uri (Found in_force opened) machine = nothing
 takes_differs : (st : State) (input : Input) (after : State) → ((k : ℕ) → out st input ≡ Refused k → Differs (refusal_text k)) → ¬ (Takes st input (refusal_text 29) after)
 takes_differs st input after machine x = reply_differs (out st input) machine (sym x.0)
 
-knows_accepts : (st : State) (caller : ℕ) → Accepts (answer_of st (accepted st (Asks caller Knows)) (Asks caller Knows))
-knows_accepts st caller k e = cc
+question_accepts : (st new : State) (caller : ℕ) (q : Question) → Accepts (answer_of st new (Asks caller q))
+question_accepts st new caller Knows k e = cc
+question_accepts st new caller (Fetch n) k e = cc
+question_accepts st new caller (ShowVersion id) k e = cc
+question_accepts st new caller (Query tn) k e = cc
+question_accepts st new caller AllInForce k e = cc
+question_accepts st new caller Waiting k e = cc
+question_accepts st new caller (Ids tn) k e = cc
 
-query_accepts : (st : State) (caller tn : ℕ) → Accepts (answer_of st (accepted st (Asks caller (Query tn))) (Asks caller (Query tn)))
-query_accepts st caller tn k e = cc
+call_accepts : (st new : State) (caller : ℕ) (called : Called) → Accepts (answer_of st new (input_of caller called))
+call_accepts st new caller (Wants (Commands c)) k e = reply_accepts st new caller c k e
+call_accepts st new caller (Wants (Acknowledges id attempt)) k e = cc
+call_accepts st new caller (Wonders q) k e = question_accepts st new caller q k e
+call_accepts st new caller (Moves minute) k e = cc
 
-shown_accepts : (st : State) (caller id attempt : ℕ) → Accepts (answer_of st (accepted st (Requests caller (Acknowledges id attempt))) (Requests caller (Acknowledges id attempt)))
-shown_accepts st caller id attempt k e = cc
+calls_differ : (st : State) (caller : ℕ) (called : Called) → AllDiffer (tests st (input_of caller called))
+calls_differ st caller (Wants (Commands c)) = all_differ st caller c
+calls_differ st caller (Wants (Acknowledges id attempt)) = acknowledgements_differ st caller id attempt
+calls_differ st caller (Wonders q) = questions_differ st caller q
+calls_differ st caller (Moves minute) = moments_differ st minute
 
-moved_accepts : (st : State) (minute : ℕ) → Accepts (answer_of st (accepted st (Moment minute)) (Moment minute))
-moved_accepts st minute k e = cc
-
-version_accepts : (st : State) (caller id : ℕ) → Accepts (answer_of st (accepted st (Asks caller (ShowVersion id))) (Asks caller (ShowVersion id)))
-version_accepts st caller id k e = cc
+call_differs : (st : State) (caller : ℕ) (called : Called) (k : ℕ) → out st (input_of caller called) ≡ Refused k → Differs (refusal_text k)
+call_differs st caller called k = machine_differs st (input_of caller called) k (call_accepts st (accepted st (input_of caller called)) caller called) (calls_differ st caller called)
 
 not_admin : Differs (refusal_text 2)
 unfolding refusal_text failure_text
 not_admin = by_number 2 refl
 
-move_differs : (st : State) (caller minute : ℕ) (after : State) → ¬ (AnswersMove st caller minute (refusal_text 29) after)
-move_differs st caller minute after (inl x) = takes_differs st (Moment minute) after (λ k. machine_differs st (Moment minute) k (moved_accepts st minute) (moments_differ st minute)) x.1
-move_differs st caller minute after (inr x) = not_admin (sym x.1)
+stranger_differs : (b : Bool) (k : ℕ) → (if b then None else Some 2) ≡ Some k → Differs (refusal_text k)
+stranger_differs true k e = absurd (none_is k e)
+stranger_differs false k e = subst (λ (m : ℕ). Differs (refusal_text m)) (same_number 2 k e) not_admin
+
+away_differs : (st : State) (caller : ℕ) (called : Called) (k : ℕ) → turned_away st caller called ≡ Some k → Differs (refusal_text k)
+away_differs st caller (Moves minute) k e = stranger_differs (caller == npac) k e
+away_differs st caller (Wonders (Ids tn)) k e = first_differs (tests st (Asks caller Knows)) (questions_differ st caller Knows) k e
+away_differs st caller (Wonders Knows) k e = absurd (none_is k e)
+away_differs st caller (Wonders (Fetch n)) k e = absurd (none_is k e)
+away_differs st caller (Wonders (ShowVersion id)) k e = absurd (none_is k e)
+away_differs st caller (Wonders (Query tn)) k e = absurd (none_is k e)
+away_differs st caller (Wonders AllInForce) k e = absurd (none_is k e)
+away_differs st caller (Wonders Waiting) k e = absurd (none_is k e)
+away_differs st caller (Wants request) k e = absurd (none_is k e)
+
+admitted_differs : (st : State) (away : Option ℕ) (input : Input) (after : State) → ((k : ℕ) → away ≡ Some k → Differs (refusal_text k)) → ((k : ℕ) → out st input ≡ Refused k → Differs (refusal_text k)) →
+    ¬ (AnswersAdmitted st away input (refusal_text 29) after)
+admitted_differs st (Some number) input after turned machine x = turned number refl (sym x.0)
+admitted_differs st None input after turned machine x = takes_differs st input after machine x
 
 uri_differs : (st : State) (caller : ℕ) (uri : TelUri) → ¬ (AnswersUri st caller uri (refusal_text 29))
 uri_differs st caller uri (inl x) = succeeds (uri_text uri.text) (sym x.1)
 uri_differs st caller uri (inr x) =
     routed_differs uri (out st (Asks caller (Query x.0)))
-    (λ k. machine_differs st (Asks caller (Query x.0)) k (query_accepts st caller x.0) (queries_differ st caller x.0)) (sym x.2)
+    (λ k. call_differs st caller (Wonders (Query x.0)) k) (sym x.2)
 
 query_differs : (st : State) (caller : ℕ) (uri : List ℕ) → ¬ (AnswersQuery st caller uri (refusal_text 29))
-query_differs st caller uri (inl x) = machine_differs st (Asks caller Knows) x.0 (knows_accepts st caller) (knowing_differs st caller) x.1 (sym x.2)
+query_differs st caller uri (inl x) = call_differs st caller (Wonders Knows) x.0 x.1 (sym x.2)
 query_differs st caller uri (inr (inl x)) = bad_uri x.1.0 (sym x.1.2)
 query_differs st caller uri (inr (inr x)) = uri_differs st caller x.1.0 x.1.2
 
@@ -270,22 +288,11 @@ withheld_tells from to st after (inl x, e) = (x.1, e)
 withheld_tells from to st after (inr x, e) = absurd (memory (sym x))
 
 answers_tell : (from to : ℕ) (st : State) (caller : ℕ) (asked : Asked) (after : State) → Answers from to st caller asked (refusal_text 29) after → Tells from to st after
-answers_tell from to st caller (Orders c) after (inl x) = withheld_tells from to st after x
-answers_tell from to st caller (Orders c) after (inr x) =
-    absurd (takes_differs st (Requests caller (Commands c)) after
-    (λ k. machine_differs st (Requests caller (Commands c)) k (reply_accepts st (accepted st (Requests caller (Commands c))) caller c) (all_differ st caller c)) x)
-answers_tell from to st caller (Confirms id attempt) after (inl x) = withheld_tells from to st after x
-answers_tell from to st caller (Confirms id attempt) after (inr x) =
-    absurd (takes_differs st (Requests caller (Acknowledges id attempt)) after
-    (λ k. machine_differs st (Requests caller (Acknowledges id attempt)) k (shown_accepts st caller id attempt) (acknowledgements_differ st caller id attempt)) x)
-answers_tell from to st caller (Seeks uri) after (inl x) = withheld_tells from to st after x
-answers_tell from to st caller (Seeks uri) after (inr x) = absurd (query_differs st caller uri x.0)
-answers_tell from to st caller (Moves minute) after (inl x) = withheld_tells from to st after x
-answers_tell from to st caller (Moves minute) after (inr x) = absurd (move_differs st caller minute after x)
-answers_tell from to st caller (Shows id) after (inl x) = withheld_tells from to st after x
-answers_tell from to st caller (Shows id) after (inr x) =
-    absurd (takes_differs st (Asks caller (ShowVersion id)) after
-    (λ k. machine_differs st (Asks caller (ShowVersion id)) k (version_accepts st caller id) (versions_differ st caller id)) x)
+answers_tell from to st caller (Calling called) after (inl x) = withheld_tells from to st after x
+answers_tell from to st caller (Calling called) after (inr x) =
+    absurd (admitted_differs st (turned_away st caller called) (input_of caller called) after (away_differs st caller called) (call_differs st caller called) x)
+answers_tell from to st caller (Seeking uri) after (inl x) = withheld_tells from to st after x
+answers_tell from to st caller (Seeking uri) after (inr x) = absurd (query_differs st caller uri x.0)
 
 calls_tell : (from to : ℕ) (st : State) (IsAsked : Asked → Type 0) (caller : ℕ) (after : State) → Calls from to st IsAsked caller (refusal_text 29) after → Tells from to st after
 calls_tell from to st IsAsked caller after (inl x) = withheld_tells from to st after x

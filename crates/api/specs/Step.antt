@@ -1,16 +1,17 @@
 -- One message, and what it makes of a state.
-use Rattle.std.specs.Prelude.{◌≡◌, ◌⊎◌, ℕ, ◌<◌, ◌≤◌, List, [], length, codes, Bool, true, false, Option, Some, None, IsSomeAnd, Result, Ok, Err}
+use Rattle.std.specs.Prelude.{◌≡◌, ◌⊎◌, ℕ, ◌==◌, ◌<◌, ◌≤◌, List, [], length, codes, Bool, true, false, if◌then◌else◌, Option, Some, None, IsSomeAnd, Result, Ok, Err}
 use Rattle.numbers.specs.Digits.{IsTn}
 use Rattle.numbers.specs.declared.spid.Spid.{Spid}
 use Rattle.meaning.specs.declared.refusal.Refusal.{Refusal}
 use Rattle.meaning.specs.declared.refusal.Refusal.TheVariants.{Storage, NoMemory}
 use Rattle.meaning.specs.Content.{Content}
-use Rattle.meaning.specs.History.{Commands, Acknowledges}
+use Rattle.meaning.specs.RefusalNumbers.{number_of}
 use Rattle.meaning.specs.Reading.{State}
-use Rattle.meaning.specs.Refusals.{Input, Moment, Requests, Asks, Knows, ShowVersion, Query, npac}
+use Rattle.meaning.specs.Refusals.{Input, Moment, Asks, Knows, Fetch, ShowVersion, Query, AllInForce, Waiting, Ids, npac, refusal}
 use Rattle.meaning.specs.Machine.{Reply, Refused, Moved, Registered, LrnAdded, CodeOpened, Shown, Donated, Known, Fetched, Answered, Rows, Awaited, Found, out, next}
 use Rattle.settle.specs.Reads.{HasRisen}
 use Rattle.register.specs.Answers.{Stands}
+use Rattle.calls.specs.Calls.{Called, Wants, Wonders, Moves, input_of}
 use Rattle.telnp.specs.declared.fault.TelFault.{TelFault}
 use Rattle.telnp.specs.Answer.{Uri as TelUri}
 use Rattle.telnp.specs.Faults.{fault_of}
@@ -24,13 +25,13 @@ use Rattle.messages.specs.declared.fault.MessageFault.TheVariants.{BadRequest, N
 use Rattle.messages.specs.declared.message.Request.{Request}
 use Rattle.messages.specs.declared.paths.Method.{Method}
 use Rattle.messages.specs.declared.paths.Route.{Route}
-use Rattle.messages.specs.declared.paths.Route.TheVariants.{Version}
+use Rattle.messages.specs.declared.paths.Route.TheVariants.{Version, Number}
 use Rattle.bodies.specs.Answer.{answer}
 use Rattle.bodies.specs.Failures.{failure_text}
 use Rattle.bodies.specs.RefusalTexts.{refusal_text}
-use Rattle.bodies.specs.Forms.{Asked, Orders, Confirms, Seeks, Moves, Shows, HasForm, json_of}
+use Rattle.bodies.specs.Forms.{Asked, Calling, Seeking, HasForm, json_of}
 use Rattle.messages.specs.Table.{takes, among_offered}
-use Rattle.bodies.specs.Texts.{registered_text, routing_number_text, opened_code_text, now_text, view_text, looked_up, uri_text}
+use Rattle.bodies.specs.Texts.{registered_text, routing_number_text, opened_code_text, ids_text, now_text, view_text, looked_up, uri_text}
 
 -- ---- the answers to what was asked, byte for byte
 
@@ -38,8 +39,7 @@ use Rattle.bodies.specs.Texts.{registered_text, routing_number_text, opened_code
 unfoldable pub success : List ℕ → List ℕ
 success body = answer 200 body
 
--- the machine's reply to a command, an acknowledgement, a moment of the clock or the question for a version. The other replies
--- are of inputs that no path asks for, or a query's
+-- the machine's reply to a call. The other replies are of inputs that no path asks for, or a query's
 abbrev pub reply_text : Reply → List ℕ
 reply_text (Refused number) = refusal_text number
 reply_text (Registered spid rows) = success (registered_text spid rows)
@@ -54,7 +54,7 @@ reply_text (Fetched downloads) = []
 reply_text (Answered answered) = []
 reply_text (Rows rows) = []
 reply_text (Awaited subjects) = []
-reply_text (Found in_force opened) = []
+reply_text (Found in_force opened) = success (ids_text in_force opened)
 
 -- the machine's reply to a query for the number of a URI
 abbrev pub routed_text : TelUri → Reply → List ℕ
@@ -134,23 +134,43 @@ AnswersQuery st caller uri text =
     ⊎ ((out st (Asks caller Knows) ≡ Known) × ((fault : TelFault) × (fault_of uri ≡ Some fault) × (text ≡ failure_text (Uri fault))))
     ⊎ ((out st (Asks caller Knows) ≡ Known) × ((read : TelUri) × IsUri uri read × AnswersUri st caller read text))
 
--- ---- the clock
+-- ---- calls
 
--- the administrator moves it: the machine takes the moment. For another it stays, and that is refused with `not_admin`
-abbrev pub AnswersMove : State → (caller minute : ℕ) → (text : List ℕ) → (after : State) → Type 0
-AnswersMove st caller minute text after =
-    ((caller ≡ npac) × Takes st (Moment minute) text after)
-    ⊎ ((¬ (caller ≡ npac)) × (text ≡ refusal_text 2) × (after ≡ st))
+-- what a call is refused with for its caller, where the machine does not judge the caller itself: the clock is the
+-- administrator's alone, and the ids of a number are told to whom the register knows
+abbrev pub turned_away : State → (caller : ℕ) → Called → Option ℕ
+turned_away st caller (Moves minute) = if caller == npac then None else Some 2
+turned_away st caller (Wonders (Ids tn)) = refusal st (Asks caller Knows)
+turned_away st caller (Wonders Knows) = None
+turned_away st caller (Wonders (Fetch n)) = None
+turned_away st caller (Wonders (ShowVersion id)) = None
+turned_away st caller (Wonders (Query tn)) = None
+turned_away st caller (Wonders AllInForce) = None
+turned_away st caller (Wonders Waiting) = None
+turned_away st caller (Wants request) = None
+
+-- the caller may make the call
+abbrev pub Admits : State → (caller : ℕ) → Called → Type 0
+Admits st caller called = turned_away st caller called ≡ None
+
+-- the caller may not, or that could not be told
+abbrev pub TurnsAway : (from to : ℕ) → State → (caller : ℕ) → Called → Refusal → Type 0
+TurnsAway from to st caller called reason = IsShort from to reason ⊎ (turned_away st caller called ≡ Some (number_of reason))
+
+-- a call that is refused for its caller changes nothing; else the machine takes it
+abbrev pub AnswersAdmitted : State → (away : Option ℕ) → Input → (text : List ℕ) → (after : State) → Type 0
+AnswersAdmitted st (Some number) input text after = (text ≡ refusal_text number) × (after ≡ st)
+AnswersAdmitted st None input text after = Takes st input text after
+
+abbrev pub AnswersCall : State → (caller : ℕ) → Called → (text : List ℕ) → (after : State) → Type 0
+AnswersCall st caller called text after = AnswersAdmitted st (turned_away st caller called) (input_of caller called) text after
 
 -- ---- what is asked
 
 -- what a caller asks is answered, or withheld
 abbrev pub Answers : (from to : ℕ) → State → (caller : ℕ) → Asked → (text : List ℕ) → (after : State) → Type 0
-Answers from to st caller (Orders command) text after = Withholds from to st text after ⊎ Takes st (Requests caller (Commands command)) text after
-Answers from to st caller (Confirms id attempt) text after = Withholds from to st text after ⊎ Takes st (Requests caller (Acknowledges id attempt)) text after
-Answers from to st caller (Seeks uri) text after = Withholds from to st text after ⊎ (AnswersQuery st caller uri text × (after ≡ st))
-Answers from to st caller (Moves minute) text after = Withholds from to st text after ⊎ AnswersMove st caller minute text after
-Answers from to st caller (Shows id) text after = Withholds from to st text after ⊎ Takes st (Asks caller (ShowVersion id)) text after
+Answers from to st caller (Calling called) text after = Withholds from to st text after ⊎ AnswersCall st caller called text after
+Answers from to st caller (Seeking uri) text after = Withholds from to st text after ⊎ (AnswersQuery st caller uri text × (after ≡ st))
 
 -- ---- messages
 
@@ -158,13 +178,18 @@ Answers from to st caller (Shows id) text after = Withholds from to st text afte
 abbrev pub BodyAsks : Route → (body : List ℕ) → Asked → Type 0
 BodyAsks route body asked = IsSomeAnd (json_of body) (λ d. HasForm route d asked)
 
--- the path ends in a number, no body comes with it, and that version is asked for
+-- the path ends in an id, no body comes with it, and that version is asked for
+abbrev pub IdAsks : Option ℕ → (body : List ℕ) → Asked → Type 0
+IdAsks number body asked = (id : ℕ) × (number ≡ Some id) × (body ≡ []) × (asked ≡ Calling (Wonders (ShowVersion id)))
+
+-- the path ends in a telephone number, no body comes with it, and the ids of that number are asked for
 abbrev pub NumberAsks : Option ℕ → (body : List ℕ) → Asked → Type 0
-NumberAsks number body asked = (id : ℕ) × (number ≡ Some id) × (body ≡ []) × (asked ≡ Shows id)
+NumberAsks number body asked = (tn : ℕ) × (number ≡ Some tn) × IsTn tn × (body ≡ []) × (asked ≡ Calling (Wonders (Ids tn)))
 
 -- a message on the path asks this
 abbrev pub PathAsks : Route → (body : List ℕ) → Asked → Type 0
-PathAsks (Version number) body asked = NumberAsks number body asked
+PathAsks (Version number) body asked = IdAsks number body asked
+PathAsks (Number number) body asked = NumberAsks number body asked
 PathAsks route body asked = BodyAsks route body asked
 
 -- a message that asks nothing is refused; else what it asks is answered
@@ -223,6 +248,10 @@ StorageTells =
 
 -- ---- contents that stand for states
 
--- whatever state the content stands for, what a caller asks is answered by the text, and the content stands for the state afterwards
+-- what a caller asks is answered by the text, and the content stands for the state afterwards
+abbrev pub Carried : (from to : ℕ) → (new : Content) → State → (caller : ℕ) → Asked → (text : List ℕ) → Type 0
+Carried from to new st caller asked text = (after : State) × Answers from to st caller asked text after × Stands new after
+
+-- and so it is whatever state the content stands for
 abbrev pub Carries : (from to : ℕ) → (old new : Content) → (caller : ℕ) → Asked → (text : List ℕ) → Type 0
-Carries from to old new caller asked text = (st : State) → Stands old st → (after : State) × Answers from to st caller asked text after × Stands new after
+Carries from to old new caller asked text = (st : State) → Stands old st → Carried from to new st caller asked text

@@ -9,7 +9,9 @@ ghost use Rattle.api.specs.Serving.{EndsAt, FailsAt, Responds, end_of};
 ghost use Rattle.messages.specs.Table.{table};
 ghost use Rattle.api.specs.Ticks.{HandsIn};
 
-use crate::call::{put_answer, put_refused, take_tick};
+use crate::call::put_answer;
+use crate::reply::put_refused;
+use crate::tick::take_tick;
 use bodies::{Failure, Room};
 use httparse::spans::EMPTY_HEADER_SPAN;
 use matchit::Router;

@@ -1,13 +1,18 @@
 -- A body asks one thing at most.
 use Rattle.std.proofs.Common.{◌≡◌, ℕ, ◌/◌, ◌%◌, codes, List, Option, Some, None, true, get_or, option_and_then, refl, ap, sym, ◌∙◌, arith}
 use Rattle.serde_json.specs.Data.{Data, null, boolean, number, string, array, object}
-use Rattle.serde_json.specs.Find.{get, as_str}
+use Rattle.serde_json.specs.Find.{get, as_number, as_str, as_u64}
+use Rattle.messages.specs.Table.{below_limit}
 use Rattle.numbers.specs.Texts.{spid_text}
 use Rattle.numbers.proofs.DigitLemmas.{digits_of-injective}
-use Rattle.meaning.specs.Commands.{Command, RegisterCarrier, RegisterRoutingNumber, Activate}
+use Rattle.meaning.specs.Commands.{Command, VersionCommand, RegisterCarrier, RegisterRoutingNumber, OnVersion, Disconnect}
+use Rattle.meaning.specs.History.{Commands}
+use Rattle.calls.specs.Calls.{Wants, Moves}
 use Rattle.messages.specs.declared.paths.Route.{Route}
-use Rattle.messages.specs.declared.paths.Route.TheVariants.{Carriers, Clock, RoutingNumbers, Codes, OldProviderCreate as OldProviderPath, NewProviderCreate as NewProviderPath, Activate as ActivatePath, Acknowledge, Query, Version}
-use Rattle.bodies.specs.Forms.{Asked, Orders, Seeks, Moves, text, whole, HasSpid, HasTn, HasLrn, HasCode, HasCic, HasCommand, HasOrder, HasValues, HasForm, is_left_out}
+use Rattle.messages.specs.declared.paths.Route.TheVariants.{Carriers, Clock, RoutingNumbers, Codes, OldProviderCreate as OldProviderPath, NewProviderCreate as NewProviderPath, OnVersion as VersionPaths, Acknowledge, Query, Version, Number}
+use Rattle.messages.specs.declared.paths.VersionPath.{VersionPath}
+use Rattle.messages.specs.declared.paths.VersionPath.TheVariants.{Activate as ActivatePath, PutInConflict as PutInConflictPath, RemoveFromConflict as RemoveFromConflictPath, Cancel as CancelPath, OldProviderCancellationAcknowledge as OldAcknowledgePath, NewProviderCancellationAcknowledge as NewAcknowledgePath, Disconnect as DisconnectPath}
+use Rattle.bodies.specs.Forms.{Asked, Calling, Seeking, HasRelease, HasVersionCommand, text, whole, HasSpid, HasTn, HasLrn, HasCode, HasCic, HasCommand, HasOrder, HasValues, HasForm, is_left_out, flag}
 
 same_said : {A : Type 0} (given : Option A) (a b : A) → given ≡ Some a → given ≡ Some b → a ≡ b
 same_said given a b e f = cc
@@ -51,17 +56,46 @@ same_cic d None (Some n) h k = absurd (no_cic d _ h k.said)
 same_cic d (Some m) None h k = absurd (no_cic d _ k h.said)
 same_cic d (Some m) (Some n) h k = ap Some (digits_of-injective 4 m n h.valid k.valid (same_said (text (codes "cic") d) _ _ h.said k.said))
 
+left_out_whole : (o : Option Data) (n : ℕ) → is_left_out o ≡ true → ¬ (option_and_then below_limit (option_and_then as_u64 (option_and_then as_number o)) ≡ Some n)
+left_out_whole None n h e = cc
+left_out_whole (Some null) n h e = cc
+left_out_whole (Some (boolean b)) n h e = cc
+left_out_whole (Some (number m)) n h e = cc
+left_out_whole (Some (string s)) n h e = cc
+left_out_whole (Some (array ds)) n h e = cc
+left_out_whole (Some (object ms)) n h e = cc
+
+no_release : (d : Data) (n : ℕ) → is_left_out (get (codes "release") d) ≡ true → ¬ (whole (codes "release") d ≡ Some n)
+unfolding whole
+no_release d n h e = left_out_whole (get (codes "release") d) n h e
+
+same_release : (d : Data) (b c : Option ℕ) → HasRelease d b → HasRelease d c → b ≡ c
+same_release d None None h k = refl
+same_release d None (Some n) h k = absurd (no_release d n h k)
+same_release d (Some m) None h k = absurd (no_release d m k h)
+same_release d (Some m) (Some n) h k = ap Some (same_said (whole (codes "release") d) m n h k)
+
+same_version_command : (path : VersionPath) (d : Data) (b c : VersionCommand) → HasVersionCommand path d b → HasVersionCommand path d c → b ≡ c
+same_version_command ActivatePath d b c x y = x ∙ sym y
+same_version_command PutInConflictPath d b c x y = x ∙ sym y
+same_version_command RemoveFromConflictPath d b c x y = x ∙ sym y
+same_version_command CancelPath d b c x y = x ∙ sym y
+same_version_command OldAcknowledgePath d b c x y = x ∙ sym y
+same_version_command NewAcknowledgePath d b c x y = x ∙ sym y
+same_version_command DisconnectPath d b c x y = x.2 ∙ ap Disconnect (same_release d x.0 y.0 x.1 y.1) ∙ sym y.2
+
 same_command : (route : Route) (d : Data) (b c : Command) → HasCommand route d b → HasCommand route d c → b ≡ c
 same_command Carriers d b c x y = x.2 ∙ ap RegisterCarrier (same_spid (codes "spid") d x.0 y.0 x.1 y.1) ∙ sym y.2
 same_command RoutingNumbers d b c x y = x.2 ∙ ap RegisterRoutingNumber (same_lrn d x.0 y.0 x.1 y.1) ∙ sym y.2
 same_command Codes d b c x y = x.4 ∙ rw (same_code d x.0 y.0 x.2 y.2, same_spid (codes "spid") d x.1 y.1 x.3 y.3) (sym y.4)
 same_command OldProviderPath d b c x y =
-    x.6 ∙ rw (
-      same_tn d x.0 y.0 x.4.number y.4.number,
-      same_spid (codes "old") d x.1 y.1 x.4.old y.4.old,
-      same_spid (codes "new") d x.2 y.2 x.4.new y.4.new,
-      same_said (whole (codes "due") d) x.3 y.3 x.4.minute y.4.minute,
-    ) (sym y.6)
+    x.7 ∙ rw (
+      same_tn d x.0 y.0 x.5.number y.5.number,
+      same_spid (codes "old") d x.1 y.1 x.5.old y.5.old,
+      same_spid (codes "new") d x.2 y.2 x.5.new y.5.new,
+      same_said (whole (codes "due") d) x.3 y.3 x.5.minute y.5.minute,
+      same_said (flag (codes "authorized") d) x.4 y.4 x.6 y.6,
+    ) (sym y.7)
 same_command NewProviderPath d b c x y =
     x.9 ∙ rw (
       same_tn d x.0 y.0 x.6.number y.6.number,
@@ -71,26 +105,29 @@ same_command NewProviderPath d b c x y =
       same_lrn d x.4 y.4 x.7 y.7,
       same_cic d x.5 y.5 x.8 y.8,
     ) (sym y.9)
-same_command ActivatePath d b c x y = x.2 ∙ ap Activate (same_said (whole (codes "id") d) x.0 y.0 x.1 y.1) ∙ sym y.2
+same_command (VersionPaths path) d b c x y =
+    x.4 ∙ rw (same_said (whole (codes "id") d) x.0 y.0 x.2 y.2, same_version_command path d x.1 y.1 x.3 y.3) (sym y.4)
 same_command Acknowledge d b c x y = absurd x
 same_command Query d b c x y = absurd x
 same_command Clock d b c x y = absurd x
 same_command (Version id) d b c x y = absurd x
+same_command (Number tn) d b c x y = absurd x
 
 same_order : (route : Route) (d : Data) (a b : Asked) → HasOrder route d a → HasOrder route d b → a ≡ b
-same_order route d a b x y = x.2 ∙ ap Orders (same_command route d x.0 y.0 x.1 y.1) ∙ sym y.2
+same_order route d a b x y = x.2 ∙ ap (λ (c : Command). Calling (Wants (Commands c))) (same_command route d x.0 y.0 x.1 y.1) ∙ sym y.2
 
 same_values : (route : Route) (d : Data) (a b : Asked) → HasValues route d a → HasValues route d b → a ≡ b
 same_values Acknowledge d a b x y = x.4 ∙ rw (same_said (whole (codes "id") d) x.0 y.0 x.2 y.2, same_said (whole (codes "attempt") d) x.1 y.1 x.3 y.3) (sym y.4)
-same_values Query d a b x y = x.2 ∙ ap Seeks (same_said (text (codes "uri") d) x.0 y.0 x.1 y.1) ∙ sym y.2
-same_values Clock d a b x y = x.2 ∙ ap Moves (same_said (whole (codes "minute") d) x.0 y.0 x.1 y.1) ∙ sym y.2
+same_values Query d a b x y = x.2 ∙ ap Seeking (same_said (text (codes "uri") d) x.0 y.0 x.1 y.1) ∙ sym y.2
+same_values Clock d a b x y = x.2 ∙ ap (λ (m : ℕ). Calling (Moves m)) (same_said (whole (codes "minute") d) x.0 y.0 x.1 y.1) ∙ sym y.2
 same_values (Version id) d a b x y = absurd x
+same_values (Number tn) d a b x y = absurd x
 same_values Carriers d a b x y = same_order Carriers d a b x y
 same_values RoutingNumbers d a b x y = same_order RoutingNumbers d a b x y
 same_values Codes d a b x y = same_order Codes d a b x y
 same_values OldProviderPath d a b x y = same_order OldProviderPath d a b x y
 same_values NewProviderPath d a b x y = same_order NewProviderPath d a b x y
-same_values ActivatePath d a b x y = same_order ActivatePath d a b x y
+same_values (VersionPaths path) d a b x y = same_order (VersionPaths path) d a b x y
 
 pub same_form : (route : Route) (d : Data) (a b : Asked) → HasForm route d a → HasForm route d b → a ≡ b
 same_form route d a b h k = same_values route d a b h.values k.values

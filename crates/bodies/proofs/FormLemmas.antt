@@ -3,8 +3,10 @@ use Rattle.std.proofs.Common.{◌≡◌, ◌≢◌, ℕ, List, Option, Some, Non
 use Rattle.serde_json.specs.Data.{Data}
 use Rattle.meaning.specs.Commands.{Command}
 use Rattle.messages.specs.declared.paths.Route.{Route}
-use Rattle.messages.specs.declared.paths.Route.TheVariants.{Carriers, Clock, RoutingNumbers, Codes, OldProviderCreate as OldProviderPath, NewProviderCreate as NewProviderPath, Activate as ActivatePath, Acknowledge, Query, Version}
-use Rattle.bodies.specs.Forms.{Writes, Asked, Orders, HasPort, HasLrn, HasCic, HasCommand, HasValues}
+use Rattle.messages.specs.declared.paths.Route.TheVariants.{Carriers, Clock, RoutingNumbers, Codes, OldProviderCreate as OldProviderPath, NewProviderCreate as NewProviderPath, OnVersion as VersionPaths, Acknowledge, Query, Version, Number}
+use Rattle.meaning.specs.History.{Commands}
+use Rattle.calls.specs.Calls.{Wants}
+use Rattle.bodies.specs.Forms.{Writes, Asked, Calling, HasPort, HasLrn, HasCic, HasCommand, HasValues}
 
 pub no_text : (IsOne : ℕ → Type 0) (text_of : ℕ → List ℕ) (given : Option (List ℕ)) → None ≡ given → (n : ℕ) → ¬ (Writes IsOne text_of given n)
 no_text IsOne text_of given e n w = let h : None ≡ Some (text_of n) = e ∙ w.said in cc
@@ -22,26 +24,28 @@ no_values RoutingNumbers d a q k h asked x = h x.0 x.1
 no_values Codes d a q k h asked x = h x.0 x.1
 no_values OldProviderPath d a q k h asked x = h x.0 x.1
 no_values NewProviderPath d a q k h asked x = h x.0 x.1
-no_values ActivatePath d a q k h asked x = h x.0 x.1
+no_values (VersionPaths path) d a q k h asked x = h x.0 x.1
 no_values Acknowledge d a q k h asked x = a refl
 no_values Query d a q k h asked x = q refl
 no_values Clock d a q k h asked x = k refl
 no_values (Version id) d a q k h asked x = x
+no_values (Number tn) d a q k h asked x = x
 
-pub values_of_command : (route : Route) (d : Data) (c : Command) → route ≢ Acknowledge → route ≢ Query → route ≢ Clock → HasCommand route d c → HasValues route d (Orders c)
+pub values_of_command : (route : Route) (d : Data) (c : Command) → route ≢ Acknowledge → route ≢ Query → route ≢ Clock → HasCommand route d c → HasValues route d (Calling (Wants (Commands c)))
 values_of_command Carriers d c a q k x = (c, x, refl)
 values_of_command RoutingNumbers d c a q k x = (c, x, refl)
 values_of_command Codes d c a q k x = (c, x, refl)
 values_of_command OldProviderPath d c a q k x = (c, x, refl)
 values_of_command NewProviderPath d c a q k x = (c, x, refl)
-values_of_command ActivatePath d c a q k x = (c, x, refl)
+values_of_command (VersionPaths path) d c a q k x = (c, x, refl)
 values_of_command Acknowledge d c a q k x = absurd x
 values_of_command Query d c a q k x = absurd x
 values_of_command Clock d c a q k x = absurd x
 values_of_command (Version id) d c a q k x = absurd x
+values_of_command (Number tn) d c a q k x = absurd x
 
 pub no_old_create : (d : Data) → ((tn old_provider new_provider due : ℕ) → ¬ (HasPort d tn old_provider new_provider due)) → (c : Command) → ¬ (HasCommand OldProviderPath d c)
-no_old_create d h c x = h x.0 x.1 x.2 x.3 x.4
+no_old_create d h c x = h x.0 x.1 x.2 x.3 x.5
 
 pub no_new_create : (d : Data) → ((tn old_provider new_provider due : ℕ) → ¬ (HasPort d tn old_provider new_provider due)) → (c : Command) → ¬ (HasCommand NewProviderPath d c)
 no_new_create d h c x = h x.0 x.1 x.2 x.3 x.6

@@ -8,29 +8,26 @@ use Rattle.serde_json.specs.Find.{get, as_number, as_u64, as_str, as_bool}
 use Rattle.numbers.specs.Digits.{IsTn, IsCode, IsLrn, IsCic}
 use Rattle.numbers.specs.Spids.{IsSpid}
 use Rattle.numbers.specs.Texts.{tn_text, code_text, lrn_text, cic_text, spid_text}
-use Rattle.meaning.specs.Commands.{Command, RegisterCarrier, RegisterRoutingNumber, OpenCode, OldProviderCreate, NewProviderCreate, Activate}
-use Rattle.register.specs.Calls.{command_of}
+use Rattle.meaning.specs.Commands.{Command, VersionCommand, RegisterCarrier, RegisterRoutingNumber, OpenCode, OldProviderCreate, NewProviderCreate, OnVersion, Activate, PutInConflict, RemoveFromConflict, Cancel, OldProviderCancellationAcknowledge, NewProviderCancellationAcknowledge, Disconnect}
+use Rattle.meaning.specs.History.{Commands, Acknowledges}
+use Rattle.calls.specs.Calls.{Called, Wants, Moves, called_of}
 use Rattle.messages.specs.Table.{below_limit}
 use Rattle.messages.specs.declared.paths.Route.{Route}
-use Rattle.messages.specs.declared.paths.Route.TheVariants.{Carriers, Clock, RoutingNumbers, Codes, OldProviderCreate as OldProviderPath, NewProviderCreate as NewProviderPath, Activate as ActivatePath, Acknowledge, Query, Version}
-use Rattle.bodies.specs.declared.forms.Call.{Call}
-use Rattle.bodies.specs.declared.forms.Call.TheVariants.{Command as CommandCode, Acknowledge as AcknowledgeCode, Query as QueryCode, Clock as ClockCode}
+use Rattle.messages.specs.declared.paths.Route.TheVariants.{Carriers, Clock, RoutingNumbers, Codes, OldProviderCreate as OldProviderPath, NewProviderCreate as NewProviderPath, OnVersion as VersionPaths, Acknowledge, Query, Version, Number}
+use Rattle.messages.specs.declared.paths.VersionPath.{VersionPath}
+use Rattle.messages.specs.declared.paths.VersionPath.TheVariants.{Activate as ActivatePath, PutInConflict as PutInConflictPath, RemoveFromConflict as RemoveFromConflictPath, Cancel as CancelPath, OldProviderCancellationAcknowledge as OldAcknowledgePath, NewProviderCancellationAcknowledge as NewAcknowledgePath, Disconnect as DisconnectPath}
+use Rattle.bodies.specs.declared.forms.Asked.{Asked as AskedCode}
+use Rattle.bodies.specs.declared.forms.Asked.TheVariants.{Call as CallCode, Uri as UriCode}
 
--- what a message asks of the register: a command, the acknowledgement of an attempt, where the number of a URI is routed, that
--- the clock moves to a minute, or that the version of an id is shown
+-- what a message asks: a call of the register, or where the number of a URI is routed
 pub data Asked : Type 0 where
-  Orders : (command : Command) → Asked
-  Confirms : (id attempt : ℕ) → Asked
-  Seeks : (uri : List ℕ) → Asked
-  Moves : (minute : ℕ) → Asked
-  Shows : (id : ℕ) → Asked
+  Calling : (called : Called) → Asked
+  Seeking : (uri : List ℕ) → Asked
 
 -- what a body asks, as the code holds it
-abbrev pub asked_of : Call → Asked
-asked_of (CommandCode command) = Orders (command_of command)
-asked_of (AcknowledgeCode id attempt) = Confirms id attempt
-asked_of (QueryCode uri) = Seeks uri.now
-asked_of (ClockCode minute) = Moves minute.number
+abbrev pub asked_of : AskedCode → Asked
+asked_of (CallCode call) = Calling (called_of call)
+asked_of (UriCode uri) = Seeking uri.now
 
 -- the value that the bytes are as JSON
 abbrev pub json_of : List ℕ → Option Data
@@ -51,6 +48,16 @@ only_keys allowed (string s) = false
 only_keys allowed (array ds) = false
 only_keys allowed (object ms) = only_members allowed ms
 
+-- the keys of a command on a version
+abbrev pub version_keys : VersionPath → List (List ℕ)
+version_keys ActivatePath = codes "id" ∷ []
+version_keys PutInConflictPath = codes "id" ∷ []
+version_keys RemoveFromConflictPath = codes "id" ∷ []
+version_keys CancelPath = codes "id" ∷ []
+version_keys OldAcknowledgePath = codes "id" ∷ []
+version_keys NewAcknowledgePath = codes "id" ∷ []
+version_keys DisconnectPath = codes "id" ∷ codes "release" ∷ []
+
 -- the keys of a path's body
 abbrev pub keys : Route → List (List ℕ)
 keys Carriers = codes "spid" ∷ []
@@ -58,11 +65,12 @@ keys RoutingNumbers = codes "lrn" ∷ []
 keys Codes = codes "code" ∷ codes "spid" ∷ []
 keys OldProviderPath = codes "authorized" ∷ codes "due" ∷ codes "new" ∷ codes "old" ∷ codes "tn" ∷ []
 keys NewProviderPath = codes "cic" ∷ codes "due" ∷ codes "lrn" ∷ codes "new" ∷ codes "old" ∷ codes "tn" ∷ []
-keys ActivatePath = codes "id" ∷ []
+keys (VersionPaths path) = version_keys path
 keys Acknowledge = codes "attempt" ∷ codes "id" ∷ []
 keys Query = codes "uri" ∷ []
 keys Clock = codes "minute" ∷ []
 keys (Version id) = []
+keys (Number tn) = []
 
 -- ---- what stands under a key
 
@@ -110,6 +118,11 @@ abbrev pub HasCic : Data → Option ℕ → Type 0
 HasCic d None = is_left_out (get (codes "cic") d) ≡ true
 HasCic d (Some n) = Writes IsCic cic_text (text (codes "cic") d) n
 
+-- a minute, which may be left out or be null
+abbrev pub HasRelease : Data → Option ℕ → Type 0
+HasRelease d None = is_left_out (get (codes "release") d) ≡ true
+HasRelease d (Some n) = whole (codes "release") d ≡ Some n
+
 -- ---- the forms
 
 -- the parties of a create and its due minute
@@ -119,38 +132,51 @@ pub record HasPort (d : Data) (tn old_provider new_provider due : ℕ) : Type 0 
   pub new : HasSpid (codes "new") d new_provider
   pub minute : whole (codes "due") d ≡ Some due
 
--- a path's command. A create without authorization is not taken yet
+-- a path's command on a version
+abbrev pub HasVersionCommand : VersionPath → Data → VersionCommand → Type 0
+HasVersionCommand ActivatePath d command = command ≡ Activate
+HasVersionCommand PutInConflictPath d command = command ≡ PutInConflict
+HasVersionCommand RemoveFromConflictPath d command = command ≡ RemoveFromConflict
+HasVersionCommand CancelPath d command = command ≡ Cancel
+HasVersionCommand OldAcknowledgePath d command = command ≡ OldProviderCancellationAcknowledge
+HasVersionCommand NewAcknowledgePath d command = command ≡ NewProviderCancellationAcknowledge
+HasVersionCommand DisconnectPath d command = (release : Option ℕ) × HasRelease d release × (command ≡ Disconnect release)
+
+-- a path's command
 abbrev pub HasCommand : Route → Data → Command → Type 0
 HasCommand Carriers d c = (spid : ℕ) × HasSpid (codes "spid") d spid × (c ≡ RegisterCarrier spid)
 HasCommand RoutingNumbers d c = (lrn : ℕ) × HasLrn d lrn × (c ≡ RegisterRoutingNumber lrn)
 HasCommand Codes d c = (code : ℕ) × (spid : ℕ) × HasCode d code × HasSpid (codes "spid") d spid × (c ≡ OpenCode code spid)
 HasCommand OldProviderPath d c =
-    (tn : ℕ) × (old_provider : ℕ) × (new_provider : ℕ) × (due : ℕ) × HasPort d tn old_provider new_provider due
-    × (flag (codes "authorized") d ≡ Some true) × (c ≡ OldProviderCreate tn old_provider new_provider due true)
+    (tn : ℕ) × (old_provider : ℕ) × (new_provider : ℕ) × (due : ℕ) × (authorized : Bool) × HasPort d tn old_provider new_provider due
+    × (flag (codes "authorized") d ≡ Some authorized) × (c ≡ OldProviderCreate tn old_provider new_provider due authorized)
 HasCommand NewProviderPath d c =
     (tn : ℕ) × (old_provider : ℕ) × (new_provider : ℕ) × (due : ℕ) × (lrn : ℕ) × (cic : Option ℕ) × HasPort d tn old_provider new_provider due
     × HasLrn d lrn × HasCic d cic × (c ≡ NewProviderCreate tn old_provider new_provider due lrn cic)
-HasCommand ActivatePath d c = (id : ℕ) × (whole (codes "id") d ≡ Some id) × (c ≡ Activate id)
+HasCommand (VersionPaths path) d c =
+    (id : ℕ) × (command : VersionCommand) × (whole (codes "id") d ≡ Some id) × HasVersionCommand path d command × (c ≡ OnVersion id command)
 HasCommand Acknowledge d c = ⊥
 HasCommand Query d c = ⊥
 HasCommand Clock d c = ⊥
 HasCommand (Version id) d c = ⊥
+HasCommand (Number tn) d c = ⊥
 
 abbrev pub HasOrder : Route → Data → Asked → Type 0
-HasOrder route d asked = (c : Command) × HasCommand route d c × (asked ≡ Orders c)
+HasOrder route d asked = (c : Command) × HasCommand route d c × (asked ≡ Calling (Wants (Commands c)))
 
--- a path's values. A version's has no body
+-- a path's values. A version's and a telephone number's have no body
 abbrev pub HasValues : Route → Data → Asked → Type 0
-HasValues Acknowledge d asked = (id : ℕ) × (attempt : ℕ) × (whole (codes "id") d ≡ Some id) × (whole (codes "attempt") d ≡ Some attempt) × (asked ≡ Confirms id attempt)
-HasValues Query d asked = (uri : List ℕ) × (text (codes "uri") d ≡ Some uri) × (asked ≡ Seeks uri)
-HasValues Clock d asked = (minute : ℕ) × (whole (codes "minute") d ≡ Some minute) × (asked ≡ Moves minute)
+HasValues Acknowledge d asked = (id : ℕ) × (attempt : ℕ) × (whole (codes "id") d ≡ Some id) × (whole (codes "attempt") d ≡ Some attempt) × (asked ≡ Calling (Wants (Acknowledges id attempt)))
+HasValues Query d asked = (uri : List ℕ) × (text (codes "uri") d ≡ Some uri) × (asked ≡ Seeking uri)
+HasValues Clock d asked = (minute : ℕ) × (whole (codes "minute") d ≡ Some minute) × (asked ≡ Calling (Moves minute))
 HasValues (Version id) d asked = ⊥
+HasValues (Number tn) d asked = ⊥
 HasValues Carriers d asked = HasOrder Carriers d asked
 HasValues RoutingNumbers d asked = HasOrder RoutingNumbers d asked
 HasValues Codes d asked = HasOrder Codes d asked
 HasValues OldProviderPath d asked = HasOrder OldProviderPath d asked
 HasValues NewProviderPath d asked = HasOrder NewProviderPath d asked
-HasValues ActivatePath d asked = HasOrder ActivatePath d asked
+HasValues (VersionPaths path) d asked = HasOrder (VersionPaths path) d asked
 
 -- the value is an object of the path's form, with no other keys, that asks this
 pub record HasForm (route : Route) (d : Data) (asked : Asked) : Type 0 where

@@ -20,10 +20,10 @@ abbrev pub lrn_value : Option ℕ → List ℕ
 lrn_value None = codes "null"
 lrn_value (Some lrn) = codes "\"" ++ lrn_text lrn ++ codes "\""
 
--- a minute, or null
-abbrev pub minute_value : Option ℕ → List ℕ
-minute_value None = codes "null"
-minute_value (Some minute) = decimal minute
+-- a minute or an id, or null
+abbrev pub number_value : Option ℕ → List ℕ
+number_value None = codes "null"
+number_value (Some number) = decimal number
 
 abbrev pub phase_value : Option Phase → List ℕ
 phase_value None = codes "null"
@@ -67,7 +67,7 @@ parties_text v =
 -- the members `phase` to `since`
 abbrev pub times_text : View → List ℕ
 times_text v =
-    codes ",\"phase\":" ++ phase_value v.phase ++ codes ",\"release\":" ++ minute_value v.release
+    codes ",\"phase\":" ++ phase_value v.phase ++ codes ",\"release\":" ++ number_value v.release
     ++ codes ",\"since\":" ++ decimal v.since
 
 -- the members `status` and `subject`
@@ -105,6 +105,11 @@ routing_number_text lrn spid = codes "{\"lrn\":\"" ++ lrn_text lrn ++ codes "\",
 -- a code, and its holder
 unfoldable pub opened_code_text : (code spid : ℕ) → List ℕ
 opened_code_text code spid = codes "{\"code\":\"" ++ code_text code ++ codes "\",\"spid\":\"" ++ spid_text spid ++ codes "\"}"
+
+-- ---- the ids of a number's versions
+
+unfoldable pub ids_text : (in_force opened : Option ℕ) → List ℕ
+ids_text in_force opened = codes "{\"in_force\":" ++ number_value in_force ++ codes ",\"open\":" ++ number_value opened ++ codes "}"
 
 -- ---- the clock
 

@@ -7,24 +7,23 @@ ghost use Rattle.serde_json.specs.View.{view};
 ghost use Rattle.numbers.specs.declared.cic.Cic.{Cic as CicSeen};
 ghost use Rattle.numbers.specs.declared.minute.Minute.{Minute as MinuteSeen};
 ghost use Rattle.serde_json.specs.Find.{get};
-ghost use Rattle.meaning.specs.Commands.{Command as CommandSeen};
-ghost use Rattle.register.specs.Calls.{command_of as command_seen};
-ghost use Rattle.bodies.specs.Forms.{Asked, AsksOnce, asked_of, json_of, only_keys, keys, whole, text, flag, HasSpid, HasTn, HasLrn, HasCode, HasCic, HasPort, HasCommand, HasValues, HasForm, is_left_out as is_missing};
+ghost use Rattle.meaning.specs.Commands.{Command as CommandSeen, VersionCommand as VersionCommandSeen};
+ghost use Rattle.calls.specs.Calls.{command_of as command_seen};
+ghost use Rattle.version.specs.Commands.{asked_of as version_command_seen};
+ghost use Rattle.bodies.specs.Forms.{Asked as AskedSeen, AsksOnce, asked_of as asked_seen, json_of, only_keys, keys, whole, text, flag, HasSpid, HasTn, HasLrn, HasCode, HasCic, HasRelease, HasPort, HasVersionCommand, HasCommand, HasValues, HasForm, version_keys, is_left_out as is_missing};
 
-use messages::Route;
+use calls::{Call, Command};
+use messages::{Route, VersionPath};
 use numbers::{Cic, CodeId, Lrn, Minute, Routing, Spid, Tn};
-use register::Command;
 use serde_json::{Category, Map, Value};
 use std::alloc::{AllocError, Global};
-use version::{Create, Creator};
+use version::{Create, Creator, VersionCommand};
 
-/// What a body asks of the register.
+/// What a message asks: a call of the register, or where the number of a URI is routed.
 #[derive(Clone, Copy, Debug)]
-pub enum Call<'a> {
-    Command(Command),
-    Acknowledge { id: u64, attempt: u64 },
-    Query { uri: &'a str },
-    Clock { minute: Minute },
+pub enum Asked<'a> {
+    Call(Call),
+    Uri(&'a str),
 }
 
 /// The JSON value of a body, or `None` where it is no JSON. `Err` is want of memory.
@@ -160,6 +159,16 @@ fn has_only(value: &Value, allowed: &[&str]) -> bool
     }
 }
 
+// The keys of a command on a version.
+fn version_keys_of(path: VersionPath) -> &'static [&'static str]
+    ensures { map (λ s. s.now) result.now ≡ version_keys path }
+{
+    match path {
+        VersionPath::Disconnect => &["id", "release"],
+        _ => &["id"],
+    }
+}
+
 // The keys of a path's body.
 fn keys_of(route: Route) -> &'static [&'static str]
     ensures { map (λ s. s.now) result.now ≡ keys route }
@@ -170,11 +179,11 @@ fn keys_of(route: Route) -> &'static [&'static str]
         Route::Codes => &["code", "spid"],
         Route::OldProviderCreate => &["authorized", "due", "new", "old", "tn"],
         Route::NewProviderCreate => &["cic", "due", "lrn", "new", "old", "tn"],
-        Route::Activate => &["id"],
+        Route::OnVersion(path) => version_keys_of(path),
         Route::Acknowledge => &["attempt", "id"],
         Route::Query => &["uri"],
         Route::Clock => &["minute"],
-        Route::Version(_) => &[],
+        Route::Version(_) | Route::Number(_) => &[],
     }
 }
 
@@ -199,15 +208,12 @@ fn flag_at(value: &Value, key: &str) -> Option<bool>
     value.get(key)?.as_bool()
 }
 
-// A create without authorization is not taken yet: conflicts are to come.
 fn old_provider_create(value: &Value) -> Option<Command>
     ensures some { IfSome result (λ c. HasCommand Route.OldProviderCreate (view value.now) (command_seen c)) }
     ensures none { IfNone result ((c : CommandSeen) → ¬ (HasCommand Route.OldProviderCreate (view value.now) c)) }
 {
-    if !flag_at(value, "authorized")? {
-        return None;
-    }
-    let creator = Creator::OldProvider { authorized: true };
+    let authorized = flag_at(value, "authorized")?;
+    let creator = Creator::OldProvider { authorized };
     Some(Command::Create(create_by(value, creator)?))
 }
 
@@ -248,12 +254,46 @@ fn register_routing_number(value: &Value) -> Option<Command>
     })
 }
 
-fn activate(value: &Value) -> Option<Command>
-    ensures some { IfSome result (λ c. HasCommand Route.Activate (view value.now) (command_seen c)) }
-    ensures none { IfNone result ((c : CommandSeen) → ¬ (HasCommand Route.Activate (view value.now) c)) }
+// A minute of release, which may be left out or be null.
+fn release_at(value: &Value) -> Option<Option<Minute>>
+    ensures some { IfSome result (λ release. HasRelease (view value.now) (option_map (λ (m : MinuteSeen). m.number) release)) }
+    ensures none { IfNone result ((release : Option ℕ) → ¬ (HasRelease (view value.now) release)) }
 {
-    Some(Command::Activate {
+    if is_left_out(value, "release") {
+        return Some(None);
+    }
+    Some(Some(minute_at(value, "release")?))
+}
+
+fn version_command(path: VersionPath, value: &Value) -> Option<VersionCommand>
+    ensures some { IfSome result (λ c. HasVersionCommand path (view value.now) (version_command_seen c)) }
+    ensures none { IfNone result ((c : VersionCommandSeen) → ¬ (HasVersionCommand path (view value.now) c)) }
+{
+    match path {
+        VersionPath::Activate => Some(VersionCommand::Activate),
+        VersionPath::PutInConflict => Some(VersionCommand::PutInConflict),
+        VersionPath::RemoveFromConflict => Some(VersionCommand::RemoveFromConflict),
+        VersionPath::Cancel => Some(VersionCommand::Cancel),
+        VersionPath::OldProviderCancellationAcknowledge => {
+            Some(VersionCommand::OldProviderCancellationAcknowledge)
+        }
+        VersionPath::NewProviderCancellationAcknowledge => {
+            Some(VersionCommand::NewProviderCancellationAcknowledge)
+        }
+        VersionPath::Disconnect => {
+            let release = release_at(value)?;
+            Some(VersionCommand::Disconnect { release })
+        }
+    }
+}
+
+fn on_version(path: VersionPath, value: &Value) -> Option<Command>
+    ensures some { IfSome result (λ c. HasCommand (Route.OnVersion path) (view value.now) (command_seen c)) }
+    ensures none { IfNone result ((c : CommandSeen) → ¬ (HasCommand (Route.OnVersion path) (view value.now) c)) }
+{
+    Some(Command::OnVersion {
         id: whole_at(value, "id")?,
+        command: version_command(path, value)?,
     })
 }
 
@@ -267,49 +307,48 @@ fn command_of(route: Route, value: &Value) -> Option<Command>
         Route::Codes => open_code(value),
         Route::OldProviderCreate => old_provider_create(value),
         Route::NewProviderCreate => new_provider_create(value),
-        Route::Activate => activate(value),
-        Route::Acknowledge | Route::Query | Route::Clock | Route::Version(_) => None,
+        Route::OnVersion(path) => on_version(path, value),
+        Route::Acknowledge | Route::Query | Route::Clock | Route::Version(_) | Route::Number(_) =>
+            None,
     }
 }
 
-fn acknowledgement_of(value: &Value) -> Option<Call<'_>>
-    ensures some { IfSome result (λ call. HasValues Route.Acknowledge (view value.now) (asked_of call)) }
-    ensures none { IfNone result ((asked : Asked) → ¬ (HasValues Route.Acknowledge (view value.now) asked)) }
+fn acknowledgement_of(value: &Value) -> Option<Asked<'_>>
+    ensures some { IfSome result (λ asked. HasValues Route.Acknowledge (view value.now) (asked_seen asked)) }
+    ensures none { IfNone result ((asked : AskedSeen) → ¬ (HasValues Route.Acknowledge (view value.now) asked)) }
 {
-    Some(Call::Acknowledge {
+    Some(Asked::Call(Call::Acknowledge {
         id: whole_at(value, "id")?,
         attempt: whole_at(value, "attempt")?,
-    })
+    }))
 }
 
-fn query_of(value: &Value) -> Option<Call<'_>>
-    ensures some { IfSome result (λ call. HasValues Route.Query (view value.now) (asked_of call)) }
-    ensures none { IfNone result ((asked : Asked) → ¬ (HasValues Route.Query (view value.now) asked)) }
+fn query_of(value: &Value) -> Option<Asked<'_>>
+    ensures some { IfSome result (λ asked. HasValues Route.Query (view value.now) (asked_seen asked)) }
+    ensures none { IfNone result ((asked : AskedSeen) → ¬ (HasValues Route.Query (view value.now) asked)) }
 {
-    Some(Call::Query {
-        uri: text_at(value, "uri")?,
-    })
+    Some(Asked::Uri(text_at(value, "uri")?))
 }
 
-fn clock_of(value: &Value) -> Option<Call<'_>>
-    ensures some { IfSome result (λ call. HasValues Route.Clock (view value.now) (asked_of call)) }
-    ensures none { IfNone result ((asked : Asked) → ¬ (HasValues Route.Clock (view value.now) asked)) }
+fn clock_of(value: &Value) -> Option<Asked<'_>>
+    ensures some { IfSome result (λ asked. HasValues Route.Clock (view value.now) (asked_seen asked)) }
+    ensures none { IfNone result ((asked : AskedSeen) → ¬ (HasValues Route.Clock (view value.now) asked)) }
 {
-    Some(Call::Clock {
+    Some(Asked::Call(Call::Clock {
         minute: minute_at(value, "minute")?,
-    })
+    }))
 }
 
 // What the values of an object ask on a path.
-fn values_of(route: Route, value: &Value) -> Option<Call<'_>>
-    ensures some { IfSome result (λ call. HasValues route (view value.now) (asked_of call)) }
-    ensures none { IfNone result ((asked : Asked) → ¬ (HasValues route (view value.now) asked)) }
+fn values_of(route: Route, value: &Value) -> Option<Asked<'_>>
+    ensures some { IfSome result (λ asked. HasValues route (view value.now) (asked_seen asked)) }
+    ensures none { IfNone result ((asked : AskedSeen) → ¬ (HasValues route (view value.now) asked)) }
 {
     match route {
         Route::Acknowledge => acknowledgement_of(value),
         Route::Query => query_of(value),
         Route::Clock => clock_of(value),
-        _ => Some(Call::Command(command_of(route, value)?)),
+        _ => Some(Asked::Call(Call::Command(command_of(route, value)?))),
     }
 }
 
@@ -319,9 +358,9 @@ pub fn body_asks_once()
 {}
 
 /// What a body asks on a path, or `None` where it does not have the path's form.
-pub fn call_of(route: Route, value: &Value) -> Option<Call<'_>>
-    ensures some { IfSome result (λ call. HasForm route (view value.now) (asked_of call)) }
-    ensures none { IfNone result ((asked : Asked) → ¬ (HasForm route (view value.now) asked)) }
+pub fn asked_of(route: Route, value: &Value) -> Option<Asked<'_>>
+    ensures some { IfSome result (λ asked. HasForm route (view value.now) (asked_seen asked)) }
+    ensures none { IfNone result ((asked : AskedSeen) → ¬ (HasForm route (view value.now) asked)) }
 {
     if !has_only(value, keys_of(route)) {
         return None;

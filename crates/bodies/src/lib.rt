@@ -9,8 +9,8 @@ mod room;
 
 pub use answer::Room;
 pub use fault::Failure;
-pub use forms::{Call, body_asks_once, call_of, json};
+pub use forms::{Asked, asked_of, body_asks_once, json};
 pub use reply::{
-    ROW_ROOM, URI_ROOM, put_failure, put_now, put_opened_code, put_registered, put_routing_number,
-    put_uri, put_version,
+    ROW_ROOM, URI_ROOM, put_failure, put_ids, put_now, put_opened_code, put_registered,
+    put_routing_number, put_uri, put_version,
 };

@@ -7,16 +7,16 @@ ghost use Rattle.numbers.specs.Views.{routing_of};
 ghost use Rattle.meaning.specs.Views.{status_of as status_seen};
 ghost use Rattle.meaning.specs.Reading.{release_of};
 ghost use Rattle.version.specs.Views.{routings_of, phase_seen};
-ghost use Rattle.register.specs.Calls.{view_of, in_force_of};
+ghost use Rattle.calls.specs.Calls.{view_of, in_force_of};
 ghost use Rattle.bodies.specs.Answer.{refusal_body};
 ghost use Rattle.bodies.specs.Failures.{failure_body};
-ghost use Rattle.bodies.specs.Texts.{cic_value, lrn_value, minute_value, phase_value, status_word, cic_in, lrn_in, counts_text, parties_text, times_text, standing_text, view_text, row_text, next_row_text, rows_text, registered_text, routing_number_text, opened_code_text, now_text, uri_text};
+ghost use Rattle.bodies.specs.Texts.{cic_value, lrn_value, number_value, phase_value, status_word, cic_in, lrn_in, counts_text, parties_text, times_text, standing_text, view_text, row_text, next_row_text, rows_text, registered_text, routing_number_text, opened_code_text, ids_text, now_text, uri_text};
 
 use crate::fault::Failure;
 use crate::room::{put, put_cic, put_code, put_lrn, put_minute, put_number, put_spid, put_subject};
+use calls::{Ids, VersionView};
 use meaning::{Action, Status};
 use numbers::{Cic, CodeId, Lrn, Minute, Routing, Spid};
-use register::VersionView;
 use settle::RoutedRow;
 use version::Phase;
 
@@ -105,7 +105,7 @@ fn status_text(status: Status) -> &'static str
 // The minute of the release that a disconnect-pending version waits for, or null.
 fn put_release(out: &mut String, status: Status)
     requires { string_len out.old + 20 ≤ string_capacity out.old }
-    ensures bytes { string_bytes out.new ≡ string_bytes out.old ++ minute_value (release_of (status_seen status)) }
+    ensures bytes { string_bytes out.new ≡ string_bytes out.old ++ number_value (release_of (status_seen status)) }
     ensures len { string_len out.new ≤ string_len out.old + 20 }
     ensures capacity { string_capacity out.old ≤ string_capacity out.new }
 {
@@ -231,6 +231,33 @@ pub fn put_opened_code(out: &mut String, code: CodeId, spid: Spid)
     put(out, "\",\"spid\":\"");
     put_spid(out, spid);
     put(out, "\"}");
+}
+
+fn put_id_or_null(out: &mut String, id: Option<u64>)
+    requires { string_len out.old + 20 ≤ string_capacity out.old }
+    ensures bytes { string_bytes out.new ≡ string_bytes out.old ++ number_value id }
+    ensures len { string_len out.new ≤ string_len out.old + 20 }
+    ensures capacity { string_capacity out.old ≤ string_capacity out.new }
+{
+    match id {
+        None => put(out, "null"),
+        Some(id) => put_number(out, id),
+    }
+}
+
+/// Appends the body that tells the ids of a number's versions, of at most 64 bytes.
+#[tactic(auto, unfolding(crate::specs::Texts::ids_text))]
+pub fn put_ids(out: &mut String, ids: Ids)
+    requires { string_len out.old + 64 ≤ string_capacity out.old }
+    ensures bytes { string_bytes out.new ≡ string_bytes out.old ++ ids_text ids.in_force ids.opened }
+    ensures len { string_len out.new ≤ string_len out.old + 64 }
+    ensures capacity { string_capacity out.old ≤ string_capacity out.new }
+{
+    put(out, "{\"in_force\":");
+    put_id_or_null(out, ids.in_force);
+    put(out, ",\"open\":");
+    put_id_or_null(out, ids.opened);
+    put(out, "}");
 }
 
 /// Appends the body that shows the minute that it is, of at most 64 bytes.

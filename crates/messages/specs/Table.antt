@@ -9,7 +9,8 @@ use Rattle.messages.specs.Fields.{number_of}
 use Rattle.messages.specs.declared.paths.Method.{Method}
 use Rattle.messages.specs.declared.paths.Method.TheVariants.{Get, Post, Other}
 use Rattle.messages.specs.declared.paths.Route.{Route}
-use Rattle.messages.specs.declared.paths.Route.TheVariants.{Carriers, Clock, RoutingNumbers, Codes, OldProviderCreate, NewProviderCreate, Activate, Acknowledge, Query, Version}
+use Rattle.messages.specs.declared.paths.Route.TheVariants.{Carriers, Clock, RoutingNumbers, Codes, OldProviderCreate, NewProviderCreate, OnVersion, Acknowledge, Query, Version, Number}
+use Rattle.messages.specs.declared.paths.VersionPath.TheVariants.{Activate, PutInConflict, RemoveFromConflict, Cancel, OldProviderCancellationAcknowledge, NewProviderCancellationAcknowledge, Disconnect}
 
 -- ---- the paths that are one text
 
@@ -21,7 +22,26 @@ paths =
     ∷ (codes "/downloads/acknowledge", Acknowledge)
     ∷ (codes "/lrns", RoutingNumbers)
     ∷ (codes "/query", Query)
-    ∷ (codes "/subscriptionVersionActivate", Activate)
+    ∷ (codes "/subscriptionVersionActivate", OnVersion Activate)
+    ∷ (codes "/subscriptionVersionCancel", OnVersion Cancel)
+    ∷ (codes "/subscriptionVersionConflict", OnVersion PutInConflict)
+    ∷ (codes "/subscriptionVersionDisconnect", OnVersion Disconnect)
+    ∷ (codes "/subscriptionVersionNewSP-CancellationAcknowledge", OnVersion NewProviderCancellationAcknowledge)
+    ∷ (codes "/subscriptionVersionNewSP-Create", NewProviderCreate)
+    ∷ (codes "/subscriptionVersionOldSP-CancellationAcknowledge", OnVersion OldProviderCancellationAcknowledge)
+    ∷ (codes "/subscriptionVersionOldSP-Create", OldProviderCreate)
+    ∷ (codes "/subscriptionVersionRemoveFromConflict", OnVersion RemoveFromConflict)
+    ∷ []
+
+-- all but those of commands on a version
+abbrev pub first_paths : List (List ℕ × Route)
+first_paths =
+    (codes "/carriers", Carriers)
+    ∷ (codes "/clock", Clock)
+    ∷ (codes "/codes", Codes)
+    ∷ (codes "/downloads/acknowledge", Acknowledge)
+    ∷ (codes "/lrns", RoutingNumbers)
+    ∷ (codes "/query", Query)
     ∷ (codes "/subscriptionVersionNewSP-Create", NewProviderCreate)
     ∷ (codes "/subscriptionVersionOldSP-Create", OldProviderCreate)
     ∷ []
@@ -31,7 +51,7 @@ abbrev pub path_among : List (List ℕ × Route) → List ℕ → Option Route
 path_among [] target = None
 path_among (p ∷ ps) target = if bytes_eq p.0 target then Some p.1 else path_among ps target
 
--- ---- the path of a version: `/versions/` and one part
+-- ---- the paths that end in a number: `/versions/` or `/numbers/` and one part
 
 -- a byte of a part: neither a slash (47) nor a question mark (63)
 abbrev pub is_of_part : ℕ → Bool
@@ -51,16 +71,21 @@ below_limit n = if nat_lt n (2 ^ 40) then Some n else None
 unfoldable pub number_in : List ℕ → Option ℕ
 number_in part = if has_zero_in_front part then None else option_and_then below_limit (number_of part)
 
--- the path of a version, with its number where the part is one
+-- the path of a version, with its id where the part is one
 unfoldable pub version_path : List ℕ → Option Route
 version_path target =
     if bytes_eq (take 10 target) (codes "/versions/") && is_part (drop 10 target) then Some (Version (number_in (drop 10 target))) else None
 
+-- the path of a telephone number, with its digits where the part is a number
+unfoldable pub number_path : List ℕ → Option Route
+number_path target =
+    if bytes_eq (take 9 target) (codes "/numbers/") && is_part (drop 9 target) then Some (Number (number_in (drop 9 target))) else None
+
 -- ---- all paths
 
--- a path that is one text, or else a version's
+-- a path that is one text, or else a version's, or else a telephone number's
 unfoldable pub path_of : List ℕ → Option Route
-path_of target = option_or (path_among paths target) (version_path target)
+path_of target = option_or (path_among paths target) (option_or (version_path target) (number_path target))
 
 -- ---- methods
 
@@ -77,16 +102,17 @@ is_get Get = true
 is_get Post = false
 is_get Other = false
 
--- whether a path is there with this method: a version is shown by GET, and all else is by POST
+-- whether a path is there with this method: a version and a number are asked for by GET, and all else is by POST
 abbrev pub takes : Route → Method → Bool
 takes (Version number) method = is_get method
+takes (Number number) method = is_get method
 takes Carriers method = is_post method
 takes Clock method = is_post method
 takes Codes method = is_post method
 takes Acknowledge method = is_post method
 takes RoutingNumbers method = is_post method
 takes Query method = is_post method
-takes Activate method = is_post method
+takes (OnVersion path) method = is_post method
 takes NewProviderCreate method = is_post method
 takes OldProviderCreate method = is_post method
 
@@ -99,10 +125,11 @@ among_offered false (Some Codes) = Some Codes
 among_offered false (Some Acknowledge) = Some Acknowledge
 among_offered false (Some RoutingNumbers) = Some RoutingNumbers
 among_offered false (Some Query) = Some Query
-among_offered false (Some Activate) = Some Activate
+among_offered false (Some (OnVersion path)) = Some (OnVersion path)
 among_offered false (Some NewProviderCreate) = Some NewProviderCreate
 among_offered false (Some OldProviderCreate) = Some OldProviderCreate
 among_offered false (Some (Version number)) = Some (Version number)
+among_offered false (Some (Number number)) = Some (Number number)
 among_offered false None = None
 
 -- ---- the router's rows

@@ -13,5 +13,5 @@ mod send;
 pub use fault::MessageFault;
 pub use held::Held;
 pub use message::{Next, NextFault, Request, cuts_of_the_input, next_message};
-pub use paths::{Method, Route, offered, router, takes};
+pub use paths::{Method, Route, VersionPath, offered, router, takes};
 pub use send::send_all;

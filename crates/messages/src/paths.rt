@@ -1,7 +1,7 @@
 //! The paths of the interface. Edit it seldom: the router's table is computed by its proof.
-ghost use Rattle.std.specs.Prelude.{◌≡◌, [], IfOk, OnOk};
+ghost use Rattle.std.specs.Prelude.{◌≡◌, [], map, IfOk, OnOk};
 ghost use Rattle.std.specs.List.{list_all};
-ghost use Rattle.messages.specs.Table.{table, paths, path_among, path_of, version_path, number_in, is_of_part, is_part as is_one_part, method_of as method_seen, takes as takes_method, among_offered};
+ghost use Rattle.messages.specs.Table.{table, fixed, first_paths, paths, path_among, path_of, version_path, number_path, number_in, is_of_part, is_part as is_one_part, method_of as method_seen, takes as takes_method, among_offered};
 
 use crate::head::read_number;
 use matchit::{InsertError, Router};
@@ -15,6 +15,18 @@ pub enum Method {
     Other,
 }
 
+/// The paths of commands on a version.
+#[derive(Clone, Copy, Debug, PartialEq, Eq)]
+pub enum VersionPath {
+    Activate,
+    PutInConflict,
+    RemoveFromConflict,
+    Cancel,
+    OldProviderCancellationAcknowledge,
+    NewProviderCancellationAcknowledge,
+    Disconnect,
+}
+
 /// A path of the interface.
 #[derive(Clone, Copy, Debug, PartialEq, Eq)]
 pub enum Route {
@@ -24,11 +36,13 @@ pub enum Route {
     Codes,
     OldProviderCreate,
     NewProviderCreate,
-    Activate,
+    OnVersion(VersionPath),
     Acknowledge,
     Query,
-    /// A version, by its number, where the path's last part is one.
+    /// A version, by its id, where the path's last part is a number below 2^40 with no zero in front.
     Version(Option<u64>),
+    /// A telephone number, by its digits, where the path's last part is such a number.
+    Number(Option<u64>),
 }
 
 /// The method that a head names.
@@ -44,19 +58,20 @@ pub fn method_of(name: &[u8]) -> Method
     Method::Other
 }
 
-/// Whether a path is there with this method: a version's with GET, the others with POST.
+/// Whether a path is there with this method: a version's and a telephone number's with GET, the others with
+/// POST.
 pub fn takes(route: Route, method: Method) -> bool
     ensures { result ≡ takes_method route method }
 {
     match route {
-        Route::Version(_) => matches!(method, Method::Get),
+        Route::Version(_) | Route::Number(_) => matches!(method, Method::Get),
         Route::Carriers
         | Route::Clock
         | Route::RoutingNumbers
         | Route::Codes
         | Route::OldProviderCreate
         | Route::NewProviderCreate
-        | Route::Activate
+        | Route::OnVersion(_)
         | Route::Acknowledge
         | Route::Query => matches!(method, Method::Post),
     }
@@ -76,7 +91,7 @@ pub fn offered(route: Option<Route>, clock: bool) -> Option<Route>
 // deep a destructor is owned across many calls that can fail.
 fn insert_paths(router: &mut Router<Route>) -> Result<(), InsertError>
     requires { router.old ≡ [] }
-    ensures { OnOk result (router.new ≡ table) }
+    ensures { OnOk result (router.new ≡ map fixed first_paths) }
 {
     router.insert("/carriers", Route::Carriers)?;
     router.insert("/clock", Route::Clock)?;
@@ -84,9 +99,42 @@ fn insert_paths(router: &mut Router<Route>) -> Result<(), InsertError>
     router.insert("/codes", Route::Codes)?;
     router.insert("/subscriptionVersionOldSP-Create", Route::OldProviderCreate)?;
     router.insert("/subscriptionVersionNewSP-Create", Route::NewProviderCreate)?;
-    router.insert("/subscriptionVersionActivate", Route::Activate)?;
     router.insert("/downloads/acknowledge", Route::Acknowledge)?;
     router.insert("/query", Route::Query)?;
+    Ok(())
+}
+
+// And those of commands on a version.
+fn insert_version_paths(router: &mut Router<Route>) -> Result<(), InsertError>
+    requires { router.old ≡ map fixed first_paths }
+    ensures { OnOk result (router.new ≡ table) }
+{
+    use crate::paths::VersionPath::{
+        Activate, Cancel, Disconnect, NewProviderCancellationAcknowledge,
+        OldProviderCancellationAcknowledge, PutInConflict, RemoveFromConflict,
+    };
+    router.insert("/subscriptionVersionActivate", Route::OnVersion(Activate))?;
+    router.insert(
+        "/subscriptionVersionConflict",
+        Route::OnVersion(PutInConflict),
+    )?;
+    router.insert(
+        "/subscriptionVersionRemoveFromConflict",
+        Route::OnVersion(RemoveFromConflict),
+    )?;
+    router.insert("/subscriptionVersionCancel", Route::OnVersion(Cancel))?;
+    router.insert(
+        "/subscriptionVersionOldSP-CancellationAcknowledge",
+        Route::OnVersion(OldProviderCancellationAcknowledge),
+    )?;
+    router.insert(
+        "/subscriptionVersionNewSP-CancellationAcknowledge",
+        Route::OnVersion(NewProviderCancellationAcknowledge),
+    )?;
+    router.insert(
+        "/subscriptionVersionDisconnect",
+        Route::OnVersion(Disconnect),
+    )?;
     Ok(())
 }
 
@@ -97,6 +145,7 @@ pub fn router(alloc: Global) -> Result<Router<Route>, InsertError>
 {
     let mut router = Router::new(alloc);
     insert_paths(&mut router)?;
+    insert_version_paths(&mut router)?;
     Ok(router)
 }
 
@@ -142,6 +191,18 @@ fn number_of_part(part: &[u8]) -> Option<u64>
     read_number(part).filter(|n| *n < 1 << 40)
 }
 
+// The path of a telephone number.
+#[tactic(auto, unfolding(crate::specs::Table::number_path))]
+fn number_route_of(target: &[u8]) -> Option<Route>
+    ensures { result ≡ number_path target.now }
+{
+    let part = target.strip_prefix(b"/numbers/")?;
+    if !is_part(part) {
+        return None;
+    }
+    Some(Route::Number(number_of_part(part)))
+}
+
 // The path of a version.
 #[tactic(auto, unfolding(crate::specs::Table::version_path))]
 fn version_route_of(target: &[u8]) -> Option<Route>
@@ -162,6 +223,9 @@ pub fn route_of(router: &Router<Route>, target: &[u8]) -> Option<Route>
 {
     match fixed_route_of(router, target) {
         Some(route) => Some(route),
-        None => version_route_of(target),
+        None => match version_route_of(target) {
+            Some(route) => Some(route),
+            None => number_route_of(target),
+        },
     }
 }

@@ -20,6 +20,19 @@ pub struct Tn {
 }
 
 impl Tn {
+    /// The telephone number with these ten digits, or nothing where a code of it would not begin with
+    /// 2 to 9.
+    pub fn new(number: u64) -> Option<Self>
+        ensures some { IfSome result (λ value. value.number ≡ number) }
+        ensures none { IfNone result (¬ (IsTn number)) }
+    {
+        if number < 10_000_000_000 && number / 1_000_000_000 >= 2 && number / 1_000_000 % 10 >= 2 {
+            Some(Tn { number })
+        } else {
+            None
+        }
+    }
+
     /// The telephone number that the text writes, or nothing where the text is not ten such digits.
     pub fn read(text: &str) -> Option<Self>
         ensures some { IfSome result (λ value. text.now ≡ tn_text value.number) }

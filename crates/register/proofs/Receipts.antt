@@ -30,8 +30,8 @@ use Rattle.settle.specs.Settling.{IsSettled}
 use Rattle.register.specs.Answers.{Stands}
 use Rattle.register.specs.Settling.{AnswersSettled, AreSettled, LeavesOthers}
 use Rattle.register.proofs.Settled.{IdSettled, row_now, row_settled}
-use Rattle.register.specs.declared.view.VersionView.{VersionView}
-use Rattle.register.specs.Calls.{refused_with, replied, view_of as view_seen}
+use Rattle.calls.specs.declared.view.VersionView.{VersionView}
+use Rattle.calls.specs.Calls.{refused_with, replied, view_of as view_seen}
 use Rattle.settle.specs.Fired.{retired_rows, IsEarlier}
 use Rattle.register.specs.Acknowledging.{is_sending, answered_row, completed_if, own_rows, acknowledging, completes, IsFound, all_changes}
 use Rattle.register.proofs.Composed.{answers_refused_same, answers_accepted, answers_without}

@@ -1,13 +1,31 @@
+use Rattle.std.proofs.Common.{rules}
+use Rattle.calls.specs.Calls.{called_of}
+use Rattle.bodies.specs.Forms.{Calling}
+use Rattle.api.specs.Step.{IdAsks, NumberAsks}
+use Rattle.api.proofs.StepLemmas.{asked_carried, path_carried, unasked_refused}
 use Rattle.api.proofs.call.carry_out.Goals as goal
 
-pub returns-in-Command-clause-carries : goal.returns-in-Command-clause-carries
-returns-in-Command-clause-carries g c = rw c.in-Command.is c.command.ensures.carries
+pub returns-in_err-version_asked-in-Version-clause-calls : goal.returns-in_err-version_asked-in-Version-clause-calls
+returns-in_err-version_asked-in-Version-clause-calls g c = rw c.in-Version.is (λ u st s.
+    unasked_refused (g.S.Store.failed c.args.register.now.store) (g.S.Store.failed c.args.register.now.store) (g.S.Store.content c.args.register.now.store) st (IdAsks c.in-Version.id c.args.body.now) c.args.caller.number c.from_residual.result _ c.in_err-version_asked-in-Version.field-0.0 (search rules)
+    c.in_err-version_asked-in-Version.ensures.err.0 c.in_err-version_asked-in-Version.ensures.err.1 s)
 
-pub returns-in-Acknowledge-clause-carries : goal.returns-in-Acknowledge-clause-carries
-returns-in-Acknowledge-clause-carries g c = rw c.in-Acknowledge.is c.acknowledge.ensures.carries
+pub returns-in_err-number_asked-in-Number-clause-calls : goal.returns-in_err-number_asked-in-Number-clause-calls
+returns-in_err-number_asked-in-Number-clause-calls g c = rw c.in-Number.is (λ u st s.
+    unasked_refused (g.S.Store.failed c.args.register.now.store) (g.S.Store.failed c.args.register.now.store) (g.S.Store.content c.args.register.now.store) st (NumberAsks c.in-Number.number c.args.body.now) c.args.caller.number c.from_residual-in_err-number_asked-in-Number.result _ c.in_err-number_asked-in-Number.field-0.0 (search rules)
+    c.in_err-number_asked-in-Number.ensures.err.0 c.in_err-number_asked-in-Number.ensures.err.1 s)
 
-pub returns-in-Clock-clause-carries : goal.returns-in-Clock-clause-carries
-returns-in-Clock-clause-carries g c = rw c.in-Clock.is c.move_clock.ensures.carries
+pub returns-in_ok-version_asked-in-Version-clause-calls : goal.returns-in_ok-version_asked-in-Version-clause-calls
+returns-in_ok-version_asked-in-Version-clause-calls g c = rw c.in-Version.is (λ u st s.
+    asked_carried (g.S.Store.failed c.args.register.now.store) (g.S.Store.failed c.answer.new.register.store) (g.S.Store.content c.answer.new.register.store) st (IdAsks c.in-Version.id c.args.body.now) (Calling (called_of c.in_ok-version_asked-in-Version.field-0)) c.args.caller.number _
+    c.in_ok-version_asked-in-Version.ensures.ok (c.answer.ensures.carries u st s))
 
-pub returns-in-Query-clause-carries : goal.returns-in-Query-clause-carries
-returns-in-Query-clause-carries g c = rw c.in-Query.is c.query.ensures.carries
+pub returns-in_ok-number_asked-in-Number-clause-calls : goal.returns-in_ok-number_asked-in-Number-clause-calls
+returns-in_ok-number_asked-in-Number-clause-calls g c = rw c.in-Number.is (λ u st s.
+    asked_carried (g.S.Store.failed c.args.register.now.store) (g.S.Store.failed c.answer-in-Number.new.register.store) (g.S.Store.content c.answer-in-Number.new.register.store) st (NumberAsks c.in-Number.number c.args.body.now) (Calling (called_of c.in_ok-number_asked-in-Number.field-0)) c.args.caller.number _
+    c.in_ok-number_asked-in-Number.ensures.ok (c.answer-in-Number.ensures.carries u st s))
+
+pub returns-in_default-clause-calls : goal.returns-in_default-clause-calls
+returns-in_default-clause-calls g c = λ u st s.
+    path_carried (g.S.Store.failed c.args.register.now.store) (g.S.Store.failed c.carry_out_body.new.register.store) (g.S.Store.content c.carry_out_body.new.register.store) st c.args.route c.args.caller.number c.args.body.now _
+    c.in_default.not-Version c.in_default.not-Number (c.carry_out_body.ensures.calls u st s)

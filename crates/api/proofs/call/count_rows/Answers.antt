@@ -1,7 +1,7 @@
 use Rattle.std.proofs.Common.{◌∙◌, sym, map, ap, Err}
 use Rattle.std.proofs.lemmas.List.{length-map}
 use Rattle.meaning.specs.Refusals.{AllInForce}
-use Rattle.register.specs.Calls.{in_force_of}
+use Rattle.calls.specs.Calls.{in_force_of}
 use Rattle.api.proofs.StepLemmas.{kept, rows_counted, rows_short}
 use Rattle.api.proofs.call.count_rows.Goals as goal
 

@@ -15,5 +15,5 @@ returns-in-OldProviderCreate-clause-none c = rw c.in-OldProviderCreate.is c.old_
 pub returns-in-NewProviderCreate-clause-none : goal.returns-in-NewProviderCreate-clause-none
 returns-in-NewProviderCreate-clause-none c = rw c.in-NewProviderCreate.is c.new_provider_create.ensures.none
 
-pub returns-in-Activate-clause-none : goal.returns-in-Activate-clause-none
-returns-in-Activate-clause-none c = rw c.in-Activate.is c.activate.ensures.none
+pub returns-in-OnVersion-clause-none : goal.returns-in-OnVersion-clause-none
+returns-in-OnVersion-clause-none c = rw c.in-OnVersion.is c.on_version.ensures.none

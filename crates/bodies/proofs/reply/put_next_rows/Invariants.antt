@@ -1,6 +1,6 @@
 use Rattle.std.proofs.Common.{◌≡◌, ◌++◌, ◌+◌, ◌*◌, ◌≤◌, map, take, string_bytes, string_len, string_capacity}
 use Rattle.std.specs.List.{flat_map}
-use Rattle.register.specs.Calls.{in_force_of}
+use Rattle.calls.specs.Calls.{in_force_of}
 use Rattle.bodies.specs.Texts.{next_row_text}
 use Rattle.bodies.proofs.reply.put_next_rows.Given as goal
 

@@ -1,0 +1,144 @@
+//! Writing what a call answered.
+ghost use Rattle.std.specs.Prelude.{◌≡◌, ℕ, ◌+◌, ◌*◌, ◌<◌, ◌≤◌, length, map, string_bytes, IfErr, OnOk, OnErr};
+ghost use Rattle.calls.specs.Calls.{view_of, reply_of, in_force_of};
+ghost use Rattle.bodies.specs.Failures.{failure_text};
+ghost use Rattle.bodies.specs.Rooms.{HasRoom, IsEmpty, IsWritten};
+ghost use Rattle.bodies.specs.Texts.{registered_text, ids_text, now_text, view_text};
+ghost use Rattle.api.specs.Step.{Outgrows, success, reply_text};
+
+use bodies::{
+    Failure, ROW_ROOM, Room, put_failure, put_ids, put_now, put_opened_code, put_registered,
+    put_routing_number, put_version,
+};
+use calls::{Ids, Reply, VersionView};
+use meaning::Refusal;
+use numbers::{Minute, Spid};
+use settle::RoutedRow;
+
+// The rows that an answer may show.
+const MOST_ROWS: usize = 1 << 40;
+
+/// Takes the room for a body of so many rows.
+pub fn take_rows(room: &mut Room, count: usize) -> Result<(), Refusal>
+    requires empty { IsEmpty room.old }
+    ensures ok { OnOk result (HasRoom (64 + count * 64) room.new) }
+    ensures err { IfErr result (λ refusal. refusal ≡ Refusal.NoMemory) }
+    ensures empty { IsEmpty room.new }
+    ensures room { (n : ℕ) → HasRoom n room.old → HasRoom n room.new }
+{
+    if count > MOST_ROWS {
+        return Err(Refusal::NoMemory);
+    }
+    room.take(64 + count * ROW_ROOM)?;
+    Ok(())
+}
+
+// The rows were counted before, and the room for so many was taken. More than those never come: that refusal is
+// no message's answer.
+fn put_starting_rows(
+    room: &mut Room,
+    spid: Spid,
+    rows: &[RoutedRow],
+    count: usize,
+) -> Result<(), Failure>
+    requires empty { IsEmpty room.old }
+    requires room { HasRoom 512 room.old }
+    requires rows { HasRoom (64 + count * 64) room.old }
+    ensures ok { OnOk result (IsWritten room.new) }
+    ensures room { HasRoom 512 room.new }
+    ensures body { OnOk result (string_bytes room.new.body ≡ registered_text spid.number (map in_force_of rows.now)) }
+    ensures more { OnErr result (count < length rows.now) }
+{
+    if rows.len() > count {
+        return Err(Failure::Refused(Refusal::Storage));
+    }
+    put_registered(&mut room.body, spid, rows);
+    Ok(())
+}
+
+fn put_shown(room: &mut Room, view: &VersionView)
+    requires empty { IsEmpty room.old }
+    requires room { HasRoom 512 room.old }
+    ensures written { IsWritten room.new }
+    ensures room { HasRoom 512 room.new }
+    ensures body { string_bytes room.new.body ≡ view_text (view_of view.now) }
+{
+    put_version(&mut room.body, view);
+}
+
+fn put_found(room: &mut Room, ids: Ids)
+    requires empty { IsEmpty room.old }
+    requires room { HasRoom 512 room.old }
+    ensures written { IsWritten room.new }
+    ensures room { HasRoom 512 room.new }
+    ensures body { string_bytes room.new.body ≡ ids_text ids.in_force ids.opened }
+{
+    put_ids(&mut room.body, ids);
+}
+
+fn put_moved(room: &mut Room, now: Minute)
+    requires empty { IsEmpty room.old }
+    requires room { HasRoom 512 room.old }
+    ensures written { IsWritten room.new }
+    ensures room { HasRoom 512 room.new }
+    ensures body { string_bytes room.new.body ≡ now_text now.number }
+{
+    put_now(&mut room.body, now);
+}
+
+/// Writes a reply. It fails alone where a registration shows more rows than were counted.
+pub fn put_reply(room: &mut Room, reply: &Reply, count: usize) -> Result<(), Failure>
+    requires empty { IsEmpty room.old }
+    requires room { HasRoom 512 room.old }
+    requires rows { HasRoom (64 + count * 64) room.old }
+    ensures ok { OnOk result (IsWritten room.new) }
+    ensures room { HasRoom 512 room.new }
+    ensures text { OnOk result (success (string_bytes room.new.body) ≡ reply_text (reply_of reply.now)) }
+    ensures more { OnErr result (Outgrows count (reply_of reply.now)) }
+{
+    match reply {
+        Reply::Registered { spid, rows } => put_starting_rows(room, *spid, rows, count),
+        Reply::RoutingNumberRegistered { lrn, spid } => {
+            put_routing_number(&mut room.body, *lrn, *spid);
+            Ok(())
+        }
+        Reply::CodeOpened { code, spid } => {
+            put_opened_code(&mut room.body, *code, *spid);
+            Ok(())
+        }
+        Reply::Shown(view) => {
+            put_shown(room, view);
+            Ok(())
+        }
+        Reply::Found(ids) => {
+            put_found(room, *ids);
+            Ok(())
+        }
+        Reply::Moved(now) => {
+            put_moved(room, *now);
+            Ok(())
+        }
+    }
+}
+
+/// Writes the answer of a message that was not carried out.
+pub fn put_refused(room: &mut Room, failure: Failure)
+    requires room { HasRoom 512 room.old }
+    ensures room { HasRoom 512 room.new }
+    ensures text { string_bytes room.new.text ≡ failure_text failure }
+{
+    room.clear();
+    put_failure(&mut room.body, failure);
+    room.finish(failure.status());
+}
+
+/// Writes the answer of a message that was carried out.
+#[tactic(auto, unfolding(crate::specs::Step::success))]
+pub fn put_success(room: &mut Room)
+    requires written { IsWritten room.old }
+    requires room { HasRoom 512 room.old }
+    ensures room { HasRoom 512 room.new }
+    ensures text { string_bytes room.new.text ≡ success (string_bytes room.old.body) }
+{
+    room.finish(200);
+}
