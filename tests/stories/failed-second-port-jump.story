@@ -2,14 +2,6 @@
 # waits in no queue. It is activated again.
 after second-port-sent
 
-NPAC /clock minute=215
-     200 now=215
-AAAA /downloads/acknowledge attempt=1 id=2
-     404 not_queued 25
-BBBB /downloads/acknowledge attempt=1 id=2
-     404 not_queued 25
-CCCC /downloads/acknowledge attempt=1 id=2
-     404 not_queued 25
 NPAC /clock minute=900
      200 now=900
 CCCC /query uri=tel:+12025331234
@@ -18,6 +10,12 @@ CCCC /versions/2
      200 onward attempt=1 since=215 status=failed
 CCCC /versions/1
      200 active
+AAAA /downloads/acknowledge attempt=1 id=2
+     404 not_queued 25
+BBBB /downloads/acknowledge attempt=1 id=2
+     404 not_queued 25
+CCCC /downloads/acknowledge attempt=1 id=2
+     404 not_queued 25
 CCCC /subscriptionVersionActivate id=2
      200 onward attempt=2 since=900 status=sending
 AAAA /downloads/acknowledge attempt=1 id=2

@@ -18,6 +18,12 @@ CCCC /versions/1
      200 active
 CCCC /query uri=tel:+12025331234
      200 uri=tel:+12025331234;npdi;rn=+12025440000
+AAAA /downloads/acknowledge attempt=1 id=2
+     404 not_queued 25
+BBBB /downloads/acknowledge attempt=1 id=2
+     404 not_queued 25
+CCCC /downloads/acknowledge attempt=1 id=2
+     404 not_queued 25
 CCCC /subscriptionVersionActivate id=2
      200 onward attempt=2 since=215 status=sending
 AAAA /downloads/acknowledge attempt=2 id=2

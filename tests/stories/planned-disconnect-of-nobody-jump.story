@@ -5,6 +5,8 @@ NPAC /clock minute=399
      200 now=399
 NPAC /clock minute=1000
      200 now=1000
+NPAC /numbers/2025331234
+     200 in_force=1 open=null
 CCCC /query uri=tel:+12025331234
      200 uri=tel:+12025331234;npdi;rn=+12025440000
 CCCC /versions/1
