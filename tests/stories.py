@@ -20,7 +20,7 @@ STORIES = HERE / "stories"
 CRATE = HERE.parent / "crates" / "stories"
 WINDOWS = HERE.parent / "examples" / "windows.toml"
 
-NUMBERS = {"attempt", "due", "id", "minute", "now", "release", "since"}
+NUMBERS = {"attempt", "due", "id", "in_force", "minute", "now", "open", "release", "since"}
 PHRASES = {
     200: "OK",
     400: "Bad Request",

@@ -34,8 +34,6 @@ NPAC /subscriptionVersionActivate {"id":1,"x":2}
      400 bad_request 41
 NPAC /downloads/acknowledge id=1
      400 bad_request 41
-NPAC /subscriptionVersionOldSP-Create concur authorized=false
-     400 bad_request 41
 NPAC /subscriptionVersionOldSP-Create concur tn=20253312345
      400 bad_request 41
 NPAC /subscriptionVersionNewSP-Create create cic=288
