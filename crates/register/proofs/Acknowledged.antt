@@ -25,7 +25,8 @@ use Rattle.settle.specs.Settling.{IsSettled}
 use Rattle.register.specs.Answers.{Stands}
 use Rattle.register.specs.Settling.{LeavesOthers}
 use Rattle.register.proofs.Settled.{leaves_but, of_id_found, wait_subject}
-use Rattle.register.specs.Acknowledging.{is_sending, answered_row, completed_if, own_rows, acknowledging}
+use Rattle.version.specs.Acknowledging.{is_sending, completed_if}
+use Rattle.register.specs.Acknowledging.{answered_row, own_rows, acknowledging}
 use Rattle.register.proofs.Alone.{one_in_force}
 use Rattle.register.proofs.Touched.{RegistryShows, touched-stands}
 use Rattle.register.proofs.OnVersion.{acknowledge-names, clock_same, shown_is}

@@ -55,5 +55,5 @@ answers_ids old new caller tn held opened first second e f same is_held is_opene
     let due = settled (Number tn) (number_of_number st tn) in (
       never_refused st caller tn,
       ap (λ o. Found o second) (e ∙ in_force_id st old stands (Number tn) due held is_held)
-      ∙ ap (Found (option_map its_id (version_in_force (record_now st (Number tn))))) (f ∙ opened_id st old stands (Number tn) due opened is_opened),
+          ∙ ap (Found (option_map its_id (version_in_force (record_now st (Number tn))))) (f ∙ opened_id st old stands (Number tn) due opened is_opened),
     ))

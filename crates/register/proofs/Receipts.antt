@@ -33,7 +33,8 @@ use Rattle.register.proofs.Settled.{IdSettled, row_now, row_settled}
 use Rattle.calls.specs.declared.view.VersionView.{VersionView}
 use Rattle.calls.specs.Calls.{refused_with, replied, view_of as view_seen}
 use Rattle.settle.specs.Fired.{retired_rows, IsEarlier}
-use Rattle.register.specs.Acknowledging.{is_sending, answered_row, completed_if, own_rows, acknowledging, completes, IsFound, all_changes}
+use Rattle.version.specs.Acknowledging.{is_sending, completed_if, completes}
+use Rattle.register.specs.Acknowledging.{answered_row, own_rows, acknowledging, IsFound, all_changes}
 use Rattle.register.proofs.Composed.{answers_refused_same, answers_accepted, answers_without}
 use Rattle.register.proofs.OnVersion.{clock_of, clock_is_of}
 use Rattle.register.proofs.RowVersion.{row_version}

@@ -1,0 +1,26 @@
+-- What an acknowledgement makes of its version.
+use Rattle.std.specs.Prelude.{ℕ, Bool, true, false, ◌&&◌, ◌==◌, if◌then◌else◌}
+use Rattle.meaning.specs.Statuses.{Status, Pending, Conflict, CancelPending, Sending, Active, PartialFailure, Failed, DisconnectPending, Old, Canceled}
+use Rattle.meaning.specs.Versions.{Version}
+use Rattle.meaning.specs.Changes.{completed}
+use Rattle.version.specs.declared.version.Version.{Version as VersionCode}
+
+-- the last acknowledgement of the version's newest attempt
+abbrev pub completes : VersionCode → (attempt : ℕ) → (is_last : Bool) → Bool
+completes v attempt is_last = is_last && (v.attempt == attempt)
+
+abbrev pub is_sending : Status → Bool
+is_sending (Sending action) = true
+is_sending Pending = false
+is_sending Conflict = false
+is_sending (CancelPending by) = false
+is_sending Active = false
+is_sending PartialFailure = false
+is_sending Failed = false
+is_sending (DisconnectPending release) = false
+is_sending Old = false
+is_sending Canceled = false
+
+-- the version whose newest broadcast got its last acknowledgement, or stays
+abbrev pub completed_if : Bool → (minute : ℕ) → Version → Version
+completed_if completes minute v = if completes then completed v.status minute v else v
