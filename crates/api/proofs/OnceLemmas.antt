@@ -13,7 +13,7 @@ use Rattle.messages.specs.declared.paths.Method.{Method}
 use Rattle.messages.specs.declared.paths.Route.{Route}
 use Rattle.messages.specs.declared.paths.Route.TheVariants.{Carriers, Clock, RoutingNumbers, Codes, OldProviderCreate, NewProviderCreate, OnVersion, Acknowledge, Query as QueryPath, Version, Number}
 use Rattle.messages.specs.Table.{takes, among_offered}
-use Rattle.calls.specs.Calls.{Called, Wonders, input_of}
+use Rattle.calls.specs.Calls.{Wonders, input_of}
 use Rattle.bodies.specs.Forms.{Asked, Calling, Seeking, HasForm, json_of}
 use Rattle.bodies.specs.Failures.{failure_text}
 use Rattle.bodies.specs.RefusalTexts.{refusal_text}

@@ -9,7 +9,7 @@ use Rattle.meaning.specs.Commands.{Command, RegisterCarrier, RegisterRoutingNumb
 use Rattle.meaning.specs.Content.{Content}
 use Rattle.meaning.specs.History.{Commands, Acknowledges}
 use Rattle.meaning.specs.Reading.{State, InForce, all_in_force}
-use Rattle.meaning.specs.Refusals.{Input, Question, Moment, Requests, Asks, Knows, Fetch, ShowVersion, Query, AllInForce, Waiting, Ids, npac, refusal, tests}
+use Rattle.meaning.specs.Refusals.{Input, Question, Moment, Asks, Knows, Fetch, ShowVersion, Query, AllInForce, Waiting, Ids, npac, refusal, tests}
 use Rattle.meaning.specs.Machine.{Reply, Refused as MachineRefused, Moved, Registered, LrnAdded, CodeOpened, Shown, Donated, Known, Fetched, Answered, Rows, Awaited, Found, Answer, out, next, unless_refused, refused_or, reply_of, answer_of, accepted}
 use Rattle.settle.specs.Reads.{HasRisen}
 use Rattle.register.specs.Answers.{Stands, AnswersAs}
@@ -24,7 +24,7 @@ use Rattle.telnp.specs.Faults.{fault_of}
 use Rattle.bodies.specs.Failures.{failure_text}
 use Rattle.bodies.specs.Forms.{Asked, Calling, Seeking, HasForm, json_of}
 use Rattle.bodies.specs.RefusalTexts.{refusal_text}
-use Rattle.api.specs.Step.{Step, Meets, MeetsPath, Calls, Answers, AnswersAdmitted, AnswersCall, Admits, TurnsAway, turned_away, WithholdsTick, ticked, BodyAsks, IdAsks, NumberAsks, PathAsks, IsShort, Outgrows, Withholds, Takes, IsUri, AsksFor, ComesBack, AnswersQuery, Carried, Carries, success, told, reply_text, routed_text}
+use Rattle.api.specs.Step.{Step, Meets, MeetsPath, Calls, Answers, AnswersAdmitted, AnswersCall, Admits, TurnsAway, turned_away, WithholdsTick, ticked, BodyAsks, PathAsks, IsShort, Outgrows, Withholds, IsUri, AsksFor, ComesBack, AnswersQuery, Carried, Carries, success, told, reply_text, routed_text}
 use Rattle.bodies.specs.Texts.{looked_up, uri_text}
 use Rattle.numbers.specs.declared.spid.Spid.{Spid}
 use Rattle.serde_json.specs.Data.{Data}

@@ -5,7 +5,7 @@ use Rattle.serde_json.specs.Find.{get, as_number, as_str, as_u64}
 use Rattle.messages.specs.Table.{below_limit}
 use Rattle.numbers.specs.Texts.{spid_text}
 use Rattle.numbers.proofs.DigitLemmas.{digits_of-injective}
-use Rattle.meaning.specs.Commands.{Command, VersionCommand, RegisterCarrier, RegisterRoutingNumber, OnVersion, Disconnect}
+use Rattle.meaning.specs.Commands.{Command, VersionCommand, RegisterCarrier, RegisterRoutingNumber, Disconnect}
 use Rattle.meaning.specs.History.{Commands}
 use Rattle.calls.specs.Calls.{Wants, Moves}
 use Rattle.messages.specs.declared.paths.Route.{Route}
