@@ -24,7 +24,6 @@ fn create(creator: Creator) -> Option<Create> {
 // What is known of the number: BBBB serves it, and this version of it is open.
 fn facts(opened: Option<Version>) -> Option<CreateFacts> {
     Some(CreateFacts {
-        are_carriers_known: true,
         is_code_open: true,
         is_lrn_good: true,
         server: Some(Spid::read("BBBB")?),
