@@ -21,15 +21,14 @@ fn create(creator: Creator) -> Option<Create> {
     create_of("2025331234", Minute::new(5000)?, creator)
 }
 
-// What is known of the number: BBBB serves it, and this version of it is open.
+// What is known of the number: BBBB serves it, and this version of it is open under the id 6.
 fn facts(opened: Option<Version>) -> Option<CreateFacts> {
     Some(CreateFacts {
-        are_carriers_known: true,
         is_code_open: true,
         is_lrn_good: true,
         server: Some(Spid::read("BBBB")?),
         in_force: None,
-        opened,
+        opened: opened.map(|version| (6, version)),
         is_block_released: false,
         next_id: 7,
     })
@@ -49,7 +48,7 @@ fn second() -> Option<Version> {
     let create = create(Creator::NewProvider { routing })?;
     let facts = facts(Some(first()?))?;
     match create.apply(create.new_provider, &facts, Minute::new(700)?, &WINDOWS) {
-        Ok(Created::Second(version)) => Some(version),
+        Ok(Created::Second { id: 6, version }) => Some(version),
         _ => None,
     }
 }
