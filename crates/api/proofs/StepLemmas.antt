@@ -11,6 +11,7 @@ use Rattle.meaning.specs.History.{Commands, Acknowledges}
 use Rattle.meaning.specs.Reading.{State, InForce, all_in_force}
 use Rattle.meaning.specs.Refusals.{Input, Question, Moment, Asks, Knows, Fetch, ShowVersion, Query, AllInForce, Waiting, Ids, npac, refusal, tests}
 use Rattle.meaning.specs.Machine.{Reply, Refused as MachineRefused, Moved, Registered, LrnAdded, CodeOpened, Shown, Donated, Known, Fetched, Answered, Rows, Awaited, Found, Answer, out, next, unless_refused, refused_or, reply_of, answer_of, accepted}
+use Rattle.settle.specs.Owing.{Owes, SaysStorage}
 use Rattle.settle.specs.Reads.{HasRisen}
 use Rattle.register.specs.Answers.{Stands, AnswersAs}
 use Rattle.calls.specs.Calls.{Called, Wants, Wonders, Moves, input_of, refused_with, replied}
@@ -74,6 +75,10 @@ never_refused st k e = cc
 -- a call answers that the device fails only where the count of its failures rose
 abbrev pub BlamesRightly : (from to : ℕ) → (old : Content) → Refusal → Type 0
 BlamesRightly from to old r = (st : State) → Stands old st → r ≡ Storage → HasRisen from to
+
+pub blamed : {Before After Says : Type 0} {from to : ℕ} {old : Content} → Owes Before After from to (SaysStorage After old Says) → After → (st : State) → Stands old st → Says → HasRisen from to
+blamed owed usable st stands says =
+    owed.storage (record { usable = usable; st = st; represents = stands.represents; written = stands.written; says = says })
 
 pub blames_since : (from between to : ℕ) (old mid : Content) (r : Refusal) → from ≤ between → between ≤ to → ((st : State) → Stands old st → Stands mid st) → BlamesRightly between to mid r → BlamesRightly from to old r
 blames_since from between to old mid r before behind same blames = λ st s e. risen_since from between to before behind (blames st (same st s) e)

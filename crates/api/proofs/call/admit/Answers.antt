@@ -1,5 +1,5 @@
 use Rattle.meaning.specs.Refusals.{Knows}
-use Rattle.api.proofs.StepLemmas.{away_or_not, kept, known_or_not}
+use Rattle.api.proofs.StepLemmas.{away_or_not, blamed, kept, known_or_not}
 use Rattle.api.proofs.call.admit.Goals as goal
 
 pub returns-in-Number-clause-kept : goal.returns-in-Number-clause-kept
@@ -12,4 +12,4 @@ returns-in-Number-clause-ok g c = rw c.in-Number.is
 pub returns-in-Number-clause-err : goal.returns-in-Number-clause-err
 returns-in-Number-clause-err g c = rw c.in-Number.is
     (away_or_not (g.S.Store.IsUsable c.knows.new.self.store) c.knows.result (g.S.Store.failed c.args.register.now.store) (g.S.Store.failed c.knows.new.self.store) (g.S.Store.content c.args.register.now.store) (g.S.Store.content c.knows.new.self.store) c.args.caller.number c.in-Number.tn.number
-    c.knows.ensures.answers c.knows.ensures.storage)
+    c.knows.ensures.answers (blamed c.knows.ensures.owes))

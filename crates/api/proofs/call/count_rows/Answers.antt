@@ -2,7 +2,7 @@ use Rattle.std.proofs.Common.{◌∙◌, sym, map, ap, Err}
 use Rattle.std.proofs.lemmas.List.{length-map}
 use Rattle.meaning.specs.Refusals.{AllInForce}
 use Rattle.calls.specs.Calls.{in_force_of}
-use Rattle.api.proofs.StepLemmas.{kept, rows_counted, rows_short}
+use Rattle.api.proofs.StepLemmas.{blamed, kept, rows_counted, rows_short}
 use Rattle.api.proofs.call.count_rows.Goals as goal
 
 pub returns-in-Ok-clause-kept : goal.returns-in-Ok-clause-kept
@@ -15,4 +15,4 @@ pub returns-in-Err-clause-kept : goal.returns-in-Err-clause-kept
 returns-in-Err-clause-kept g c = λ u. kept _ _ 0 AllInForce _ (c.in_force.ensures.answers u)
 
 pub returns-in-Err-clause-short : goal.returns-in-Err-clause-short
-returns-in-Err-clause-short g c = λ u. rows_short c.in-Err.refusal (g.S.Store.failed c.args.register.now.store) (g.S.Store.failed c.in_force.new.self.store) (g.S.Store.content c.args.register.now.store) (g.S.Store.content c.in_force.new.self.store) (c.in-Err.ensures.answers u) (λ st s e. c.in-Err.ensures.storage u st s (ap Err e))
+returns-in-Err-clause-short g c = λ u. rows_short c.in-Err.refusal (g.S.Store.failed c.args.register.now.store) (g.S.Store.failed c.in_force.new.self.store) (g.S.Store.content c.args.register.now.store) (g.S.Store.content c.in_force.new.self.store) (c.in-Err.ensures.answers u) (λ st s e. blamed c.in-Err.ensures.owes u st s (ap Err e))

@@ -1,7 +1,7 @@
 use Rattle.std.proofs.Common.{ap, Err, rules}
 use Rattle.calls.specs.Calls.{called_of, reply_of}
 use Rattle.bodies.specs.Forms.{Calling}
-use Rattle.api.proofs.StepLemmas.{blames_since, refused_as, refused_carried, reply_carried, short_carried}
+use Rattle.api.proofs.StepLemmas.{blamed, blames_since, refused_as, refused_carried, reply_carried, short_carried}
 use Rattle.api.proofs.call.make.Goals as goal
 
 pub returns-in_err-count-clause-carries : goal.returns-in_err-count-clause-carries
@@ -19,12 +19,12 @@ returns-in_err-reply-clause-carries g c = λ u st s admits.
     let refusal = c.in_err-reply.field-0.0 in
     refused_as from to new st c.args.caller.number (Calling (called_of c.args.call.now)) c.from_residual-in_err-reply.result _ refusal (search rules)
     (refused_carried from to new st c.args.caller.number (called_of c.args.call.now) admits refusal mid (c.in_err-reply.ensures.answers u)
-    (blames_since from (g.S.Store.failed c.take_room.new.register.store) to mid mid refusal c.in_ok-count.ensures.rises c.in_err-reply.ensures.rises (λ x y. y) (λ st s e. c.in_err-reply.ensures.storage u st s (ap Err e)))
-    (c.in_ok-count.ensures.kept (c.answer.ensures.usable u) st s))
+    (blames_since from (g.S.Store.failed c.take_room.new.register.store) to mid mid refusal c.in_ok-count.ensures.rises c.in_err-reply.ensures.owes.rises (λ x y. y) (λ st s e. blamed c.in_err-reply.ensures.owes u st s (ap Err e)))
+    (c.in_ok-count.ensures.kept (c.answer.ensures.owes.usable u) st s))
 
 pub returns-clause-carries : goal.returns-clause-carries
 returns-clause-carries g c = λ u st s admits.
-    let middle = c.answer.ensures.usable u in
+    let middle = c.answer.ensures.owes.usable u in
     reply_carried (g.S.Store.failed c.args.register.now.store) (g.S.Store.failed c.answer.new.self.store) (g.S.Store.content c.answer.new.self.store) st c.args.caller.number (called_of c.args.call.now) admits
     (g.S.Store.content c.take_room.new.register.store) (reply_of c.in_ok-reply.reply) c.in_ok-count.count c.put_reply.result _
     (c.in_ok-count.ensures.kept middle st s) (c.in_ok-count.ensures.count middle st s) (c.in_ok-reply.ensures.answers u) c.put_reply.ensures.text c.put_reply.ensures.more
