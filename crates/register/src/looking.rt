@@ -1,0 +1,37 @@
+//! The version that a caller names.
+ghost use Rattle.settle.specs.Owing.{Reads};
+ghost use Rattle.std.specs.Prelude.{◌≡◌, Err, true, is_some, IfOk, IfErr};
+ghost use Rattle.settle.specs.Views.{clock_row_of};
+ghost use Rattle.register.specs.Looking.{IsLookedUp, IsLookedUpInVain};
+
+use meaning::Refusal;
+use settle::{ClockRow, Store, VersionRow};
+
+/// A version that a caller names, and the minute and windows under which it stands.
+#[derive(Drop)]
+pub struct LookedUp {
+    pub clock: ClockRow,
+    pub row: VersionRow,
+}
+
+/// Looks up the version that a caller names: first the caller, then the version.
+///
+/// Refused with `UnknownCarrier` where the caller is not known, and `NotFound` where no version has the id.
+pub fn look_up<S: Store>(store: &mut S, is_known: bool, id: u64) -> Result<LookedUp, Refusal>
+    ensures found { S.IsUsable store.new → IfOk result (λ found. IsLookedUp (S.content store.old) is_known id (clock_row_of found.clock) found.row) }
+    ensures refused { S.IsUsable store.new → IfErr result (IsLookedUpInVain (S.content store.old) is_known id) }
+    ensures reads { Reads (S.IsUsable store.old) (S.IsUsable store.new) (S.content store.old) (S.content store.new)
+        (S.failed store.old) (S.failed store.new)
+        (S.IsUsable store.new × (is_some (S.content store.old).clock ≡ true) × (result ≡ Err Refusal.Storage)) }
+{
+    if !is_known {
+        return Err(Refusal::UnknownCarrier);
+    }
+    let Some(clock) = store.clock()? else {
+        return Err(Refusal::Storage);
+    };
+    let Some(row) = store.version(id)? else {
+        return Err(Refusal::NotFound);
+    };
+    Ok(LookedUp { clock, row })
+}
