@@ -9,8 +9,8 @@ ghost use Rattle.delivery.specs.Broadcasts.{answered, begun, broadcast_row, outc
 use meaning::{Action, Outcome};
 use numbers::{Minute, Routing, Subject};
 
-/// One send of a version to every carrier: open until its last recipient acknowledges it or its window
-/// ends. A create carries the routing that it puts, a delete none.
+/// One send of a version to every carrier: open until its last recipient acknowledges it or its
+/// window ends. A create carries the routing that it puts, a delete none.
 #[derive(Clone, Copy, Debug, PartialEq, Eq)]
 pub struct Broadcast {
     /// The minute in which it was sent.
@@ -31,8 +31,10 @@ impl Broadcast {
         action: Action,
         routing: Option<Routing>,
     ) -> Broadcast
-        ensures { (attempt : ℕ) (everyone : List ℕ) →
-            Some (row_of result) ≡ stored_broadcast (subject_of subject) (begun attempt minute.number action (option_map routing_of routing) everyone) }
+        ensures { (attempt : ℕ) (everyone : List ℕ)
+            → Some (row_of result)
+            ≡ stored_broadcast (subject_of subject)
+            (begun attempt minute.number action (option_map routing_of routing) everyone) }
     {
         Broadcast {
             minute,
@@ -46,8 +48,9 @@ impl Broadcast {
 
     /// The broadcast after one recipient more has acknowledged it. The last one closes it.
     pub fn acknowledged(&self, is_last: bool) -> Broadcast
-        ensures { (s : SubjectSeen) (b : BroadcastSeen) (c : ℕ) →
-            row_of self.now ≡ broadcast_row s b → row_of result ≡ broadcast_row s (answered c is_last b) }
+        ensures { (s : SubjectSeen) (b : BroadcastSeen) (c : ℕ)
+            → row_of self.now ≡ broadcast_row s b
+            → row_of result ≡ broadcast_row s (answered c is_last b) }
     {
         Broadcast {
             is_open: self.is_open && !is_last,

@@ -8,7 +8,8 @@ ghost use Rattle.meaning.specs.Reading.{Download};
 use meaning::Refusal;
 use numbers::Minute;
 
-/// A download by its broadcast's minute, its version's id and its attempt: the order of a carrier's queue.
+/// A download by its broadcast's minute, its version's id and its attempt: the order of a carrier's
+/// queue.
 #[derive(Clone, Copy, Debug, PartialEq, Eq, PartialOrd, Ord)]
 pub struct DownloadKey {
     pub minute: Minute,
@@ -65,15 +66,16 @@ fn acknowledgeable(waiting: &[DownloadKey], id: u64, attempt: u64) -> Result<Dow
 /// Whether a carrier may acknowledge an attempt of a version. `waiting` are the downloads of the
 /// version's subject that wait for the carrier.
 ///
-/// Refused with `NotQueued` where no such download waits, and with `OutOfOrder` while an earlier download
-/// of the subject does.
+/// Refused with `NotQueued` where no such download waits, and with `OutOfOrder` while an earlier
+/// download of the subject does.
 pub fn may_acknowledge(
     waiting: &[DownloadKey],
     id: u64,
     attempt: u64,
 ) -> Result<DownloadKey, Refusal>
-    ensures refusal { (subject : Subject) (downloads : List Download) →
-        AreKeysOf subject waiting.now downloads → refusal_in result ≡ queue_refusal downloads id attempt }
+    ensures refusal { (subject : Subject) (downloads : List Download)
+        → AreKeysOf subject waiting.now downloads
+        → refusal_in result ≡ queue_refusal downloads id attempt }
     ensures of_keys { refusal_in result ≡ key_refusal waiting.now id attempt }
     ensures found { IfOk result (λ key. find (is_key id attempt) waiting.now ≡ Some key) }
 {

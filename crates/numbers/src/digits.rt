@@ -50,7 +50,8 @@ pub fn write_bytes(text: &[u8], out: &mut String) -> Result<(), AllocError>
     ensures err { OnErr result (string_bytes out.new ≡ string_bytes out.old) }
     ensures capacity { string_capacity out.old ≤ string_capacity out.new }
     ensures len { string_len out.new ≤ string_len out.old + length text.now }
-    ensures succeeds { string_len out.old + length text.now ≤ string_capacity out.old → IsOk result }
+    ensures succeeds { string_len out.old + length text.now ≤ string_capacity out.old
+        → IsOk result }
 {
     match str::from_utf8(text) {
         Ok(text) => out.push_str(text),

@@ -107,7 +107,8 @@ impl PartialOrd for Subject {
 
     ghost partial_cmp = { as_partial_cmp (on key_of nat_cmp) };
 
-    ghost laws = { partial_order_from_own_ties (Prim.search (comparing, rules)) (Prim.search (comparing, rules)) };
+    ghost laws = { partial_order_from_own_ties (Prim.search (comparing, rules))
+        (Prim.search (comparing, rules)) };
 
     fn partial_cmp(&self, other: &Subject) -> Option<Ordering> {
         Some(self.cmp(other))

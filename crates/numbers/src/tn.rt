@@ -20,8 +20,8 @@ pub struct Tn {
 }
 
 impl Tn {
-    /// The telephone number with these ten digits, or nothing where a code of it would not begin with
-    /// 2 to 9.
+    /// The telephone number with these ten digits, or nothing where a code of it would not begin
+    /// with 2 to 9.
     pub fn new(number: u64) -> Option<Self>
         ensures some { IfSome result (λ value. value.number ≡ number) }
         ensures none { IfNone result (¬ (IsTn number)) }

@@ -1,5 +1,5 @@
 -- What is answered where a version is looked up, in vain or not.
-use Rattle.std.proofs.Common.{◌≡◌, ℕ, Bool, true, false, inl, inr, Some, None, ap, sym, ◌∙◌, subst}
+use Rattle.std.proofs.Common.{◌≡◌, ℕ, Bool, true, false, inl, inr, None, sym, ◌∙◌, subst}
 use Rattle.std.specs.Prelude.{Result, Err}
 use Rattle.std.specs.FinMap.{get}
 use Rattle.meaning.specs.Content.{Content, ClockRow}

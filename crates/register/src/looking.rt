@@ -16,13 +16,19 @@ pub struct LookedUp {
 
 /// Looks up the version that a caller names: first the caller, then the version.
 ///
-/// Refused with `UnknownCarrier` where the caller is not known, and `NotFound` where no version has the id.
+/// Refused with `UnknownCarrier` where the caller is not known, and `NotFound` where no version has
+/// the id.
 pub fn look_up<S: Store>(store: &mut S, is_known: bool, id: u64) -> Result<LookedUp, Refusal>
-    ensures found { S.IsUsable store.new → IfOk result (λ found. IsLookedUp (S.content store.old) is_known id (clock_row_of found.clock) found.row) }
-    ensures refused { S.IsUsable store.new → IfErr result (IsLookedUpInVain (S.content store.old) is_known id) }
-    ensures reads { Reads (S.IsUsable store.old) (S.IsUsable store.new) (S.content store.old) (S.content store.new)
-        (S.failed store.old) (S.failed store.new)
-        (S.IsUsable store.new × (is_some (S.content store.old).clock ≡ true) × (result ≡ Err Refusal.Storage)) }
+    ensures found { S.IsUsable store.new
+        → IfOk result
+        (λ found. IsLookedUp (S.content store.old) is_known id (clock_row_of found.clock)
+        found.row) }
+    ensures refused { S.IsUsable store.new
+        → IfErr result (IsLookedUpInVain (S.content store.old) is_known id) }
+    ensures reads { Reads (S.IsUsable store.old) (S.IsUsable store.new)
+        (S.content store.old) (S.content store.new) (S.failed store.old) (S.failed store.new)
+        (S.IsUsable store.new × (is_some (S.content store.old).clock ≡ true)
+        × (result ≡ Err Refusal.Storage)) }
 {
     if !is_known {
         return Err(Refusal::UnknownCarrier);

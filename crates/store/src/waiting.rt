@@ -22,7 +22,8 @@ fn is_among(carrier: Spid, carriers: &[Spid]) -> bool
 }
 
 fn take_out(carrier: Spid, carriers: &mut Vec<Spid>)
-    ensures { carriers.new.items ≡ filter (λ (k : Spid). not (carrier.number == k.number)) carriers.old.items }
+    ensures { carriers.new.items
+        ≡ filter (λ (k : Spid). not (carrier.number == k.number)) carriers.old.items }
 {
     carriers.retain(|each| carrier.number != each.number);
 }
@@ -30,7 +31,8 @@ fn take_out(carrier: Spid, carriers: &mut Vec<Spid>)
 impl Waiting {
     /// A broadcast that waits for one carrier.
     pub fn of(alloc: Global, carrier: Spid, subject: Subject) -> Result<Waiting, AllocError>
-        ensures { IfOk result (λ row. IsFirst carrier.number (subject_of subject) (waiting_of row)) }
+        ensures { IfOk result
+            (λ row. IsFirst carrier.number (subject_of subject) (waiting_of row)) }
     {
         let mut carriers = Vec::new(alloc);
         carriers.push(carrier)?;
@@ -39,7 +41,8 @@ impl Waiting {
 
     /// The subject, if the broadcast waits for the carrier.
     pub fn subject_for(&self, carrier: Spid) -> Option<Subject>
-        ensures { option_map subject_of result ≡ awaited (Some (waiting_of self.now)) carrier.number }
+        ensures { option_map subject_of result
+            ≡ awaited (Some (waiting_of self.now)) carrier.number }
     {
         if is_among(carrier, &self.carriers) {
             Some(self.subject)
@@ -51,8 +54,11 @@ impl Waiting {
     /// Adds a carrier, and hands back the subject if it was there. A broadcast has one subject, so
     /// another one is refused.
     pub fn add(&mut self, carrier: Spid, subject: Subject) -> Result<Option<Subject>, AllocError>
-        ensures before { IfOk result (λ before. option_map subject_of before ≡ awaited (Some (waiting_of self.old)) carrier.number) }
-        ensures added { IfOk result (λ before. IsAdded carrier.number (subject_of subject) (waiting_of self.old) (waiting_of self.new)) }
+        ensures before { IfOk result (λ before. option_map subject_of before
+            ≡ awaited (Some (waiting_of self.old)) carrier.number) }
+        ensures added { IfOk result
+            (λ before. IsAdded carrier.number (subject_of subject) (waiting_of self.old)
+            (waiting_of self.new)) }
         ensures refused { OnErr result (waiting_of self.new ≡ waiting_of self.old) }
     {
         if self.subject != subject {

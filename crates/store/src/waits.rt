@@ -17,11 +17,11 @@ use std::alloc::{AllocError, Global};
 use std::collections::BTreeMap;
 use std::marker::Model;
 
-/// The downloads that wait: for each broadcast one row, its subject and the carriers for which it waits,
-/// and an index of the broadcasts by their subjects.
+/// The downloads that wait: for each broadcast one row, its subject and the carriers for which it
+/// waits, and an index of the broadcasts by their subjects.
 ///
-/// A broadcast has one subject. Downloads of one broadcast under two subjects, which no register makes,
-/// have no place here and are refused like those for which there is no memory.
+/// A broadcast has one subject. Downloads of one broadcast under two subjects, which no register
+/// makes, have no place here and are refused like those for which there is no memory.
 #[derive(Drop)]
 pub struct Waits {
     alloc: Global,
@@ -33,7 +33,8 @@ impl Model for Waits {
     ghost use Rattle.std.specs.FinMap.{FinMap};
     ghost use Rattle.numbers.specs.Subjects.{Subject};
     ghost use Rattle.meaning.specs.Content.{wait_cmp};
-    ghost use Rattle.store.specs.WaitRows.{AreAbout, AboutIsNeeded, waits_of, rows_of, about_of, coded_waits};
+    ghost use Rattle.store.specs.WaitRows.{AreAbout, AboutIsNeeded, waits_of, rows_of};
+    ghost use Rattle.store.specs.WaitRows.{about_of, coded_waits};
 
     ghost Value = { FinMap wait_cmp Subject };
 
@@ -41,7 +42,8 @@ impl Model for Waits {
 
     ghost view = { λ w. waits_of (rows_of w.rows) };
 
-    ghost invariant = { λ w. AreAbout (rows_of w.rows) (about_of w.about) × AboutIsNeeded (rows_of w.rows) (about_of w.about) };
+    ghost invariant = { λ w. AreAbout (rows_of w.rows) (about_of w.about)
+        × AboutIsNeeded (rows_of w.rows) (about_of w.about) };
 }
 
 /// The broadcast of a download.
@@ -57,7 +59,8 @@ pub fn broadcast_of(key: WaitKey) -> DownloadKey
 
 // The key under which a broadcast is found by its subject.
 fn about(subject: Subject, download: DownloadKey) -> SubjectDownload
-    ensures { subject_download_of result ≡ key_about (subject_of subject) (download_key_of download) }
+    ensures { subject_download_of result
+        ≡ key_about (subject_of subject) (download_key_of download) }
 {
     SubjectDownload {
         subject,
@@ -101,11 +104,15 @@ impl Waits {
         self.rows.get(&broadcast_of(key))?.subject_for(key.carrier)
     }
 
-    /// Puts a download, and hands the subject back if it was there. Where it is refused nothing is changed.
+    /// Puts a download, and hands the subject back if it was there. Where it is refused nothing is
+    /// changed.
     pub fn put(&mut self, key: WaitKey, subject: Subject) -> Result<Option<Subject>, AllocError>
-        ensures before { IfOk result (λ before. option_map subject_of before ≡ get self.old (wait_key_of key)) }
-        ensures same { IfOk result (λ before. IfSome before (λ was. subject_of was ≡ subject_of subject)) }
-        ensures ok { OnOk result (self.new ≡ set self.old (wait_key_of key) (Some (subject_of subject))) }
+        ensures before { IfOk result
+            (λ before. option_map subject_of before ≡ get self.old (wait_key_of key)) }
+        ensures same { IfOk result
+            (λ before. IfSome before (λ was. subject_of was ≡ subject_of subject)) }
+        ensures ok { OnOk result
+            (self.new ≡ set self.old (wait_key_of key) (Some (subject_of subject))) }
         ensures err { OnErr result (self.new ≡ self.old) }
     {
         let broadcast = broadcast_of(key);
@@ -149,7 +156,9 @@ impl Waits {
         carrier: Spid,
         subject: Subject,
     ) -> Result<Vec<DownloadKey>, AllocError>
-        ensures { IfOk result (λ downloads. AreWaitsAbout (record empty_content { waits = self.now }) (spid_of carrier) (subject_of subject) downloads.items) }
+        ensures { IfOk result (λ downloads.
+            AreWaitsAbout (record empty_content { waits = self.now }) (spid_of carrier)
+            (subject_of subject) downloads.items) }
     {
         let first = SubjectDownload {
             subject,

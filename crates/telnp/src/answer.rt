@@ -27,16 +27,17 @@ impl TelUri<'_> {
 
     /// The text that answers a query by this URI, after a look-up that found a routing or none.
     ///
-    /// A text with `npdi` comes back as it is, byte for byte. Any other has `npdi` added, which says
-    /// that the number has been looked up, and with a routing `rn` and, where the text has no `cic`,
-    /// the routing's `cic`, each with the country code 1; the text's own `rn` and `rn-context` are
-    /// dropped (RFC 4694, section 5). All other parameters are kept as they are written. First come
-    /// `ext`, `isub` and `phone-context`, and then all others by their names in lower case (RFC
-    /// 3966, section 3).
+    /// A text with `npdi` comes back as it is, byte for byte. Any other has `npdi` added, which
+    /// says that the number has been looked up, and with a routing `rn` and, where the text has no
+    /// `cic`, the routing's `cic`, each with the country code 1; the text's own `rn` and
+    /// `rn-context` are dropped (RFC 4694, section 5). All other parameters are kept as they are
+    /// written. First come `ext`, `isub` and `phone-context`, and then all others by their names in
+    /// lower case (RFC 3966, section 3).
     ///
     /// The only fault is want of memory. The work takes a `Vec` of spans and the `String`.
     pub fn answer(&self, alloc: Global, routing: Option<Routing>) -> Result<String, AllocError>
-        ensures { IfOk result (λ text. string_bytes text ≡ answer_text (uri_of self.now) (option_map routing_of routing)) }
+        ensures { IfOk result (λ text. string_bytes text
+            ≡ answer_text (uri_of self.now) (option_map routing_of routing)) }
     {
         if self.has_npdi() {
             return copy_of(alloc, self.text);
@@ -55,7 +56,9 @@ impl TelUri<'_> {
         alloc: Global,
         routing: Option<Routing>,
     ) -> Result<Vec<Part<'_>>, AllocError>
-        ensures { IfOk result (λ parts. part_texts parts.items ≡ answer_parameters (uri_of self.now).parameters (option_map routing_of routing)) }
+        ensures { IfOk result (λ parts. part_texts parts.items
+            ≡ answer_parameters (uri_of self.now).parameters
+            (option_map routing_of routing)) }
     {
         let mut sorted = Vec::new(alloc);
         if let Some(parameters) = self.parameters {
@@ -92,7 +95,8 @@ fn is_kept(part: &str) -> bool
 
 // Places each parameter that is kept.
 fn place_kept<'a>(sorted: &mut Vec<Part<'a>>, parameters: &'a str) -> Result<(), AllocError>
-    ensures { OnOk result (part_texts sorted.new.items ≡ all_placed (part_texts sorted.old.items) (kept (parts 59 parameters.now))) }
+    ensures { OnOk result (part_texts sorted.new.items
+        ≡ all_placed (part_texts sorted.old.items) (kept (parts 59 parameters.now))) }
 {
     for part in parameters.split(';') {
         if is_kept(part) {
@@ -110,7 +114,8 @@ fn first_after(sorted: &[Part], part: &Part) -> Option<usize>
 
 // Where the parameter is put: in front of the first that it goes before.
 fn place_of(sorted: &[Part], part: &Part) -> usize
-    ensures place { result ≡ position_or_len (λ q. goes_before (part_text part.now) (part_text q)) sorted.now }
+    ensures place { result
+        ≡ position_or_len (λ q. goes_before (part_text part.now) (part_text q)) sorted.now }
     ensures within { result ≤ length sorted.now }
 {
     match first_after(sorted, part) {
@@ -120,7 +125,8 @@ fn place_of(sorted: &[Part], part: &Part) -> usize
 }
 
 fn place<'a>(sorted: &mut Vec<Part<'a>>, part: Part<'a>) -> Result<(), AllocError>
-    ensures { OnOk result (part_texts sorted.new.items ≡ placed (part_text part.entry) (part_texts sorted.old.items)) }
+    ensures { OnOk result (part_texts sorted.new.items
+        ≡ placed (part_text part.entry) (part_texts sorted.old.items)) }
 {
     let place = place_of(sorted.as_slice(), &part);
     sorted.insert(place, part)?;
@@ -129,7 +135,8 @@ fn place<'a>(sorted: &mut Vec<Part<'a>>, part: Part<'a>) -> Result<(), AllocErro
 
 // Appends each parameter behind a `;`.
 fn write_parts(out: &mut String, parts: &[Part]) -> Result<(), AllocError>
-    ensures { OnOk result (string_bytes out.new ≡ string_bytes out.old ++ written (part_texts parts.now)) }
+    ensures { OnOk result
+        (string_bytes out.new ≡ string_bytes out.old ++ written (part_texts parts.now)) }
 {
     for part in parts {
         out.push(';')?;

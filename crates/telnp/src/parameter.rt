@@ -9,8 +9,8 @@ ghost use Rattle.telnp.specs.Views.{parameter_seen};
 use crate::bytes::{is_hex, is_name_byte, is_value_byte};
 use crate::text::{cut_at, same_name};
 
-/// A parameter of a tel URI: its name, in either case as it is written, and behind the first `=` its
-/// value, if it has one. Both are spans of the text.
+/// A parameter of a tel URI: its name, in either case as it is written, and behind the first `=`
+/// its value, if it has one. Both are spans of the text.
 #[derive(Clone, Copy, Debug)]
 pub struct Parameter<'a> {
     pub name: &'a str,

@@ -27,7 +27,8 @@ pub fn has_name(name: &str, parameters: &str) -> bool
 
 // The first parameter, and the text of the others.
 fn first_part(parameters: &str) -> (&str, Option<&str>)
-    ensures parts { parts 59 parameters.now ≡ result.0.now ∷ option_map_or (λ r. parts 59 r.now) result.1 [] }
+    ensures parts { parts 59 parameters.now
+        ≡ result.0.now ∷ option_map_or (λ r. parts 59 r.now) result.1 [] }
     ensures shorter { IfSome result.1 (λ r. length r.now < length parameters.now) }
 {
     match cut_at(parameters, ';') {

@@ -11,8 +11,8 @@ use crate::parameters::{Parameters, has_name, parameters_fault};
 use crate::text::{cut_at, same_name};
 use numbers::Tn;
 
-/// A text that is a tel URI with a global number (RFC 3966, section 3), with its number part and its
-/// parameters. It borrows the text.
+/// A text that is a tel URI with a global number (RFC 3966, section 3), with its number part and
+/// its parameters. It borrows the text.
 #[derive(Clone, Copy)]
 pub struct TelUri<'a> {
     pub(crate) text: &'a str,
@@ -35,9 +35,9 @@ impl<'a> TelUri<'a> {
     /// Reads a text, which takes no memory.
     ///
     /// The text is `tel:`, in letters of either case, a number part up to the first `;`, and behind
-    /// each `;` a parameter. The number part is `+` with digits and the separators `-`, `.`, `(` and
-    /// `)`. A parameter is a name, and after `=` a value if it has one (RFC 3966, section 3); `npdi`
-    /// has none, and `rn`, `cic` and their contexts have one (RFC 4694, section 4).
+    /// each `;` a parameter. The number part is `+` with digits and the separators `-`, `.`, `(`
+    /// and `)`. A parameter is a name, and after `=` a value if it has one (RFC 3966, section 3);
+    /// `npdi` has none, and `rn`, `cic` and their contexts have one (RFC 4694, section 4).
     ///
     /// The first of these faults comes back: `TooLong` above 2,048 bytes, `NotTel`, then for the
     /// number part `LocalNumber` or `BadNumber`, `BadParameter` for any parameter's form, and
@@ -77,7 +77,8 @@ impl<'a> TelUri<'a> {
         self.has_parameter("npdi")
     }
 
-    /// The telephone number, where the digits of the number part are the country code 1 and its ten.
+    /// The telephone number, where the digits of the number part are the country code 1 and its
+    /// ten.
     pub fn tn(&self) -> Option<Tn>
         ensures some { IfSome result (λ tn. HasTn (uri_of self.now).number tn.number) }
         ensures none { IfNone result ((n : ℕ) → IsTn n → ¬ (HasTn (uri_of self.now).number n)) }
@@ -85,7 +86,8 @@ impl<'a> TelUri<'a> {
         tn_in(self.number.as_bytes())
     }
 
-    /// The parameters in the order of the text, each with its name and its value as they are written.
+    /// The parameters in the order of the text, each with its name and its value as they are
+    /// written.
     pub fn parameters(&self) -> Parameters<'a>
         ensures { parameters_left result ≡ map parameter_of (uri_of self.now).parameters }
     {
@@ -121,7 +123,8 @@ fn after_scheme(text: &str) -> Option<&str>
 
 fn number_and_parameters(rest: &str) -> (&str, Option<&str>)
     ensures number { result.0.now ≡ number_of rest.now }
-    ensures parameters { option_map_or (λ r. parts 59 r.now) result.1 [] ≡ parameter_parts rest.now }
+    ensures parameters { option_map_or (λ r. parts 59 r.now) result.1 []
+        ≡ parameter_parts rest.now }
 {
     match cut_at(rest, ';') {
         None => (rest, None),
