@@ -3,11 +3,13 @@ use Rattle.std.proofs.Common.{◌≡◌, ℕ, zero, suc, ◌-◌, ◌<◌, List,
 use Rattle.std.proofs.lemmas.Bool.Decides.{nat_tests}
 use Rattle.std.proofs.lemmas.Slice.Eq.{bytes_eq-Decides}
 use Rattle.std.proofs.lemmas.Str.{IsUtf8-from_is_utf8}
-use Rattle.std.specs.Prelude.{option_map, ◌==◌, nat_lt}
+use Rattle.std.specs.Prelude.{option_map, ◌==◌, nat_lt, Result, Err, IfErr}
 use Rattle.std.specs.Str.{bytes_eq, is_utf8, chars, IsUtf8}
 use lib.Utf8.{encode}
 use Rattle.matchit.specs.Rows.{RowsOf, param_token, catch_all_token}
-use Rattle.matchit.specs.Router.{RouteOf}
+use Rattle.matchit.specs.Router.{RouteOf, Refused, nearest}
+use Rattle.matchit.specs.declared.error.InsertError.{InsertError}
+use Rattle.matchit.specs.declared.error.InsertError.TheVariants.{Conflict, OutOfMemory, InvalidParam, InvalidParamSegment, InvalidCatchAll}
 use Rattle.matchit.specs.Seek.{first, seek, own, step, or_else, param_step, has_slash}
 use Rattle.messages.specs.declared.paths.Route.{Route}
 use Rattle.messages.specs.Table.{fixed, path_among, paths, table}
@@ -135,3 +137,15 @@ are_texts = (refl, (refl, (refl, (refl, (refl, (refl, (refl, (refl, (refl, (refl
 
 pub no_text : (target : List ℕ) → ¬ (IsUtf8 target) → None ≡ path_among paths target
 no_text target n = not_among paths target are_texts n
+
+-- where no row conflicts with the new one, it is refused for want of memory alone
+is_memory : {T : Type 0} (p : List ℕ) (rs : RowsOf (RouteOf T)) (e : InsertError) → nearest p rs ≡ None → Refused p rs e → e ≡ OutOfMemory
+is_memory p rs (Conflict with) none h = cc
+is_memory p rs OutOfMemory none h = refl
+is_memory p rs InvalidParamSegment none h = elim h [ ]
+is_memory p rs InvalidParam none h = elim h [ ]
+is_memory p rs InvalidCatchAll none h = elim h [ ]
+
+pub only_memory : {T : Type 0} (p : List ℕ) (rs : RowsOf (RouteOf T)) (e : InsertError) (r : Result (Unit {0}) InsertError)
+    → r ≡ Err e → Refused p rs e → nearest p rs ≡ None → IfErr r (λ e. e ≡ OutOfMemory)
+only_memory p rs e r is h none = rw is (is_memory p rs e none h)

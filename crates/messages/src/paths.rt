@@ -1,5 +1,6 @@
 //! The paths of the interface. Edit it seldom: the router's table is computed by its proof.
-ghost use Rattle.std.specs.Prelude.{◌≡◌, [], map, IfOk, OnOk};
+ghost use Rattle.std.specs.Prelude.{◌≡◌, [], map, IfOk, IfErr, OnOk};
+ghost use Rattle.matchit.specs.declared.error.InsertError.TheVariants.{OutOfMemory};
 ghost use Rattle.std.specs.List.{list_all};
 ghost use Rattle.messages.specs.Table.{table, fixed, first_paths, paths, path_among, path_of, version_path, number_path, number_in, is_of_part, is_part as is_one_part, method_of as method_seen, takes as takes_method, among_offered};
 
@@ -91,7 +92,8 @@ pub fn offered(route: Option<Route>, clock: bool) -> Option<Route>
 // deep a destructor is owned across many calls that can fail.
 fn insert_paths(router: &mut Router<Route>) -> Result<(), InsertError>
     requires { router.old ≡ [] }
-    ensures { OnOk result (router.new ≡ map fixed first_paths) }
+    ensures paths { OnOk result (router.new ≡ map fixed first_paths) }
+    ensures memory { IfErr result (λ e. e ≡ OutOfMemory) }
 {
     router.insert("/carriers", Route::Carriers)?;
     router.insert("/clock", Route::Clock)?;
@@ -107,7 +109,8 @@ fn insert_paths(router: &mut Router<Route>) -> Result<(), InsertError>
 // And those of commands on a version.
 fn insert_version_paths(router: &mut Router<Route>) -> Result<(), InsertError>
     requires { router.old ≡ map fixed first_paths }
-    ensures { OnOk result (router.new ≡ table) }
+    ensures paths { OnOk result (router.new ≡ table) }
+    ensures memory { IfErr result (λ e. e ≡ OutOfMemory) }
 {
     use crate::paths::VersionPath::{
         Activate, Cancel, Disconnect, NewProviderCancellationAcknowledge,
@@ -138,10 +141,10 @@ fn insert_version_paths(router: &mut Router<Route>) -> Result<(), InsertError>
     Ok(())
 }
 
-/// The router of the paths that are one text, for `next_message`. `Err` is what `matchit` refuses, as for want
-/// of memory.
+/// The router of the paths that are one text, for `next_message`, or `matchit`'s want of memory.
 pub fn router(alloc: Global) -> Result<Router<Route>, InsertError>
-    ensures { IfOk result (λ r. r ≡ table) }
+    ensures paths { IfOk result (λ r. r ≡ table) }
+    ensures memory { IfErr result (λ e. e ≡ OutOfMemory) }
 {
     let mut router = Router::new(alloc);
     insert_paths(&mut router)?;
