@@ -45,10 +45,10 @@ impl Write for Filling {
     }
 }
 
-// What is asked and answered in the first port, and where its messages and its answers end.
+/// What is asked and answered in the first port, and where its messages and its answers end.
 #[derive(Drop)]
-struct Story {
-    texts: Texts,
+pub struct Story {
+    pub texts: Texts,
     asked: Vec<usize>,
     answered: Vec<usize>,
 }
@@ -79,6 +79,11 @@ impl Story {
             self.add(&texts_of(alloc, said)?)?;
         }
         Ok(())
+    }
+
+    /// How many bytes answer the messages that end at or before a place.
+    pub fn answered_at(&self, place: usize) -> usize {
+        end_of(&self.answered, reached(&self.asked, place))
     }
 
     // After so many messages the rest is answered as if nothing had happened.
@@ -148,7 +153,8 @@ fn written(
     (writer.bytes, served)
 }
 
-fn story_of_first_port(alloc: Global) -> Option<Story> {
+/// The first port.
+pub fn story_of_first_port(alloc: Global) -> Option<Story> {
     let mut story = Story {
         texts: Texts::new(alloc),
         asked: Vec::new(alloc),
