@@ -1,9 +1,10 @@
 //! Serving the messages of a reader to a writer.
-ghost use Rattle.std.specs.Prelude.{◌≡◌, ◌≤◌, ℕ, List, [], Option, Some, None, option_map, string_bytes, vec_len, IfOk, IfErr, IfSome};
+ghost use Rattle.std.specs.Prelude.{◌≡◌, ◌≤◌, ℕ, List, [], length, Option, Some, None, option_map, string_bytes, vec_len, IfOk, IfErr, IfSome};
 ghost use Rattle.numbers.specs.declared.minute.Minute.{Minute as MinuteSeen};
 ghost use Rattle.meaning.specs.Reading.{State};
 ghost use Rattle.register.specs.Answers.{Stands};
-ghost use Rattle.messages.specs.Held.{held_bytes};
+ghost use Rattle.messages.specs.Cuts.{IsNext, IsTaken};
+ghost use Rattle.messages.specs.Held.{held_bytes, input_left};
 ghost use Rattle.bodies.specs.Rooms.{HasRoom};
 ghost use Rattle.api.specs.Serving.{EndsAt, FailsAt, Responds, end_of};
 ghost use Rattle.messages.specs.Table.{table};
@@ -13,10 +14,10 @@ use crate::call::put_answer;
 use crate::reply::put_refused;
 use crate::tick::take_tick;
 use bodies::{Failure, Room};
-use httparse::spans::EMPTY_HEADER_SPAN;
+use httparse::spans::{EMPTY_HEADER_SPAN, HeaderSpan};
 use matchit::Router;
 use messages::{
-    Held, MessageFault, Next, NextFault, Request, Route, next_message, router, send_all,
+    Held, MessageFault, Next, NextFault, Request, Route, next_held, next_message, router, send_all,
 };
 use numbers::Minute;
 use register::Register;
@@ -138,6 +139,28 @@ fn respond<S: Store, T: Ticks>(
     }
 }
 
+// The message at hand, or else what the reader brings next.
+fn next_of<R: Read>(
+    at_hand: Option<Request>,
+    held: &mut Held,
+    headers: &mut [HeaderSpan],
+    router: &Router<Route>,
+    reader: &mut R,
+    body: &mut Vec<u8>,
+) -> Result<Option<Next>, NextFault>
+    requires room { length headers.old ≡ 64 }
+    requires size { vec_len held.old.bytes ≡ 8192 }
+    requires router { router.now ≡ table }
+    ensures size { vec_len held.new.bytes ≡ 8192 }
+    ensures room { length headers.new ≡ 64 }
+    ensures cut { (left : Option (List ℕ)) → IsTaken left at_hand body.old.items (input_left held.old (R.remaining reader.old)) → IfOk result (λ next. IfSome left (λ input. IsNext input next body.new.items (input_left held.new (R.remaining reader.new)))) }
+{
+    match at_hand {
+        Some(request) => Ok(Some(Next::Message(request))),
+        None => next_message(held, headers, router, reader, body),
+    }
+}
+
 // The buffers of a connection, where there is memory: what was read, an answer, and the router.
 fn buffers(alloc: Global) -> Option<(Held, Room, Router<Route>)>
     ensures size { IfSome result (λ made. vec_len made.0.bytes ≡ 8192) }
@@ -177,8 +200,9 @@ fn serve_with<S: Store, T: Ticks, R: Read, W: Write>(
 {
     let mut body = Vec::new(alloc);
     let mut headers = [EMPTY_HEADER_SPAN; FIELD_LIMIT];
+    let mut at_hand = None;
     for count in 0..u64::MAX {
-        let next = match next_message(held, &mut headers, router, reader, &mut body) {
+        let next = match next_of(at_hand, held, &mut headers, router, reader, &mut body) {
             Ok(Some(next)) => next,
             Ok(None) => {
                 return Ok(Served {
@@ -198,7 +222,10 @@ fn serve_with<S: Store, T: Ticks, R: Read, W: Write>(
             &body,
             room,
         );
-        match send_all(writer, room.text.as_bytes()) {
+        at_hand = next_held(held, &mut headers, router, &mut body);
+        // A read may wait for the client, which has to have its answers by then.
+        let flushes = end.is_some() || at_hand.is_none();
+        match send_all(writer, room.text.as_bytes(), flushes) {
             Ok(()) => {}
             Err(_) => return Err(Fault::Write(count)),
         }
@@ -218,9 +245,13 @@ fn serve_with<S: Store, T: Ticks, R: Read, W: Write>(
 /// is below the present minute. Where that finds no memory, or the store fails, the message is answered so
 /// and is not carried out. A message that is refused with `BadHead`, `TooLarge` or `CutBody` takes none.
 ///
-/// Each answer is handed to the writer before the next message is carried out. After a message that is
-/// refused with `BadHead`, `TooLarge` or `CutBody` nothing more is read. A read fault, or a buffer that
-/// finds no memory, means that the message at hand was not made.
+/// Each answer is handed to the writer before the next message is carried out. The writer is
+/// flushed before the reader is asked for more and as serving ends, but not while the next message
+/// is held whole. So a writer with a buffer gathers the answers to what came together, and a client
+/// that waits for an answer has it.
+///
+/// After a message that is refused with `BadHead`, `TooLarge` or `CutBody` nothing more is read. A
+/// read fault, or a buffer that finds no memory, means that the message at hand was not made.
 pub fn serve<S: Store, T: Ticks, R: Read, W: Write>(
     alloc: Global,
     register: &mut Register<S>,

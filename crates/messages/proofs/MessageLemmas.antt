@@ -1,7 +1,9 @@
 -- The front of the input, by what is held of it.
-use Rattle.std.proofs.Common.{◌≡◌, ℕ, ◌<◌, ◌≤◌, List, ◌++◌, length, drop, Option, Some, None, refl, sym, ap, ◌∙◌, subst, arith, length-append, vec_len}
+use Rattle.std.proofs.Common.{◌≡◌, ℕ, ◌<◌, ◌≤◌, List, [], ◌∷◌, ◌++◌, length, take, drop, Option, Some, None, refl, sym, ap, ◌∙◌, subst, arith, length-append, vec_len}
 use Rattle.std.specs.Prelude.{IfSome}
 use Rattle.std.specs.Io.KnownBytes.{Consumes, Keeps, prepend_known}
+use Rattle.std.proofs.KnownBytes.{Consumes-nil, Keeps-refl}
+use Rattle.std.proofs.lemmas.List.{length-take-le}
 use Rattle.httparse.specs.Grammar.{RequestHead, ReadsRequest, print_request}
 use Rattle.httparse.proofs.GrammarLemmas.{ReadsRequest-append}
 use Rattle.messages.specs.Cuts.{IsRequestOf, IsCutShort, Comes, Cuts, Refuses, RefusesHead}
@@ -13,6 +15,7 @@ use Rattle.messages.specs.declared.fault.MessageFault.TheVariants.{BadRequest, N
 use Rattle.messages.specs.declared.held.Held.{Held}
 use Rattle.messages.specs.declared.message.Request.{Request}
 use Rattle.messages.specs.declared.message.Next.TheVariants.{Message}
+use Rattle.messages.proofs.BodyLemmas.{more_taken}
 use Rattle.messages.proofs.HeldLemmas.{held_length}
 
 pub held_short : (held : Held) → vec_len held.bytes ≡ 8192 → length (held_bytes held) ≤ 8192
@@ -43,6 +46,22 @@ message_made (Some input) (Some more) None held held' body len h request x asks 
 message_made (Some input) (Some more) (Some rest) held held' body len h request x asks small e taken whole =
     let same : drop len held ++ more ≡ body ++ rest = ap (λ (t : List ℕ). t ++ more) (sym e) ∙ taken in
     (rest, refl, record { head = h; front = subst (HasHead input h) same (front_of input more held len h x); asks = asks; whole = whole; small = omega (arith, whole, small) })
+
+nil_of : (xs : List ℕ) → length xs ≡ 0 → xs ≡ []
+nil_of [] e = refl
+nil_of (x ∷ xs) e = cc
+
+-- a message that is held whole: its body is taken off what is held behind its head, by a body that was empty
+pub taken_made : (r : Option (List ℕ)) (held held' held'' body body' : List ℕ) (len : ℕ) (h : RequestHead) (request : Request)
+    → HoldsHead (prepend_known held r) r held len h → IsRequestOf h request → request.length ≤ 1048576 → held' ≡ drop len held
+    → request.length ≤ length held' → length body ≡ 0 → held'' ≡ drop request.length held' → body' ≡ body ++ take request.length held'
+    → IfSome (prepend_known held r) (λ input. Comes input (Message request) body' (prepend_known held'' r))
+taken_made r held held' held'' body body' len h request x asks small e fits empty left taken =
+    let behind = prepend_known held' r in
+    let none : Consumes behind behind body = subst (Consumes behind behind) (sym (nil_of body empty)) (Consumes-nil behind) in
+    let whole : length body' ≡ request.length = omega (arith, ap length taken, length-append body (take request.length held'), length-take-le request.length held' fits, empty) in
+    message_made (prepend_known held r) r (prepend_known held'' r) held held' body' len h request x asks small e
+    (more_taken behind behind r held' held'' body body' request.length none (Keeps-refl behind) left taken) whole
 
 pub cut_made : (all r : Option (List ℕ)) (held held' : List ℕ) (len : ℕ) (h : RequestHead) (request : Request)
     → HoldsHead all r held len h → IsRequestOf h request → request.length ≤ 1048576 → held' ≡ drop len held

@@ -1,5 +1,5 @@
 -- What the input is cut into: messages, and what stands in place of one.
-use Rattle.std.specs.Prelude.{◌≡◌, ℕ, ◌<◌, ◌≤◌, List, [], ◌∷◌, ◌++◌, length, codes, Option, Some, None}
+use Rattle.std.specs.Prelude.{◌≡◌, ℕ, ◌<◌, ◌≤◌, List, [], ◌∷◌, ◌++◌, length, codes, Option, Some, None, IfSome}
 use Rattle.httparse.specs.Grammar.{RequestHead}
 use Rattle.numbers.specs.Spids.{IsSpid}
 use Rattle.numbers.specs.Texts.{spid_text}
@@ -90,6 +90,11 @@ Comes input (Refused fault) body left = Cuts input (Refuses fault)
 abbrev pub IsNext : List ℕ → Option Next → List ℕ → Option (List ℕ) → Type 0
 IsNext input None body left = Cuts input Done
 IsNext input (Some next) body left = Comes input next body left
+
+-- a message was taken off the front of the input, with its body, and so much of the input is left behind it; or none was, and all is left
+abbrev pub IsTaken : (input : Option (List ℕ)) → Option Request → List ℕ → (left : Option (List ℕ)) → Type 0
+IsTaken input None body left = left ≡ input
+IsTaken input (Some request) body left = IfSome input (λ s. Comes s (Message request) body left)
 
 -- a head is refused for what its fields say
 abbrev pub RefusesHead : RequestHead → MessageFault → Type 0

@@ -7,8 +7,8 @@ use crate::held::Held;
 use std::io;
 use std::io::Read;
 
-// Moves so many held bytes behind a body that has room for them.
-fn take_held(held: &mut Held, count: usize, body: &mut Vec<u8>)
+/// Moves so many held bytes behind a body that has room for them.
+pub fn take_held(held: &mut Held, count: usize, body: &mut Vec<u8>)
     requires held { count ≤ length (held_bytes held.old) }
     requires room { vec_len body.old + count ≤ vec_capacity body.old }
     ensures size { vec_len held.new.bytes ≡ vec_len held.old.bytes }

@@ -12,6 +12,6 @@ mod send;
 
 pub use fault::MessageFault;
 pub use held::Held;
-pub use message::{Next, NextFault, Request, cuts_of_the_input, next_message};
+pub use message::{Next, NextFault, Request, cuts_of_the_input, next_held, next_message};
 pub use paths::{Method, Route, VersionPath, offered, router, takes};
 pub use send::send_all;

@@ -1,16 +1,16 @@
 //! The next message of the input.
-ghost use Rattle.std.specs.Prelude.{◌≡◌, ℕ, ◌≤◌, List, length, vec_len, vec_capacity, IfOk, IfErr, IfSome, OnOk};
+ghost use Rattle.std.specs.Prelude.{◌≡◌, ℕ, ◌≤◌, List, length, vec_len, vec_capacity, Option, IfOk, IfErr, IfSome, OnOk};
 ghost use Rattle.httparse.specs.Grammar.{RequestHead};
 ghost use Rattle.httparse.specs.Spans.{IsRequestAt, IsRequestWithin};
-ghost use Rattle.messages.specs.Cuts.{Cut, Cuts, IsCaller, IsNamed, IsNext, IsRequestOf, RefusesHead};
+ghost use Rattle.messages.specs.Cuts.{Cut, Cuts, IsCaller, IsNamed, IsNext, IsRequestOf, IsTaken, RefusesHead};
 ghost use Rattle.messages.specs.Fields.{IsFound, IsFoundWithin};
 ghost use Rattle.messages.specs.Held.{input_left};
 ghost use Rattle.messages.specs.Table.{table};
 
-use crate::body::read_body;
+use crate::body::{read_body, take_held};
 use crate::fault::MessageFault;
 use crate::front::{Front, next_head};
-use crate::head::{Found, heads_of_the_input, read_head};
+use crate::head::{Found, Look, heads_of_the_input, look_at, read_head};
 use crate::held::Held;
 use crate::paths::{Method, Route, method_of, route_of};
 use httparse::spans::{HeaderSpan, RequestSpans};
@@ -113,6 +113,40 @@ fn take_room(body: &mut Vec<u8>, length: usize) -> Result<(), AllocError>
 {
     body.clear();
     body.reserve(length)
+}
+
+/// Takes the next message where it is held whole, and makes no read for it: its body goes into
+/// `body`.
+///
+/// `None` says nothing of what comes: a message that is not held whole yet, one that finds no
+/// memory for its body, what is refused, or the end. Nothing is used up then, and `next_message`
+/// tells which it is.
+pub fn next_held(
+    held: &mut Held,
+    headers: &mut [HeaderSpan],
+    router: &Router<Route>,
+    body: &mut Vec<u8>,
+) -> Option<Request>
+    requires room { length headers.old ≡ 64 }
+    requires size { vec_len held.old.bytes ≡ 8192 }
+    requires router { router.now ≡ table }
+    ensures size { vec_len held.new.bytes ≡ 8192 }
+    ensures room { length headers.new ≡ 64 }
+    ensures cut { (remaining : Option (List ℕ)) → IsTaken (input_left held.old remaining) result body.new.items (input_left held.new remaining) }
+{
+    let Look::Head(spans) = look_at(held.held(), headers) else {
+        return None;
+    };
+    let Ok(request) = request_of(held.held(), headers, &spans, router) else {
+        return None;
+    };
+    let head_len = spans.len;
+    if held.len() - head_len < request.length || take_room(body, request.length).is_err() {
+        return None;
+    }
+    held.drop_front(head_len);
+    take_held(held, request.length, body);
+    Some(request)
 }
 
 /// Reads the next message, if there is one: its head, and then its body into `body`.

@@ -6,8 +6,9 @@ ghost use Rattle.messages.specs.Sending.{AppendsFront};
 use std::io;
 use std::io::{ErrorKind, Write};
 
-/// Writes a text and flushes. After an `Err` a front of it may have been written.
-pub fn send_all<W: Write>(writer: &mut W, text: &[u8]) -> io::Result<()>
+/// Writes a text, and flushes where it is told to. After an `Err` a front of the text may have been
+/// written.
+pub fn send_all<W: Write>(writer: &mut W, text: &[u8], flushes: bool) -> io::Result<()>
     ensures ok { OnOk result (Appends (W.contents writer.old) (W.contents writer.new) text.now) }
     ensures err { OnErr result (AppendsFront (W.contents writer.old) (W.contents writer.new) text.now) }
 {
@@ -19,5 +20,8 @@ pub fn send_all<W: Write>(writer: &mut W, text: &[u8]) -> io::Result<()>
             Err(e) => return Err(e),
         }
     }
-    writer.flush()
+    if flushes {
+        writer.flush()?;
+    }
+    Ok(())
 }

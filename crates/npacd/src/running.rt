@@ -1,5 +1,6 @@
 //! Carrying out a command line.
 ghost use Rattle.std.specs.Prelude.{◌≡◌, IfSome};
+ghost use Rattle.std.specs.Io.Buffered.{writer_buffer, writer_contents, writer_inner};
 ghost use Rattle.meaning.specs.Reading.{first_state};
 ghost use Rattle.meaning.specs.Windows.{Windows as WindowsMeant};
 ghost use Rattle.version.specs.Views.{windows_of};
@@ -12,7 +13,7 @@ use crate::parse::{Line, Subcommand, Usage, parse};
 use api::{End, NoTicks, Options, Served, serve};
 use register::{Register, law_of_new_stores};
 use std::alloc::Global;
-use std::io::{ErrorKind, Read, Write};
+use std::io::{BufWriter, ErrorKind, Read, Write};
 use std::rt::Files;
 use std::{fs, io};
 use store::MemoryStore;
@@ -49,30 +50,38 @@ fn ended(served: Result<Served, api::Fault>) -> Result<(), Fault>
     }
 }
 
-// Serves the reader to the writer over a register in memory: where its content stands for the first state of
-// some windows, the answers are those of the history machine from there on.
-fn feed_to<R: Read, W: Write>(
+// How many bytes of answers are gathered, at most, before they are written.
+const GATHERED: usize = 65_536;
+
+// Serves the reader to the writer over a register in memory: where its content stands for the first
+// state of some windows, the answers are those of the history machine from there on. Unless a write
+// fails, all of them are handed on to the writer behind the buffer.
+fn feed_to<R: Read, W: Write + Drop>(
     alloc: Global,
     register: &mut Register<MemoryStore>,
     reader: &mut R,
-    writer: &mut W,
+    writer: &mut BufWriter<W>,
 ) -> Result<(), Fault>
-    ensures { (w : WindowsMeant) → Stands (content_of register.old.store.tables) (first_state w) → IfSome (R.remaining reader.old) (λ input. Feeds w input (W.contents writer.old) (W.contents writer.new) result) }
+    ensures { (w : WindowsMeant) → Stands (content_of register.old.store.tables) (first_state w) → IfSome (R.remaining reader.old) (λ input. Feeds w input (writer_contents W.contents writer.old) (W.contents (writer_inner writer.new)) (writer_buffer writer.new) result) }
 {
     let options = Options { clock_route: true };
     let served = serve(alloc, register, &mut NoTicks, &options, reader, writer);
-    ended(served)
+    match writer.flush() {
+        Ok(()) => ended(served),
+        Err(_) => Err(Fault::Write),
+    }
 }
 
-// Serves the reader to the writer over a new store in memory: the answers are those of the history machine,
-// from the first state of the windows on.
-fn feed<R: Read, W: Write>(
+// Serves the reader to the writer over a new store in memory: the answers are those of the history
+// machine, from the first state of the windows on. Unless a write fails, all of them are handed on
+// to the writer behind the buffer.
+fn feed<R: Read, W: Write + Drop>(
     alloc: Global,
     windows: &Windows,
     reader: &mut R,
-    writer: &mut W,
+    writer: &mut BufWriter<W>,
 ) -> Result<(), Fault>
-    ensures { IfSome (R.remaining reader.old) (λ input. Feeds (windows_of windows.now) input (W.contents writer.old) (W.contents writer.new) result) }
+    ensures { IfSome (R.remaining reader.old) (λ input. Feeds (windows_of windows.now) input (writer_contents W.contents writer.old) (W.contents (writer_inner writer.new)) (writer_buffer writer.new) result) }
 {
     law_of_new_stores();
     let store = MemoryStore::new(alloc);
@@ -87,6 +96,22 @@ fn feed<R: Read, W: Write>(
     }
 }
 
+// The same to a writer with no buffer, through one that is made for it. What a failed write leaves
+// there is let go.
+fn feed_gathering<R: Read, W: Write>(
+    alloc: Global,
+    windows: &Windows,
+    reader: &mut R,
+    writer: &mut W,
+) -> Result<(), Fault> {
+    let Ok(mut gathering) = BufWriter::with_capacity(alloc, GATHERED, writer) else {
+        return Err(Fault::NoMemory);
+    };
+    let outcome = feed(alloc, windows, reader, &mut gathering);
+    let (_writer, _unwritten) = gathering.into_parts();
+    outcome
+}
+
 fn run_subcommand<T: Files + AllocGlobal, R: Read, W: Write>(
     rt: &T,
     line: &Line<'_>,
@@ -95,7 +120,7 @@ fn run_subcommand<T: Files + AllocGlobal, R: Read, W: Write>(
 ) -> Result<(), Fault> {
     let windows = windows_at(rt, line.windows)?;
     match line.subcommand {
-        Subcommand::Feed => feed(rt.alloc(), &windows, reader, writer),
+        Subcommand::Feed => feed_gathering(rt.alloc(), &windows, reader, writer),
     }
 }
 

@@ -23,12 +23,11 @@ impl Read for Breaking<'_> {
     }
 }
 
-// Takes so many bytes and is flushed so many times, and then fails.
+// Takes so many bytes, and then fails.
 #[derive(Drop)]
 struct Filling {
     bytes: Vec<u8>,
     room: usize,
-    flushes: usize,
 }
 
 impl Write for Filling {
@@ -42,18 +41,14 @@ impl Write for Filling {
     }
 
     fn flush(&mut self) -> io::Result<()> {
-        let Some(left) = self.flushes.checked_sub(1) else {
-            return Err(ErrorKind::StorageFull.into());
-        };
-        self.flushes = left;
         Ok(())
     }
 }
 
-// What is asked and answered in the first port, and where its messages and its answers end.
+/// What is asked and answered in the first port, and where its messages and its answers end.
 #[derive(Drop)]
-struct Story {
-    texts: Texts,
+pub struct Story {
+    pub texts: Texts,
     asked: Vec<usize>,
     answered: Vec<usize>,
 }
@@ -84,6 +79,11 @@ impl Story {
             self.add(&texts_of(alloc, said)?)?;
         }
         Ok(())
+    }
+
+    /// How many bytes answer the messages that end at or before a place.
+    pub fn answered_at(&self, place: usize) -> usize {
+        end_of(&self.answered, reached(&self.asked, place))
     }
 
     // After so many messages the rest is answered as if nothing had happened.
@@ -124,50 +124,22 @@ impl Story {
     ) -> Option<()> {
         let made = reached(&self.answered, place);
         let wanted = self.texts.answered.get(..place)?;
-        let (bytes, ended) = written(
-            rt.alloc(),
-            register,
-            self.texts.asked.as_str(),
-            place,
-            FIRST_PORT.len(),
-        );
+        let (bytes, ended) = written(rt.alloc(), register, self.texts.asked.as_str(), place);
         is_so(rt, &bytes, wanted, ended, Err(Fault::Write(made as u64)));
         self.goes_on(rt, register, made.saturating_add(1))
     }
-
-    // The writer is flushed so many times and then fails: a whole answer, whose message was made.
-    fn flushes_until<T: Abort + AllocGlobal>(
-        &self,
-        rt: &T,
-        register: &mut Register<MemoryStore>,
-        flushes: usize,
-    ) -> Option<()> {
-        let made = flushes.saturating_add(1);
-        let wanted = self.texts.answered.get(..end_of(&self.answered, made))?;
-        let (bytes, ended) = written(
-            rt.alloc(),
-            register,
-            self.texts.asked.as_str(),
-            self.texts.answered.len(),
-            flushes,
-        );
-        is_so(rt, &bytes, wanted, ended, Err(Fault::Write(flushes as u64)));
-        self.goes_on(rt, register, made)
-    }
 }
 
-// What a writer took that has so much room and so many flushes, and how serving it came to its end.
+// What a writer took that has so much room, and how serving it came to its end.
 fn written(
     alloc: Global,
     register: &mut Register<MemoryStore>,
     asked: &str,
     room: usize,
-    flushes: usize,
 ) -> (Vec<u8>, Result<Served, Fault>) {
     let mut writer = Filling {
         bytes: Vec::new(alloc),
         room,
-        flushes,
     };
     let options = Options { clock_route: true };
     let served = serve(
@@ -181,7 +153,8 @@ fn written(
     (writer.bytes, served)
 }
 
-fn story_of_first_port(alloc: Global) -> Option<Story> {
+/// The first port.
+pub fn story_of_first_port(alloc: Global) -> Option<Story> {
     let mut story = Story {
         texts: Texts::new(alloc),
         asked: Vec::new(alloc),
@@ -202,11 +175,6 @@ fn fails_to_write<T: Abort + AllocGlobal>(rt: &T, story: &Story, place: usize) -
     story.writes_until(rt, &mut register, place)
 }
 
-fn fails_to_flush<T: Abort + AllocGlobal>(rt: &T, story: &Story, flushes: usize) -> Option<()> {
-    let mut register = new_register(rt.alloc())?;
-    story.flushes_until(rt, &mut register, flushes)
-}
-
 fn reads_until_each<T: Abort + AllocGlobal>(rt: &T, story: &Story) -> Option<()> {
     for place in 0..story.texts.asked.len() {
         fails_to_read(rt, story, place)?;
@@ -221,32 +189,14 @@ fn writes_until_each<T: Abort + AllocGlobal>(rt: &T, story: &Story) -> Option<()
     Some(())
 }
 
-fn flushes_until_each<T: Abort + AllocGlobal>(rt: &T, story: &Story) -> Option<()> {
-    for flushes in 0..FIRST_PORT.len() {
-        fails_to_flush(rt, story, flushes)?;
-    }
-    Some(())
-}
-
 fn is_told<T: Abort + AllocGlobal>(rt: &T) -> Option<()> {
     let story = story_of_first_port(rt.alloc())?;
     reads_until_each(rt, &story)?;
     writes_until_each(rt, &story)
 }
 
-fn is_flushed<T: Abort + AllocGlobal>(rt: &T) -> Option<()> {
-    let story = story_of_first_port(rt.alloc())?;
-    flushes_until_each(rt, &story)
-}
-
 // A reader's fault leaves whole messages, a writer's one message more.
 #[test]
 fn faults_leave_whole_messages(rt: HostRuntime) {
     assert!(rt; is_told(&rt).is_some());
-}
-
-// Each answer is flushed before the next message is carried out.
-#[test]
-fn answers_are_flushed(rt: HostRuntime) {
-    assert!(rt; is_flushed(&rt).is_some());
 }

@@ -38,4 +38,6 @@ mod ticking;
 #[cfg(test)]
 mod version_trials;
 #[cfg(test)]
+mod waiting;
+#[cfg(test)]
 mod windows_trials;

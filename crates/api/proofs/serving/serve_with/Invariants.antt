@@ -1,4 +1,5 @@
-use Rattle.std.proofs.Common.{◌≡◌, ◌≤◌, vec_len}
+use Rattle.std.proofs.Common.{◌≡◌, ℕ, ◌≤◌, List, Option, vec_len}
+use Rattle.messages.specs.Cuts.{IsTaken}
 use Rattle.messages.specs.Held.{input_left}
 use Rattle.bodies.specs.Rooms.{HasRoom}
 use Rattle.api.proofs.Going.{Progress}
@@ -9,5 +10,6 @@ invariant-loop-count g l =
     (vec_len l.held.bytes ≡ 8192) × HasRoom 512 l.room
     × (g.S.Store.IsUsable l.register.store → g.S.Store.IsUsable l.fn.register.store)
     × (g.S.Store.failed l.fn.register.store ≤ g.S.Store.failed l.register.store)
-    × (g.S.Store.IsUsable l.register.store → Progress l.fn.options.clock_route (g.S.Store.failed l.fn.register.store) (g.S.Store.failed l.register.store) (g.S.Store.content l.fn.register.store) (g.S.Store.content l.register.store)
-    (g.R.Read.remaining l.fn.reader) (g.T.Ticks.told l.fn.ticks) (input_left l.held (g.R.Read.remaining l.reader)) (g.W.Write.contents l.fn.writer) (g.W.Write.contents l.writer) (g.T.Ticks.told l.ticks) l.count)
+    × (g.S.Store.IsUsable l.register.store → (left : Option (List ℕ)) × IsTaken left l.at_hand l.body.items (input_left l.held (g.R.Read.remaining l.reader))
+    × Progress l.fn.options.clock_route (g.S.Store.failed l.fn.register.store) (g.S.Store.failed l.register.store) (g.S.Store.content l.fn.register.store) (g.S.Store.content l.register.store)
+    (g.R.Read.remaining l.fn.reader) (g.T.Ticks.told l.fn.ticks) left (g.W.Write.contents l.fn.writer) (g.W.Write.contents l.writer) (g.T.Ticks.told l.ticks) l.count)
