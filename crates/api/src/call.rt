@@ -14,6 +14,7 @@ ghost use Rattle.api.specs.Step.{Step, Meets, Calls, Admits, TurnsAway, BodyAsks
 use crate::query::query;
 use crate::reply::{put_refused, put_reply, put_success, take_rows};
 use bodies::{Asked, Failure, Room, asked_of, json};
+use json::Scratch;
 use calls::{Call, Command};
 use meaning::Refusal;
 use messages::{MessageFault, Request, Route, offered, takes};
@@ -145,6 +146,7 @@ fn carry_out_body<S: Store>(
     route: Route,
     caller: Spid,
     body: &[u8],
+    scratch: &mut Scratch,
     room: &mut Room,
 ) -> Result<(), Failure>
     requires empty { IsEmpty room.old }
@@ -156,7 +158,7 @@ fn carry_out_body<S: Store>(
     ensures calls { S.IsUsable register.new.store → (st : State) → Stands (S.content register.old.store) st →
         (after : State) × Calls (S.failed register.old.store) (S.failed register.new.store) st (BodyAsks route body.now) caller.number (told result (string_bytes room.new.body)) after × Stands (S.content register.new.store) after }
 {
-    let value = match json(alloc, body) {
+    let value = match json(alloc, body, scratch) {
         Ok(Some(value)) => value,
         Ok(None) => return Err(Failure::Message(MessageFault::BadRequest)),
         Err(_) => return Err(Failure::Refused(Refusal::NoMemory)),
@@ -200,6 +202,7 @@ fn carry_out<S: Store>(
     route: Route,
     caller: Spid,
     body: &[u8],
+    scratch: &mut Scratch,
     room: &mut Room,
 ) -> Result<(), Failure>
     requires empty { IsEmpty room.old }
@@ -214,7 +217,7 @@ fn carry_out<S: Store>(
     match route {
         Route::Version(id) => answer(register, caller, &version_asked(id, body)?, room),
         Route::Number(number) => answer(register, caller, &number_asked(number, body)?, room),
-        _ => carry_out_body(alloc, register, route, caller, body, room),
+        _ => carry_out_body(alloc, register, route, caller, body, scratch, room),
     }
 }
 
@@ -224,6 +227,7 @@ fn reply<S: Store>(
     clock: bool,
     request: &Request,
     body: &[u8],
+    scratch: &mut Scratch,
     room: &mut Room,
 ) -> Result<(), Failure>
     requires empty { IsEmpty room.old }
@@ -236,7 +240,9 @@ fn reply<S: Store>(
         (after : State) × Step clock None (S.failed register.old.store) (S.failed register.new.store) st request.now body.now (told result (string_bytes room.new.body)) after × Stands (S.content register.new.store) after }
 {
     match judged(request, clock) {
-        Ok((route, caller)) => carry_out(alloc, register, route, caller, body, room),
+        Ok((route, caller)) => {
+            carry_out(alloc, register, route, caller, body, scratch, room)
+        }
         Err(fault) => Err(Failure::Message(fault)),
     }
 }
@@ -250,6 +256,7 @@ pub fn put_answer<S: Store>(
     clock: bool,
     request: &Request,
     body: &[u8],
+    scratch: &mut Scratch,
     room: &mut Room,
 )
     requires room { HasRoom 512 room.old }
@@ -260,7 +267,7 @@ pub fn put_answer<S: Store>(
         (after : State) × Step clock None (S.failed register.old.store) (S.failed register.new.store) st request.now body.now (string_bytes room.new.text) after × Stands (S.content register.new.store) after }
 {
     room.clear();
-    match reply(alloc, register, clock, request, body, room) {
+    match reply(alloc, register, clock, request, body, scratch, room) {
         Ok(()) => put_success(room),
         Err(failure) => put_refused(room, failure),
     }

@@ -1,5 +1,8 @@
 pub mod ClearLemmas
+mod DigitLemmas
+mod FlatLemmas
 mod FormLemmas
+mod KeyLemmas
 mod Members
 mod Phrases
 pub mod RefusalLemmas

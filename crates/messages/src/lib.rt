@@ -11,6 +11,7 @@ mod paths;
 mod send;
 
 pub use fault::MessageFault;
+pub use head::read_number;
 pub use held::Held;
 pub use message::{Next, NextFault, Request, cuts_of_the_input, next_held, next_message};
 pub use paths::{Method, Route, VersionPath, offered, router, takes};

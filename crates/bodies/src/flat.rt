@@ -1,0 +1,162 @@
+//! Objects in which no array and no object stands, read without a tree.
+ghost use Rattle.std.specs.Prelude.{◌≡◌, ◌++◌, ◌∷◌, [], Some, option_map, map, IfOk, IfSome, OnOk};
+ghost use Rattle.json.specs.Reads.{token_of};
+ghost use Rattle.serde_json.specs.Find.{get as get_in};
+ghost use Rattle.serde_json.specs.Read.{read as read_text};
+ghost use Rattle.serde_json.specs.Data.{no_members};
+ghost use Rattle.std.specs.List.{list_any, list_all};
+ghost use Rattle.std.specs.Str.{bytes_eq};
+ghost use Rattle.bodies.specs.Forms.{only_keys};
+ghost use Rattle.bodies.specs.Flat.{scalar_data, flat_data, members_upon, read_object, IsScalar};
+
+use crate::fields::{Fields, is_one_of};
+use arrayvec::ArrayVec;
+use json::{Reader, Scratch, Token};
+use messages::read_number;
+use std::alloc::AllocError;
+
+/// What stands under a key.
+#[derive(Clone, Copy, Debug)]
+pub enum Scalar<'a> {
+    Null,
+    Flag(bool),
+    Whole(u64),
+    Text(&'a str),
+}
+
+/// A key and what stands under it.
+#[derive(Clone, Copy, Debug)]
+pub struct Member<'a> {
+    pub key: &'a str,
+    pub value: Scalar<'a>,
+}
+
+impl Default for Member<'_> {
+    ghost is_default = { λ _. Rattle.std.specs.Prelude.⊤ };
+
+    fn default() -> Self {
+        Member {
+            key: "",
+            value: Scalar::Null,
+        }
+    }
+}
+
+// No body has more keys.
+const MOST_MEMBERS: usize = 6;
+
+/// The members of an object, in the order in which they stand.
+#[derive(Drop)]
+pub struct Flat<'a> {
+    members: ArrayVec<Member<'a>, MOST_MEMBERS>,
+}
+
+impl<'a> Flat<'a> {
+    // What stands under a key: the last, where it stands twice.
+    fn get(&self, key: &str) -> Option<Scalar<'a>>
+        ensures { option_map scalar_data result ≡ get_in key.now (flat_data self.now.members.items) }
+    {
+        let members = self.members.as_slice();
+        let mut left = members.len();
+        'members: while left > 0 {
+            left -= 1;
+            if members[left].key == key {
+                return Some(members[left].value);
+            }
+        }
+        None
+    }
+}
+
+// The text, the whole number, the flag or the null that a token is.
+fn scalar_of<'a>(token: Token<'a>) -> Option<Scalar<'a>>
+    ensures { IfSome result (IsScalar (token_of token.entry)) }
+{
+    match token {
+        Token::String(text) => Some(Scalar::Text(text)),
+        Token::Number(text) => Some(Scalar::Whole(read_number(text.as_bytes())?)),
+        Token::Bool(flag) => Some(Scalar::Flag(flag)),
+        Token::Null => Some(Scalar::Null),
+        _ => None,
+    }
+}
+
+// The members up to the end of an object that has begun.
+fn read_members<'a>(reader: &mut Reader<'a>) -> Option<Flat<'a>>
+    ensures { IfSome result (λ flat. read_object reader.old
+        ≡ Some (members_upon no_members flat.members.items, reader.new)) }
+{
+    let mut members = ArrayVec::new();
+    'members: while let Some(key) = reader.next_key().ok()? {
+        let value = scalar_of(reader.next()?)?;
+        let Ok(()) = members.try_push(Member { key, value }) else {
+            return None;
+        };
+    }
+    Some(Flat { members })
+}
+
+/// The object that a text is, or `None` where it is no object, an array or an object stands in it, it
+/// has more members than any body, or a number that is none of 19 digits. `Err` is want of memory.
+pub fn read_flat<'a>(text: &'a str, scratch: &'a mut Scratch) -> Result<Option<Flat<'a>>, AllocError>
+    ensures { IfOk result (λ o. IfSome o
+        (λ flat. read_text text.now ≡ Some (flat_data flat.members.items))) }
+{
+    let mut reader = Reader::new(text, scratch)?;
+    let Some(Token::BeginObject) = reader.next() else {
+        return Ok(None);
+    };
+    let Some(flat) = read_members(&mut reader) else {
+        return Ok(None);
+    };
+    if reader.next().is_some() {
+        return Ok(None);
+    }
+    Ok(Some(flat))
+}
+
+// Whether each of the members has one of these keys.
+fn are_known(members: &[Member<'_>], allowed: &[&str]) -> bool
+    ensures { result ≡ list_all (λ m. list_any (λ s. bytes_eq m.key.now s.now) allowed.now)
+        members.now }
+{
+    members
+        .iter()
+        .all(|member| is_one_of(member.key, allowed))
+}
+
+impl Fields for Flat<'_> {
+    ghost value = { λ flat. flat_data flat.members.items };
+
+    #[tactic(auto, unfolding(crate::specs::Forms::whole))]
+    fn whole(&self, key: &str) -> Option<u64> {
+        match self.get(key)? {
+            Scalar::Whole(number) if number < 1 << 40 => Some(number),
+            _ => None,
+        }
+    }
+
+    #[tactic(auto, unfolding(crate::specs::Forms::text))]
+    fn text(&self, key: &str) -> Option<&str> {
+        match self.get(key)? {
+            Scalar::Text(text) => Some(text),
+            _ => None,
+        }
+    }
+
+    #[tactic(auto, unfolding(crate::specs::Forms::flag))]
+    fn flag(&self, key: &str) -> Option<bool> {
+        match self.get(key)? {
+            Scalar::Flag(flag) => Some(flag),
+            _ => None,
+        }
+    }
+
+    fn is_left_out(&self, key: &str) -> bool {
+        matches!(self.get(key), None | Some(Scalar::Null))
+    }
+
+    fn has_only(&self, allowed: &[&str]) -> bool {
+        are_known(self.members.as_slice(), allowed)
+    }
+}
