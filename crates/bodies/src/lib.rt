@@ -3,12 +3,14 @@
 
 mod answer;
 mod fault;
+mod fields;
 mod forms;
 mod reply;
 mod room;
 
 pub use answer::Room;
 pub use fault::Failure;
+pub use fields::Fields;
 pub use forms::{Asked, asked_of, body_asks_once, json};
 pub use reply::{
     ROW_ROOM, URI_ROOM, put_failure, put_ids, put_now, put_opened_code, put_registered,
