@@ -6,22 +6,13 @@ import sys
 import tempfile
 
 from ports import PROGRAM, WINDOWS, CARRIERS, message, opening, port
+from queries import number_of, query
 
 ROUNDS = 5
 TWO = ("AAAA", "BBBB")
 LINES = 10_000
 # past every window of the examples
 LATER = 100_000
-
-
-def number_of(place):
-    """The number of the port at this place of `ports`."""
-    return f"202{200 + place % 100}{place // 100:04}"
-
-
-def query(turn, ports):
-    uri = f"tel:+1{number_of(turn * 7919 % ports)}"
-    return message(CARRIERS[turn % 10], "/query", f'{{"uri":"{uri}"}}')
 
 
 def ports_of(count):

@@ -11,14 +11,14 @@ PORTS = (1_000, 10_000, 100_000)
 
 
 def number_of(place):
+    """The number of the port at this place."""
     return f"202{200 + place % 100}{place // 100:04}"
 
 
-def queries(ports, many):
-    """Queries of the ported numbers, in an order that goes over all of them."""
-    for turn in range(many):
-        uri = f"tel:+1{number_of(turn * 7919 % ports)}"
-        yield message(CARRIERS[turn % 10], "/query", f'{{"uri":"{uri}"}}')
+def query(turn, ports):
+    """Queries of the ported numbers by turns, in an order that goes over all of them."""
+    uri = f"tel:+1{number_of(turn * 7919 % ports)}"
+    return message(CARRIERS[turn % 10], "/query", f'{{"uri":"{uri}"}}')
 
 
 def messages_of(ports):
@@ -29,7 +29,7 @@ def messages_of(ports):
 
 def queries_a_second(ports, many, answers):
     """Feeds the ports, lets the program come to rest, and then times the queries."""
-    asked = "".join(queries(ports, many)).encode()
+    asked = "".join(query(turn, ports) for turn in range(many)).encode()
     with open(answers, "wb") as out:
         program = subprocess.Popen([PROGRAM, "feed", "--windows", WINDOWS], stdin=subprocess.PIPE, stdout=out)
         for text in messages_of(ports):
@@ -62,4 +62,5 @@ def main():
     print(f"the slowest has {min(speeds) / max(speeds):.2f} of the speed of the fastest")
 
 
-main()
+if __name__ == "__main__":
+    main()

@@ -41,3 +41,27 @@ NPAC /subscriptionVersionNewSP-Create create cic=288
 
 NPAC /carriers {"spid":"BBBB","spid":"AAAA"}
      200 rows=[] spid=AAAA
+
+# What stands under a key that comes again is read too: it has to be JSON.
+NPAC /carriers {"spid":{"x":[1,"y"]},"spid":"CCCC"}
+     200 rows=[] spid=CCCC
+NPAC /carriers {"spid":12345678901234567890123,"spid":"DDDD"}
+     200 rows=[] spid=DDDD
+NPAC /carriers {"spid":1e999,"spid":"EEEE"}
+     400 bad_request 41
+NPAC /carriers {"spid":007,"spid":"EEEE"}
+     400 bad_request 41
+NPAC /carriers raw "{\"spid\":" "["*126 "]"*126 ",\"spid\":\"EEEE\"}"
+     200 rows=[] spid=EEEE
+NPAC /carriers raw "{\"spid\":" "["*127 "]"*127 ",\"spid\":\"FFFF\"}"
+     400 bad_request 41
+
+# A text may have escapes and a body blanks, and a key may come as often as it likes.
+NPAC /carriers {"\u0073pid":"\u0046FFF"}
+     200 rows=[] spid=FFFF
+NPAC /carriers { "spid" : "GGGG" , "spid" : "HHHH" }
+     200 rows=[] spid=HHHH
+NPAC /carriers {"spid":1,"spid":true,"spid":null,"spid":"x","spid":{},"spid":[],"spid":"IIII"}
+     200 rows=[] spid=IIII
+NPAC /carriers {"spid":"JJJJ"}x
+     400 bad_request 41

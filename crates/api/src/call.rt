@@ -14,8 +14,8 @@ ghost use Rattle.api.specs.Step.{Step, Meets, Calls, Admits, TurnsAway, BodyAsks
 use crate::query::query;
 use crate::reply::{put_refused, put_reply, put_success, take_rows};
 use bodies::{Asked, Failure, Room, asked_of, json};
-use json::Scratch;
 use calls::{Call, Command};
+use json::Scratch;
 use meaning::Refusal;
 use messages::{MessageFault, Request, Route, offered, takes};
 use numbers::{Spid, Tn};
@@ -25,8 +25,12 @@ use std::alloc::Global;
 
 // The path and the caller of a message: first its path, then its method, then its caller.
 fn judged(request: &Request, clock: bool) -> Result<(Route, Spid), MessageFault>
-    ensures ok { IfOk result (λ found. (among_offered clock request.now.route ≡ Some found.0) × (takes_method found.0 request.now.method ≡ true) × (request.now.caller ≡ Some found.1)) }
-    ensures err { IfErr result (λ fault. (from to : ℕ) (st : State) (body : List ℕ) → Meets from to st (among_offered clock request.now.route) request.now.method request.now.caller body (failure_text (Failure.Message fault)) st) }
+    ensures ok { IfOk result (λ found. (among_offered clock request.now.route ≡ Some found.0)
+        × (takes_method found.0 request.now.method ≡ true)
+        × (request.now.caller ≡ Some found.1)) }
+    ensures err { IfErr result (λ fault. (from to : ℕ) (st : State) (body : List ℕ)
+        → Meets from to st (among_offered clock request.now.route) request.now.method
+        request.now.caller body (failure_text (Failure.Message fault)) st) }
 {
     let Some(route) = offered(request.route, clock) else {
         return Err(MessageFault::NoPath);
@@ -42,11 +46,15 @@ fn judged(request: &Request, clock: bool) -> Result<(Route, Spid), MessageFault>
 
 // How many rows are in force.
 fn count_rows<S: Store>(register: &mut Register<S>) -> Result<usize, Refusal>
-    ensures kept { S.IsUsable register.new.store → (st : State) → Stands (S.content register.old.store) st → Stands (S.content register.new.store) st }
+    ensures kept { S.IsUsable register.new.store → (st : State)
+        → Stands (S.content register.old.store) st → Stands (S.content register.new.store) st }
     ensures usable { S.IsUsable register.new.store → S.IsUsable register.old.store }
     ensures rises { S.failed register.old.store ≤ S.failed register.new.store }
-    ensures count { IfOk result (λ count. S.IsUsable register.new.store → (st : State) → Stands (S.content register.old.store) st → length (all_in_force st) ≡ count) }
-    ensures short { IfErr result (λ refusal. S.IsUsable register.new.store → (st : State) → Stands (S.content register.old.store) st → IsShort (S.failed register.old.store) (S.failed register.new.store) refusal) }
+    ensures count { IfOk result (λ count. S.IsUsable register.new.store → (st : State)
+        → Stands (S.content register.old.store) st → length (all_in_force st) ≡ count) }
+    ensures short { IfErr result (λ refusal. S.IsUsable register.new.store → (st : State)
+        → Stands (S.content register.old.store) st
+        → IsShort (S.failed register.old.store) (S.failed register.new.store) refusal) }
 {
     match register.in_force() {
         Ok(rows) => Ok(rows.len()),
@@ -57,12 +65,17 @@ fn count_rows<S: Store>(register: &mut Register<S>) -> Result<usize, Refusal>
 // Whether the caller may ask it, where the register does not judge that itself: the clock is the
 // administrator's alone, and the ids of a number are told to whom the register knows.
 fn admit<S: Store>(register: &mut Register<S>, caller: Spid, call: &Call) -> Result<(), Refusal>
-    ensures kept { S.IsUsable register.new.store → (st : State) → Stands (S.content register.old.store) st → Stands (S.content register.new.store) st }
+    ensures kept { S.IsUsable register.new.store → (st : State)
+        → Stands (S.content register.old.store) st → Stands (S.content register.new.store) st }
     ensures usable { S.IsUsable register.new.store → S.IsUsable register.old.store }
     ensures rises { S.failed register.old.store ≤ S.failed register.new.store }
-    ensures ok { OnOk result (S.IsUsable register.new.store → (st : State) → Stands (S.content register.old.store) st → Admits st caller.number (called_of call.now)) }
-    ensures err { IfErr result (λ refusal. S.IsUsable register.new.store → (st : State) → Stands (S.content register.old.store) st →
-        TurnsAway (S.failed register.old.store) (S.failed register.new.store) st caller.number (called_of call.now) refusal) }
+    ensures ok { OnOk result (S.IsUsable register.new.store → (st : State)
+        → Stands (S.content register.old.store) st
+        → Admits st caller.number (called_of call.now)) }
+    ensures err { IfErr result (λ refusal. S.IsUsable register.new.store → (st : State)
+        → Stands (S.content register.old.store) st
+        → TurnsAway (S.failed register.old.store) (S.failed register.new.store) st
+        caller.number (called_of call.now) refusal) }
 {
     match call {
         Call::Clock { .. } if caller != Spid::NPAC => Err(Refusal::NotAdmin),
@@ -71,7 +84,8 @@ fn admit<S: Store>(register: &mut Register<S>, caller: Spid, call: &Call) -> Res
     }
 }
 
-// Takes the room for the starting rows of a registration, before it is made: nothing may fail after it.
+// Takes the room for the starting rows of a registration, before it is made: nothing may fail after
+// it.
 fn take_room<S: Store>(
     register: &mut Register<S>,
     call: &Call,
@@ -82,12 +96,17 @@ fn take_room<S: Store>(
     ensures empty { IsEmpty room.new }
     ensures room { HasRoom 512 room.new }
     ensures rows { IfOk result (λ count. HasRoom (64 + count * 64) room.new) }
-    ensures kept { S.IsUsable register.new.store → (st : State) → Stands (S.content register.old.store) st → Stands (S.content register.new.store) st }
+    ensures kept { S.IsUsable register.new.store → (st : State)
+        → Stands (S.content register.old.store) st → Stands (S.content register.new.store) st }
     ensures usable { S.IsUsable register.new.store → S.IsUsable register.old.store }
     ensures rises { S.failed register.old.store ≤ S.failed register.new.store }
-    ensures count { IfOk result (λ count. S.IsUsable register.new.store → (st : State) → Stands (S.content register.old.store) st →
-        (spid : ℕ) → called_of call.now ≡ Wants (Commands (RegisterCarrier spid)) → length (all_in_force st) ≡ count) }
-    ensures short { IfErr result (λ refusal. S.IsUsable register.new.store → (st : State) → Stands (S.content register.old.store) st → IsShort (S.failed register.old.store) (S.failed register.new.store) refusal) }
+    ensures count { IfOk result (λ count. S.IsUsable register.new.store → (st : State)
+        → Stands (S.content register.old.store) st → (spid : ℕ)
+        → called_of call.now ≡ Wants (Commands (RegisterCarrier spid))
+        → length (all_in_force st) ≡ count) }
+    ensures short { IfErr result (λ refusal. S.IsUsable register.new.store → (st : State)
+        → Stands (S.content register.old.store) st
+        → IsShort (S.failed register.old.store) (S.failed register.new.store) refusal) }
 {
     match call {
         Call::Command(Command::RegisterCarrier { .. }) => {
@@ -112,8 +131,12 @@ fn make<S: Store>(
     ensures room { HasRoom 512 room.new }
     ensures usable { S.IsUsable register.new.store → S.IsUsable register.old.store }
     ensures rises { S.failed register.old.store ≤ S.failed register.new.store }
-    ensures carries { S.IsUsable register.new.store → (st : State) → Stands (S.content register.old.store) st → Admits st caller.number (called_of call.now) →
-        Carried (S.failed register.old.store) (S.failed register.new.store) (S.content register.new.store) st caller.number (Calling (called_of call.now)) (told result (string_bytes room.new.body)) }
+    ensures carries { S.IsUsable register.new.store → (st : State)
+        → Stands (S.content register.old.store) st
+        → Admits st caller.number (called_of call.now)
+        → Carried (S.failed register.old.store) (S.failed register.new.store)
+        (S.content register.new.store) st caller.number (Calling (called_of call.now))
+        (told result (string_bytes room.new.body)) }
 {
     let count = take_room(register, call, room)?;
     let reply = register.answer(caller, call)?;
@@ -133,7 +156,10 @@ fn answer<S: Store>(
     ensures room { HasRoom 512 room.new }
     ensures usable { S.IsUsable register.new.store → S.IsUsable register.old.store }
     ensures rises { S.failed register.old.store ≤ S.failed register.new.store }
-    ensures carries { S.IsUsable register.new.store → Carries (S.failed register.old.store) (S.failed register.new.store) (S.content register.old.store) (S.content register.new.store) caller.number (Calling (called_of call.now)) (told result (string_bytes room.new.body)) }
+    ensures carries { S.IsUsable register.new.store
+        → Carries (S.failed register.old.store) (S.failed register.new.store)
+        (S.content register.old.store) (S.content register.new.store) caller.number
+        (Calling (called_of call.now)) (told result (string_bytes room.new.body)) }
 {
     admit(register, caller, call)?;
     make(register, caller, call, room)
@@ -155,8 +181,13 @@ fn carry_out_body<S: Store>(
     ensures room { HasRoom 512 room.new }
     ensures usable { S.IsUsable register.new.store → S.IsUsable register.old.store }
     ensures rises { S.failed register.old.store ≤ S.failed register.new.store }
-    ensures calls { S.IsUsable register.new.store → (st : State) → Stands (S.content register.old.store) st →
-        (after : State) × Calls (S.failed register.old.store) (S.failed register.new.store) st (BodyAsks route body.now) caller.number (told result (string_bytes room.new.body)) after × Stands (S.content register.new.store) after }
+    ensures calls { S.IsUsable register.new.store → (st : State)
+        → Stands (S.content register.old.store) st
+        → (after : State)
+        × Calls (S.failed register.old.store) (S.failed register.new.store) st
+        (BodyAsks route body.now) caller.number
+        (told result (string_bytes room.new.body)) after
+        × Stands (S.content register.new.store) after }
 {
     let value = match json(alloc, body, scratch) {
         Ok(Some(value)) => value,
@@ -173,7 +204,8 @@ fn carry_out_body<S: Store>(
 // What the path of a version asks. What has no id, or a body, asks nothing.
 fn version_asked(id: Option<u64>, body: &[u8]) -> Result<Call, MessageFault>
     ensures ok { IfOk result (λ call. IdAsks id body.now (Calling (called_of call))) }
-    ensures err { IfErr result (λ fault. (fault ≡ MessageFault.BadRequest) × ((asked : AskedSeen) → ¬ (IdAsks id body.now asked))) }
+    ensures err { IfErr result (λ fault. (fault ≡ MessageFault.BadRequest)
+        × ((asked : AskedSeen) → ¬ (IdAsks id body.now asked))) }
 {
     match id {
         Some(id) if body.is_empty() => Ok(Call::Version { id }),
@@ -184,7 +216,8 @@ fn version_asked(id: Option<u64>, body: &[u8]) -> Result<Call, MessageFault>
 // What the path of a telephone number asks. What is no such number, or has a body, asks nothing.
 fn number_asked(number: Option<u64>, body: &[u8]) -> Result<Call, MessageFault>
     ensures ok { IfOk result (λ call. NumberAsks number body.now (Calling (called_of call))) }
-    ensures err { IfErr result (λ fault. (fault ≡ MessageFault.BadRequest) × ((asked : AskedSeen) → ¬ (NumberAsks number body.now asked))) }
+    ensures err { IfErr result (λ fault. (fault ≡ MessageFault.BadRequest)
+        × ((asked : AskedSeen) → ¬ (NumberAsks number body.now asked))) }
 {
     match number {
         Some(number) if body.is_empty() => match Tn::new(number) {
@@ -211,8 +244,13 @@ fn carry_out<S: Store>(
     ensures room { HasRoom 512 room.new }
     ensures usable { S.IsUsable register.new.store → S.IsUsable register.old.store }
     ensures rises { S.failed register.old.store ≤ S.failed register.new.store }
-    ensures calls { S.IsUsable register.new.store → (st : State) → Stands (S.content register.old.store) st →
-        (after : State) × Calls (S.failed register.old.store) (S.failed register.new.store) st (PathAsks route body.now) caller.number (told result (string_bytes room.new.body)) after × Stands (S.content register.new.store) after }
+    ensures calls { S.IsUsable register.new.store → (st : State)
+        → Stands (S.content register.old.store) st
+        → (after : State)
+        × Calls (S.failed register.old.store) (S.failed register.new.store) st
+        (PathAsks route body.now) caller.number
+        (told result (string_bytes room.new.body)) after
+        × Stands (S.content register.new.store) after }
 {
     match route {
         Route::Version(id) => answer(register, caller, &version_asked(id, body)?, room),
@@ -236,20 +274,22 @@ fn reply<S: Store>(
     ensures room { HasRoom 512 room.new }
     ensures usable { S.IsUsable register.new.store → S.IsUsable register.old.store }
     ensures rises { S.failed register.old.store ≤ S.failed register.new.store }
-    ensures step { S.IsUsable register.new.store → (st : State) → Stands (S.content register.old.store) st →
-        (after : State) × Step clock None (S.failed register.old.store) (S.failed register.new.store) st request.now body.now (told result (string_bytes room.new.body)) after × Stands (S.content register.new.store) after }
+    ensures step { S.IsUsable register.new.store → (st : State)
+        → Stands (S.content register.old.store) st
+        → (after : State)
+        × Step clock None (S.failed register.old.store) (S.failed register.new.store) st
+        request.now body.now (told result (string_bytes room.new.body)) after
+        × Stands (S.content register.new.store) after }
 {
     match judged(request, clock) {
-        Ok((route, caller)) => {
-            carry_out(alloc, register, route, caller, body, scratch, room)
-        }
+        Ok((route, caller)) => { carry_out(alloc, register, route, caller, body, scratch, room) }
         Err(fault) => Err(Failure::Message(fault)),
     }
 }
 
-/// Carries out a message, with no minute handed in, and writes its answer. All memory of the answer is
-/// taken before the message is carried out; that of a query's, which changes nothing, behind its look-up.
-/// `clock` says whether the clock's path is there.
+/// Carries out a message, with no minute handed in, and writes its answer. All memory of the answer
+/// is taken before the message is carried out; that of a query's, which changes nothing, behind its
+/// look-up. `clock` says whether the clock's path is there.
 pub fn put_answer<S: Store>(
     alloc: Global,
     register: &mut Register<S>,
@@ -263,8 +303,12 @@ pub fn put_answer<S: Store>(
     ensures room { HasRoom 512 room.new }
     ensures usable { S.IsUsable register.new.store → S.IsUsable register.old.store }
     ensures rises { S.failed register.old.store ≤ S.failed register.new.store }
-    ensures step { S.IsUsable register.new.store → (st : State) → Stands (S.content register.old.store) st →
-        (after : State) × Step clock None (S.failed register.old.store) (S.failed register.new.store) st request.now body.now (string_bytes room.new.text) after × Stands (S.content register.new.store) after }
+    ensures step { S.IsUsable register.new.store → (st : State)
+        → Stands (S.content register.old.store) st
+        → (after : State)
+        × Step clock None (S.failed register.old.store) (S.failed register.new.store) st
+        request.now body.now (string_bytes room.new.text) after
+        × Stands (S.content register.new.store) after }
 {
     room.clear();
     match reply(alloc, register, clock, request, body, scratch, room) {

@@ -43,7 +43,8 @@ fn put_routed(
     requires room { HasRoom 512 room.old }
     ensures ok { OnOk result (IsWritten room.new) }
     ensures room { HasRoom 512 room.new }
-    ensures body { OnOk result (string_bytes room.new.body ≡ uri_text (looked_up (uri_of uri.now) (answer_of answer))) }
+    ensures body { OnOk result (string_bytes room.new.body
+        ≡ uri_text (looked_up (uri_of uri.now) (answer_of answer))) }
     ensures short { IfErr result (λ failure. failure ≡ Failure.Refused Refusal.NoMemory) }
 {
     match answer {
@@ -55,7 +56,8 @@ fn put_routed(
     }
 }
 
-// The telephone number that the register is asked for: of a URI that was looked up already there is none.
+// The telephone number that the register is asked for: of a URI that was looked up already there is
+// none.
 fn number_asked_for(uri: &TelUri<'_>) -> Option<Tn>
     ensures some { IfSome result (λ tn. AsksFor (uri_of uri.now) tn.number) }
     ensures none { IfNone result (ComesBack (uri_of uri.now)) }
@@ -80,7 +82,10 @@ pub fn query<S: Store>(
     ensures room { HasRoom 512 room.new }
     ensures usable { S.IsUsable register.new.store → S.IsUsable register.old.store }
     ensures rises { S.failed register.old.store ≤ S.failed register.new.store }
-    ensures carries { S.IsUsable register.new.store → Carries (S.failed register.old.store) (S.failed register.new.store) (S.content register.old.store) (S.content register.new.store) caller.number (Seeking text.now) (told result (string_bytes room.new.body)) }
+    ensures carries { S.IsUsable register.new.store
+        → Carries (S.failed register.old.store) (S.failed register.new.store)
+        (S.content register.old.store) (S.content register.new.store) caller.number
+        (Seeking text.now) (told result (string_bytes room.new.body)) }
 {
     if let Err(refusal) = register.knows(caller) {
         return Err(Failure::Refused(refusal));

@@ -33,8 +33,8 @@ pub fn take_rows(room: &mut Room, count: usize) -> Result<(), Refusal>
     Ok(())
 }
 
-// The rows were counted before, and the room for so many was taken. More than those never come: that refusal is
-// no message's answer.
+// The rows were counted before, and the room for so many was taken. More than those never come:
+// that refusal is no message's answer.
 fn put_starting_rows(
     room: &mut Room,
     spid: Spid,
@@ -46,7 +46,8 @@ fn put_starting_rows(
     requires rows { HasRoom (64 + count * 64) room.old }
     ensures ok { OnOk result (IsWritten room.new) }
     ensures room { HasRoom 512 room.new }
-    ensures body { OnOk result (string_bytes room.new.body ≡ registered_text spid.number (map in_force_of rows.now)) }
+    ensures body { OnOk result
+        (string_bytes room.new.body ≡ registered_text spid.number (map in_force_of rows.now)) }
     ensures more { OnErr result (count < length rows.now) }
 {
     if rows.len() > count {
@@ -93,7 +94,8 @@ pub fn put_reply(room: &mut Room, reply: &Reply, count: usize) -> Result<(), Fai
     requires rows { HasRoom (64 + count * 64) room.old }
     ensures ok { OnOk result (IsWritten room.new) }
     ensures room { HasRoom 512 room.new }
-    ensures text { OnOk result (success (string_bytes room.new.body) ≡ reply_text (reply_of reply.now)) }
+    ensures text { OnOk result
+        (success (string_bytes room.new.body) ≡ reply_text (reply_of reply.now)) }
     ensures more { OnErr result (Outgrows count (reply_of reply.now)) }
 {
     match reply {

@@ -36,7 +36,8 @@ pub trait Ticks {
 
     /// The minute before the next message is carried out, if there is one.
     fn next(&mut self) -> Option<Minute>
-        ensures { HandsIn (told self.old) (option_map (λ (m : MinuteSeen). m.number) result) (told self.new) };
+        ensures { HandsIn (told self.old) (option_map (λ (m : MinuteSeen). m.number) result)
+            (told self.new) };
 }
 
 /// No minute is ever handed in.
@@ -99,7 +100,11 @@ fn tick_and_answer<S: Store, T: Ticks>(
     ensures room { HasRoom 512 room.new }
     ensures usable { S.IsUsable register.new.store → S.IsUsable register.old.store }
     ensures rises { S.failed register.old.store ≤ S.failed register.new.store }
-    ensures responds { S.IsUsable register.new.store → Responds clock (T.told ticks.old) (T.told ticks.new) (S.failed register.old.store) (S.failed register.new.store) (Next.Message request.now) body.now (string_bytes room.new.text) (S.content register.old.store) (S.content register.new.store) }
+    ensures responds { S.IsUsable register.new.store
+        → Responds clock (T.told ticks.old) (T.told ticks.new) (S.failed register.old.store)
+        (S.failed register.new.store) (Next.Message request.now) body.now
+        (string_bytes room.new.text) (S.content register.old.store)
+        (S.content register.new.store) }
 {
     let tick = ticks.next();
     match take_tick(register, tick) {
@@ -124,13 +129,14 @@ fn respond<S: Store, T: Ticks>(
     ensures end { result ≡ end_of next }
     ensures usable { S.IsUsable register.new.store → S.IsUsable register.old.store }
     ensures rises { S.failed register.old.store ≤ S.failed register.new.store }
-    ensures responds { S.IsUsable register.new.store → Responds clock (T.told ticks.old) (T.told ticks.new) (S.failed register.old.store) (S.failed register.new.store) next body.now (string_bytes room.new.text) (S.content register.old.store) (S.content register.new.store) }
+    ensures responds { S.IsUsable register.new.store
+        → Responds clock (T.told ticks.old) (T.told ticks.new) (S.failed register.old.store)
+        (S.failed register.new.store) next body.now (string_bytes room.new.text)
+        (S.content register.old.store) (S.content register.new.store) }
 {
     match next {
         Next::Message(request) => {
-            tick_and_answer(
-                alloc, register, clock, ticks, &request, body, scratch, room,
-            );
+            tick_and_answer(alloc, register, clock, ticks, &request, body, scratch, room);
             if request.closes {
                 Some(End::Closed)
             } else {
@@ -158,7 +164,10 @@ fn next_of<R: Read>(
     requires router { router.now ≡ table }
     ensures size { vec_len held.new.bytes ≡ 8192 }
     ensures room { length headers.new ≡ 64 }
-    ensures cut { (left : Option (List ℕ)) → IsTaken left at_hand body.old.items (input_left held.old (R.remaining reader.old)) → IfOk result (λ next. IfSome left (λ input. IsNext input next body.new.items (input_left held.new (R.remaining reader.new)))) }
+    ensures cut { (left : Option (List ℕ))
+        → IsTaken left at_hand body.old.items (input_left held.old (R.remaining reader.old))
+        → IfOk result (λ next. IfSome left (λ input. IsNext input next body.new.items
+        (input_left held.new (R.remaining reader.new)))) }
 {
     match at_hand {
         Some(request) => Ok(Some(Next::Message(request))),
@@ -195,11 +204,28 @@ fn serve_with<S: Store, T: Ticks, R: Read, W: Write>(
     requires empty { held_bytes held.old ≡ [] }
     requires room { HasRoom 512 room.old }
     requires router { router.now ≡ table }
-    ensures served { S.IsUsable register.new.store → (st : State) → Stands (S.content register.old.store) st → IfOk result (λ served. IfSome (R.remaining reader.old) (λ input. IfSome (T.told ticks.old) (λ minutes.
-        EndsAt served.end options.now.clock_route (S.failed register.old.store) (S.failed register.new.store) st (S.content register.new.store) input minutes (W.contents writer.old) (W.contents writer.new) served.count))) }
-    ensures fault { S.IsUsable register.new.store → (st : State) → Stands (S.content register.old.store) st → IfErr result (λ fault. IfSome (R.remaining reader.old) (λ input. IfSome (T.told ticks.old) (λ minutes.
-        FailsAt fault options.now.clock_route (S.failed register.old.store) (S.failed register.new.store) st (S.content register.new.store) input minutes (W.contents writer.old) (W.contents writer.new)))) }
-    ensures state { S.IsUsable register.new.store → (st : State) → Stands (S.content register.old.store) st → (after : State) × Stands (S.content register.new.store) after }
+    ensures served { S.IsUsable register.new.store → (st : State)
+        → Stands (S.content register.old.store) st
+        → IfOk result
+        (λ served. IfSome (R.remaining reader.old) (λ input. IfSome (T.told ticks.old)
+        (λ minutes. EndsAt served.end options.now.clock_route
+        (S.failed register.old.store)
+        (S.failed register.new.store) st
+        (S.content register.new.store) input minutes
+        (W.contents writer.old) (W.contents writer.new)
+        served.count))) }
+    ensures fault { S.IsUsable register.new.store → (st : State)
+        → Stands (S.content register.old.store) st
+        → IfErr result
+        (λ fault. IfSome (R.remaining reader.old) (λ input. IfSome (T.told ticks.old)
+        (λ minutes. FailsAt fault options.now.clock_route
+        (S.failed register.old.store)
+        (S.failed register.new.store) st
+        (S.content register.new.store) input minutes
+        (W.contents writer.old) (W.contents writer.new)))) }
+    ensures state { S.IsUsable register.new.store → (st : State)
+        → Stands (S.content register.old.store) st
+        → (after : State) × Stands (S.content register.new.store) after }
     ensures usable { S.IsUsable register.new.store → S.IsUsable register.old.store }
     ensures rises { S.failed register.old.store ≤ S.failed register.new.store }
 {
@@ -248,9 +274,10 @@ fn serve_with<S: Store, T: Ticks, R: Read, W: Write>(
 
 /// Serves the messages of a reader, one after the other, and writes their answers.
 ///
-/// A message takes the next minute of the ticks before it is carried out: the clock moves to it, unless it
-/// is below the present minute. Where that finds no memory, or the store fails, the message is answered so
-/// and is not carried out. A message that is refused with `BadHead`, `TooLarge` or `CutBody` takes none.
+/// A message takes the next minute of the ticks before it is carried out: the clock moves to it,
+/// unless it is below the present minute. Where that finds no memory, or the store fails, the
+/// message is answered so and is not carried out. A message that is refused with `BadHead`,
+/// `TooLarge` or `CutBody` takes none.
 ///
 /// Each answer is handed to the writer before the next message is carried out. The writer is
 /// flushed before the reader is asked for more and as serving ends, but not while the next message
@@ -267,11 +294,28 @@ pub fn serve<S: Store, T: Ticks, R: Read, W: Write>(
     reader: &mut R,
     writer: &mut W,
 ) -> Result<Served, Fault>
-    ensures served { S.IsUsable register.new.store → (st : State) → Stands (S.content register.old.store) st → IfOk result (λ served. IfSome (R.remaining reader.old) (λ input. IfSome (T.told ticks.old) (λ minutes.
-        EndsAt served.end options.now.clock_route (S.failed register.old.store) (S.failed register.new.store) st (S.content register.new.store) input minutes (W.contents writer.old) (W.contents writer.new) served.count))) }
-    ensures fault { S.IsUsable register.new.store → (st : State) → Stands (S.content register.old.store) st → IfErr result (λ fault. IfSome (R.remaining reader.old) (λ input. IfSome (T.told ticks.old) (λ minutes.
-        FailsAt fault options.now.clock_route (S.failed register.old.store) (S.failed register.new.store) st (S.content register.new.store) input minutes (W.contents writer.old) (W.contents writer.new)))) }
-    ensures state { S.IsUsable register.new.store → (st : State) → Stands (S.content register.old.store) st → (after : State) × Stands (S.content register.new.store) after }
+    ensures served { S.IsUsable register.new.store → (st : State)
+        → Stands (S.content register.old.store) st
+        → IfOk result
+        (λ served. IfSome (R.remaining reader.old) (λ input. IfSome (T.told ticks.old)
+        (λ minutes. EndsAt served.end options.now.clock_route
+        (S.failed register.old.store)
+        (S.failed register.new.store) st
+        (S.content register.new.store) input minutes
+        (W.contents writer.old) (W.contents writer.new)
+        served.count))) }
+    ensures fault { S.IsUsable register.new.store → (st : State)
+        → Stands (S.content register.old.store) st
+        → IfErr result
+        (λ fault. IfSome (R.remaining reader.old) (λ input. IfSome (T.told ticks.old)
+        (λ minutes. FailsAt fault options.now.clock_route
+        (S.failed register.old.store)
+        (S.failed register.new.store) st
+        (S.content register.new.store) input minutes
+        (W.contents writer.old) (W.contents writer.new)))) }
+    ensures state { S.IsUsable register.new.store → (st : State)
+        → Stands (S.content register.old.store) st
+        → (after : State) × Stands (S.content register.new.store) after }
     ensures usable { S.IsUsable register.new.store → S.IsUsable register.old.store }
     ensures rises { S.failed register.old.store ≤ S.failed register.new.store }
 {

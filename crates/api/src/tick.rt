@@ -12,14 +12,21 @@ use numbers::Minute;
 use register::Register;
 use settle::Store;
 
-/// Moves the clock to the minute that is handed in, if there is one. One below the present minute is
-/// dropped.
+/// Moves the clock to the minute that is handed in, if there is one. One below the present minute
+/// is dropped.
 pub fn take_tick<S: Store>(register: &mut Register<S>, tick: Option<Minute>) -> Result<(), Refusal>
     ensures usable { S.IsUsable register.new.store → S.IsUsable register.old.store }
     ensures rises { S.failed register.old.store ≤ S.failed register.new.store }
-    ensures moved { OnOk result (S.IsUsable register.new.store → (st : State) → Stands (S.content register.old.store) st → Stands (S.content register.new.store) (ticked st (option_map (λ (m : MinuteSeen). m.number) tick))) }
-    ensures short { IfErr result (λ refusal. S.IsUsable register.new.store → (st : State) → Stands (S.content register.old.store) st →
-        WithholdsTick (S.failed register.old.store) (S.failed register.new.store) st (option_map (λ (m : MinuteSeen). m.number) tick) (failure_text (Failure.Refused refusal)) st × Stands (S.content register.new.store) st) }
+    ensures moved { OnOk result (S.IsUsable register.new.store → (st : State)
+        → Stands (S.content register.old.store) st
+        → Stands (S.content register.new.store)
+        (ticked st (option_map (λ (m : MinuteSeen). m.number) tick))) }
+    ensures short { IfErr result (λ refusal. S.IsUsable register.new.store → (st : State)
+        → Stands (S.content register.old.store) st
+        → WithholdsTick (S.failed register.old.store) (S.failed register.new.store) st
+        (option_map (λ (m : MinuteSeen). m.number) tick)
+        (failure_text (Failure.Refused refusal)) st
+        × Stands (S.content register.new.store) st) }
 {
     let Some(minute) = tick else {
         return Ok(());

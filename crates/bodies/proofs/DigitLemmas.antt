@@ -1,15 +1,15 @@
 -- A text of digits is the JSON number that they write.
-use Rattle.std.proofs.Common.{◌≡◌, ℕ, ◌<◌, ◌≤◌, ◌^◌, List, [], ◌∷◌, ◌++◌, length, get_or, Bool, true, false, Option, Some, None, refl, ap, sym, ◌∙◌, arith, append-nil, lt-ltb, ne_eqb}
+use Rattle.std.proofs.Common.{◌≡◌, ℕ, ◌<◌, ◌≤◌, ◌^◌, List, [], ◌∷◌, ◌++◌, length, get_or, Bool, true, false, Some, None, refl, ap, sym, ◌∙◌, arith, append-nil, lt-ltb, ne_eqb}
 use Rattle.std.specs.Prelude.{◌&&◌, nat_lt, nat_le, if◌then◌else◌}
 use Rattle.std.specs.Char.{digit_value}
 use Rattle.std.specs.Str.{all_ascii_digits}
 use Rattle.std.specs.Str.Parse.{AllDigits, digits_value}
-use Rattle.std.specs.Float.Numeral.{Parts, text_of, scan_numeral, numeral_digits, IsWellFormed}
+use Rattle.std.specs.Float.Numeral.{Parts, scan_numeral, IsWellFormed}
 use Rattle.std.proofs.lemmas.Bool.Decides.{nat_tests}
 use Rattle.std.proofs.lemmas.Str.Parse.{tells_all_ascii_digits, numerals_by_value, digits_value_short}
 use Rattle.std.proofs.lemmas.Float.Parse.{scan_numeral-text_of}
 use Rattle.serde_json.specs.Data.{unsigned}
-use Rattle.serde_json.specs.Read.{number_of, number_from, is_integer}
+use Rattle.serde_json.specs.Read.{number_of, number_from}
 use Rattle.messages.specs.Fields.{number_of as said}
 
 abbrev digits : List ℕ → Parts

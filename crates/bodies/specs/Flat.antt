@@ -1,5 +1,5 @@
 -- The members of an object in which no array and no object stands.
-use Rattle.std.specs.Prelude.{◌≡◌, ℕ, length, List, [], ◌∷◌, Option, Some, None}
+use Rattle.std.specs.Prelude.{◌≡◌, ℕ, length, List, [], ◌∷◌, Option, Some}
 use Rattle.json.specs.Token.{Token}
 use Rattle.json.specs.Json.{value, members}
 use Rattle.serde_json.specs.Data.{Data, Members, no_members, null, boolean, number, string, object, unsigned, put}

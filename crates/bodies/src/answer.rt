@@ -51,7 +51,8 @@ fn put_head(out: &mut String, status: StatusCode, length: u64)
 impl Room {
     ghost use Rattle.bodies.specs.Rooms.{HasRoom, IsEmpty, IsWritten};
 
-    /// Takes the room for a small answer, whose body has at most 512 bytes, or answers want of memory.
+    /// Takes the room for a small answer, whose body has at most 512 bytes, or answers want of
+    /// memory.
     pub fn new(alloc: Global) -> Result<Room, AllocError>
         ensures room { IfOk result (HasRoom 512) }
         ensures empty { IfOk result IsEmpty }
@@ -71,7 +72,8 @@ impl Room {
         self.text.clear();
     }
 
-    /// Takes the room for a body of so many bytes. After want of memory what room there was is there still.
+    /// Takes the room for a body of so many bytes. After want of memory what room there was is
+    /// there still.
     pub fn take(&mut self, length: usize) -> Result<(), AllocError>
         requires empty { IsEmpty self.old }
         requires fits { length + 160 < 2 ^ 64 }
@@ -88,7 +90,8 @@ impl Room {
     pub fn finish(&mut self, status: u16)
         requires answered { IsAnswered status }
         requires written { IsWritten self.old }
-        ensures text { string_bytes self.new.text ≡ string_bytes self.old.text ++ answer status (string_bytes self.old.body) }
+        ensures text { string_bytes self.new.text
+            ≡ string_bytes self.old.text ++ answer status (string_bytes self.old.body) }
         ensures room { (n : ℕ) → HasRoom n self.old → HasRoom n self.new }
     {
         match StatusCode::from_u16(status) {

@@ -72,8 +72,8 @@ fn tree(alloc: Global, text: &str) -> Result<Option<Value>, AllocError>
 
 /// The JSON value of a body, or `None` where it is no JSON. `Err` is want of memory.
 ///
-/// An object of plain values, which is what every body of a form is, takes no memory of its own: its
-/// texts are the body's, or where they have escapes the scratch's.
+/// An object of plain values, which is what every body of a form is, takes no memory of its own:
+/// its texts are the body's, or where they have escapes the scratch's.
 pub fn json<'a>(
     alloc: Global,
     body: &'a [u8],

@@ -54,7 +54,8 @@ pub struct Flat<'a> {
 impl<'a> Flat<'a> {
     // What stands under a key: the last, where it stands twice.
     fn get(&self, key: &str) -> Option<Scalar<'a>>
-        ensures { option_map scalar_data result ≡ get_in key.now (flat_data self.now.members.items) }
+        ensures { option_map scalar_data result
+            ≡ get_in key.now (flat_data self.now.members.items) }
     {
         let members = self.members.as_slice();
         let mut left = members.len();
@@ -96,9 +97,13 @@ fn read_members<'a>(reader: &mut Reader<'a>) -> Option<Flat<'a>>
     Some(Flat { members })
 }
 
-/// The object that a text is, or `None` where it is no object, an array or an object stands in it, it
-/// has more members than any body, or a number that is none of 19 digits. `Err` is want of memory.
-pub fn read_flat<'a>(text: &'a str, scratch: &'a mut Scratch) -> Result<Option<Flat<'a>>, AllocError>
+/// The object that a text is, or `None` where it is no object, an array or an object stands in it,
+/// it has more members than any body, or a number that is none of 19 digits. `Err` is want of
+/// memory.
+pub fn read_flat<'a>(
+    text: &'a str,
+    scratch: &'a mut Scratch,
+) -> Result<Option<Flat<'a>>, AllocError>
     ensures { IfOk result (λ o. IfSome o
         (λ flat. read_text text.now ≡ Some (flat_data flat.members.items))) }
 {
@@ -120,9 +125,7 @@ fn are_known(members: &[Member<'_>], allowed: &[&str]) -> bool
     ensures { result ≡ list_all (λ m. list_any (λ s. bytes_eq m.key.now s.now) allowed.now)
         members.now }
 {
-    members
-        .iter()
-        .all(|member| is_one_of(member.key, allowed))
+    members.iter().all(|member| is_one_of(member.key, allowed))
 }
 
 impl Fields for Flat<'_> {

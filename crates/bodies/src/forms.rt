@@ -25,7 +25,8 @@ pub enum Asked<'a> {
 
 #[tactic(auto, unfolding(crate::specs::Forms::whole))]
 fn minute_at<F: Fields>(fields: &F, key: &str) -> Option<Minute>
-    ensures { option_map (λ (m : MinuteSeen). m.number) result ≡ whole key.now (F.value fields.now) }
+    ensures { option_map (λ (m : MinuteSeen). m.number) result
+        ≡ whole key.now (F.value fields.now) }
 {
     Minute::new(fields.whole(key)?)
 }
@@ -294,7 +295,8 @@ fn clock_of<F: Fields>(fields: &F) -> Option<Asked<'_>>
 
 // What the values of an object ask on a path.
 fn values_of<F: Fields>(route: Route, fields: &F) -> Option<Asked<'_>>
-    ensures some { IfSome result (λ asked. HasValues route (F.value fields.now) (asked_seen asked)) }
+    ensures some { IfSome result (λ asked. HasValues route (F.value fields.now)
+        (asked_seen asked)) }
     ensures none { IfNone result ((asked : AskedSeen)
         → ¬ (HasValues route (F.value fields.now) asked)) }
 {

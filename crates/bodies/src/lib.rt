@@ -7,15 +7,14 @@ mod fault;
 mod fields;
 mod flat;
 mod forms;
-
 mod reply;
 mod room;
 
 pub use answer::Room;
+pub use body::{Body, json};
 pub use fault::Failure;
 pub use fields::Fields;
 pub use forms::{Asked, asked_of, body_asks_once};
-pub use body::{Body, json};
 pub use reply::{
     ROW_ROOM, URI_ROOM, put_failure, put_ids, put_now, put_opened_code, put_registered,
     put_routing_number, put_uri, put_version,

@@ -42,7 +42,8 @@ pub fn put_failure(out: &mut String, failure: Failure)
 
 fn put_cic_or_null(out: &mut String, cic: Option<Cic>)
     requires { string_len out.old + 6 ≤ string_capacity out.old }
-    ensures bytes { string_bytes out.new ≡ string_bytes out.old ++ cic_value (option_map (λ (c : CicSeen). c.number) cic) }
+    ensures bytes { string_bytes out.new
+        ≡ string_bytes out.old ++ cic_value (option_map (λ (c : CicSeen). c.number) cic) }
     ensures len { string_len out.new ≤ string_len out.old + 6 }
     ensures capacity { string_capacity out.old ≤ string_capacity out.new }
 {
@@ -58,7 +59,8 @@ fn put_cic_or_null(out: &mut String, cic: Option<Cic>)
 
 fn put_lrn_or_null(out: &mut String, lrn: Option<Lrn>)
     requires { string_len out.old + 12 ≤ string_capacity out.old }
-    ensures bytes { string_bytes out.new ≡ string_bytes out.old ++ lrn_value (option_map (λ (n : LrnSeen). n.number) lrn) }
+    ensures bytes { string_bytes out.new
+        ≡ string_bytes out.old ++ lrn_value (option_map (λ (n : LrnSeen). n.number) lrn) }
     ensures len { string_len out.new ≤ string_len out.old + 12 }
     ensures capacity { string_capacity out.old ≤ string_capacity out.new }
 {
@@ -105,7 +107,8 @@ fn status_text(status: Status) -> &'static str
 // The minute of the release that a disconnect-pending version waits for, or null.
 fn put_release(out: &mut String, status: Status)
     requires { string_len out.old + 20 ≤ string_capacity out.old }
-    ensures bytes { string_bytes out.new ≡ string_bytes out.old ++ number_value (release_of (status_seen status)) }
+    ensures bytes { string_bytes out.new
+        ≡ string_bytes out.old ++ number_value (release_of (status_seen status)) }
     ensures len { string_len out.new ≤ string_len out.old + 20 }
     ensures capacity { string_capacity out.old ≤ string_capacity out.new }
 {
@@ -178,7 +181,8 @@ fn put_times(out: &mut String, view: &VersionView)
 // The members `status` and `subject`.
 fn put_standing(out: &mut String, view: &VersionView)
     requires { string_len out.old + 80 ≤ string_capacity out.old }
-    ensures bytes { string_bytes out.new ≡ string_bytes out.old ++ standing_text (view_of view.now) }
+    ensures bytes { string_bytes out.new
+        ≡ string_bytes out.old ++ standing_text (view_of view.now) }
     ensures len { string_len out.new ≤ string_len out.old + 80 }
     ensures capacity { string_capacity out.old ≤ string_capacity out.new }
 {
@@ -207,7 +211,8 @@ pub fn put_version(out: &mut String, view: &VersionView)
 #[tactic(auto, unfolding(crate::specs::Texts::routing_number_text))]
 pub fn put_routing_number(out: &mut String, lrn: Lrn, spid: Spid)
     requires { string_len out.old + 64 ≤ string_capacity out.old }
-    ensures bytes { string_bytes out.new ≡ string_bytes out.old ++ routing_number_text lrn.number spid.number }
+    ensures bytes { string_bytes out.new
+        ≡ string_bytes out.old ++ routing_number_text lrn.number spid.number }
     ensures len { string_len out.new ≤ string_len out.old + 64 }
     ensures capacity { string_capacity out.old ≤ string_capacity out.new }
 {
@@ -222,7 +227,8 @@ pub fn put_routing_number(out: &mut String, lrn: Lrn, spid: Spid)
 #[tactic(auto, unfolding(crate::specs::Texts::opened_code_text))]
 pub fn put_opened_code(out: &mut String, code: CodeId, spid: Spid)
     requires { string_len out.old + 64 ≤ string_capacity out.old }
-    ensures bytes { string_bytes out.new ≡ string_bytes out.old ++ opened_code_text code.number spid.number }
+    ensures bytes { string_bytes out.new
+        ≡ string_bytes out.old ++ opened_code_text code.number spid.number }
     ensures len { string_len out.new ≤ string_len out.old + 64 }
     ensures capacity { string_capacity out.old ≤ string_capacity out.new }
 {
@@ -249,7 +255,8 @@ fn put_id_or_null(out: &mut String, id: Option<u64>)
 #[tactic(auto, unfolding(crate::specs::Texts::ids_text))]
 pub fn put_ids(out: &mut String, ids: Ids)
     requires { string_len out.old + 64 ≤ string_capacity out.old }
-    ensures bytes { string_bytes out.new ≡ string_bytes out.old ++ ids_text ids.in_force ids.opened }
+    ensures bytes { string_bytes out.new
+        ≡ string_bytes out.old ++ ids_text ids.in_force ids.opened }
     ensures len { string_len out.new ≤ string_len out.old + 64 }
     ensures capacity { string_capacity out.old ≤ string_capacity out.new }
 {
@@ -292,7 +299,8 @@ fn put_row(out: &mut String, row: &RoutedRow)
 // A row behind another.
 fn put_next_row(out: &mut String, row: &RoutedRow)
     requires { string_len out.old + 64 ≤ string_capacity out.old }
-    ensures bytes { string_bytes out.new ≡ string_bytes out.old ++ next_row_text (in_force_of row.now) }
+    ensures bytes { string_bytes out.new
+        ≡ string_bytes out.old ++ next_row_text (in_force_of row.now) }
     ensures len { string_len out.new ≤ string_len out.old + 64 }
     ensures capacity { string_capacity out.old ≤ string_capacity out.new }
 {
@@ -303,7 +311,8 @@ fn put_next_row(out: &mut String, row: &RoutedRow)
 // The rows behind the first.
 fn put_next_rows(out: &mut String, rows: &[RoutedRow])
     requires { string_len out.old + length rows.now * 64 ≤ string_capacity out.old }
-    ensures bytes { string_bytes out.new ≡ string_bytes out.old ++ flat_map next_row_text (map in_force_of rows.now) }
+    ensures bytes { string_bytes out.new
+        ≡ string_bytes out.old ++ flat_map next_row_text (map in_force_of rows.now) }
     ensures len { string_len out.new ≤ string_len out.old + length rows.now * 64 }
     ensures capacity { string_capacity out.old ≤ string_capacity out.new }
 {
@@ -314,7 +323,8 @@ fn put_next_rows(out: &mut String, rows: &[RoutedRow])
 
 fn put_rows(out: &mut String, rows: &[RoutedRow])
     requires { string_len out.old + length rows.now * 64 ≤ string_capacity out.old }
-    ensures bytes { string_bytes out.new ≡ string_bytes out.old ++ rows_text (map in_force_of rows.now) }
+    ensures bytes { string_bytes out.new
+        ≡ string_bytes out.old ++ rows_text (map in_force_of rows.now) }
     ensures len { string_len out.new ≤ string_len out.old + length rows.now * 64 }
     ensures capacity { string_capacity out.old ≤ string_capacity out.new }
 {
@@ -324,11 +334,13 @@ fn put_rows(out: &mut String, rows: &[RoutedRow])
     }
 }
 
-/// Appends the body that shows a carrier and its starting rows, of at most 64 bytes and 64 for each row.
+/// Appends the body that shows a carrier and its starting rows, of at most 64 bytes and 64 for each
+/// row.
 #[tactic(auto, unfolding(crate::specs::Texts::registered_text))]
 pub fn put_registered(out: &mut String, spid: Spid, rows: &[RoutedRow])
     requires { string_len out.old + 64 + length rows.now * 64 ≤ string_capacity out.old }
-    ensures bytes { string_bytes out.new ≡ string_bytes out.old ++ registered_text spid.number (map in_force_of rows.now) }
+    ensures bytes { string_bytes out.new
+        ≡ string_bytes out.old ++ registered_text spid.number (map in_force_of rows.now) }
     ensures len { string_len out.new ≤ string_len out.old + 64 + length rows.now * 64 }
     ensures capacity { string_capacity out.old ≤ string_capacity out.new }
 {
@@ -342,9 +354,9 @@ pub fn put_registered(out: &mut String, spid: Spid, rows: &[RoutedRow])
 /// The most bytes that the body of a query's answer takes beside its URI.
 pub const URI_ROOM: usize = 10;
 
-/// Appends the body that answers a query with a tel URI, of at most 10 bytes more than the URI. The bytes of a
-/// tel URI are letters, digits and marks of the grammar, none of them a quote, a backslash or a control byte, so
-/// none has to be escaped (`uris_need_no_escape` of `api`).
+/// Appends the body that answers a query with a tel URI, of at most 10 bytes more than the URI. The
+/// bytes of a tel URI are letters, digits and marks of the grammar, none of them a quote, a
+/// backslash or a control byte, so none has to be escaped (`uris_need_no_escape` of `api`).
 #[tactic(auto, unfolding(crate::specs::Texts::uri_text))]
 pub fn put_uri(out: &mut String, uri: &str)
     requires { string_len out.old + length uri.now + 10 ≤ string_capacity out.old }

@@ -93,7 +93,8 @@ pub fn put_code(out: &mut String, code: CodeId)
 /// Appends a subject's ten or seven digits.
 pub fn put_subject(out: &mut String, subject: Subject)
     requires { string_len out.old + 10 ≤ string_capacity out.old }
-    ensures bytes { string_bytes out.new ≡ string_bytes out.old ++ subject_text (subject_of subject) }
+    ensures bytes { string_bytes out.new
+        ≡ string_bytes out.old ++ subject_text (subject_of subject) }
     ensures len { string_len out.new ≤ string_len out.old + 10 }
     ensures capacity { string_capacity out.old ≤ string_capacity out.new }
 {

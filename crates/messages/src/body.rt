@@ -27,9 +27,11 @@ pub fn take_held(held: &mut Held, count: usize, body: &mut Vec<u8>)
 fn holds_some<R: Read>(held: &mut Held, reader: &mut R) -> io::Result<bool>
     requires size { vec_len held.old.bytes ≡ 8192 }
     ensures size { vec_len held.new.bytes ≡ 8192 }
-    ensures left { Keeps (input_left held.old (R.remaining reader.old)) (input_left held.new (R.remaining reader.new)) }
+    ensures left { Keeps (input_left held.old (R.remaining reader.old))
+        (input_left held.new (R.remaining reader.new)) }
     ensures some { result ≡ Ok true → 0 < length (held_bytes held.new) }
-    ensures none { result ≡ Ok false → (held_bytes held.new ≡ []) × IsAtEnd (R.remaining reader.new) }
+    ensures none { result ≡ Ok false
+        → (held_bytes held.new ≡ []) × IsAtEnd (R.remaining reader.new) }
 {
     if held.len() > 0 {
         return Ok(true);
@@ -48,8 +50,12 @@ pub fn read_body<R: Read>(
     requires empty { vec_len body.old ≡ 0 }
     requires room { count ≤ vec_capacity body.old }
     ensures size { vec_len held.new.bytes ≡ 8192 }
-    ensures whole { result ≡ Ok true → Consumes (input_left held.old (R.remaining reader.old)) (input_left held.new (R.remaining reader.new)) body.new.items × (length body.new.items ≡ count) }
-    ensures cut { result ≡ Ok false → IfSome (input_left held.old (R.remaining reader.old)) (λ input. length input < count) }
+    ensures whole { result ≡ Ok true
+        → Consumes (input_left held.old (R.remaining reader.old))
+        (input_left held.new (R.remaining reader.new)) body.new.items
+        × (length body.new.items ≡ count) }
+    ensures cut { result ≡ Ok false
+        → IfSome (input_left held.old (R.remaining reader.old)) (λ input. length input < count) }
 {
     'pieces: while body.len() < count {
         if !holds_some(held, reader)? {

@@ -47,11 +47,15 @@ pub fn next_head<R: Read>(
     requires room { length headers.old ≡ 64 }
     requires size { vec_len held.old.bytes ≡ 8192 }
     ensures size { vec_len held.new.bytes ≡ 8192 }
-    ensures left { Keeps (input_left held.old (R.remaining reader.old)) (input_left held.new (R.remaining reader.new)) }
-    ensures head { (spans : RequestSpans) → result ≡ Ok (Front.Head spans) → IsHeadAt (held_bytes held.new) headers.new spans }
+    ensures left { Keeps (input_left held.old (R.remaining reader.old))
+        (input_left held.new (R.remaining reader.new)) }
+    ensures head { (spans : RequestSpans) → result ≡ Ok (Front.Head spans)
+        → IsHeadAt (held_bytes held.new) headers.new spans }
     ensures end { result ≡ Ok Front.End → IsDone (held_bytes held.new) (R.remaining reader.new) }
-    ensures bad { result ≡ Ok Front.Bad → IfSome (input_left held.new (R.remaining reader.new)) HasNoHead }
-    ensures not_blank { result ≡ Ok Front.Bad → IfSome (input_left held.new (R.remaining reader.new)) (λ input. ¬ (IsBlank input)) }
+    ensures bad { result ≡ Ok Front.Bad
+        → IfSome (input_left held.new (R.remaining reader.new)) HasNoHead }
+    ensures not_blank { result ≡ Ok Front.Bad
+        → IfSome (input_left held.new (R.remaining reader.new)) (λ input. ¬ (IsBlank input)) }
 {
     'reads: loop {
         match look_at(held.held(), headers) {

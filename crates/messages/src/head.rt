@@ -48,7 +48,8 @@ pub fn look_at(buf: &[u8], headers: &mut [HeaderSpan]) -> Look
 pub fn find(buf: &[u8], headers: &[HeaderSpan], name: &[u8]) -> Found
     requires within { All (IsHeaderWithin (length buf.now)) headers.now }
     requires lower { lower name.now ≡ name.now }
-    ensures found { IsFound buf.now result (values_in name.now (map (header_bytes buf.now) headers.now)) }
+    ensures found { IsFound buf.now result
+        (values_in name.now (map (header_bytes buf.now) headers.now)) }
     ensures within { IsFoundWithin (length buf.now) result }
 {
     let mut found = Found::Absent;
@@ -85,7 +86,9 @@ pub fn says(buf: &[u8], headers: &[HeaderSpan], name: &[u8], value: &[u8]) -> bo
     requires within { All (IsHeaderWithin (length buf.now)) headers.now }
     requires lower { lower name.now ≡ name.now }
     requires lower_value { lower value.now ≡ value.now }
-    ensures { result ≡ list_any (λ v. bytes_eq (lower v) value.now) (values_in name.now (map (header_bytes buf.now) headers.now)) }
+    ensures { result
+        ≡ list_any (λ v. bytes_eq (lower v) value.now)
+        (values_in name.now (map (header_bytes buf.now) headers.now)) }
 {
     for header in headers {
         if header.name.of(buf).eq_ignore_ascii_case(name)
@@ -114,7 +117,8 @@ pub struct Head {
 /// Reads the fields of a head, or answers `None` where they refuse it.
 pub fn read_head(buf: &[u8], headers: &[HeaderSpan], spans: &RequestSpans) -> Option<Head>
     requires { IsRequestWithin buf.now headers.now spans.now }
-    ensures head { (h : RequestHead) → IsRequestAt buf.now headers.now spans.now h → IsHeadOf buf.now h result }
+    ensures head { (h : RequestHead) → IsRequestAt buf.now headers.now spans.now h
+        → IsHeadOf buf.now h result }
     ensures within { IfSome result (λ head. IsFoundWithin (length buf.now) head.caller) }
 {
     let fields = &headers[..spans.headers];
@@ -136,14 +140,21 @@ pub fn read_head(buf: &[u8], headers: &[HeaderSpan], spans: &RequestSpans) -> Op
     })
 }
 
-/// A head that was found is the head of the whole input, and it is no other; where none is in the first 8,192 bytes or in all
-/// there is, none is at all. Empty lines alone have no head.
+/// A head that was found is the head of the whole input, and it is no other; where none is in the
+/// first 8,192 bytes or in all there is, none is at all. Empty lines alone have no head.
 pub fn heads_of_the_input()
-    ensures found { (buf more : List ℕ) (h : RequestHead) → ReadsRequest buf h (drop (length (print_request h)) buf) → length buf ≤ 8192 → length h.fields ≤ 64
+    ensures found { (buf more : List ℕ) (h : RequestHead)
+        → ReadsRequest buf h (drop (length (print_request h)) buf) → length buf ≤ 8192
+        → length h.fields ≤ 64
         → HasHead (buf ++ more) h (drop (length (print_request h)) (buf ++ more)) }
-    ensures only { (s : List ℕ) (h k : RequestHead) (r q : List ℕ) → HasHead s h r → HasHead s k q → (h ≡ k) × (r ≡ q) }
-    ensures full { (buf more : List ℕ) (h : RequestHead) (rest : List ℕ) → length buf ≡ 8192 → HasNoRequest buf → ¬ (HasHead (buf ++ more) h rest) }
-    ensures blank { (buf more : List ℕ) (ends : List LineEnd) → RequestOverflows 64 buf → ¬ (buf ++ more ≡ print_blank ends) }
-    ensures ended { (s : List ℕ) (h : RequestHead) (rest : List ℕ) → HasNoRequest s → ¬ (HasHead s h rest) }
-    ensures begun { (s : List ℕ) (h : RequestHead) (rest : List ℕ) → HasHead s h rest → ¬ (IsBlank s) }
+    ensures only { (s : List ℕ) (h k : RequestHead) (r q : List ℕ) → HasHead s h r → HasHead s k q
+        → (h ≡ k) × (r ≡ q) }
+    ensures full { (buf more : List ℕ) (h : RequestHead) (rest : List ℕ) → length buf ≡ 8192
+        → HasNoRequest buf → ¬ (HasHead (buf ++ more) h rest) }
+    ensures blank { (buf more : List ℕ) (ends : List LineEnd) → RequestOverflows 64 buf
+        → ¬ (buf ++ more ≡ print_blank ends) }
+    ensures ended { (s : List ℕ) (h : RequestHead) (rest : List ℕ) → HasNoRequest s
+        → ¬ (HasHead s h rest) }
+    ensures begun { (s : List ℕ) (h : RequestHead) (rest : List ℕ) → HasHead s h rest
+        → ¬ (IsBlank s) }
 {}

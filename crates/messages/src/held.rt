@@ -95,9 +95,13 @@ impl Held {
     pub(crate) fn fill<R: Read>(&mut self, reader: &mut R) -> io::Result<usize>
         requires { length (held_bytes self.old) < vec_len self.old.bytes }
         ensures size { vec_len self.new.bytes ≡ vec_len self.old.bytes }
-        ensures left { Keeps (input_left self.old (R.remaining reader.old)) (input_left self.new (R.remaining reader.new)) }
-        ensures grows { IfOk result (λ n. length (held_bytes self.new) ≡ length (held_bytes self.old) + n) }
-        ensures end { IfOk result (λ n. n ≡ 0 → IsAtEnd (R.remaining reader.new) × (held_bytes self.new ≡ held_bytes self.old)) }
+        ensures left { Keeps (input_left self.old (R.remaining reader.old))
+            (input_left self.new (R.remaining reader.new)) }
+        ensures grows { IfOk result
+            (λ n. length (held_bytes self.new) ≡ length (held_bytes self.old) + n) }
+        ensures end { IfOk result (λ n. n ≡ 0
+            → IsAtEnd (R.remaining reader.new)
+            × (held_bytes self.new ≡ held_bytes self.old)) }
     {
         self.make_room();
         let start = self.filled;

@@ -1,4 +1,5 @@
-//! Messages of HTTP/1.1, cut out of any reader: heads, paths, callers and bodies, and texts written whole to any writer.
+//! Messages of HTTP/1.1, cut out of any reader: heads, paths, callers and bodies, and texts written
+//! whole to any writer.
 #![tactic(auto)]
 
 mod body;

@@ -71,7 +71,8 @@ fn caller_of(held: &[u8], found: Found) -> Option<Spid>
     }
 }
 
-// What a head says that was found in the held bytes, and how long it is. `BadHead` comes before `TooLarge`.
+// What a head says that was found in the held bytes, and how long it is. `BadHead` comes before
+// `TooLarge`.
 fn request_of(
     held: &[u8],
     headers: &[HeaderSpan],
@@ -81,8 +82,10 @@ fn request_of(
     requires within { IsRequestWithin held.now headers.now spans.now }
     requires router { router.now ≡ table }
     ensures small { IfOk result (λ request. request.length ≤ 1048576) }
-    ensures asks { (h : RequestHead) → IsRequestAt held.now headers.now spans.now h → IfOk result (IsRequestOf h) }
-    ensures refuses { (h : RequestHead) → IsRequestAt held.now headers.now spans.now h → IfErr result (RefusesHead h) }
+    ensures asks { (h : RequestHead) → IsRequestAt held.now headers.now spans.now h
+        → IfOk result (IsRequestOf h) }
+    ensures refuses { (h : RequestHead) → IsRequestAt held.now headers.now spans.now h
+        → IfErr result (RefusesHead h) }
 {
     let Some(head) = read_head(held, headers, spans) else {
         return Err(MessageFault::BadHead);
@@ -99,8 +102,8 @@ fn request_of(
     })
 }
 
-/// An input is cut in one way alone: into one message with its body and what follows it, or into one of
-/// what stands in place of a message.
+/// An input is cut in one way alone: into one message with its body and what follows it, or into
+/// one of what stands in place of a message.
 pub fn cuts_of_the_input()
     ensures { (input : List ℕ) (a b : Cut) → Cuts input a → Cuts input b → a ≡ b }
 {
@@ -132,7 +135,9 @@ pub fn next_held(
     requires router { router.now ≡ table }
     ensures size { vec_len held.new.bytes ≡ 8192 }
     ensures room { length headers.new ≡ 64 }
-    ensures cut { (remaining : Option (List ℕ)) → IsTaken (input_left held.old remaining) result body.new.items (input_left held.new remaining) }
+    ensures cut { (remaining : Option (List ℕ))
+        → IsTaken (input_left held.old remaining) result body.new.items
+        (input_left held.new remaining) }
 {
     let Look::Head(spans) = look_at(held.held(), headers) else {
         return None;
@@ -151,8 +156,8 @@ pub fn next_held(
 
 /// Reads the next message, if there is one: its head, and then its body into `body`.
 ///
-/// A message is refused with `BadHead`, `TooLarge` or `CutBody`, in this order; its path, its method and
-/// its form are judged later.
+/// A message is refused with `BadHead`, `TooLarge` or `CutBody`, in this order; its path, its
+/// method and its form are judged later.
 pub fn next_message<R: Read>(
     held: &mut Held,
     headers: &mut [HeaderSpan],
@@ -165,7 +170,9 @@ pub fn next_message<R: Read>(
     requires router { router.now ≡ table }
     ensures size { vec_len held.new.bytes ≡ 8192 }
     ensures room { length headers.new ≡ 64 }
-    ensures cut { IfOk result (λ next. IfSome (input_left held.old (R.remaining reader.old)) (λ input. IsNext input next body.new.items (input_left held.new (R.remaining reader.new)))) }
+    ensures cut { IfOk result (λ next. IfSome (input_left held.old (R.remaining reader.old))
+        (λ input. IsNext input next body.new.items
+        (input_left held.new (R.remaining reader.new)))) }
 {
     let spans = match next_head(held, headers, reader) {
         Err(_) => return Err(NextFault::Read),

@@ -40,7 +40,8 @@ pub enum Route {
     OnVersion(VersionPath),
     Acknowledge,
     Query,
-    /// A version, by its id, where the path's last part is a number below 2^40 with no zero in front.
+    /// A version, by its id, where the path's last part is a number below 2^40 with no zero in
+    /// front.
     Version(Option<u64>),
     /// A telephone number, by its digits, where the path's last part is such a number.
     Number(Option<u64>),
@@ -59,8 +60,8 @@ pub fn method_of(name: &[u8]) -> Method
     Method::Other
 }
 
-/// Whether a path is there with this method: a version's and a telephone number's with GET, the others with
-/// POST.
+/// Whether a path is there with this method: a version's and a telephone number's with GET, the
+/// others with POST.
 pub fn takes(route: Route, method: Method) -> bool
     ensures { result ≡ takes_method route method }
 {
@@ -88,8 +89,8 @@ pub fn offered(route: Option<Route>, clock: bool) -> Option<Route>
     }
 }
 
-// Puts the paths that are one text into a new router. It is lent: a proof is dear where a value with so
-// deep a destructor is owned across many calls that can fail.
+// Puts the paths that are one text into a new router. It is lent: a proof is dear where a value
+// with so deep a destructor is owned across many calls that can fail.
 fn insert_paths(router: &mut Router<Route>) -> Result<(), InsertError>
     requires { router.old ≡ [] }
     ensures paths { OnOk result (router.new ≡ map fixed first_paths) }

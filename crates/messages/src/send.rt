@@ -10,7 +10,8 @@ use std::io::{ErrorKind, Write};
 /// written.
 pub fn send_all<W: Write>(writer: &mut W, text: &[u8], flushes: bool) -> io::Result<()>
     ensures ok { OnOk result (Appends (W.contents writer.old) (W.contents writer.new) text.now) }
-    ensures err { OnErr result (AppendsFront (W.contents writer.old) (W.contents writer.new) text.now) }
+    ensures err { OnErr result
+        (AppendsFront (W.contents writer.old) (W.contents writer.new) text.now) }
 {
     let mut at = 0;
     'writes: while at < text.len() {

@@ -18,7 +18,8 @@ fn option<'a>(alloc: Global, id: &'a str, required: bool) -> Arg<'a>
 }
 
 fn plain<'a>(alloc: Global, name: &'a str, about: &'a str) -> Result<Command<'a>, AllocError>
-    ensures { IfOk result (λ c. (app_of c ≡ plain_app name.entry.now) × ((out-Command c).has_globals ≡ false)) }
+    ensures { IfOk result
+        (λ c. (app_of c ≡ plain_app name.entry.now) × ((out-Command c).has_globals ≡ false)) }
 {
     let command = Command::new(alloc, name).about(about);
     command.arg(option(alloc, "windows", true))
@@ -26,7 +27,8 @@ fn plain<'a>(alloc: Global, name: &'a str, about: &'a str) -> Result<Command<'a>
 
 fn with<'a>(command: Command<'a>, part: Command<'a>) -> Result<Command<'a>, AllocError>
     requires { (out-Command part).has_globals ≡ false }
-    ensures { IfOk result (λ c. app_of c ≡ with_subcommand (app_of command.entry) (app_of part.entry).top) }
+    ensures { IfOk result
+        (λ c. app_of c ≡ with_subcommand (app_of command.entry) (app_of part.entry).top) }
 {
     command.subcommand(part)
 }

@@ -61,9 +61,9 @@ fn is_second<S: AsStr>(words: &[S], name: &str) -> bool
     }
 }
 
-/// Reads the words of a command line, of which the first is the program's name. Where there is no line, the
-/// answer is a text for the user with the exit status: 0 for help, 2 for a fault of the line, 3 where
-/// memory was refused.
+/// Reads the words of a command line, of which the first is the program's name. Where there is no
+/// line, the answer is a text for the user with the exit status: 0 for help, 2 for a fault of the
+/// line, 3 where memory was refused.
 pub fn parse<'a, S: AsStr>(alloc: Global, words: &'a [S]) -> Result<Line<'a>, Usage>
     ensures { IfOk result (IsLine (map S.text words.entry.now)) }
 {

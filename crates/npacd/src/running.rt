@@ -62,7 +62,10 @@ fn feed_to<R: Read, W: Write + Drop>(
     reader: &mut R,
     writer: &mut BufWriter<W>,
 ) -> Result<(), Fault>
-    ensures { (w : WindowsMeant) → Stands (content_of register.old.store.tables) (first_state w) → IfSome (R.remaining reader.old) (λ input. Feeds w input (writer_contents W.contents writer.old) (W.contents (writer_inner writer.new)) (writer_buffer writer.new) result) }
+    ensures { (w : WindowsMeant) → Stands (content_of register.old.store.tables) (first_state w)
+        → IfSome (R.remaining reader.old)
+        (λ input. Feeds w input (writer_contents W.contents writer.old)
+        (W.contents (writer_inner writer.new)) (writer_buffer writer.new) result) }
 {
     let options = Options { clock_route: true };
     let served = serve(alloc, register, &mut NoTicks, &options, reader, writer);
@@ -81,7 +84,9 @@ fn feed<R: Read, W: Write + Drop>(
     reader: &mut R,
     writer: &mut BufWriter<W>,
 ) -> Result<(), Fault>
-    ensures { IfSome (R.remaining reader.old) (λ input. Feeds (windows_of windows.now) input (writer_contents W.contents writer.old) (W.contents (writer_inner writer.new)) (writer_buffer writer.new) result) }
+    ensures { IfSome (R.remaining reader.old) (λ input.
+        Feeds (windows_of windows.now) input (writer_contents W.contents writer.old)
+        (W.contents (writer_inner writer.new)) (writer_buffer writer.new) result) }
 {
     law_of_new_stores();
     let store = MemoryStore::new(alloc);
@@ -140,10 +145,10 @@ fn tell<E: Write>(errors: &mut E, fault: Fault) -> u8 {
     }
 }
 
-/// Carries out the words of a command line, of which the first is the program's name, and gives the exit
-/// status: 0 done, or help; 1 a refused windows file, or input that ended by a message's fault; 2 the
-/// command line; 3 memory, a read or a write. With 1 and 3 one line `npacd: ` and the fault's name goes to
-/// the errors.
+/// Carries out the words of a command line, of which the first is the program's name, and gives the
+/// exit status: 0 done, or help; 1 a refused windows file, or input that ended by a message's
+/// fault; 2 the command line; 3 memory, a read or a write. With 1 and 3 one line `npacd: ` and the
+/// fault's name goes to the errors.
 pub fn run<T: Files + AllocGlobal, R: Read, W: Write, E: Write>(
     rt: &T,
     words: &[String],

@@ -21,7 +21,8 @@ fn offer(alloc: Global, line: u64, out: &mut String) -> Result<(), AllocError> {
 
 static AT_120: Said<'static> = ("NPAC", "/clock", r#"{"minute":120}"#, r#"{"now":120}"#);
 
-// What opens a register, a thousand creates, whose windows end at 120, and the clock at that minute.
+// What opens a register, a thousand creates, whose windows end at 120, and the clock at that
+// minute.
 fn ask_until_120(alloc: Global, texts: &mut Texts) -> Result<(), AllocError> {
     texts.add_rows(alloc, &FIRST_PORT[..5])?;
     for line in 1000..2000 {

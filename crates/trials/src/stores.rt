@@ -106,7 +106,8 @@ fn registered(store: &mut MemoryStore, sample: &Sample) -> Option<[bool; 5]> {
     ])
 }
 
-// Whether a version does, in force, open, and a broadcast, and whether another's download is the last.
+// Whether a version does, in force, open, and a broadcast, and whether another's download is the
+// last.
 fn ported(store: &mut MemoryStore, sample: &Sample) -> Option<[bool; 5]> {
     Some([
         store.version(1).ok()?.is_some(),

@@ -1,4 +1,4 @@
-use Rattle.std.proofs.Common.{◌≡◌, ◌-◌, [], get_or, ap, sym, ◌∙◌, arith, rules}
+use Rattle.std.proofs.Common.{◌≡◌, ◌-◌, [], get_or, sym, ◌∙◌, arith, rules}
 use Rattle.bodies.specs.declared.flat.Member.{Member}
 use Rattle.bodies.specs.declared.flat.Scalar.TheVariants.{Null}
 use Rattle.bodies.proofs.FlatLemmas.{found_at, passed_at}
