@@ -97,9 +97,9 @@ fn read_members<'a>(reader: &mut Reader<'a>) -> Option<Flat<'a>>
     Some(Flat { members })
 }
 
-/// The object that a text is, or `None` where it is no object, an array or an object stands in it,
-/// it has more members than any body, or a number that is none of 19 digits. `Err` is want of
-/// memory.
+/// The object that a text is. `None` where it is no object, an array or an object stands in it, it
+/// has more members than any body, or a number has a sign, a point, an exponent or more than 19
+/// digits. `Err` is want of memory.
 pub fn read_flat<'a>(
     text: &'a str,
     scratch: &'a mut Scratch,
