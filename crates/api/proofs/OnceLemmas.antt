@@ -3,7 +3,7 @@ use Rattle.std.proofs.Common.{◌≡◌, ◌⊎◌, ℕ, List, Bool, true, false
 use Rattle.numbers.specs.declared.spid.Spid.{Spid}
 use Rattle.serde_json.specs.Data.{Data}
 use Rattle.meaning.specs.Reading.{State}
-use Rattle.meaning.specs.Refusals.{Input, Asks, Knows, ShowVersion, Query, Ids}
+use Rattle.meaning.specs.Refusals.{Input, Asks, Knows, Fetch, ShowVersion, Query, Ids}
 use Rattle.meaning.specs.Machine.{Reply, Refused, Known, out}
 use Rattle.telnp.specs.declared.fault.TelFault.{TelFault}
 use Rattle.bodies.specs.declared.fault.Failure.TheVariants.{Uri}
@@ -11,7 +11,7 @@ use Rattle.messages.specs.declared.fault.MessageFault.{MessageFault}
 use Rattle.messages.specs.declared.message.Request.{Request}
 use Rattle.messages.specs.declared.paths.Method.{Method}
 use Rattle.messages.specs.declared.paths.Route.{Route}
-use Rattle.messages.specs.declared.paths.Route.TheVariants.{Carriers, Clock, RoutingNumbers, Codes, OldProviderCreate, NewProviderCreate, OnVersion, Acknowledge, Query as QueryPath, Version, Number}
+use Rattle.messages.specs.declared.paths.Route.TheVariants.{Carriers, Clock, RoutingNumbers, Codes, OldProviderCreate, NewProviderCreate, OnVersion, Acknowledge, Query as QueryPath, Version, Number, Downloads}
 use Rattle.messages.specs.Table.{takes, among_offered}
 use Rattle.calls.specs.Calls.{Wonders, input_of}
 use Rattle.bodies.specs.Forms.{Asked, Calling, Seeking, HasForm, json_of}
@@ -82,6 +82,7 @@ some_number n m e = cc
 asks_once : (route : Route) (body : List ℕ) (a b : Asked) → PathAsks route body a → PathAsks route body b → a ≡ b
 asks_once (Version number) body a b x y = x.3 ∙ ap (λ (id : ℕ). Calling (Wonders (ShowVersion id))) (some_number x.0 y.0 (sym x.1 ∙ y.1)) ∙ sym y.3
 asks_once (Number number) body a b x y = x.4 ∙ ap (λ (tn : ℕ). Calling (Wonders (Ids tn))) (some_number x.0 y.0 (sym x.1 ∙ y.1)) ∙ sym y.4
+asks_once (Downloads count) body a b x y = x.5 ∙ ap (λ (n : ℕ). Calling (Wonders (Fetch n))) (some_number x.0 y.0 (sym x.1 ∙ y.1)) ∙ sym y.5
 asks_once Carriers body a b x y = same_asked Carriers (json_of body) a b x y
 asks_once Clock body a b x y = same_asked Clock (json_of body) a b x y
 asks_once RoutingNumbers body a b x y = same_asked RoutingNumbers (json_of body) a b x y

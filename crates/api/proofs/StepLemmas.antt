@@ -1,6 +1,7 @@
 -- What the machine answers, and what refusals mean for a state.
-use Rattle.std.proofs.Common.{◌≡◌, ◌≢◌, ◌⊎◌, ℕ, ◌<◌, ◌≤◌, List, [], length, Bool, Option, Some, None, Result, Ok, Err, OnOk, OnErr, IfErr, IsSomeAnd, true, false, ◌∷◌, inl, inr, refl, ap, sym, subst, ◌∙◌, arith}
+use Rattle.std.proofs.Common.{◌≡◌, ◌≢◌, ◌⊎◌, ℕ, ◌<◌, ◌≤◌, List, [], length, take, min, Bool, Option, Some, None, Result, Ok, Err, OnOk, OnErr, IfErr, IsSomeAnd, true, false, ◌∷◌, inl, inr, refl, ap, sym, subst, ◌∙◌, arith}
 use Rattle.std.proofs.lemmas.Bool.Decides.{nat_tests}
+use Rattle.std.proofs.lemmas.List.{length-take}
 use Rattle.std.specs.Prelude.{not, ◌==◌, nat_lt, if◌then◌else◌}
 use Rattle.meaning.specs.declared.refusal.Refusal.{Refusal}
 use Rattle.meaning.specs.declared.refusal.Refusal.TheVariants.{UnknownCarrier, NotAdmin, UnknownCode, CarrierTaken, CodeTaken, LrnTaken, BadLrn, InPool, WrongOld, NotFound, NotYours, Busy, WrongStatus, DuePast, DueMismatch, NotConcurred, BeforeDue, ConflictSpent, TooLate, TooEarly, Protected, Contaminated, OpenPorts, BlockTaken, NotQueued, OutOfOrder, ClockBack, Full, Storage, NoMemory}
@@ -8,13 +9,15 @@ use Rattle.meaning.specs.RefusalNumbers.{number_of}
 use Rattle.meaning.specs.Commands.{Command, RegisterCarrier, RegisterRoutingNumber, OpenCode, OldProviderCreate, NewProviderCreate, OnVersion, Donate, Assign, Release}
 use Rattle.meaning.specs.Content.{Content}
 use Rattle.meaning.specs.History.{Commands, Acknowledges}
-use Rattle.meaning.specs.Reading.{State, InForce, all_in_force}
+use Rattle.meaning.specs.Reading.{State, InForce, Download, all_in_force, queue}
 use Rattle.meaning.specs.Refusals.{Input, Question, Moment, Asks, Knows, Fetch, ShowVersion, Query, AllInForce, Waiting, Ids, npac, refusal, tests}
 use Rattle.meaning.specs.Machine.{Reply, Refused as MachineRefused, Moved, Registered, LrnAdded, CodeOpened, Shown, Donated, Known, Fetched, Answered, Rows, Awaited, Found, Answer, out, next, unless_refused, refused_or, reply_of, answer_of, accepted}
 use Rattle.settle.specs.Owing.{Owes, SaysStorage}
 use Rattle.settle.specs.Reads.{HasRisen}
 use Rattle.register.specs.Answers.{Stands, AnswersAs}
 use Rattle.calls.specs.Calls.{Called, Wants, Wonders, Moves, input_of, refused_with, replied}
+use Rattle.api.specs.declared.reply.Counted.{Counted}
+use Rattle.api.specs.Counting.{IsCounted}
 use Rattle.bodies.specs.declared.fault.Failure.{Failure}
 use Rattle.bodies.specs.declared.fault.Failure.TheVariants.{Refused, Uri, Message}
 use Rattle.messages.specs.declared.fault.MessageFault.{MessageFault}
@@ -32,7 +35,7 @@ use Rattle.serde_json.specs.Data.{Data}
 use Rattle.messages.specs.declared.message.Request.{Request}
 use Rattle.messages.specs.declared.paths.Method.{Method}
 use Rattle.messages.specs.declared.paths.Route.{Route}
-use Rattle.messages.specs.declared.paths.Route.TheVariants.{Carriers, Clock, RoutingNumbers, Codes, OldProviderCreate as OldProviderPath, NewProviderCreate as NewProviderPath, OnVersion as VersionPaths, Acknowledge, Query as QueryPath, Version, Number}
+use Rattle.messages.specs.declared.paths.Route.TheVariants.{Carriers, Clock, RoutingNumbers, Codes, OldProviderCreate as OldProviderPath, NewProviderCreate as NewProviderPath, OnVersion as VersionPaths, Acknowledge, Query as QueryPath, Version, Number, Downloads}
 use Rattle.messages.specs.Table.{takes, among_offered}
 use Rattle.bodies.proofs.RefusalLemmas.{text_by_number}
 use Rattle.std.proofs.Math.Nat.{le_trans}
@@ -194,25 +197,73 @@ registered_of : (st : State) (caller : ℕ) (called : Called) (spid : ℕ) (rows
 unfolding out
 registered_of st caller called spid rows e = registered_by st (refusal st (input_of caller called)) (accepted st (input_of caller called)) caller called spid rows e
 
-not_outgrown : (st : State) (caller : ℕ) (c : Called) (reply : Reply) (count : ℕ) → reply ≡ out st (input_of caller c) → ((spid : ℕ) → c ≡ Wants (Commands (RegisterCarrier spid)) → length (all_in_force st) ≡ count) → ¬ (Outgrows count reply)
-not_outgrown st caller c (Registered spid rows) count e counted x =
+-- ---- a carrier's first downloads
+
+no_download : (st : State) (r : Option ℕ) (new : State) (caller : ℕ) (c : Command) (downloads : List Download) → ¬ (Fetched downloads ≡ refused_or r (reply_of st new caller c))
+no_download st (Some k) new caller c downloads e = cc
+no_download st None new caller (RegisterCarrier spid) downloads e = cc
+no_download st None new caller (RegisterRoutingNumber lrn) downloads e = cc
+no_download st None new caller (OpenCode code holder) downloads e = cc
+no_download st None new caller (OldProviderCreate tn old_provider new_provider due authorized) downloads e = cc
+no_download st None new caller (NewProviderCreate tn old_provider new_provider due lrn cic) downloads e = cc
+no_download st None new caller (OnVersion id command) downloads e = cc
+no_download st None new caller (Donate block used lrn cic) downloads e = cc
+no_download st None new caller (Assign block holder lrn cic) downloads e = cc
+no_download st None new caller (Release block) downloads e = cc
+
+-- so many at most were asked for
+abbrev IsFetch : Called → List Download → Type 0
+IsFetch called downloads = (n : ℕ) × (called ≡ Wonders (Fetch n)) × (length downloads ≤ n)
+
+taken_at_most : (n : ℕ) (queued downloads : List Download) → Fetched downloads ≡ Fetched (take n queued) → length downloads ≤ n
+taken_at_most n queued downloads e =
+    let same : downloads ≡ take n queued = cc in
+    let long : length downloads ≡ min n (length queued) = ap length same ∙ length-take n queued in
+    omega (arith, long)
+
+fetched_by : (st : State) (r : Option ℕ) (new : State) (caller : ℕ) (called : Called) (downloads : List Download) → Fetched downloads ≡ refused_or r (answer_of st new (input_of caller called)) → IsFetch called downloads
+fetched_by st (Some k) new caller called downloads e = let x : ⊥ = cc in absurd x
+fetched_by st None new caller (Wants (Commands c)) downloads e = absurd (no_download st None new caller c downloads e)
+fetched_by st None new caller (Wants (Acknowledges id attempt)) downloads e = let x : ⊥ = cc in absurd x
+fetched_by st None new caller (Wonders Knows) downloads e = let x : ⊥ = cc in absurd x
+fetched_by st None new caller (Wonders (Fetch n)) downloads e = (n, refl, taken_at_most n (queue st caller) downloads e)
+fetched_by st None new caller (Wonders (ShowVersion id)) downloads e = let x : ⊥ = cc in absurd x
+fetched_by st None new caller (Wonders (Query tn)) downloads e = let x : ⊥ = cc in absurd x
+fetched_by st None new caller (Wonders AllInForce) downloads e = let x : ⊥ = cc in absurd x
+fetched_by st None new caller (Wonders Waiting) downloads e = let x : ⊥ = cc in absurd x
+fetched_by st None new caller (Wonders (Ids tn)) downloads e = let x : ⊥ = cc in absurd x
+fetched_by st None new caller (Moves minute) downloads e = let x : ⊥ = cc in absurd x
+
+fetched_of : (st : State) (caller : ℕ) (called : Called) (downloads : List Download) → Fetched downloads ≡ out st (input_of caller called) → IsFetch called downloads
+unfolding out
+fetched_of st caller called downloads e = fetched_by st (refusal st (input_of caller called)) (accepted st (input_of caller called)) caller called downloads e
+
+-- ---- what was counted
+
+not_outgrown : (st : State) (caller : ℕ) (c : Called) (reply : Reply) (counted : Counted) → reply ≡ out st (input_of caller c) → IsCounted st c counted → ¬ (Outgrows counted reply)
+not_outgrown st caller c (Registered spid rows) counted e is x =
     let found = registered_of st caller c spid rows e in
     let long : length rows ≡ length (all_in_force st) = ap length found.1 in
-    let many : length (all_in_force st) ≡ count = counted spid found.0 in
-    let lt : count < length rows = x in
+    let many : length (all_in_force st) ≡ counted.rows = is.rows spid found.0 in
+    let lt : counted.rows < length rows = x in
     omega (arith, long, many, lt)
-not_outgrown st caller c (MachineRefused number) count e counted x = x
-not_outgrown st caller c (Moved now) count e counted x = x
-not_outgrown st caller c (LrnAdded lrn spid) count e counted x = x
-not_outgrown st caller c (CodeOpened code spid) count e counted x = x
-not_outgrown st caller c (Shown view) count e counted x = x
-not_outgrown st caller c (Donated block ids) count e counted x = x
-not_outgrown st caller c Known count e counted x = x
-not_outgrown st caller c (Fetched downloads) count e counted x = x
-not_outgrown st caller c (Answered answered) count e counted x = x
-not_outgrown st caller c (Rows rows) count e counted x = x
-not_outgrown st caller c (Awaited subjects) count e counted x = x
-not_outgrown st caller c (Found in_force opened) count e counted x = x
+not_outgrown st caller c (Fetched downloads) counted e is x =
+    let found = fetched_of st caller c downloads e in
+    let most : length downloads ≤ found.0 = found.2 in
+    let many : found.0 ≡ counted.downloads = is.downloads found.0 found.1 in
+    let lt : counted.downloads < length downloads = x in
+    omega (arith, most, many, lt)
+not_outgrown st caller c (MachineRefused number) counted e is x = x
+not_outgrown st caller c (Moved now) counted e is x = x
+not_outgrown st caller c (LrnAdded lrn spid) counted e is x = x
+not_outgrown st caller c (CodeOpened code spid) counted e is x = x
+not_outgrown st caller c (Shown view) counted e is x = x
+not_outgrown st caller c (Donated block ids) counted e is x = x
+not_outgrown st caller c Known counted e is x = x
+not_outgrown st caller c (Answered answered) counted e is x = x
+not_outgrown st caller c (Rows rows) counted e is x = x
+not_outgrown st caller c (Awaited subjects) counted e is x = x
+not_outgrown st caller c (Found in_force opened) counted e is x = x
 
 -- ---- calls
 
@@ -247,12 +298,11 @@ module _ (from to : ℕ) (new : Content) (st : State) (caller : ℕ) (called : C
     refused_carried r mid h blames s = refused_by r (outcome r from to mid new (input_of caller called) h blames st s)
 
     -- and what it answers
-    pub reply_carried : {A : Type 0} (mid : Content) (reply : Reply) (count : ℕ) (result : Result A Failure) (body : List ℕ) → Stands mid st →
-        ((spid : ℕ) → called ≡ Wants (Commands (RegisterCarrier spid)) → length (all_in_force st) ≡ count) →
-        AnswersAs mid new (input_of caller called) (Some reply) → OnOk result (success body ≡ reply_text reply) → OnErr result (Outgrows count reply) →
+    pub reply_carried : {A : Type 0} (mid : Content) (reply : Reply) (counted : Counted) (result : Result A Failure) (body : List ℕ) → Stands mid st → IsCounted st called counted →
+        AnswersAs mid new (input_of caller called) (Some reply) → OnOk result (success body ≡ reply_text reply) → OnErr result (Outgrows counted reply) →
         Carried from to new st caller (Calling called) (told result body)
-    reply_carried mid reply count (Ok done) body s counted h text more = (next st (input_of caller called), inr (taken (success body) (text ∙ ap reply_text (h st s).0)), (h st s).1)
-    reply_carried mid reply count (Err failure) body s counted h text more = absurd (not_outgrown st caller called reply count (h st s).0 counted more)
+    reply_carried mid reply counted (Ok done) body s is h text more = (next st (input_of caller called), inr (taken (success body) (text ∙ ap reply_text (h st s).0)), (h st s).1)
+    reply_carried mid reply counted (Err failure) body s is h text more = absurd (not_outgrown st caller called reply counted (h st s).0 is more)
 
 -- ---- who may ask for the ids of a number
 
@@ -387,20 +437,21 @@ unasked_refused from to new st IsAsked caller result body fault e bad none s =
     let text : told result body ≡ failure_text (Message BadRequest) = ap (λ (o : Result _ Failure). told o body) e ∙ ap (λ (f : MessageFault). failure_text (Message f)) bad in
     (st, inr (inl (none, (text, refl))), s)
 
--- on a path that ends in no id and no number, the body asks
-pub path_carried : (from to : ℕ) (new : Content) (st : State) (route : Route) (caller : ℕ) (body text : List ℕ) → ((number : Option ℕ) → route ≢ Version number) → ((number : Option ℕ) → route ≢ Number number) →
+-- on a path that ends in no id, no telephone number and no count, the body asks
+pub path_carried : (from to : ℕ) (new : Content) (st : State) (route : Route) (caller : ℕ) (body text : List ℕ) → ((number : Option ℕ) → route ≢ Version number) → ((number : Option ℕ) → route ≢ Number number) → ((count : Option ℕ) → route ≢ Downloads count) →
     (after : State) × Calls from to st (BodyAsks route body) caller text after × Stands new after → (after : State) × Calls from to st (PathAsks route body) caller text after × Stands new after
-path_carried from to new st Carriers caller body text other another x = x
-path_carried from to new st Clock caller body text other another x = x
-path_carried from to new st RoutingNumbers caller body text other another x = x
-path_carried from to new st Codes caller body text other another x = x
-path_carried from to new st OldProviderPath caller body text other another x = x
-path_carried from to new st NewProviderPath caller body text other another x = x
-path_carried from to new st (VersionPaths path) caller body text other another x = x
-path_carried from to new st Acknowledge caller body text other another x = x
-path_carried from to new st QueryPath caller body text other another x = x
-path_carried from to new st (Version number) caller body text other another x = absurd (other number refl)
-path_carried from to new st (Number number) caller body text other another x = absurd (another number refl)
+path_carried from to new st Carriers caller body text other another third x = x
+path_carried from to new st Clock caller body text other another third x = x
+path_carried from to new st RoutingNumbers caller body text other another third x = x
+path_carried from to new st Codes caller body text other another third x = x
+path_carried from to new st OldProviderPath caller body text other another third x = x
+path_carried from to new st NewProviderPath caller body text other another third x = x
+path_carried from to new st (VersionPaths path) caller body text other another third x = x
+path_carried from to new st Acknowledge caller body text other another third x = x
+path_carried from to new st QueryPath caller body text other another third x = x
+path_carried from to new st (Version number) caller body text other another third x = absurd (other number refl)
+path_carried from to new st (Number number) caller body text other another third x = absurd (another number refl)
+path_carried from to new st (Downloads count) caller body text other another third x = absurd (third count refl)
 
 pub calls_met : (offered : Bool) (from to : ℕ) (new : Content) (st : State) (request : Request) (route : Route) (caller : Spid) (body text : List ℕ) → from ≤ to → among_offered offered request.route ≡ Some route → takes route request.method ≡ true → request.caller ≡ Some caller →
     (after : State) × Calls from to st (PathAsks route body) caller.number text after × Stands new after → (after : State) × Step offered None from to st request body text after × Stands new after

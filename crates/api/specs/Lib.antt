@@ -1,3 +1,4 @@
+pub mod Counting
 pub mod Plain
 pub mod Run
 pub mod Serving

@@ -25,13 +25,14 @@ use Rattle.messages.specs.declared.fault.MessageFault.TheVariants.{BadRequest, N
 use Rattle.messages.specs.declared.message.Request.{Request}
 use Rattle.messages.specs.declared.paths.Method.{Method}
 use Rattle.messages.specs.declared.paths.Route.{Route}
-use Rattle.messages.specs.declared.paths.Route.TheVariants.{Version, Number}
+use Rattle.messages.specs.declared.paths.Route.TheVariants.{Version, Number, Downloads}
+use Rattle.api.specs.declared.reply.Counted.{Counted}
 use Rattle.bodies.specs.Answer.{answer}
 use Rattle.bodies.specs.Failures.{failure_text}
 use Rattle.bodies.specs.RefusalTexts.{refusal_text}
 use Rattle.bodies.specs.Forms.{Asked, Calling, Seeking, HasForm, json_of}
 use Rattle.messages.specs.Table.{takes, among_offered}
-use Rattle.bodies.specs.Texts.{registered_text, routing_number_text, opened_code_text, ids_text, now_text, view_text, looked_up, uri_text}
+use Rattle.bodies.specs.Texts.{registered_text, routing_number_text, opened_code_text, ids_text, now_text, view_text, downloads_text, looked_up, uri_text}
 
 -- ---- the answers to what was asked, byte for byte
 
@@ -50,7 +51,7 @@ reply_text (Shown None) = []
 reply_text (Moved now) = success (now_text now)
 reply_text (Donated block ids) = []
 reply_text Known = []
-reply_text (Fetched downloads) = []
+reply_text (Fetched downloads) = success (downloads_text downloads)
 reply_text (Answered answered) = []
 reply_text (Rows rows) = []
 reply_text (Awaited subjects) = []
@@ -81,10 +82,11 @@ told (Err failure) body = failure_text failure
 abbrev pub IsShort : (from to : ℕ) → Refusal → Type 0
 IsShort from to refusal = ((refusal ≡ Storage) × HasRisen from to) ⊎ (refusal ≡ NoMemory)
 
--- a registration shows more than so many rows
-abbrev pub Outgrows : ℕ → Reply → Type 0
-Outgrows count (Registered spid rows) = count < length rows
-Outgrows count _ = ⊥
+-- a registration shows more rows, or a carrier's queue more downloads, than were counted
+abbrev pub Outgrows : Counted → Reply → Type 0
+Outgrows counted (Registered spid rows) = counted.rows < length rows
+Outgrows counted (Fetched downloads) = counted.downloads < length downloads
+Outgrows counted _ = ⊥
 
 -- ---- what happens to a state. From and to are the counts of the device's failures before a message and after it
 
@@ -186,10 +188,15 @@ IdAsks number body asked = (id : ℕ) × (number ≡ Some id) × (body ≡ []) �
 abbrev pub NumberAsks : Option ℕ → (body : List ℕ) → Asked → Type 0
 NumberAsks number body asked = (tn : ℕ) × (number ≡ Some tn) × IsTn tn × (body ≡ []) × (asked ≡ Calling (Wonders (Ids tn)))
 
+-- the path ends in a number from 1 to 100, no body comes with it, and so many of the caller's downloads are asked for
+abbrev pub CountAsks : Option ℕ → (body : List ℕ) → Asked → Type 0
+CountAsks count body asked = (n : ℕ) × (count ≡ Some n) × (1 ≤ n) × (n ≤ 100) × (body ≡ []) × (asked ≡ Calling (Wonders (Fetch n)))
+
 -- a message on the path asks this
 abbrev pub PathAsks : Route → (body : List ℕ) → Asked → Type 0
 PathAsks (Version number) body asked = IdAsks number body asked
 PathAsks (Number number) body asked = NumberAsks number body asked
+PathAsks (Downloads count) body asked = CountAsks count body asked
 PathAsks route body asked = BodyAsks route body asked
 
 -- a message that asks nothing is refused; else what it asks is answered

@@ -2,17 +2,16 @@
 ghost use Rattle.std.specs.Prelude.{◌≡◌, ℕ, ◌+◌, ◌*◌, ◌≤◌, List, Some, option_map, true, length, string_bytes, IfOk, IfErr, OnOk};
 ghost use Rattle.meaning.specs.Reading.{State, all_in_force};
 ghost use Rattle.register.specs.Answers.{Stands};
-ghost use Rattle.calls.specs.Calls.{called_of, Wants};
-ghost use Rattle.meaning.specs.Commands.{RegisterCarrier};
-ghost use Rattle.meaning.specs.History.{Commands};
+ghost use Rattle.calls.specs.Calls.{called_of};
 ghost use Rattle.messages.specs.Table.{takes as takes_method, among_offered};
 ghost use Rattle.bodies.specs.Failures.{failure_text};
 ghost use Rattle.bodies.specs.Forms.{Asked as AskedSeen, Calling, asked_of as asked_seen};
 ghost use Rattle.bodies.specs.Rooms.{HasRoom, IsEmpty, IsWritten};
-ghost use Rattle.api.specs.Step.{Step, Meets, Calls, Admits, TurnsAway, BodyAsks, IdAsks, NumberAsks, PathAsks, Carries, Carried, IsShort, told};
+ghost use Rattle.api.specs.Counting.{HasRoomFor, IsCounted};
+ghost use Rattle.api.specs.Step.{Step, Meets, Calls, Admits, TurnsAway, BodyAsks, IdAsks, NumberAsks, CountAsks, PathAsks, Carries, Carried, IsShort, told};
 
 use crate::query::query;
-use crate::reply::{put_refused, put_reply, put_success, take_rows};
+use crate::reply::{Counted, put_refused, put_reply, put_success, take_counted};
 use bodies::{Asked, Failure, Room, asked_of, json};
 use calls::{Call, Command};
 use json::Scratch;
@@ -84,38 +83,59 @@ fn admit<S: Store>(register: &mut Register<S>, caller: Spid, call: &Call) -> Res
     }
 }
 
-// Takes the room for the starting rows of a registration, before it is made: nothing may fail after
-// it.
-fn take_room<S: Store>(
-    register: &mut Register<S>,
-    call: &Call,
-    room: &mut Room,
-) -> Result<usize, Refusal>
-    requires empty { IsEmpty room.old }
-    requires room { HasRoom 512 room.old }
-    ensures empty { IsEmpty room.new }
-    ensures room { HasRoom 512 room.new }
-    ensures rows { IfOk result (λ count. HasRoom (64 + count * 64) room.new) }
+// How many rows a call may show, if it is a registration, or how many downloads it asks for.
+fn count<S: Store>(register: &mut Register<S>, call: &Call) -> Result<Counted, Refusal>
     ensures kept { S.IsUsable register.new.store → (st : State)
         → Stands (S.content register.old.store) st → Stands (S.content register.new.store) st }
     ensures usable { S.IsUsable register.new.store → S.IsUsable register.old.store }
     ensures rises { S.failed register.old.store ≤ S.failed register.new.store }
-    ensures count { IfOk result (λ count. S.IsUsable register.new.store → (st : State)
-        → Stands (S.content register.old.store) st → (spid : ℕ)
-        → called_of call.now ≡ Wants (Commands (RegisterCarrier spid))
-        → length (all_in_force st) ≡ count) }
+    ensures counted { IfOk result (λ counted. S.IsUsable register.new.store → (st : State)
+        → Stands (S.content register.old.store) st → IsCounted st (called_of call.now) counted) }
     ensures short { IfErr result (λ refusal. S.IsUsable register.new.store → (st : State)
         → Stands (S.content register.old.store) st
         → IsShort (S.failed register.old.store) (S.failed register.new.store) refusal) }
 {
     match call {
         Call::Command(Command::RegisterCarrier { .. }) => {
-            let count = count_rows(register)?;
-            take_rows(room, count)?;
-            Ok(count)
+            let rows = count_rows(register)?;
+            Ok(Counted {
+                rows,
+                ..Counted::NONE
+            })
         }
-        _ => Ok(0),
+        Call::Downloads { count } => Ok(Counted {
+            downloads: *count,
+            ..Counted::NONE
+        }),
+        _ => Ok(Counted::NONE),
     }
+}
+
+// Takes the room for the starting rows of a registration, or for a carrier's first downloads,
+// before the call is made: nothing may fail after it.
+fn take_room<S: Store>(
+    register: &mut Register<S>,
+    call: &Call,
+    room: &mut Room,
+) -> Result<Counted, Refusal>
+    requires empty { IsEmpty room.old }
+    requires room { HasRoom 512 room.old }
+    ensures empty { IsEmpty room.new }
+    ensures room { HasRoom 512 room.new }
+    ensures taken { IfOk result (λ counted. HasRoomFor counted room.new) }
+    ensures kept { S.IsUsable register.new.store → (st : State)
+        → Stands (S.content register.old.store) st → Stands (S.content register.new.store) st }
+    ensures usable { S.IsUsable register.new.store → S.IsUsable register.old.store }
+    ensures rises { S.failed register.old.store ≤ S.failed register.new.store }
+    ensures counted { IfOk result (λ counted. S.IsUsable register.new.store → (st : State)
+        → Stands (S.content register.old.store) st → IsCounted st (called_of call.now) counted) }
+    ensures short { IfErr result (λ refusal. S.IsUsable register.new.store → (st : State)
+        → Stands (S.content register.old.store) st
+        → IsShort (S.failed register.old.store) (S.failed register.new.store) refusal) }
+{
+    let counted = count(register, call)?;
+    take_counted(room, counted)?;
+    Ok(counted)
 }
 
 // Makes a call that its caller may make, and writes what it answers.
@@ -138,9 +158,9 @@ fn make<S: Store>(
         (S.content register.new.store) st caller.number (Calling (called_of call.now))
         (told result (string_bytes room.new.body)) }
 {
-    let count = take_room(register, call, room)?;
+    let counted = take_room(register, call, room)?;
     let reply = register.answer(caller, call)?;
-    put_reply(room, &reply, count)
+    put_reply(room, &reply, counted)
 }
 
 // Makes a call, if its caller may make it.
@@ -228,6 +248,26 @@ fn number_asked(number: Option<u64>, body: &[u8]) -> Result<Call, MessageFault>
     }
 }
 
+// The most downloads that are answered at once.
+const MOST_DOWNLOADS: u64 = 100;
+
+// What the path of a carrier's downloads asks. What is no number from 1 to 100, or has a body, asks
+// nothing.
+fn downloads_asked(count: Option<u64>, body: &[u8]) -> Result<Call, MessageFault>
+    ensures ok { IfOk result (λ call. CountAsks count body.now (Calling (called_of call))) }
+    ensures err { IfErr result (λ fault. (fault ≡ MessageFault.BadRequest)
+        × ((asked : AskedSeen) → ¬ (CountAsks count body.now asked))) }
+{
+    match count {
+        Some(count) if 1 <= count && count <= MOST_DOWNLOADS && body.is_empty() => {
+            Ok(Call::Downloads {
+                count: count as usize,
+            })
+        }
+        _ => Err(MessageFault::BadRequest),
+    }
+}
+
 // Carries out what a message asks on a path.
 fn carry_out<S: Store>(
     alloc: Global,
@@ -255,6 +295,7 @@ fn carry_out<S: Store>(
     match route {
         Route::Version(id) => answer(register, caller, &version_asked(id, body)?, room),
         Route::Number(number) => answer(register, caller, &number_asked(number, body)?, room),
+        Route::Downloads(count) => answer(register, caller, &downloads_asked(count, body)?, room),
         _ => carry_out_body(alloc, register, route, caller, body, scratch, room),
     }
 }

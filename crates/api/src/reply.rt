@@ -1,35 +1,51 @@
 //! Writing what a call answered.
 ghost use Rattle.std.specs.Prelude.{◌≡◌, ℕ, ◌+◌, ◌*◌, ◌<◌, ◌≤◌, length, map, string_bytes, IfErr, OnOk, OnErr};
-ghost use Rattle.calls.specs.Calls.{view_of, reply_of, in_force_of};
+ghost use Rattle.calls.specs.Calls.{view_of, reply_of, in_force_of, download_of};
 ghost use Rattle.bodies.specs.Failures.{failure_text};
 ghost use Rattle.bodies.specs.Rooms.{HasRoom, IsEmpty, IsWritten};
-ghost use Rattle.bodies.specs.Texts.{registered_text, ids_text, now_text, view_text};
+ghost use Rattle.bodies.specs.Texts.{registered_text, ids_text, now_text, view_text, downloads_text};
+ghost use Rattle.api.specs.Counting.{HasRoomFor};
 ghost use Rattle.api.specs.Step.{Outgrows, success, reply_text};
 
 use bodies::{
-    Failure, ROW_ROOM, Room, put_failure, put_ids, put_now, put_opened_code, put_registered,
-    put_routing_number, put_version,
+    DOWNLOAD_ROOM, Failure, ROW_ROOM, Room, put_downloads, put_failure, put_ids, put_now,
+    put_opened_code, put_registered, put_routing_number, put_version,
 };
 use calls::{Ids, Reply, VersionView};
+use delivery::{Download, RoutedRow};
 use meaning::Refusal;
 use numbers::{Minute, Spid};
-use settle::RoutedRow;
 
-// The rows that an answer may show.
-const MOST_ROWS: usize = 1 << 40;
+// The rows, or downloads, that an answer may show.
+const MOST: usize = 1 << 40;
 
-/// Takes the room for a body of so many rows.
-pub fn take_rows(room: &mut Room, count: usize) -> Result<(), Refusal>
+/// How many rows an answer may show, and how many downloads.
+#[derive(Clone, Copy, Debug)]
+pub struct Counted {
+    pub rows: usize,
+    pub downloads: usize,
+}
+
+impl Counted {
+    /// Neither rows nor downloads.
+    pub const NONE: Counted = Counted {
+        rows: 0,
+        downloads: 0,
+    };
+}
+
+/// Takes the room for a body of so many rows, or of so many downloads.
+pub fn take_counted(room: &mut Room, counted: Counted) -> Result<(), Refusal>
     requires empty { IsEmpty room.old }
-    ensures ok { OnOk result (HasRoom (64 + count * 64) room.new) }
+    ensures ok { OnOk result (HasRoomFor counted room.new) }
     ensures err { IfErr result (λ refusal. refusal ≡ Refusal.NoMemory) }
     ensures empty { IsEmpty room.new }
     ensures room { (n : ℕ) → HasRoom n room.old → HasRoom n room.new }
 {
-    if count > MOST_ROWS {
+    if counted.rows > MOST || counted.downloads > MOST {
         return Err(Refusal::NoMemory);
     }
-    room.take(64 + count * ROW_ROOM)?;
+    room.take(64 + counted.rows * ROW_ROOM + counted.downloads * DOWNLOAD_ROOM)?;
     Ok(())
 }
 
@@ -39,21 +55,40 @@ fn put_starting_rows(
     room: &mut Room,
     spid: Spid,
     rows: &[RoutedRow],
-    count: usize,
+    counted: Counted,
 ) -> Result<(), Failure>
     requires empty { IsEmpty room.old }
     requires room { HasRoom 512 room.old }
-    requires rows { HasRoom (64 + count * 64) room.old }
+    requires counted { HasRoomFor counted room.old }
     ensures ok { OnOk result (IsWritten room.new) }
     ensures room { HasRoom 512 room.new }
     ensures body { OnOk result
         (string_bytes room.new.body ≡ registered_text spid.number (map in_force_of rows.now)) }
-    ensures more { OnErr result (count < length rows.now) }
+    ensures more { OnErr result (counted.rows < length rows.now) }
 {
-    if rows.len() > count {
+    if rows.len() > counted.rows {
         return Err(Failure::Refused(Refusal::Storage));
     }
     put_registered(&mut room.body, spid, rows);
+    Ok(())
+}
+
+// The room for so many was taken before. More than were asked for never come: that refusal is no
+// message's answer.
+fn put_fetched(room: &mut Room, downloads: &[Download], counted: Counted) -> Result<(), Failure>
+    requires empty { IsEmpty room.old }
+    requires room { HasRoom 512 room.old }
+    requires counted { HasRoomFor counted room.old }
+    ensures ok { OnOk result (IsWritten room.new) }
+    ensures room { HasRoom 512 room.new }
+    ensures body { OnOk result
+        (string_bytes room.new.body ≡ downloads_text (map download_of downloads.now)) }
+    ensures more { OnErr result (counted.downloads < length downloads.now) }
+{
+    if downloads.len() > counted.downloads {
+        return Err(Failure::Refused(Refusal::Storage));
+    }
+    put_downloads(&mut room.body, downloads);
     Ok(())
 }
 
@@ -87,19 +122,21 @@ fn put_moved(room: &mut Room, now: Minute)
     put_now(&mut room.body, now);
 }
 
-/// Writes a reply. It fails alone where a registration shows more rows than were counted.
-pub fn put_reply(room: &mut Room, reply: &Reply, count: usize) -> Result<(), Failure>
+/// Writes a reply. It fails alone where a registration shows more rows than were counted, or more
+/// downloads are shown than were asked for.
+pub fn put_reply(room: &mut Room, reply: &Reply, counted: Counted) -> Result<(), Failure>
     requires empty { IsEmpty room.old }
     requires room { HasRoom 512 room.old }
-    requires rows { HasRoom (64 + count * 64) room.old }
+    requires counted { HasRoomFor counted room.old }
     ensures ok { OnOk result (IsWritten room.new) }
     ensures room { HasRoom 512 room.new }
     ensures text { OnOk result
         (success (string_bytes room.new.body) ≡ reply_text (reply_of reply.now)) }
-    ensures more { OnErr result (Outgrows count (reply_of reply.now)) }
+    ensures more { OnErr result (Outgrows counted (reply_of reply.now)) }
 {
     match reply {
-        Reply::Registered { spid, rows } => put_starting_rows(room, *spid, rows, count),
+        Reply::Registered { spid, rows } => put_starting_rows(room, *spid, rows, counted),
+        Reply::Fetched(downloads) => put_fetched(room, downloads, counted),
         Reply::RoutingNumberRegistered { lrn, spid } => {
             put_routing_number(&mut room.body, *lrn, *spid);
             Ok(())

@@ -9,7 +9,7 @@ use Rattle.meaning.specs.Commands.{Command, VersionCommand, RegisterCarrier, Reg
 use Rattle.meaning.specs.History.{Commands}
 use Rattle.calls.specs.Calls.{Wants, Moves}
 use Rattle.messages.specs.declared.paths.Route.{Route}
-use Rattle.messages.specs.declared.paths.Route.TheVariants.{Carriers, Clock, RoutingNumbers, Codes, OldProviderCreate as OldProviderPath, NewProviderCreate as NewProviderPath, OnVersion as VersionPaths, Acknowledge, Query, Version, Number}
+use Rattle.messages.specs.declared.paths.Route.TheVariants.{Carriers, Clock, RoutingNumbers, Codes, OldProviderCreate as OldProviderPath, NewProviderCreate as NewProviderPath, OnVersion as VersionPaths, Acknowledge, Query, Version, Number, Downloads}
 use Rattle.messages.specs.declared.paths.VersionPath.{VersionPath}
 use Rattle.messages.specs.declared.paths.VersionPath.TheVariants.{Activate as ActivatePath, PutInConflict as PutInConflictPath, RemoveFromConflict as RemoveFromConflictPath, Cancel as CancelPath, OldProviderCancellationAcknowledge as OldAcknowledgePath, NewProviderCancellationAcknowledge as NewAcknowledgePath, Disconnect as DisconnectPath}
 use Rattle.bodies.specs.Forms.{Asked, Calling, Seeking, HasRelease, HasVersionCommand, text, whole, HasSpid, HasTn, HasLrn, HasCode, HasCic, HasCommand, HasOrder, HasValues, HasForm, is_left_out, flag}
@@ -112,6 +112,7 @@ same_command Query d b c x y = absurd x
 same_command Clock d b c x y = absurd x
 same_command (Version id) d b c x y = absurd x
 same_command (Number tn) d b c x y = absurd x
+same_command (Downloads count) d b c x y = absurd x
 
 same_order : (route : Route) (d : Data) (a b : Asked) → HasOrder route d a → HasOrder route d b → a ≡ b
 same_order route d a b x y = x.2 ∙ ap (λ (c : Command). Calling (Wants (Commands c))) (same_command route d x.0 y.0 x.1 y.1) ∙ sym y.2
@@ -122,6 +123,7 @@ same_values Query d a b x y = x.2 ∙ ap Seeking (same_said (text (codes "uri") 
 same_values Clock d a b x y = x.2 ∙ ap (λ (m : ℕ). Calling (Moves m)) (same_said (whole (codes "minute") d) x.0 y.0 x.1 y.1) ∙ sym y.2
 same_values (Version id) d a b x y = absurd x
 same_values (Number tn) d a b x y = absurd x
+same_values (Downloads count) d a b x y = absurd x
 same_values Carriers d a b x y = same_order Carriers d a b x y
 same_values RoutingNumbers d a b x y = same_order RoutingNumbers d a b x y
 same_values Codes d a b x y = same_order Codes d a b x y

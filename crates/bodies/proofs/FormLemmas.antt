@@ -3,7 +3,7 @@ use Rattle.std.proofs.Common.{◌≡◌, ◌≢◌, ℕ, List, Option, Some, Non
 use Rattle.serde_json.specs.Data.{Data}
 use Rattle.meaning.specs.Commands.{Command}
 use Rattle.messages.specs.declared.paths.Route.{Route}
-use Rattle.messages.specs.declared.paths.Route.TheVariants.{Carriers, Clock, RoutingNumbers, Codes, OldProviderCreate as OldProviderPath, NewProviderCreate as NewProviderPath, OnVersion as VersionPaths, Acknowledge, Query, Version, Number}
+use Rattle.messages.specs.declared.paths.Route.TheVariants.{Carriers, Clock, RoutingNumbers, Codes, OldProviderCreate as OldProviderPath, NewProviderCreate as NewProviderPath, OnVersion as VersionPaths, Acknowledge, Query, Version, Number, Downloads}
 use Rattle.meaning.specs.History.{Commands}
 use Rattle.calls.specs.Calls.{Wants}
 use Rattle.bodies.specs.Forms.{Writes, Asked, Calling, HasPort, HasLrn, HasCic, HasCommand, HasValues}
@@ -30,6 +30,7 @@ no_values Query d a q k h asked x = q refl
 no_values Clock d a q k h asked x = k refl
 no_values (Version id) d a q k h asked x = x
 no_values (Number tn) d a q k h asked x = x
+no_values (Downloads count) d a q k h asked x = x
 
 pub values_of_command : (route : Route) (d : Data) (c : Command) → route ≢ Acknowledge → route ≢ Query → route ≢ Clock → HasCommand route d c → HasValues route d (Calling (Wants (Commands c)))
 values_of_command Carriers d c a q k x = (c, x, refl)
@@ -43,6 +44,7 @@ values_of_command Query d c a q k x = absurd x
 values_of_command Clock d c a q k x = absurd x
 values_of_command (Version id) d c a q k x = absurd x
 values_of_command (Number tn) d c a q k x = absurd x
+values_of_command (Downloads count) d c a q k x = absurd x
 
 pub no_old_create : (d : Data) → ((tn old_provider new_provider due : ℕ) → ¬ (HasPort d tn old_provider new_provider due)) → (c : Command) → ¬ (HasCommand OldProviderPath d c)
 no_old_create d h c x = h x.0 x.1 x.2 x.3 x.5

@@ -3,6 +3,7 @@ mod DigitLemmas
 mod FlatLemmas
 mod FormLemmas
 mod KeyLemmas
+mod ListLemmas
 mod Members
 mod Phrases
 pub mod RefusalLemmas

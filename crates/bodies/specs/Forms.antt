@@ -13,7 +13,7 @@ use Rattle.meaning.specs.History.{Commands, Acknowledges}
 use Rattle.calls.specs.Calls.{Called, Wants, Moves, called_of}
 use Rattle.messages.specs.Table.{below_limit}
 use Rattle.messages.specs.declared.paths.Route.{Route}
-use Rattle.messages.specs.declared.paths.Route.TheVariants.{Carriers, Clock, RoutingNumbers, Codes, OldProviderCreate as OldProviderPath, NewProviderCreate as NewProviderPath, OnVersion as VersionPaths, Acknowledge, Query, Version, Number}
+use Rattle.messages.specs.declared.paths.Route.TheVariants.{Carriers, Clock, RoutingNumbers, Codes, OldProviderCreate as OldProviderPath, NewProviderCreate as NewProviderPath, OnVersion as VersionPaths, Acknowledge, Query, Version, Number, Downloads}
 use Rattle.messages.specs.declared.paths.VersionPath.{VersionPath}
 use Rattle.messages.specs.declared.paths.VersionPath.TheVariants.{Activate as ActivatePath, PutInConflict as PutInConflictPath, RemoveFromConflict as RemoveFromConflictPath, Cancel as CancelPath, OldProviderCancellationAcknowledge as OldAcknowledgePath, NewProviderCancellationAcknowledge as NewAcknowledgePath, Disconnect as DisconnectPath}
 use Rattle.bodies.specs.declared.forms.Asked.{Asked as AskedCode}
@@ -71,6 +71,7 @@ keys Query = codes "uri" ∷ []
 keys Clock = codes "minute" ∷ []
 keys (Version id) = []
 keys (Number tn) = []
+keys (Downloads count) = []
 
 -- ---- what stands under a key
 
@@ -160,17 +161,19 @@ HasCommand Query d c = ⊥
 HasCommand Clock d c = ⊥
 HasCommand (Version id) d c = ⊥
 HasCommand (Number tn) d c = ⊥
+HasCommand (Downloads count) d c = ⊥
 
 abbrev pub HasOrder : Route → Data → Asked → Type 0
 HasOrder route d asked = (c : Command) × HasCommand route d c × (asked ≡ Calling (Wants (Commands c)))
 
--- a path's values. A version's and a telephone number's have no body
+-- a path's values. A version's, a telephone number's and that of the downloads have no body
 abbrev pub HasValues : Route → Data → Asked → Type 0
 HasValues Acknowledge d asked = (id : ℕ) × (attempt : ℕ) × (whole (codes "id") d ≡ Some id) × (whole (codes "attempt") d ≡ Some attempt) × (asked ≡ Calling (Wants (Acknowledges id attempt)))
 HasValues Query d asked = (uri : List ℕ) × (text (codes "uri") d ≡ Some uri) × (asked ≡ Seeking uri)
 HasValues Clock d asked = (minute : ℕ) × (whole (codes "minute") d ≡ Some minute) × (asked ≡ Calling (Moves minute))
 HasValues (Version id) d asked = ⊥
 HasValues (Number tn) d asked = ⊥
+HasValues (Downloads count) d asked = ⊥
 HasValues Carriers d asked = HasOrder Carriers d asked
 HasValues RoutingNumbers d asked = HasOrder RoutingNumbers d asked
 HasValues Codes d asked = HasOrder Codes d asked

@@ -4,7 +4,9 @@ use Rattle.std.specs.List.{flat_map}
 use Rattle.numbers.specs.Texts.{code_text, lrn_text, cic_text, spid_text, subject_text}
 use Rattle.numbers.specs.Routings.{Routing}
 use Rattle.meaning.specs.Statuses.{Status, Pending, Conflict, CancelPending, Sending, Active, PartialFailure, Failed, DisconnectPending, Old, Canceled}
-use Rattle.meaning.specs.Reading.{View, InForce, Phase, Initial, Final, Ended}
+use Rattle.meaning.specs.Reading.{View, InForce, Download, Phase, Initial, Final, Ended}
+use Rattle.meaning.specs.declared.words.Action.{Action}
+use Rattle.meaning.specs.declared.words.Action.TheVariants.{Create, Delete}
 use Rattle.meaning.specs.Machine.{Answer, Closed, Opened}
 use Rattle.telnp.specs.Answer.{Uri, answer_text}
 
@@ -77,6 +79,13 @@ standing_text v = codes ",\"status\":\"" ++ status_word v.status ++ codes "\",\"
 unfoldable pub view_text : View → List ℕ
 view_text v = counts_text v ++ parties_text v ++ times_text v ++ standing_text v
 
+-- ---- lists
+
+-- one after another, with a comma between two
+abbrev pub listed : {A : Type 0} → (A → List ℕ) → List A → List ℕ
+listed text [] = []
+listed text (x ∷ xs) = text x ++ flat_map (λ y. codes "," ++ text y) xs
+
 -- ---- the rows in force
 
 abbrev pub row_text : InForce → List ℕ
@@ -84,17 +93,34 @@ row_text r =
     codes "{\"cic\":" ++ cic_value (cic_in r.routing) ++ codes ",\"lrn\":" ++ lrn_value (lrn_in r.routing)
     ++ codes ",\"subject\":\"" ++ subject_text r.subject ++ codes "\"}"
 
--- a row behind another
-abbrev pub next_row_text : InForce → List ℕ
-next_row_text r = codes "," ++ row_text r
-
-abbrev pub rows_text : List InForce → List ℕ
-rows_text [] = []
-rows_text (r ∷ rs) = row_text r ++ flat_map next_row_text rs
-
 -- a registered carrier, and its starting rows
 unfoldable pub registered_text : ℕ → List InForce → List ℕ
-registered_text spid rows = codes "{\"rows\":[" ++ rows_text rows ++ codes "],\"spid\":\"" ++ spid_text spid ++ codes "\"}"
+registered_text spid rows = codes "{\"rows\":[" ++ listed row_text rows ++ codes "],\"spid\":\"" ++ spid_text spid ++ codes "\"}"
+
+-- ---- downloads, whose members stand in the order of their names
+
+abbrev pub action_word : Action → List ℕ
+action_word Create = codes "create"
+action_word Delete = codes "delete"
+
+-- the members `action` to `id`
+abbrev pub sent_text : Download → List ℕ
+sent_text d =
+    codes "{\"action\":\"" ++ action_word d.action ++ codes "\",\"attempt\":" ++ decimal d.attempt
+    ++ codes ",\"cic\":" ++ cic_value (cic_in d.routing) ++ codes ",\"id\":" ++ decimal d.id
+
+-- the members `lrn` to `subject`
+abbrev pub placed_text : Download → List ℕ
+placed_text d =
+    codes ",\"lrn\":" ++ lrn_value (lrn_in d.routing) ++ codes ",\"minute\":" ++ decimal d.minute
+    ++ codes ",\"subject\":\"" ++ subject_text d.subject ++ codes "\"}"
+
+abbrev pub download_text : Download → List ℕ
+download_text d = sent_text d ++ placed_text d
+
+-- a carrier's first downloads
+unfoldable pub downloads_text : List Download → List ℕ
+downloads_text downloads = codes "{\"downloads\":[" ++ listed download_text downloads ++ codes "]}"
 
 -- ---- what an administrator and a carrier set up
 

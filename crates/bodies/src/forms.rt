@@ -119,7 +119,7 @@ fn keys_of(route: Route) -> &'static [&'static str]
         Route::Acknowledge => &["attempt", "id"],
         Route::Query => &["uri"],
         Route::Clock => &["minute"],
-        Route::Version(_) | Route::Number(_) => &[],
+        Route::Version(_) | Route::Number(_) | Route::Downloads(_) => &[],
     }
 }
 
@@ -256,8 +256,12 @@ fn command_of<F: Fields>(route: Route, fields: &F) -> Option<Command>
         Route::OldProviderCreate => old_provider_create(fields),
         Route::NewProviderCreate => new_provider_create(fields),
         Route::OnVersion(path) => on_version(path, fields),
-        Route::Acknowledge | Route::Query | Route::Clock | Route::Version(_) | Route::Number(_) =>
-            None,
+        Route::Acknowledge
+        | Route::Query
+        | Route::Clock
+        | Route::Version(_)
+        | Route::Number(_)
+        | Route::Downloads(_) => None,
     }
 }
 

@@ -7,6 +7,7 @@ mod fault;
 mod fields;
 mod flat;
 mod forms;
+mod list;
 mod reply;
 mod room;
 
@@ -16,6 +17,6 @@ pub use fault::Failure;
 pub use fields::Fields;
 pub use forms::{Asked, asked_of, body_asks_once};
 pub use reply::{
-    ROW_ROOM, URI_ROOM, put_failure, put_ids, put_now, put_opened_code, put_registered,
-    put_routing_number, put_uri, put_version,
+    DOWNLOAD_ROOM, ROW_ROOM, URI_ROOM, put_downloads, put_failure, put_ids, put_now,
+    put_opened_code, put_registered, put_routing_number, put_uri, put_version,
 };

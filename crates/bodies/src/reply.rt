@@ -1,30 +1,33 @@
 //! The bodies of answers.
 ghost use Rattle.std.specs.Prelude.{◌≡◌, ◌+◌, ◌*◌, ◌≤◌, ◌++◌, length, map, option_map, string_bytes, string_len, string_capacity};
-ghost use Rattle.std.specs.List.{flat_map};
 ghost use Rattle.numbers.specs.declared.cic.Cic.{Cic as CicSeen};
 ghost use Rattle.numbers.specs.declared.lrn.Lrn.{Lrn as LrnSeen};
 ghost use Rattle.numbers.specs.Views.{routing_of};
 ghost use Rattle.meaning.specs.Views.{status_of as status_seen};
 ghost use Rattle.meaning.specs.Reading.{release_of};
 ghost use Rattle.version.specs.Views.{routings_of, phase_seen};
-ghost use Rattle.calls.specs.Calls.{view_of, in_force_of};
+ghost use Rattle.calls.specs.Calls.{view_of, in_force_of, download_of};
 ghost use Rattle.bodies.specs.Answer.{refusal_body};
 ghost use Rattle.bodies.specs.Failures.{failure_body};
-ghost use Rattle.bodies.specs.Texts.{cic_value, lrn_value, number_value, phase_value, status_word, cic_in, lrn_in, counts_text, parties_text, times_text, standing_text, view_text, row_text, next_row_text, rows_text, registered_text, routing_number_text, opened_code_text, ids_text, now_text, uri_text};
+ghost use Rattle.bodies.specs.Texts.{cic_value, lrn_value, number_value, phase_value, status_word, cic_in, lrn_in, counts_text, parties_text, times_text, standing_text, view_text, listed, row_text, registered_text, action_word, sent_text, placed_text, download_text, downloads_text, routing_number_text, opened_code_text, ids_text, now_text, uri_text};
 
 use crate::fault::Failure;
+use crate::list::{Item, put_list};
 use crate::room::{put, put_cic, put_code, put_lrn, put_minute, put_number, put_spid, put_subject};
 use calls::{Ids, VersionView};
+use delivery::{Download, RoutedRow};
 use meaning::{Action, Status};
 use numbers::{Cic, CodeId, Lrn, Minute, Routing, Spid};
-use settle::RoutedRow;
 use version::Phase;
 
 /// The most bytes that a version's body takes.
 pub const VERSION_ROOM: usize = 400;
 
-/// The most bytes that a row in force takes.
+/// The most bytes that a row in force takes, with a comma.
 pub const ROW_ROOM: usize = 64;
+
+/// The most bytes that a download takes, with a comma.
+pub const DOWNLOAD_ROOM: usize = 192;
 
 /// Appends the body of a refusal, of at most 64 bytes.
 pub fn put_failure(out: &mut String, failure: Failure)
@@ -280,58 +283,33 @@ pub fn put_now(out: &mut String, now: Minute)
     put(out, "}");
 }
 
-// One row in force.
-fn put_row(out: &mut String, row: &RoutedRow)
-    requires { string_len out.old + 60 ≤ string_capacity out.old }
-    ensures bytes { string_bytes out.new ≡ string_bytes out.old ++ row_text (in_force_of row.now) }
-    ensures len { string_len out.new ≤ string_len out.old + 60 }
-    ensures capacity { string_capacity out.old ≤ string_capacity out.new }
-{
-    put(out, "{\"cic\":");
-    put_cic_or_null(out, row.routing.cic);
-    put(out, ",\"lrn\":");
-    put_lrn_or_null(out, Some(row.routing.lrn));
-    put(out, ",\"subject\":\"");
-    put_subject(out, row.subject);
-    put(out, "\"}");
-}
+// A row in force.
+impl Item for RoutedRow {
+    ghost text = { λ r. row_text (in_force_of r) };
 
-// A row behind another.
-fn put_next_row(out: &mut String, row: &RoutedRow)
-    requires { string_len out.old + 64 ≤ string_capacity out.old }
-    ensures bytes { string_bytes out.new
-        ≡ string_bytes out.old ++ next_row_text (in_force_of row.now) }
-    ensures len { string_len out.new ≤ string_len out.old + 64 }
-    ensures capacity { string_capacity out.old ≤ string_capacity out.new }
-{
-    put(out, ",");
-    put_row(out, row);
-}
+    ghost room = { 63 };
 
-// The rows behind the first.
-fn put_next_rows(out: &mut String, rows: &[RoutedRow])
-    requires { string_len out.old + length rows.now * 64 ≤ string_capacity out.old }
-    ensures bytes { string_bytes out.new
-        ≡ string_bytes out.old ++ flat_map next_row_text (map in_force_of rows.now) }
-    ensures len { string_len out.new ≤ string_len out.old + length rows.now * 64 }
-    ensures capacity { string_capacity out.old ≤ string_capacity out.new }
-{
-    for row in rows {
-        put_next_row(out, row);
+    fn put(&self, out: &mut String) {
+        put(out, "{\"cic\":");
+        put_cic_or_null(out, self.routing.cic);
+        put(out, ",\"lrn\":");
+        put_lrn_or_null(out, Some(self.routing.lrn));
+        put(out, ",\"subject\":\"");
+        put_subject(out, self.subject);
+        put(out, "\"}");
     }
 }
 
+// Rows in force, one after another.
+#[tactic(auto, using(crate::proofs::ListLemmas::listed_of))]
 fn put_rows(out: &mut String, rows: &[RoutedRow])
     requires { string_len out.old + length rows.now * 64 ≤ string_capacity out.old }
     ensures bytes { string_bytes out.new
-        ≡ string_bytes out.old ++ rows_text (map in_force_of rows.now) }
+        ≡ string_bytes out.old ++ listed row_text (map in_force_of rows.now) }
     ensures len { string_len out.new ≤ string_len out.old + length rows.now * 64 }
     ensures capacity { string_capacity out.old ≤ string_capacity out.new }
 {
-    if let Some((first, rest)) = rows.split_first() {
-        put_row(out, first);
-        put_next_rows(out, rest);
-    }
+    put_list(out, rows);
 }
 
 /// Appends the body that shows a carrier and its starting rows, of at most 64 bytes and 64 for each
@@ -349,6 +327,89 @@ pub fn put_registered(out: &mut String, spid: Spid, rows: &[RoutedRow])
     put(out, "],\"spid\":\"");
     put_spid(out, spid);
     put(out, "\"}");
+}
+
+fn action_text(action: Action) -> &'static str
+    ensures text { result.now ≡ action_word action }
+    ensures len { length result.now ≤ 6 }
+{
+    match action {
+        Action::Create => "create",
+        Action::Delete => "delete",
+    }
+}
+
+// The members `action` to `id`.
+fn put_sent(out: &mut String, download: &Download)
+    requires { string_len out.old + 100 ≤ string_capacity out.old }
+    ensures bytes { string_bytes out.new
+        ≡ string_bytes out.old ++ sent_text (download_of download.now) }
+    ensures len { string_len out.new ≤ string_len out.old + 100 }
+    ensures capacity { string_capacity out.old ≤ string_capacity out.new }
+{
+    put(out, "{\"action\":\"");
+    put(out, action_text(download.action));
+    put(out, "\",\"attempt\":");
+    put_number(out, download.attempt);
+    put(out, ",\"cic\":");
+    put_cic_or_null(out, cic_of(download.routing));
+    put(out, ",\"id\":");
+    put_number(out, download.id);
+}
+
+// The members `lrn` to `subject`.
+fn put_placed(out: &mut String, download: &Download)
+    requires { string_len out.old + 80 ≤ string_capacity out.old }
+    ensures bytes { string_bytes out.new
+        ≡ string_bytes out.old ++ placed_text (download_of download.now) }
+    ensures len { string_len out.new ≤ string_len out.old + 80 }
+    ensures capacity { string_capacity out.old ≤ string_capacity out.new }
+{
+    put(out, ",\"lrn\":");
+    put_lrn_or_null(out, lrn_of(download.routing));
+    put(out, ",\"minute\":");
+    put_minute(out, download.minute);
+    put(out, ",\"subject\":\"");
+    put_subject(out, download.subject);
+    put(out, "\"}");
+}
+
+// A download.
+impl Item for Download {
+    ghost text = { λ d. download_text (download_of d) };
+
+    ghost room = { 191 };
+
+    fn put(&self, out: &mut String) {
+        put_sent(out, self);
+        put_placed(out, self);
+    }
+}
+
+// Downloads, one after another.
+#[tactic(auto, using(crate::proofs::ListLemmas::listed_of))]
+fn put_download_list(out: &mut String, downloads: &[Download])
+    requires { string_len out.old + length downloads.now * 192 ≤ string_capacity out.old }
+    ensures bytes { string_bytes out.new
+        ≡ string_bytes out.old ++ listed download_text (map download_of downloads.now) }
+    ensures len { string_len out.new ≤ string_len out.old + length downloads.now * 192 }
+    ensures capacity { string_capacity out.old ≤ string_capacity out.new }
+{
+    put_list(out, downloads);
+}
+
+/// Appends the body that shows a carrier's first downloads, of at most 64 bytes and 192 for each
+/// download.
+pub fn put_downloads(out: &mut String, downloads: &[Download])
+    requires { string_len out.old + 64 + length downloads.now * 192 ≤ string_capacity out.old }
+    ensures bytes { string_bytes out.new
+        ≡ string_bytes out.old ++ downloads_text (map download_of downloads.now) }
+    ensures len { string_len out.new ≤ string_len out.old + 64 + length downloads.now * 192 }
+    ensures capacity { string_capacity out.old ≤ string_capacity out.new }
+{
+    put(out, "{\"downloads\":[");
+    put_download_list(out, downloads);
+    put(out, "]}");
 }
 
 /// The most bytes that the body of a query's answer takes beside its URI.

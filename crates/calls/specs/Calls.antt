@@ -1,25 +1,25 @@
 -- What the definitions see of calls, replies and refusals.
 use Rattle.std.specs.Prelude.{ℕ, nat_lt, map, Option, Some, None, option_map, if◌then◌else◌}
 use Rattle.std.specs.Prelude.{Result, Ok, Err}
-use Rattle.numbers.specs.Views.{subject_of, routing_of}
+use Rattle.numbers.specs.Views.{subject_of}
 use Rattle.meaning.specs.declared.refusal.Refusal.{Refusal}
 use Rattle.meaning.specs.RefusalNumbers.{number_of}
 use Rattle.meaning.specs.Commands.{Command, RegisterCarrier, RegisterRoutingNumber, OpenCode, OnVersion}
 use Rattle.meaning.specs.Views.{status_of}
-use Rattle.meaning.specs.Reading.{View, InForce, release_of}
+use Rattle.meaning.specs.Reading.{View, release_of}
 use Rattle.meaning.specs.History.{Request, Commands, Acknowledges}
-use Rattle.meaning.specs.Machine.{Reply, Refused, Moved, Registered, LrnAdded, CodeOpened, Shown, Found, Answer, Closed, Opened}
-use Rattle.meaning.specs.Refusals.{Input, Moment, Requests, Asks, Question, ShowVersion, Ids}
+use Rattle.meaning.specs.Machine.{Reply, Refused, Moved, Registered, LrnAdded, CodeOpened, Shown, Found, Fetched, Answer, Closed, Opened}
+use Rattle.meaning.specs.Refusals.{Input, Moment, Requests, Asks, Question, ShowVersion, Fetch, Ids}
 use Rattle.version.specs.Commands.{asked_of}
 use Rattle.version.specs.Creates.{command_of as create_of}
 use Rattle.version.specs.Views.{routings_of, phase_seen}
-use Rattle.settle.specs.declared.rows.RoutedRow.{RoutedRow}
+pub use Rattle.delivery.specs.Mirrors.{in_force_of, download_of}
 use Rattle.calls.specs.declared.call.Command.{Command as CommandCode}
 use Rattle.calls.specs.declared.call.Command.TheVariants.{RegisterCarrier as RegisterCarrierCode, RegisterRoutingNumber as RegisterRoutingNumberCode, OpenCode as OpenCodeCode, Create as CreateCode, OnVersion as OnVersionCode}
 use Rattle.calls.specs.declared.call.Call.{Call}
-use Rattle.calls.specs.declared.call.Call.TheVariants.{Command as CommandCall, Acknowledge as AcknowledgeCall, Version as VersionCall, Number as NumberCall, Clock as ClockCall}
+use Rattle.calls.specs.declared.call.Call.TheVariants.{Command as CommandCall, Acknowledge as AcknowledgeCall, Version as VersionCall, Number as NumberCall, Downloads as DownloadsCall, Clock as ClockCall}
 use Rattle.calls.specs.declared.call.Reply.{Reply as ReplyCode}
-use Rattle.calls.specs.declared.call.Reply.TheVariants.{Registered as RegisteredCode, RoutingNumberRegistered as RoutingNumberRegisteredCode, CodeOpened as CodeOpenedCode, Shown as ShownCode, Found as FoundCode, Moved as MovedCode}
+use Rattle.calls.specs.declared.call.Reply.TheVariants.{Registered as RegisteredCode, RoutingNumberRegistered as RoutingNumberRegisteredCode, CodeOpened as CodeOpenedCode, Shown as ShownCode, Found as FoundCode, Fetched as FetchedCode, Moved as MovedCode}
 use Rattle.calls.specs.declared.view.VersionView.{VersionView}
 use Rattle.calls.specs.declared.view.Answer.{Answer as AnswerCode}
 use Rattle.calls.specs.declared.view.Answer.TheVariants.{Closed as ClosedCode, Open as OpenCodeAnswer}
@@ -45,6 +45,7 @@ called_of (CommandCall command) = Wants (Commands (command_of command))
 called_of (AcknowledgeCall id attempt) = Wants (Acknowledges id attempt)
 called_of (VersionCall id) = Wonders (ShowVersion id)
 called_of (NumberCall tn) = Wonders (Ids tn.number)
+called_of (DownloadsCall count) = Wonders (Fetch count)
 called_of (ClockCall minute) = Moves minute.number
 
 -- the machine's input
@@ -71,10 +72,6 @@ view_of v = record {
   phase = option_map phase_seen v.phase;
 }
 
--- what is in force, with its routing
-abbrev pub in_force_of : RoutedRow → InForce
-in_force_of r = record { subject = subject_of r.subject; routing = Some (routing_of r.routing) }
-
 abbrev pub answer_of : AnswerCode → Answer
 answer_of ClosedCode = Closed
 answer_of (OpenCodeAnswer routing) = Opened (routings_of routing)
@@ -86,6 +83,7 @@ reply_of (RoutingNumberRegisteredCode lrn spid) = LrnAdded lrn.number spid.numbe
 reply_of (CodeOpenedCode code spid) = CodeOpened code.number spid.number
 reply_of (ShownCode view) = Shown (Some (view_of view))
 reply_of (FoundCode ids) = Found ids.in_force ids.opened
+reply_of (FetchedCode downloads) = Fetched (map download_of downloads.items)
 reply_of (MovedCode minute) = Moved minute.number
 
 -- the machine's refusals are those below 29: the device's (29) and want of memory (30) are no answers of its

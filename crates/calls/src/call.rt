@@ -1,7 +1,7 @@
 //! What may be asked, and what is replied.
 use crate::view::{Ids, VersionView};
+use delivery::{Download, RoutedRow};
 use numbers::{CodeId, Lrn, Minute, Spid, Tn};
-use settle::RoutedRow;
 use version::{Create, VersionCommand};
 
 /// What is asked of a register, but for its caller.
@@ -14,6 +14,8 @@ pub enum Call {
     Version { id: u64 },
     /// The ids of a number's versions.
     Number { tn: Tn },
+    /// A carrier's first downloads, so many.
+    Downloads { count: usize },
     /// The clock moves to a minute.
     Clock { minute: Minute },
 }
@@ -46,6 +48,8 @@ pub enum Reply {
     Shown(VersionView),
     /// The ids of a number's versions.
     Found(Ids),
+    /// The first downloads of the caller's queue.
+    Fetched(Vec<Download>),
     /// The present minute.
     Moved(Minute),
 }

@@ -1,3 +1,4 @@
 pub mod Refused
 pub mod Broadcasts
 pub mod Queues
+pub mod Mirrors

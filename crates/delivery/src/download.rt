@@ -2,11 +2,24 @@
 ghost use Rattle.std.specs.Prelude.{◌≡◌, ℕ, List, IfOk, Some, find};
 ghost use Rattle.delivery.specs.Refused.{refusal_in};
 ghost use Rattle.delivery.specs.Queues.{AreKeysOf, has_earlier, is_behind, is_earlier, is_key, key_refusal, queue_refusal};
-ghost use Rattle.numbers.specs.Subjects.{Subject};
-ghost use Rattle.meaning.specs.Reading.{Download};
+ghost use Rattle.numbers.specs.Subjects.{Subject as SubjectSeen};
+ghost use Rattle.meaning.specs.Reading.{Download as DownloadSeen};
 
-use meaning::Refusal;
-use numbers::Minute;
+use meaning::{Action, Refusal};
+use numbers::{Minute, Routing, Subject};
+
+/// A broadcast as a carrier is handed it: a create with the routing that it puts, or a delete.
+#[derive(Clone, Copy, Debug, PartialEq, Eq)]
+pub struct Download {
+    /// The version's id.
+    pub id: u64,
+    pub attempt: u64,
+    /// The minute in which it was sent.
+    pub minute: Minute,
+    pub subject: Subject,
+    pub action: Action,
+    pub routing: Option<Routing>,
+}
 
 /// A download by its broadcast's minute, its version's id and its attempt: the order of a carrier's
 /// queue.
@@ -73,7 +86,7 @@ pub fn may_acknowledge(
     id: u64,
     attempt: u64,
 ) -> Result<DownloadKey, Refusal>
-    ensures refusal { (subject : Subject) (downloads : List Download)
+    ensures refusal { (subject : SubjectSeen) (downloads : List DownloadSeen)
         → AreKeysOf subject waiting.now downloads
         → refusal_in result ≡ queue_refusal downloads id attempt }
     ensures of_keys { refusal_in result ≡ key_refusal waiting.now id attempt }

@@ -3,6 +3,8 @@
 
 mod broadcast;
 mod download;
+mod mirror;
 
 pub use broadcast::Broadcast;
-pub use download::{DownloadKey, may_acknowledge};
+pub use download::{Download, DownloadKey, may_acknowledge};
+pub use mirror::{Mirror, RoutedRow};

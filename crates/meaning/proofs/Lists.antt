@@ -110,6 +110,15 @@ each-among P [] x all is = absurd is
 each-among P (y ∷ ys) x all (inl e) = subst P (sym e) all.0
 each-among P (y ∷ ys) x all (inr is) = each-among P ys x all.1 is
 
+pub each_mapped : {A B : Type 0} (f : A → B) (P : B → Type 0) (xs : List A) → AllByRecursion (λ x. P (f x)) xs → AllByRecursion P (map f xs)
+each_mapped f P [] all = tt
+each_mapped f P (x ∷ xs) all = (all.0, each_mapped f P xs all.1)
+
+-- what holds of whatever is among them holds of each
+pub each_there : {A : Type 0} (P : A → Type 0) (xs : List A) → ((x : A) → Among x xs → P x) → AllByRecursion P xs
+each_there P [] step = tt
+each_there P (x ∷ xs) step = (step x (inl refl), each_there P xs (λ y there. step y (inr there)))
+
 -- what holds of each holds of one that is found
 pub found_has : {A : Type 0} (P : A → Type 0) (test : A → Bool) (xs : List A) (x : A) → AllByRecursion P xs → find test xs ≡ Some x → P x
 found_has P test xs x all found = each-among P xs x all (found-among test xs x found).0

@@ -11,6 +11,7 @@ pub mod Reading
 pub mod OnVersion
 pub mod Refusals
 pub mod Machine
+pub mod Copies
 pub mod Content
 pub mod Laws
 pub mod Due

@@ -1,5 +1,5 @@
 -- The paths of the interface, their methods, and the router's rows, in the order of their texts.
-use Rattle.std.specs.Prelude.{ℕ, ◌^◌, List, [], ◌∷◌, length, take, drop, codes, map, Bool, true, false, not, ◌&&◌, ◌==◌, nat_lt, Option, Some, None, option_and_then, if◌then◌else◌}
+use Rattle.std.specs.Prelude.{ℕ, ◌^◌, List, [], ◌∷◌, length, take, drop, codes, map, Bool, true, false, not, ◌&&◌, ◌==◌, nat_lt, Option, Some, None, option_and_then, option_map, if◌then◌else◌}
 use Rattle.std.specs.List.{list_all}
 use Rattle.std.specs.Option.{option_or}
 use Rattle.std.specs.Str.{bytes_eq}
@@ -9,7 +9,7 @@ use Rattle.messages.specs.Fields.{number_of}
 use Rattle.messages.specs.declared.paths.Method.{Method}
 use Rattle.messages.specs.declared.paths.Method.TheVariants.{Get, Post, Other}
 use Rattle.messages.specs.declared.paths.Route.{Route}
-use Rattle.messages.specs.declared.paths.Route.TheVariants.{Carriers, Clock, RoutingNumbers, Codes, OldProviderCreate, NewProviderCreate, OnVersion, Acknowledge, Query, Version, Number}
+use Rattle.messages.specs.declared.paths.Route.TheVariants.{Carriers, Clock, RoutingNumbers, Codes, OldProviderCreate, NewProviderCreate, OnVersion, Acknowledge, Query, Version, Number, Downloads}
 use Rattle.messages.specs.declared.paths.VersionPath.TheVariants.{Activate, PutInConflict, RemoveFromConflict, Cancel, OldProviderCancellationAcknowledge, NewProviderCancellationAcknowledge, Disconnect}
 
 -- ---- the paths that are one text
@@ -51,7 +51,7 @@ abbrev pub path_among : List (List ℕ × Route) → List ℕ → Option Route
 path_among [] target = None
 path_among (p ∷ ps) target = if bytes_eq p.0 target then Some p.1 else path_among ps target
 
--- ---- the paths that end in a number: `/versions/` or `/numbers/` and one part
+-- ---- the paths that end in a number: `/versions/`, `/numbers/` or `/downloads/` and one part
 
 -- a byte of a part: neither a slash (47) nor a question mark (63)
 abbrev pub is_of_part : ℕ → Bool
@@ -71,21 +71,23 @@ below_limit n = if nat_lt n (2 ^ 40) then Some n else None
 unfoldable pub number_in : List ℕ → Option ℕ
 number_in part = if has_zero_in_front part then None else option_and_then below_limit (number_of part)
 
--- the path of a version, with its id where the part is one
-unfoldable pub version_path : List ℕ → Option Route
-version_path target =
-    if bytes_eq (take 10 target) (codes "/versions/") && is_part (drop 10 target) then Some (Version (number_in (drop 10 target))) else None
+-- what is written behind the prefix, where that is one part: a number, or none
+unfoldable pub number_behind : (prefix : List ℕ) → List ℕ → Option (Option ℕ)
+number_behind prefix target =
+    if bytes_eq (take (length prefix) target) prefix && is_part (drop (length prefix) target) then Some (number_in (drop (length prefix) target)) else None
 
--- the path of a telephone number, with its digits where the part is a number
-unfoldable pub number_path : List ℕ → Option Route
-number_path target =
-    if bytes_eq (take 9 target) (codes "/numbers/") && is_part (drop 9 target) then Some (Number (number_in (drop 9 target))) else None
+-- a version by its id, a telephone number by its digits, or so many downloads
+abbrev pub numbered_path : List ℕ → Option Route
+numbered_path target =
+    option_or (option_map (λ id. Version id) (number_behind (codes "/versions/") target))
+    (option_or (option_map (λ number. Number number) (number_behind (codes "/numbers/") target))
+    (option_map (λ count. Downloads count) (number_behind (codes "/downloads/") target)))
 
 -- ---- all paths
 
--- a path that is one text, or else a version's, or else a telephone number's
+-- a path that is one text, or else one that ends in a number
 unfoldable pub path_of : List ℕ → Option Route
-path_of target = option_or (path_among paths target) (option_or (version_path target) (number_path target))
+path_of target = option_or (path_among paths target) (numbered_path target)
 
 -- ---- methods
 
@@ -102,10 +104,11 @@ is_get Get = true
 is_get Post = false
 is_get Other = false
 
--- whether a path is there with this method: a version and a number are asked for by GET, and all else is by POST
+-- whether a path is there with this method: those that end in a number by GET, and all else by POST
 abbrev pub takes : Route → Method → Bool
 takes (Version number) method = is_get method
 takes (Number number) method = is_get method
+takes (Downloads count) method = is_get method
 takes Carriers method = is_post method
 takes Clock method = is_post method
 takes Codes method = is_post method
@@ -130,6 +133,7 @@ among_offered false (Some NewProviderCreate) = Some NewProviderCreate
 among_offered false (Some OldProviderCreate) = Some OldProviderCreate
 among_offered false (Some (Version number)) = Some (Version number)
 among_offered false (Some (Number number)) = Some (Number number)
+among_offered false (Some (Downloads count)) = Some (Downloads count)
 among_offered false None = None
 
 -- ---- the router's rows

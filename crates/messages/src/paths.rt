@@ -2,7 +2,7 @@
 ghost use Rattle.std.specs.Prelude.{◌≡◌, [], map, IfOk, IfErr, OnOk};
 ghost use Rattle.matchit.specs.declared.error.InsertError.TheVariants.{OutOfMemory};
 ghost use Rattle.std.specs.List.{list_all};
-ghost use Rattle.messages.specs.Table.{table, fixed, first_paths, paths, path_among, path_of, version_path, number_path, number_in, is_of_part, is_part as is_one_part, method_of as method_seen, takes as takes_method, among_offered};
+ghost use Rattle.messages.specs.Table.{table, fixed, first_paths, paths, path_among, path_of, numbered_path, number_behind, number_in, is_of_part, is_part as is_one_part, method_of as method_seen, takes as takes_method, among_offered};
 
 use crate::head::read_number;
 use matchit::{InsertError, Router};
@@ -45,6 +45,8 @@ pub enum Route {
     Version(Option<u64>),
     /// A telephone number, by its digits, where the path's last part is such a number.
     Number(Option<u64>),
+    /// The caller's first downloads, so many, where the path's last part is such a number.
+    Downloads(Option<u64>),
 }
 
 /// The method that a head names.
@@ -60,13 +62,13 @@ pub fn method_of(name: &[u8]) -> Method
     Method::Other
 }
 
-/// Whether a path is there with this method: a version's and a telephone number's with GET, the
-/// others with POST.
+/// Whether a path is there with this method: those that end in a number with GET, the others with
+/// POST.
 pub fn takes(route: Route, method: Method) -> bool
     ensures { result ≡ takes_method route method }
 {
     match route {
-        Route::Version(_) | Route::Number(_) => matches!(method, Method::Get),
+        Route::Version(_) | Route::Number(_) | Route::Downloads(_) => matches!(method, Method::Get),
         Route::Carriers
         | Route::Clock
         | Route::RoutingNumbers
@@ -195,28 +197,30 @@ fn number_of_part(part: &[u8]) -> Option<u64>
     read_number(part).filter(|n| *n < 1 << 40)
 }
 
-// The path of a telephone number.
-#[tactic(auto, unfolding(crate::specs::Table::number_path))]
-fn number_route_of(target: &[u8]) -> Option<Route>
-    ensures { result ≡ number_path target.now }
+// What is written behind a prefix, where that is one part of a path: a number, or none.
+#[tactic(auto, unfolding(crate::specs::Table::number_behind))]
+fn number_behind(target: &[u8], prefix: &[u8]) -> Option<Option<u64>>
+    ensures { result ≡ number_behind prefix.now target.now }
 {
-    let part = target.strip_prefix(b"/numbers/")?;
+    let part = target.strip_prefix(prefix)?;
     if !is_part(part) {
         return None;
     }
-    Some(Route::Number(number_of_part(part)))
+    Some(number_of_part(part))
 }
 
-// The path of a version.
-#[tactic(auto, unfolding(crate::specs::Table::version_path))]
-fn version_route_of(target: &[u8]) -> Option<Route>
-    ensures { result ≡ version_path target.now }
+// The path that ends in a number.
+fn numbered_route_of(target: &[u8]) -> Option<Route>
+    ensures { result ≡ numbered_path target.now }
 {
-    let part = target.strip_prefix(b"/versions/")?;
-    if !is_part(part) {
-        return None;
+    if let Some(id) = number_behind(target, b"/versions/") {
+        return Some(Route::Version(id));
     }
-    Some(Route::Version(number_of_part(part)))
+    if let Some(number) = number_behind(target, b"/numbers/") {
+        return Some(Route::Number(number));
+    }
+    let count = number_behind(target, b"/downloads/")?;
+    Some(Route::Downloads(count))
 }
 
 /// The path of a message's target, if it is one: byte for byte, with no decoding.
@@ -227,9 +231,6 @@ pub fn route_of(router: &Router<Route>, target: &[u8]) -> Option<Route>
 {
     match fixed_route_of(router, target) {
         Some(route) => Some(route),
-        None => match version_route_of(target) {
-            Some(route) => Some(route),
-            None => number_route_of(target),
-        },
+        None => numbered_route_of(target),
     }
 }

@@ -1,5 +1,5 @@
 -- The digits of a number: how many, what they are, and that they tell numbers apart.
-use Rattle.std.proofs.Common.{◌≡◌, ℕ, zero, suc, ◌+◌, ◌-◌, ◌*◌, ◌/◌, ◌%◌, ◌^◌, ◌<◌, ◌≤◌, List, [], ◌∷◌, ◌++◌, length, get_or, take, drop, refl, subst, sym, ◌∙◌, arith, length-append, append_assoc, add-one, lit<}
+use Rattle.std.proofs.Common.{◌≡◌, ℕ, zero, suc, ◌+◌, ◌-◌, ◌*◌, ◌/◌, ◌%◌, ◌^◌, ◌<◌, ◌≤◌, List, [], ◌∷◌, ◌++◌, length, get_or, take, drop, refl, ap, subst, sym, ◌∙◌, arith, length-append, append_assoc, add-one, lit<}
 use Rattle.std.specs.Prelude.{All, IsUtf8}
 use Rattle.std.specs.Char.{IsAsciiDigit}
 use Rattle.std.proofs.lemmas.Str.{IsUtf8-from_ascii}
@@ -7,7 +7,10 @@ use Rattle.std.proofs.lemmas.Str.Ascii.{IsAscii-from_all}
 use Rattle.std.proofs.lemmas.List.{drop-set}
 use Rattle.std.proofs.lemmas.Grind.{pow_more}
 use Rattle.std.proofs.lemmas.List.Elements.{All-nil, All-push}
-use Rattle.std.proofs.Math.Nat.{pow-le-pow_right, pow-suc}
+use Rattle.std.proofs.Math.Nat.{pow-le-pow_right, pow-suc, mod-lt}
+use Rattle.std.proofs.Math.Arith.{mod-mul}
+use Rattle.std.proofs.lemmas.Fmt.{decimal_digit, decimal_step}
+use Rattle.std.specs.Fmt.{decimal}
 use Rattle.std.proofs.Math.ListN.{set}
 use Rattle.std.proofs.Math.Seq.{take-suc}
 use Rattle.numbers.specs.Texts.{digits_of}
@@ -90,3 +93,35 @@ digits_of-written digits (suc place) rest width number first e = absurd (omega a
 pub utf8_digits : (text : List ℕ) (width n : ℕ) → text ≡ digits_of width n → IsUtf8 text
 utf8_digits text width n e =
     subst IsUtf8 (sym e) (utf8_small (digits_of width n) (λ k d inside. let h = digits_of-digits width n k d inside in omega arith))
+
+-- one digit more in decimal
+one_more : (p d r : ℕ) → 0 < p → d < p → r < 10 → p * 10 ≤ 1000000000000000000 → decimal (p * 10 + (d * 10 + r)) ≡ decimal (p + d) ++ (48 + r) ∷ []
+one_more p d r some less one small =
+    let x : ℕ = p * 10 + (d * 10 + r) in
+    let front : x / 10 ≡ p + d = omega arith in
+    let last : x % 10 ≡ r = omega arith in
+    decimal_step x (omega arith) (omega arith) ∙ ap (λ k. decimal k ++ (48 + x % 10) ∷ []) front ∙ ap (λ k. decimal (p + d) ++ (48 + k) ∷ []) last
+
+pub power_some : (width : ℕ) → 0 < 10 ^ width
+power_some zero = omega arith
+power_some (suc width) = omega (arith, pow-suc 10 width, power_some width)
+
+-- with a 1 in front, so many digits are a number's in decimal
+pub decimal_behind_one : (width n : ℕ) → width ≤ 18 → decimal (10 ^ width + n % 10 ^ width) ≡ 49 ∷ digits_of width n
+unfolding digits_of
+decimal_behind_one zero n within = ap decimal one ∙ decimal_digit 1 (omega arith)
+  where
+    one : 10 ^ 0 + n % 10 ^ 0 ≡ 1
+    one = omega arith
+decimal_behind_one (suc width) n within =
+    let power : 10 ^ suc width ≡ 10 ^ width * 10 = pow-suc 10 width in
+    let small : 10 ^ suc width ≤ 1000000000000000000 = pow_small (suc width) within in
+    let some : 0 < 10 ^ width = power_some width in
+    let rest : n % (10 ^ width * 10) ≡ (n / 10 % 10 ^ width) * 10 + n % 10 = mod-mul n some (omega arith) in
+    let less : n / 10 % 10 ^ width < 10 ^ width = mod-lt (n / 10) some in
+    let last : n % 10 < 10 = omega arith in
+    let within_ten : 10 ^ width * 10 ≤ 1000000000000000000 = subst (λ k. k ≤ 1000000000000000000) power small in
+    ap (λ k. decimal (k + n % k)) power
+    ∙ ap (λ k. decimal (10 ^ width * 10 + k)) rest
+    ∙ one_more (10 ^ width) (n / 10 % 10 ^ width) (n % 10) some less last within_ten
+    ∙ ap (λ ds. ds ++ (48 + n % 10) ∷ []) (decimal_behind_one width (n / 10) (omega arith))

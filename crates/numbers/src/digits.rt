@@ -1,8 +1,9 @@
 //! Texts of a fixed number of decimal digits.
 
-ghost use Rattle.std.specs.Prelude.{◌≡◌, ◌≢◌, ℕ, ◌+◌, ◌^◌, ◌<◌, ◌≤◌, ◌++◌, IfSome, IfNone, IsOk, OnOk, OnErr, IsUtf8, length, string_bytes, string_len, string_capacity};
+ghost use Rattle.std.specs.Prelude.{◌≡◌, ◌≢◌, ℕ, ◌+◌, ◌^◌, ◌<◌, ◌≤◌, ◌++◌, IfSome, IfNone, IsOk, OnOk, OnErr, IsAscii, IsUtf8, ◌∷◌, length, string_bytes, string_len, string_capacity};
 ghost use Rattle.numbers.specs.Texts.{digits_of};
 
+use itoa::Buffer;
 use std::alloc::AllocError;
 
 /// The number that a text of so many decimal digits writes.
@@ -24,6 +25,16 @@ pub fn read_digits(text: &str, width: usize) -> Option<u64>
     Some(number)
 }
 
+// So many decimal digits of a number behind a 1, which keeps the leading zeros.
+fn behind_one<const N: usize>(number: u64, buffer: &mut Buffer) -> &str
+    requires { N ≤ 18 }
+    ensures digits { result.now ≡ 49 ∷ digits_of N number }
+    ensures ascii { IsAscii result.now }
+{
+    let power = 10u64.pow(N as u32);
+    buffer.format(power + number % power)
+}
+
 /// Appends so many decimal digits of a number, with leading zeros.
 pub fn write_digits<const N: usize>(number: u64, out: &mut String) -> Result<(), AllocError>
     requires { N ≤ 18 }
@@ -34,13 +45,8 @@ pub fn write_digits<const N: usize>(number: u64, out: &mut String) -> Result<(),
     ensures len { string_len out.new ≤ string_len out.old + N }
     ensures succeeds { string_len out.old + N ≤ string_capacity out.old → IsOk result }
 {
-    let mut digits = [b'0'; N];
-    let mut rest = number;
-    for place in (0..N).rev() {
-        digits[place] = b'0' + (rest % 10) as u8;
-        rest /= 10;
-    }
-    write_bytes(&digits, out)
+    let mut buffer = Buffer::new();
+    out.push_str(&behind_one::<N>(number, &mut buffer)[1..])
 }
 
 /// Appends the bytes of a text.
@@ -53,8 +59,6 @@ pub fn write_bytes(text: &[u8], out: &mut String) -> Result<(), AllocError>
     ensures succeeds { string_len out.old + length text.now ≤ string_capacity out.old
         → IsOk result }
 {
-    match str::from_utf8(text) {
-        Ok(text) => out.push_str(text),
-        Err(_) => unreachable!(),
-    }
+    // The premise is what makes this safe.
+    out.push_str(unsafe { str::from_utf8_unchecked(text) })
 }

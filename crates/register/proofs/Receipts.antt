@@ -6,7 +6,6 @@ use Rattle.numbers.specs.Subjects.{Subject}
 use Rattle.numbers.specs.Views.{subject_of}
 use Rattle.meaning.specs.Views.{status_of}
 use Rattle.meaning.specs.declared.words.Outcome.TheVariants.{Open, SomeAcknowledged}
-use Rattle.meaning.specs.Windows.{Windows}
 use Rattle.meaning.specs.Versions.{Broadcast, Version, sends_create, version_with}
 use Rattle.meaning.specs.History.{Acknowledges, made_by}
 use Rattle.meaning.specs.Reading.{State, View, record_now, view_of}
@@ -75,10 +74,6 @@ answered_seen row after closes gives = go row.is_open refl row.any refl closes g
     go false e true f false gives = gives row.subject (one false true) 0 (with_both false true e f) ∙ sym (ap (answered_row false) (with_both false true e f))
     go false e false f true gives = gives row.subject (one false false) 0 (with_both false false e f) ∙ sym (ap (answered_row true) (with_both false false e f))
     go false e false f false gives = gives row.subject (one false false) 0 (with_both false false e f) ∙ sym (ap (answered_row false) (with_both false false e f))
-
-pub rows_alone : (w : Windows) (minute : ℕ) (o : Option NumberedRow) → retired_rows w minute o ≡ retired_rows w minute o ++ []
-rows_alone w minute None = refl
-rows_alone w minute (Some n) = refl
 
 -- ---- refusals
 

@@ -1,12 +1,14 @@
 //! The downloads that wait.
-ghost use Rattle.std.specs.Prelude.{◌≡◌, Some, None, IfSome, IfOk, OnOk, OnErr, option_map};
+ghost use Rattle.std.specs.Prelude.{◌≡◌, ◌==◌, ℕ, Some, None, IfSome, IfOk, OnOk, OnErr, is_some, option_map};
+ghost use Rattle.std.specs.List.{list_any};
 ghost use Rattle.std.specs.FinMap.{get, empty};
 ghost use Rattle.numbers.specs.Views.{subject_of};
+ghost use Rattle.numbers.specs.declared.spid.Spid.{Spid as SpidCode};
 ghost use Rattle.meaning.specs.Content.{empty_content};
 ghost use Rattle.settle.specs.Reads.{AreWaitsAbout};
 ghost use Rattle.settle.specs.Views.{spid_of, wait_key_of};
 ghost use Rattle.store.specs.Maps.{set};
-ghost use Rattle.store.specs.WaitRows.{download_key_of, download_of, subject_download_of, key_about, is_for};
+ghost use Rattle.store.specs.WaitRows.{download_key_of, download_of, wait_for, subject_download_of, key_about, is_for};
 
 use crate::keys::SubjectDownload;
 use crate::waiting::Waiting;
@@ -102,6 +104,18 @@ impl Waits {
         ensures { option_map subject_of result ≡ get self.now (wait_key_of key) }
     {
         self.rows.get(&broadcast_of(key))?.subject_for(key.carrier)
+    }
+
+    /// The carriers for which the download's broadcast waits.
+    pub fn carriers_of(&self, key: WaitKey) -> &[Spid]
+        ensures { (carrier : ℕ)
+            → is_some (get self.now (wait_for (download_of (wait_key_of key)) carrier))
+            ≡ list_any (λ (k : SpidCode). carrier == k.number) result.now }
+    {
+        match self.rows.get(&broadcast_of(key)) {
+            None => &[],
+            Some(row) => row.carriers.as_slice(),
+        }
     }
 
     /// Puts a download, and hands the subject back if it was there. Where it is refused nothing is

@@ -1,10 +1,9 @@
 //! A store that counts its commits.
 
-use delivery::{Broadcast, DownloadKey};
+use delivery::{Broadcast, Download, DownloadKey, RoutedRow};
 use numbers::{BlockId, CodeId, Lrn, Minute, Spid, Subject};
 use settle::{
-    BlockRow, BroadcastKey, Changes, ClockRow, NumberedRow, RoutedRow, Store, StoreFault,
-    VersionRow, WaitKey,
+    BlockRow, BroadcastKey, Changes, ClockRow, NumberedRow, Store, StoreFault, VersionRow, WaitKey,
 };
 use std::cell::Cell;
 
@@ -76,6 +75,10 @@ impl<S: Store> Store for Counted<'_, S> {
         subject: Subject,
     ) -> Result<Vec<DownloadKey>, StoreFault> {
         self.store.waits_about(spid, subject)
+    }
+
+    fn front(&mut self, spid: Spid, many: usize) -> Result<Vec<Download>, StoreFault> {
+        self.store.front(spid, many)
     }
 
     fn waiters(&mut self, minute: Minute, key: BroadcastKey) -> Result<Vec<Spid>, StoreFault> {

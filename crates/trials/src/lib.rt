@@ -14,11 +14,15 @@ mod delivery_trials;
 #[cfg(test)]
 mod failing;
 #[cfg(test)]
+mod fetching;
+#[cfg(test)]
 mod large;
 #[cfg(test)]
 mod laws;
 #[cfg(test)]
 mod meaning_trials;
+#[cfg(test)]
+mod mirror_trials;
 #[cfg(test)]
 mod numbers_trials;
 #[cfg(test)]

@@ -3,7 +3,7 @@
 use delivery::Broadcast;
 use meaning::{Action, Status};
 use numbers::{BlockId, CodeId, Lrn, Minute, Routing, Spid, Subject, Tn};
-use settle::{BlockRow, BroadcastKey, Changes, Store, VersionRow, WaitKey};
+use settle::{BlockRow, BroadcastKey, Changes, Few, Store, VersionRow, WaitKey};
 use std::alloc::Global;
 use store::MemoryStore;
 use version::Version;
@@ -48,8 +48,8 @@ fn row(sample: &Sample) -> VersionRow {
     VersionRow {
         version,
         deadline: None,
-        holds: Some(sample.subject),
-        opens: None,
+        is_in_force: true,
+        is_open: false,
     }
 }
 
@@ -57,9 +57,9 @@ const KEY: BroadcastKey = BroadcastKey { id: 1, attempt: 1 };
 
 // A version in force and what was sent of it, which one carrier has to acknowledge.
 fn add_version(changes: &mut Changes, sample: &Sample) -> Option<()> {
-    changes.versions.push((1, row(sample))).ok()?;
+    changes.versions = Few::One([(1, row(sample))]);
     let sent = Broadcast::send(Minute::ZERO, sample.subject, Action::Create, None);
-    changes.broadcasts.push((KEY, sent)).ok()?;
+    changes.broadcasts = Few::One([(KEY, sent)]);
     let wait = WaitKey {
         carrier: sample.carrier,
         minute: Minute::ZERO,
@@ -119,16 +119,17 @@ fn ported(store: &mut MemoryStore, sample: &Sample) -> Option<[bool; 5]> {
 }
 
 // How many rows each list has.
-fn listed(store: &mut MemoryStore, sample: &Sample) -> Option<[usize; 5]> {
+fn listed(store: &mut MemoryStore, sample: &Sample) -> Option<[usize; 6]> {
     let about = store
         .waits_about(sample.carrier, sample.subject)
         .ok()?
         .len();
+    let front = store.front(sample.carrier, 10).ok()?.len();
     let waiters = store.waiters(Minute::ZERO, KEY).ok()?.len();
     let carriers = store.carriers().ok()?.len();
     let broadcasts = store.open_broadcasts().ok()?.len();
     let in_force = store.in_force().ok()?.len();
-    Some([about, waiters, carriers, broadcasts, in_force])
+    Some([about, front, waiters, carriers, broadcasts, in_force])
 }
 
 fn is_committed(store: &mut MemoryStore, changes: &Changes) -> bool {
@@ -142,7 +143,7 @@ fn is_read(store: &mut MemoryStore, sample: &Sample, done: bool) -> Option<bool>
     let lists = listed(store, sample)?;
     let are_rows = registered == [false, done, done, done, done];
     let are_versions = ported == [done, done, false, done, !done];
-    Some(are_rows && are_versions && lists == [usize::from(done); 5] && store.failures() == 0)
+    Some(are_rows && are_versions && lists == [usize::from(done); 6] && store.failures() == 0)
 }
 
 fn is_found(alloc: Global) -> Option<bool> {
@@ -163,13 +164,16 @@ type Deadline = (u64, Option<u64>);
 
 fn changes_of(alloc: Global, versions: &[Deadline]) -> Option<Changes> {
     let sample = make_sample()?;
-    let mut changes = Changes::none(alloc);
+    let mut rows = Vec::new(alloc);
     for (id, deadline) in versions {
         let mut row = row(&sample);
         row.deadline = deadline.and_then(Minute::new);
-        changes.versions.push((*id, row)).ok()?;
+        rows.push((*id, row)).ok()?;
     }
-    Some(changes)
+    Some(Changes {
+        versions: Few::Many(rows),
+        ..Changes::none(alloc)
+    })
 }
 
 fn are_committed(alloc: Global, store: &mut MemoryStore, versions: &[Deadline]) -> Option<bool> {

@@ -1,20 +1,13 @@
-use Rattle.std.proofs.Common.{◌∙◌, arith}
-use Rattle.std.proofs.lemmas.Grind.{common_steps}
-use Rattle.numbers.proofs.DigitLemmas.{digits_of-placed, digits_of-written, utf8_digits}
+use Rattle.std.proofs.Common.{◌≡◌, ◌∙◌, length, drop, ap, arith}
+use Rattle.numbers.proofs.DigitLemmas.{length-digits_of}
 use Rattle.numbers.proofs.digits.write_digits.Goals as goal
 
-pub loop-place-preserved : goal.loop-place-preserved
-loop-place-preserved g c = (
-  grind (arith, common_steps),
-  digits_of-placed c.loop-place.digits c.loop-place.place c.loop-place.rest c.loop-place-test.true (omega arith) ∙ c.loop-place.invariant.1,
-)
+pub returns-clause-len : goal.returns-clause-len
+returns-clause-len g c =
+    let n : length c.range_from.result.now ≡ g.row.N = ap length (c.range_from.ensures.value ∙ ap (drop 1) c.behind_one.ensures.digits) ∙ length-digits_of g.row.N c.args.number in
+    grind (arith, c.push_str.ensures.len, n)
 
-pub write_bytes-requires : goal.write_bytes-requires
-write_bytes-requires g c =
-    utf8_digits c.loop-place.digits g.row.N c.args.number
-    (digits_of-written c.loop-place.digits c.loop-place.place c.loop-place.rest g.row.N c.args.number c.loop-place-test.false c.loop-place.invariant.1)
-
-pub returns-clause-ok : goal.returns-clause-ok
-returns-clause-ok g c =
-    let e = digits_of-written c.loop-place.digits c.loop-place.place c.loop-place.rest g.row.N c.args.number c.loop-place-test.false c.loop-place.invariant.1 in
-    rw (← e) c.write_bytes.ensures.ok
+pub returns-clause-succeeds : goal.returns-clause-succeeds
+returns-clause-succeeds g c room =
+    let n : length c.range_from.result.now ≡ g.row.N = ap length (c.range_from.ensures.value ∙ ap (drop 1) c.behind_one.ensures.digits) ∙ length-digits_of g.row.N c.args.number in
+    c.push_str.ensures.succeeds (omega (arith, n, room))

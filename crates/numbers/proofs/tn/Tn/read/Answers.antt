@@ -1,4 +1,4 @@
-use Rattle.std.proofs.Common.{◌≡◌, ◌∙◌, ℕ, Option, Some, None, IfNone, sym, subst}
+use Rattle.std.proofs.Common.{◌≡◌, ◌∙◌, Option, Some, None, IfNone, sym, subst}
 use Rattle.numbers.specs.Digits.{IsTn}
 use Rattle.numbers.proofs.DigitLemmas.{digits_of-injective}
 use Rattle.numbers.proofs.tn.Tn.read.Goals as goal

@@ -1,0 +1,30 @@
+-- What the definitions see of a carrier's own copy, and of what is handed to it.
+use Rattle.std.specs.Prelude.{Option, Some, option_map}
+use Rattle.std.specs.Ordering.{nat_cmp, on}
+use Rattle.std.specs.BTreeMap.{BTreeMap, get}
+use Rattle.numbers.specs.Routings.{Routing}
+use Rattle.numbers.specs.Views.{key_of, subject_of, routing_of}
+use Rattle.numbers.specs.declared.ported.Subject.{Subject as SubjectCode}
+use Rattle.numbers.specs.declared.ported.Routing.{Routing as RoutingCode}
+use Rattle.meaning.specs.Reading.{Download, InForce}
+use Rattle.delivery.specs.declared.download.Download.{Download as DownloadCode}
+use Rattle.delivery.specs.declared.mirror.RoutedRow.{RoutedRow}
+
+-- a download of the code
+abbrev pub download_of : DownloadCode → Download
+download_of d = record {
+  id = d.id;
+  attempt = d.attempt;
+  minute = d.minute.number;
+  subject = subject_of d.subject;
+  action = d.action;
+  routing = option_map routing_of d.routing;
+}
+
+-- what is in force, with its routing
+abbrev pub in_force_of : RoutedRow → InForce
+in_force_of r = record { subject = subject_of r.subject; routing = Some (routing_of r.routing) }
+
+-- where a copy routes a subject
+abbrev pub copied : BTreeMap SubjectCode RoutingCode → SubjectCode → Option Routing
+copied routings s = option_map routing_of (get (on key_of nat_cmp) routings s)

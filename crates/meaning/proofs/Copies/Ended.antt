@@ -1,0 +1,258 @@
+-- In every record all broadcasts of an old version are closed, and where no version in front of an old one is or was in force its last word is that there is no routing.
+use Rattle.std.proofs.Common.{◌≡◌, ℕ, suc, Bool, true, false, not, ◌&&◌, List, [], ◌∷◌, map, Option, Some, None, refl, ap, sym, ◌∙◌, subst}
+use Rattle.std.specs.Prelude.{⊤, ◌==◌, nat_lt, if◌then◌else◌}
+use Rattle.std.specs.List.{AllByRecursion}
+use Rattle.numbers.specs.Subjects.{Subject, Number, Block, subject_eq}
+use Rattle.numbers.specs.Routings.{Routing}
+use Rattle.meaning.specs.Commands.{RegisterCarrier, OldProviderCreate, NewProviderCreate, VersionCommand, OnVersion, Activate, PutInConflict, RemoveFromConflict, Cancel, OldProviderCancellationAcknowledge, NewProviderCancellationAcknowledge, Disconnect, Release}
+use Rattle.meaning.specs.declared.words.Action.{Action}
+use Rattle.meaning.specs.declared.words.Action.TheVariants.{Create, Delete}
+use Rattle.meaning.specs.declared.words.Outcome.{Outcome}
+use Rattle.meaning.specs.declared.words.Outcome.TheVariants.{Open, AllAcknowledged, SomeAcknowledged, NoneAcknowledged}
+use Rattle.meaning.specs.declared.words.Side.TheVariants.{OldProvider, NewProvider}
+use Rattle.meaning.specs.Statuses.{Status, Pending, Conflict, CancelPending, Sending, Active, PartialFailure, DisconnectPending, Failed, Old, Canceled}
+use Rattle.meaning.specs.Windows.{Windows}
+use Rattle.meaning.specs.Versions.{Broadcast, Version, Record, in_force, open_by, sends_create}
+use Rattle.meaning.specs.Changes.{enters, sent, status_after, on_newest, outcome_at_end, completed, acknowledged_by, acknowledged_broadcast, joined_broadcast, nobody_is_missing, changed_at, retired}
+use Rattle.meaning.specs.Judge.{is_over, ended, judged_version, judge}
+use Rattle.meaning.specs.History.{Request, Entry, Commands, Acknowledges, effect, replay, made_by, makes, made_version, with_made, done_to, change_of, cancelled_by, side_of, has_both_creates, with_old_create, lacks_old_create, lacks_new_create, with_new_create, next_after, id_among, donor_of, assigned_block}
+use Rattle.meaning.specs.Reading.{State, record_now}
+use Rattle.meaning.specs.Machine.{IsHistory}
+use Rattle.meaning.specs.Sound.{NoneOpen, ForceIsActive, AreSound}
+use Rattle.meaning.proofs.Small.{true-false, or_first, or_second}
+use Rattle.meaning.proofs.Lists.{everywhere, each, each_two}
+use Rattle.meaning.proofs.Minutes.{retired-never}
+use Rattle.meaning.proofs.Unique.{KeepsActive, respect_active, judged_version-respects}
+use Rattle.meaning.proofs.Ids.{given_apart, all_found}
+use Rattle.meaning.proofs.Entries.{acknowledge-respects}
+use Rattle.meaning.proofs.Entered.{sound_now, given_now}
+use Rattle.meaning.proofs.Moves.{answered_by, judged_kept, done_kept}
+use Rattle.meaning.proofs.Kept.{record_after, kept}
+use Rattle.meaning.proofs.KeptVersions.{versions_kept}
+use Rattle.meaning.proofs.Copies.Told.{AllClosed, Says, IsTold, IsToldAs, told_in, told_kept, closing_says, answered_told, closed_same, says_same, answered_same, joined_same}
+use Rattle.meaning.proofs.Copies.Served.{is_old, is_served, Follows, stays_out, still_served, taker, is_answer, judged_follows, done_follows, made_unserved, closed_sends_none}
+
+-- ---- what an old version's broadcasts keep
+
+module _ (R : List Broadcast → Type 0) (said : (bs : List Broadcast) → Says None bs → R bs)
+    (stays : (f : Broadcast → Broadcast) → ((b : Broadcast) → ((f b).outcome ≡ b.outcome) × ((f b).routing ≡ b.routing)) → (bs : List Broadcast) → R bs → R (map f bs)) where
+  abbrev WhereOld : Version → Type 0
+  WhereOld v = is_old v.status ≡ true → R v.broadcasts
+
+  -- what closes and becomes old was a delete
+  closing_old : (action : Action) (outcome : Outcome) (routing : Option Routing) (bs : List Broadcast) → IsToldAs (Sending action) routing bs → is_old (status_after action outcome) ≡ true →
+      R (on_newest (λ b. record b { outcome = outcome }) bs)
+  closing_old Create Open routing bs told is = cc
+  closing_old Create AllAcknowledged routing bs told is = cc
+  closing_old Create SomeAcknowledged routing bs told is = cc
+  closing_old Create NoneAcknowledged routing bs told is = cc
+  closing_old Delete Open routing bs told is = cc
+  closing_old Delete NoneAcknowledged routing bs told is = cc
+  closing_old Delete AllAcknowledged routing bs told is = said _ (closing_says None (Says routing) (λ xs says. says.0) AllAcknowledged refl refl bs told)
+  closing_old Delete SomeAcknowledged routing bs told is = said _ (closing_says None (Says routing) (λ xs says. says.0) SomeAcknowledged refl refl bs told)
+
+  judged_old : (w : Windows) (everyone : List ℕ) (j : ℕ) (v : Version) → IsTold v → WhereOld v → WhereOld (judged_version w everyone j v)
+  unfolding judged_version
+  judged_old w everyone j v told keeps = go (is_over w j v v.status) v.status refl
+    where
+      go : (b : Bool) (status : Status) → v.status ≡ status → WhereOld (if b then ended everyone j v status else v)
+      go false status e = keeps
+      go true Pending e = λ is. cc
+      go true Conflict e = λ is. cc
+      go true (CancelPending OldProvider) e = λ is. cc
+      go true (CancelPending NewProvider) e = λ is. cc
+      go true (DisconnectPending release) e = λ is. cc
+      go true (Sending action) e = closing_old action (outcome_at_end v.broadcasts) v.routing v.broadcasts (told_in v (Sending action) e told)
+      go true _ e = keeps
+
+  either : (b : Bool) (u v : Version) → WhereOld u → WhereOld v → WhereOld (if b then u else v)
+  either true u v one other = one
+  either false u v one other = other
+
+  cancelled_old : (caller minute : ℕ) (v : Version) → WhereOld v → (status : Status) → WhereOld (cancelled_by status caller minute v)
+  cancelled_old caller minute v keeps Pending = either (has_both_creates v.old_at v.new_at) (enters (CancelPending (side_of caller v.old_provider)) minute v) (enters Canceled minute v) (λ is. cc) (λ is. cc)
+  cancelled_old caller minute v keeps Conflict = either (has_both_creates v.old_at v.new_at) (enters (CancelPending (side_of caller v.old_provider)) minute v) (enters Canceled minute v) (λ is. cc) (λ is. cc)
+  cancelled_old caller minute v keeps Failed = λ is. cc
+  cancelled_old caller minute v keeps (DisconnectPending release) = λ is. cc
+  cancelled_old caller minute v keeps _ = keeps
+
+  change_old : (caller minute : ℕ) (everyone : List ℕ) (c : VersionCommand) (v : Version) → WhereOld v → WhereOld (change_of caller minute everyone c v)
+  change_old caller minute everyone Activate v keeps = λ is. cc
+  change_old caller minute everyone PutInConflict v keeps = λ is. cc
+  change_old caller minute everyone RemoveFromConflict v keeps = λ is. cc
+  change_old caller minute everyone Cancel v keeps = cancelled_old caller minute v keeps v.status
+  change_old caller minute everyone OldProviderCancellationAcknowledge v keeps = λ is. cc
+  change_old caller minute everyone NewProviderCancellationAcknowledge v keeps = λ is. cc
+  change_old caller minute everyone (Disconnect None) v keeps = λ is. cc
+  change_old caller minute everyone (Disconnect (Some release)) v keeps = either (nat_lt minute release) (enters (DisconnectPending release) minute v) (sent Delete everyone minute v) (λ is. cc) (λ is. cc)
+
+  acknowledged_old : (c attempt minute : ℕ) (v : Version) → IsTold v → WhereOld v → WhereOld (acknowledged_by c attempt minute v)
+  acknowledged_old c attempt minute v told keeps =
+      either (nobody_is_missing (answered_by c attempt v).broadcasts) (completed v.status minute (answered_by c attempt v)) (answered_by c attempt v) (go v.status refl) still
+    where
+      still : WhereOld (answered_by c attempt v)
+      still = λ is. stays (acknowledged_broadcast c attempt) (answered_same c attempt) v.broadcasts (keeps is)
+
+      go : (status : Status) → v.status ≡ status → WhereOld (completed status minute (answered_by c attempt v))
+      go (Sending action) e = closing_old action AllAcknowledged v.routing (answered_by c attempt v).broadcasts (answered_told c attempt (Sending action) v.routing v.broadcasts (told_in v (Sending action) e told))
+      go PartialFailure e = λ is. cc
+      go _ e = still
+
+  done_old : (s : Subject) (caller minute : ℕ) (everyone : List ℕ) (request : Request) (v : Version) → IsTold v → WhereOld v → WhereOld (done_to s caller minute everyone request v)
+  done_old s caller minute everyone (Commands (RegisterCarrier spid)) v told keeps = λ is. stays (joined_broadcast spid) (joined_same spid) v.broadcasts (keeps is)
+  done_old s caller minute everyone (Commands (OldProviderCreate tn old_provider new_provider due authorized)) v told keeps =
+      either (subject_eq s (Number tn) && lacks_old_create old_provider new_provider v) (with_old_create authorized minute v) v (by authorized) keeps
+    where
+      by : (b : Bool) → WhereOld (with_old_create b minute v)
+      by true = keeps
+      by false = λ is. cc
+  done_old s caller minute everyone (Commands (NewProviderCreate tn old_provider new_provider due lrn cic)) v told keeps =
+      either (subject_eq s (Number tn) && lacks_new_create old_provider new_provider v) (with_new_create (record { lrn = lrn; cic = cic }) minute v) v keeps keeps
+  done_old s caller minute everyone (Commands (OnVersion id c)) v told keeps = either (v.id == id) (change_of caller minute everyone c v) v (change_old caller minute everyone c v keeps) keeps
+  done_old s caller minute everyone (Commands (Release block)) v told keeps = either (subject_eq s (Block block) && in_force v) (sent Delete everyone minute v) v (λ is. cc) keeps
+  done_old s caller minute everyone (Acknowledges id attempt) v told keeps = either (v.id == id) (acknowledged_by caller attempt minute v) v (acknowledged_old caller attempt minute v told keeps) keeps
+  done_old s caller minute everyone _ v told keeps = keeps
+
+-- ---- the versions of a subject
+
+-- all broadcasts of an old version are closed
+abbrev pub IsClosedWhereOld : Version → Type 0
+IsClosedWhereOld v = is_old v.status ≡ true → AllClosed v.broadcasts
+
+-- the last word of an old version is that there is no routing
+abbrev pub SaysNoneWhereOld : Version → Type 0
+SaysNoneWhereOld v = is_old v.status ≡ true → Says None v.broadcasts
+
+-- of the newest that is or was in force
+abbrev pub LastSaysNone : List Version → Type 0
+LastSaysNone [] = ⊤
+LastSaysNone (v ∷ vs) = SaysNoneWhereOld v × (is_served v.status ≡ false → LastSaysNone vs)
+
+abbrev pub HaveEnded : List Version → Type 0
+HaveEnded vs = AllByRecursion IsClosedWhereOld vs × LastSaysNone vs
+
+sends_open : (s : Subject) (status : Status) → sends_create status ≡ true → open_by s status ≡ true
+sends_open (Number n) (Sending Create) is = refl
+sends_open (Block b) (Sending Create) is = refl
+sends_open s (Sending Delete) is = cc
+sends_open s _ is = cc
+
+module _ (s : Subject) (takes : Bool) (minute : ℕ) (change : Version → Version) where
+  -- among versions none of which is open none takes over
+  behind_mapped : (vs : List Version) → AllByRecursion (Follows takes change) vs → NoneOpen s vs → changed_at minute change vs ≡ map change vs
+  behind_mapped [] steps closed = refl
+  behind_mapped (v ∷ vs) steps closed =
+      ap (λ b. change v ∷ map (retired b minute) (changed_at minute change vs)) (go (in_force v) refl)
+      ∙ ap (λ us. change v ∷ us) (retired-never minute (changed_at minute change vs) ∙ behind_mapped vs steps.1 closed.1)
+    where
+      go : (b : Bool) → in_force v ≡ b → (not b && in_force (change v)) ≡ false
+      go true e = refl
+      go false e = stays_out takes v.status (change v).status steps.0 (closed_sends_none s v.status closed.0) e
+
+  module _ (closed_step : (v : Version) → IsTold v → IsClosedWhereOld v → IsClosedWhereOld (change v)) (none_step : (v : Version) → IsTold v → SaysNoneWhereOld v → SaysNoneWhereOld (change v)) where
+    retired_closed : (b : Bool) (vs : List Version) → AllByRecursion IsTold vs → AllByRecursion IsClosedWhereOld vs → (b ≡ true → AllByRecursion (λ v. in_force (change v) ≡ true → AllClosed (change v).broadcasts) vs) →
+        AllByRecursion IsClosedWhereOld (map (retired b minute) (map change vs))
+    retired_closed b [] told old forced = tt
+    retired_closed b (v ∷ vs) told old forced = (go b (in_force (change v)) refl refl, retired_closed b vs told.1 old.1 (λ e. (forced e).1))
+      where
+        go : (x y : Bool) → b ≡ x → in_force (change v) ≡ y → IsClosedWhereOld (if x && y then enters Old minute (change v) else change v)
+        go true true e f = λ is. (forced e).0 f
+        go true false e f = closed_step v told.0 old.0
+        go false y e f = closed_step v told.0 old.0
+
+    last_mapped : (vs : List Version) → AllByRecursion (Follows takes change) vs → AllByRecursion IsTold vs → LastSaysNone vs → LastSaysNone (map change vs)
+    last_mapped [] steps told last = tt
+    last_mapped (v ∷ vs) steps told last = (none_step v told.0 last.0, λ out. last_mapped vs steps.1 told.1 (last.1 (go (is_served v.status) refl out)))
+      where
+        go : (b : Bool) → is_served v.status ≡ b → is_served (change v).status ≡ false → b ≡ false
+        go true e out = true-false (is_served (change v).status) (still_served takes v.status (change v).status steps.0 e) out
+        go false e out = refl
+
+    -- beside an open version what is in force is active, and its broadcasts are closed
+    active_closed : (vs : List Version) → AllByRecursion (Follows takes change) vs → NoneOpen s vs → ForceIsActive vs → KeepsActive change vs → AllByRecursion (λ v. IsTold (change v)) vs →
+        AllByRecursion (λ v. in_force (change v) ≡ true → AllClosed (change v).broadcasts) vs
+    active_closed [] steps closed active keeps told = tt
+    active_closed (v ∷ vs) steps closed active keeps told = (go (in_force v) refl, active_closed vs steps.1 closed.1 active.1 keeps.1 told.1)
+      where
+        go : (b : Bool) → in_force v ≡ b → in_force (change v) ≡ true → AllClosed (change v).broadcasts
+        go true e now = (told_in (change v) Active (keeps.0 (active.0 e)) told.0).0
+        go false e now = true-false (in_force (change v)) now (stays_out takes v.status (change v).status steps.0 (closed_sends_none s v.status closed.0) e)
+
+    changed_ended : (vs : List Version) → AreSound s vs → AllByRecursion (Follows takes change) vs → AllByRecursion IsTold vs → AllByRecursion (λ v. IsTold (change v)) vs → (takes ≡ true → KeepsActive change vs) → HaveEnded vs →
+        HaveEnded (changed_at minute change vs)
+    changed_ended [] sound steps told after keeps ended = (tt, tt)
+    changed_ended (v ∷ vs) sound steps told after keeps ended =
+        subst (λ us. HaveEnded (change v ∷ map (retired (not (in_force v) && in_force (change v)) minute) us)) (sym (behind_mapped vs steps.1 sound.0))
+        ((closed_step v told.0 ended.0.0, retired_closed (not (in_force v) && in_force (change v)) vs told.1 ended.0.1 forced), (none_step v told.0 ended.1.0, last))
+      where
+        taken : (a b : Bool) → in_force v ≡ a → in_force (change v) ≡ b → (not a && b) ≡ true → (takes ≡ true) × (sends_create v.status ≡ true)
+        taken false true e f is = taker takes v.status (change v).status steps.0 e f
+        taken true b e f is = cc
+        taken false false e f is = cc
+
+        forced : (not (in_force v) && in_force (change v)) ≡ true → AllByRecursion (λ u. in_force (change u) ≡ true → AllClosed (change u).broadcasts) vs
+        forced is =
+            let by = taken (in_force v) (in_force (change v)) refl refl is in
+            active_closed vs steps.1 sound.0 (sound.2 (sends_open s v.status by.1)) (keeps by.0).1 after.1
+
+        drop : (b : Bool) → (b && false) ≡ false
+        drop true = refl
+        drop false = refl
+
+        unserved : (b : Bool) → is_served v.status ≡ b → is_served (change v).status ≡ false → b ≡ false
+        unserved true e out = true-false (is_served (change v).status) (still_served takes v.status (change v).status steps.0 e) out
+        unserved false e out = refl
+
+        last : is_served (change v).status ≡ false → LastSaysNone (map (retired (not (in_force v) && in_force (change v)) minute) (map change vs))
+        last out = subst LastSaysNone
+            (sym (ap (λ b. map (retired b minute) (map change vs)) (ap (λ b. not (in_force v) && b) (or_first (in_force (change v)) (is_old (change v).status) out) ∙ drop (not (in_force v))) ∙ retired-never minute (map change vs)))
+            (last_mapped vs steps.1 told.1 (ended.1.1 (unserved (is_served v.status) refl out)))
+
+-- ---- every record
+
+module _ (w : Windows) (s : Subject) where
+  after_minute : (h : List Entry) (m : ℕ) → IsHistory w h m → HaveEnded (replay w s h m).versions → HaveEnded (judge w (suc m) (replay w s h m)).versions
+  unfolding judge
+  after_minute h m is ended =
+      let r : Record = replay w s h m in
+      let told : AllByRecursion IsTold r.versions = versions_kept told_kept w s h m is in
+      changed_ended s true (suc m) (judged_version w r.carriers (suc m)) (judged_old AllClosed (λ bs says. says.0) closed_same w r.carriers (suc m))
+      (judged_old (Says None) (λ bs says. says) (λ f same. says_same f same None) w r.carriers (suc m)) r.versions
+      (sound_now (record { windows = w; history = h; now = m }) is s) (everywhere (judged_follows w r.carriers (suc m)) r.versions) told
+      (each (λ v p. judged_kept told_kept w r.carriers (suc m) v p) r.versions told) (λ takes. everywhere (λ v. (judged_version-respects s w r.carriers (suc m) v).active) r.versions) ended
+
+  after_entry : (h : List Entry) (e : Entry) → IsHistory w (e ∷ h) e.minute → HaveEnded (replay w s h e.minute).versions → HaveEnded (record_after w s h e).versions
+  unfolding effect
+  after_entry h e is ended =
+      let r : Record = replay w s h e.minute in
+      let st : State = record { windows = w; history = h; now = e.minute } in
+      let told : AllByRecursion IsTold r.versions = versions_kept told_kept w s h e.minute is.3 in
+      with_new (id_among s (next_after (made_by w h)) (makes e.request (record_now st)))
+      (changed_ended s (is_answer e.request) e.minute (done_to s e.caller e.minute r.carriers e.request) (done_old AllClosed (λ bs says. says.0) closed_same s e.caller e.minute r.carriers e.request)
+      (done_old (Says None) (λ bs says. says) (λ f same. says_same f same None) s e.caller e.minute r.carriers e.request) r.versions
+      (sound_now st is.3 s) (done_follows st s (given_now st is.3 s) e.caller r.carriers e.request is.2) told
+      (each_two (λ v found p. done_kept told_kept st is.3 s e.caller e.request is.2 v found p) r.versions (all_found r.versions (given_apart (made_by w h) s r.versions (given_now st is.3 s))) told)
+      (active e.request) ended)
+    where
+      versions : List Version
+      versions = changed_at e.minute (done_to s e.caller e.minute (replay w s h e.minute).carriers e.request) (replay w s h e.minute).versions
+
+      active : (request : Request) → is_answer request ≡ true → KeepsActive (done_to s e.caller e.minute (replay w s h e.minute).carriers request) (replay w s h e.minute).versions
+      active (Acknowledges id attempt) answers =
+          respect_active s (done_to s e.caller e.minute (replay w s h e.minute).carriers (Acknowledges id attempt)) (replay w s h e.minute).versions
+          (acknowledge-respects (record { windows = w; history = h; now = e.minute }) s (given_now (record { windows = w; history = h; now = e.minute }) is.3 s) e.caller id attempt (replay w s h e.minute).carriers)
+      active (Commands command) answers = cc
+
+      made : ℕ → Version
+      made id = made_version id e.caller e.minute (replay w s h e.minute).carriers (donor_of (assigned_block e.request) h) e.request
+
+      fresh : (id : ℕ) → is_old (made id).status ≡ true → ⊥
+      fresh id is_it = true-false (is_old (made id).status) is_it (or_second (in_force (made id)) (is_old (made id).status) (made_unserved id e.caller e.minute (replay w s h e.minute).carriers (donor_of (assigned_block e.request) h) e.request))
+
+      with_new : (o : Option ℕ) → HaveEnded versions → HaveEnded (with_made o made versions)
+      with_new None now = now
+      with_new (Some id) now = ((λ is_it. absurd (fresh id is_it), now.0), (λ is_it. absurd (fresh id is_it), λ out. now.1))
+
+  -- every record of every history
+  pub have_ended : (h : List Entry) (m : ℕ) → IsHistory w h m → HaveEnded (replay w s h m).versions
+  have_ended = kept w s (λ h m r. HaveEnded r.versions) (record { first = λ m. (tt, tt); minute = after_minute; entry = after_entry })

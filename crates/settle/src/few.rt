@@ -1,0 +1,43 @@
+//! Lists that are short as a rule.
+ghost use Rattle.std.specs.Prelude.{◌≡◌, ◌++◌};
+ghost use Rattle.std.specs.Option.{option_to_list};
+ghost use Rattle.settle.specs.Lists.{items_of};
+
+/// A list that takes no memory of its own while it has at most two items.
+#[derive(Debug, Drop)]
+pub enum Few<T> {
+    Empty,
+    One([T; 1]),
+    Two([T; 2]),
+    Many(Vec<T>),
+}
+
+impl<T> Few<T> {
+    /// Those of the two that are there, the first of them first.
+    pub fn of(first: Option<T>, second: Option<T>) -> Few<T>
+        ensures { items_of result ≡ option_to_list first ++ option_to_list second }
+    {
+        match first {
+            None => match second {
+                None => Few::Empty,
+                Some(item) => Few::One([item]),
+            },
+            Some(first) => match second {
+                None => Few::One([first]),
+                Some(second) => Few::Two([first, second]),
+            },
+        }
+    }
+
+    /// The items in their order.
+    pub fn as_slice(&self) -> &[T]
+        ensures { result.now ≡ items_of self.now }
+    {
+        match self {
+            Few::Empty => &[],
+            Few::One(item) => item.as_slice(),
+            Few::Two(items) => items.as_slice(),
+            Few::Many(items) => items.as_slice(),
+        }
+    }
+}

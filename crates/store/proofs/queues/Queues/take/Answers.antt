@@ -1,0 +1,12 @@
+use Rattle.std.proofs.Common.{◌≡◌, true, false, None, refl, sym, subst}
+use Rattle.settle.specs.Views.{wait_key_of}
+use Rattle.store.specs.QueueRows.{AreOrdered, order_of}
+use Rattle.store.proofs.Ordered.{order-written, ordered-set}
+use Rattle.store.proofs.queues.Queues.take.Goals as goal
+
+pub invariant_of-self : goal.invariant_of-self
+invariant_of-self c =
+    subst (λ m. AreOrdered m (order_of c.remove.new.self)) (sym c.take.ensures.taken)
+    (ordered-set c.self.inside.waits (order_of c.self.inside.order) (order_of c.remove.new.self) (wait_key_of c.args.key) c.self.invariant None None refl
+    (λ no. let f : false ≡ true = no in cc)
+    (order-written c.self.inside.order c.remove.new.self c.args.key None c.remove.ensures.updates.0))

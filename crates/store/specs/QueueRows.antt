@@ -1,0 +1,40 @@
+-- The index of the downloads that wait, in the order of the carriers' queues.
+use Rattle.std.specs.Prelude.{◌≡◌, ℕ, true, Option, is_some, option_map}
+use Rattle.std.specs.Ordering.{on}
+use Rattle.std.specs.BTreeMap as tree
+use Rattle.std.specs.BTreeMap.{BTreeMap}
+use Rattle.std.specs.FinMap.{FinMap, get}
+use Rattle.numbers.specs.Subjects.{Subject}
+use Rattle.meaning.specs.Content.{WaitKey, wait_cmp, broadcast_cmp}
+use Rattle.delivery.specs.declared.broadcast.Broadcast.{Broadcast}
+use Rattle.delivery.specs.declared.download.Download.{Download}
+use Rattle.settle.specs.Views.{broadcast_key_of, wait_key_of}
+use Rattle.settle.specs.declared.rows.BroadcastKey.{BroadcastKey as BroadcastKeyCode}
+use Rattle.settle.specs.declared.rows.WaitKey.{WaitKey as WaitKeyCode}
+use Rattle.store.specs.Maps.{map_of}
+use Rattle.store.specs.WaitRows.{IsDownload, download_of}
+
+abbrev pub order_of : BTreeMap WaitKeyCode (Unit {0}) → FinMap wait_cmp (Unit {0})
+order_of m = map_of wait_key_of (λ u. u) m
+
+-- the index has the keys of what waits and no others, and their numbers are those of the code
+pub record AreOrdered (waits : FinMap wait_cmp Subject) (order : FinMap wait_cmp (Unit {0})) : Type 0 where
+  pub same : (k : WaitKey) → is_some (get order k) ≡ is_some (get waits k)
+  pub small : (k : WaitKey) → is_some (get order k) ≡ true → IsDownload (download_of k)
+
+-- before and behind all of a carrier's
+abbrev pub lowest : ℕ → WaitKey
+lowest carrier = record { carrier = carrier; minute = 0; id = 0; attempt = 0 }
+
+abbrev pub highest : ℕ → WaitKey
+highest carrier = record { carrier = carrier; minute = 1099511627775; id = 18446744073709551615; attempt = 18446744073709551615 }
+
+abbrev pub broadcast_of : WaitKeyCode → BroadcastKeyCode
+broadcast_of k = record { id = k.id; attempt = k.attempt }
+
+abbrev pub download_told : WaitKeyCode → Broadcast → Download
+download_told k b = record { id = k.id; attempt = k.attempt; minute = k.minute; subject = b.subject; action = b.action; routing = b.routing }
+
+-- a download as its broadcast tells it, if there is such a broadcast
+abbrev pub told : BTreeMap BroadcastKeyCode Broadcast → WaitKeyCode → Option Download
+told broadcasts k = option_map (download_told k) (tree.get (on broadcast_key_of broadcast_cmp) broadcasts (broadcast_of k))

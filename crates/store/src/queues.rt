@@ -1,0 +1,189 @@
+//! The carriers' queues.
+ghost use Rattle.std.specs.Prelude.{◌≡◌, ◌==◌, ℕ, Some, None, IfSome, IfOk, OnOk, OnErr, is_some, option_map};
+ghost use Rattle.std.specs.List.{list_any};
+ghost use Rattle.numbers.specs.declared.spid.Spid.{Spid as SpidCode};
+ghost use Rattle.store.specs.WaitRows.{download_of, wait_for};
+ghost use Rattle.std.specs.FinMap.{get, empty};
+ghost use Rattle.numbers.specs.Views.{subject_of};
+ghost use Rattle.meaning.specs.Content.{empty_content};
+ghost use Rattle.settle.specs.Reads.{AreFirst, AreWaitsAbout};
+ghost use Rattle.settle.specs.Views.{broadcast_row_of, broadcast_key_of, spid_of, wait_key_of};
+ghost use Rattle.store.specs.Maps.{map_of, set};
+ghost use Rattle.store.specs.QueueRows.{lowest, highest, told};
+
+use crate::waits::Waits;
+use delivery::{Broadcast, Download, DownloadKey};
+use numbers::{Minute, Spid, Subject};
+use settle::{BroadcastKey, WaitKey};
+use std::alloc::{AllocError, Global};
+use std::collections::BTreeMap;
+use std::marker::Model;
+
+/// The downloads that wait, and an index of them by their carriers, in which each carrier's stand
+/// in the order of its queue.
+#[derive(Drop)]
+pub struct Queues {
+    waits: Waits,
+    order: BTreeMap<WaitKey, ()>,
+}
+
+impl Model for Queues {
+    ghost use Rattle.std.specs.FinMap.{FinMap};
+    ghost use Rattle.numbers.specs.Subjects.{Subject};
+    ghost use Rattle.meaning.specs.Content.{wait_cmp};
+    ghost use Rattle.store.specs.WaitRows.{coded_waits};
+    ghost use Rattle.store.specs.QueueRows.{AreOrdered, order_of};
+
+    ghost Value = { FinMap wait_cmp Subject };
+
+    ghost coded = { coded_waits };
+
+    ghost view = { λ q. q.waits };
+
+    ghost invariant = { λ q. AreOrdered q.waits (order_of q.order) };
+}
+
+// The key that stands before all of the carrier's, if it is none of them.
+fn lowest(carrier: Spid) -> WaitKey
+    ensures { wait_key_of result ≡ lowest carrier.number }
+{
+    WaitKey {
+        carrier,
+        minute: Minute::ZERO,
+        id: 0,
+        attempt: 0,
+    }
+}
+
+// The key that stands behind all of the carrier's, if it is none of them.
+fn highest(carrier: Spid) -> WaitKey
+    ensures { wait_key_of result ≡ highest carrier.number }
+{
+    WaitKey {
+        carrier,
+        minute: Minute {
+            number: Minute::LIMIT - 1,
+        },
+        id: u64::MAX,
+        attempt: u64::MAX,
+    }
+}
+
+// The download as its broadcast tells it, if there is such a broadcast.
+fn told(broadcasts: &BTreeMap<BroadcastKey, Broadcast>, wait: WaitKey) -> Option<Download>
+    ensures { result ≡ told broadcasts.now wait }
+{
+    let broadcast = broadcasts.get(&BroadcastKey {
+        id: wait.id,
+        attempt: wait.attempt,
+    })?;
+    Some(Download {
+        id: wait.id,
+        attempt: wait.attempt,
+        minute: wait.minute,
+        subject: broadcast.subject,
+        action: broadcast.action,
+        routing: broadcast.routing,
+    })
+}
+
+impl Queues {
+    /// Empty queues.
+    pub fn new(alloc: Global) -> Queues
+        ensures { result ≡ empty }
+    {
+        Queues {
+            waits: Waits::new(alloc),
+            order: BTreeMap::new(alloc),
+        }
+    }
+
+    /// The subject of a download.
+    pub fn get(&self, key: WaitKey) -> Option<Subject>
+        ensures { option_map subject_of result ≡ get self.now (wait_key_of key) }
+    {
+        self.waits.get(key)
+    }
+
+    /// The carriers for which the download's broadcast waits.
+    pub fn carriers_of(&self, key: WaitKey) -> &[Spid]
+        ensures { (carrier : ℕ)
+            → is_some (get self.now (wait_for (download_of (wait_key_of key)) carrier))
+            ≡ list_any (λ (k : SpidCode). carrier == k.number) result.now }
+    {
+        self.waits.carriers_of(key)
+    }
+
+    /// Puts a download, and hands the subject back if it was there. Where it is refused nothing is
+    /// changed.
+    pub fn put(&mut self, key: WaitKey, subject: Subject) -> Result<Option<Subject>, AllocError>
+        ensures before { IfOk result
+            (λ before. option_map subject_of before ≡ get self.old (wait_key_of key)) }
+        ensures same { IfOk result
+            (λ before. IfSome before (λ was. subject_of was ≡ subject_of subject)) }
+        ensures ok { OnOk result
+            (self.new ≡ set self.old (wait_key_of key) (Some (subject_of subject))) }
+        ensures err { OnErr result (self.new ≡ self.old) }
+    {
+        let stood = self.order.insert(key, ())?;
+        match self.waits.put(key, subject) {
+            Ok(before) => Ok(before),
+            Err(refused) => {
+                if stood.is_none() {
+                    let _ = self.order.remove(&key);
+                }
+                Err(refused)
+            }
+        }
+    }
+
+    /// Takes a download away, and hands its subject back.
+    pub fn take(&mut self, key: WaitKey) -> Option<Subject>
+        ensures before { option_map subject_of result ≡ get self.old (wait_key_of key) }
+        ensures taken { self.new ≡ set self.old (wait_key_of key) None }
+    {
+        let _ = self.order.remove(&key);
+        self.waits.take(key)
+    }
+
+    /// The downloads of the subject that wait for the carrier, earliest first.
+    pub fn about(
+        &self,
+        alloc: Global,
+        carrier: Spid,
+        subject: Subject,
+    ) -> Result<Vec<DownloadKey>, AllocError>
+        ensures { IfOk result (λ downloads.
+            AreWaitsAbout (record empty_content { waits = self.now }) (spid_of carrier)
+            (subject_of subject) downloads.items) }
+    {
+        self.waits.about(alloc, carrier, subject)
+    }
+
+    /// The first downloads of the carrier's queue: so many, or all where there are fewer. What they
+    /// are is told by these broadcasts.
+    pub fn front(
+        &self,
+        alloc: Global,
+        broadcasts: &BTreeMap<BroadcastKey, Broadcast>,
+        carrier: Spid,
+        many: usize,
+    ) -> Result<Vec<Download>, AllocError>
+        ensures { IfOk result (λ downloads.
+            AreFirst (record empty_content {
+              waits = self.now;
+              broadcasts = map_of broadcast_key_of broadcast_row_of broadcasts.now;
+            }) (spid_of carrier) many downloads.items) }
+    {
+        let mut found = Vec::new(alloc);
+        for (key, _) in self.order.range(lowest(carrier)..=highest(carrier)) {
+            if found.len() == many {
+                return Ok(found);
+            }
+            if let Some(download) = told(broadcasts, *key) {
+                found.push(download)?;
+            }
+        }
+        Ok(found)
+    }
+}
