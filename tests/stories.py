@@ -1,7 +1,7 @@
 #!/usr/bin/env python3
 """Makes what the crate `stories` is run on, and what it must print, of the files of tests/stories.
 
-tests/stories.py           writes crates/stories/data, args and stdout
+tests/stories.py           writes crates/stories/data, args and stdout, and the examples
 tests/stories.py --check   says which of them are not what it would write
 tests/stories.py --play    runs the built program, and names the rows that it answers otherwise
 
@@ -18,7 +18,11 @@ from pathlib import Path
 HERE = Path(__file__).resolve().parent
 STORIES = HERE / "stories"
 CRATE = HERE.parent / "crates" / "stories"
-WINDOWS = HERE.parent / "examples" / "windows.toml"
+EXAMPLES = HERE.parent / "examples"
+WINDOWS = EXAMPLES / "windows.toml"
+
+# the stories that are examples too: a stream of messages, and its answers
+SHOWN = ("carrier", "first-port")
 
 NUMBERS = {"attempt", "due", "id", "in_force", "minute", "now", "open", "release", "since"}
 PHRASES = {
@@ -206,6 +210,16 @@ def names_of_all() -> Names:
     return names
 
 
+def example(name: str) -> dict[Path, bytes]:
+    """A story of one connection as an example: its messages, and their answers."""
+    rows = [row for row in rows_of(name, names_of_all(), True) if isinstance(row, Row)]
+    texts = {
+        "http": "".join(row.asked for row in rows),
+        "answers": "".join(text for row in rows for text in row.answers),
+    }
+    return {EXAMPLES / f"{name}.{kind}": text.encode() for kind, text in texts.items()}
+
+
 def told(name: str) -> tuple[str, list[Piece]]:
     """What a story asks, and the pieces of what is to be printed of it."""
     rows = rows_of(name, names_of_all(), True)
@@ -234,6 +248,8 @@ def made() -> tuple[dict[Path, bytes], list[Piece]]:
         stream, pieces = told(name)
         files[CRATE / "data" / name] = stream.encode()
         all_pieces += pieces
+    for name in SHOWN:
+        files.update(example(name))
     files[CRATE / "args"] = "".join(f"{name}\n" for name in names).encode()
     files[CRATE / "stdout"] = "".join(piece.text for piece in all_pieces).encode()
     return files, all_pieces
@@ -284,7 +300,8 @@ def write(files: dict[Path, bytes]) -> int:
 def check(files: dict[Path, bytes], pieces: list[Piece]) -> int:
     there = {*(CRATE / "data").iterdir(), CRATE / "args", CRATE / "stdout"}
     for path in sorted(there | files.keys()):
-        if path not in files or path not in there or path.read_bytes() != files[path]:
+        is_made = path in files and path.is_file()
+        if not is_made or path.read_bytes() != files[path]:
             name = path.relative_to(HERE.parent)
             print(f"{name} is not what tests/stories.py makes of the stories")
             return 1

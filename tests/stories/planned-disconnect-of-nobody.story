@@ -8,6 +8,12 @@ NPAC /clock minute=399
      200 now=399
 CCCC /versions/1
      200 active release=400 since=300 status=disconnect-pending
+AAAA /downloads/10
+     200 downloads=[]
+BBBB /downloads/10
+     200 downloads=[]
+CCCC /downloads/10
+     200 downloads=[]
 AAAA /downloads/acknowledge attempt=2 id=1
      404 not_queued 25
 for 400 to 414
@@ -15,6 +21,12 @@ NPAC /clock minute=#
      200 now=#
 CCCC /versions/1
      200 active attempt=2 since=400 status=sending
+AAAA /downloads/10
+     200 {"downloads":[{"action":"delete","attempt":2,"cic":null,"id":1,"lrn":null,"minute":400,"subject":"2025331234"}]}
+BBBB /downloads/1
+     200 {"downloads":[{"action":"delete","attempt":2,"cic":null,"id":1,"lrn":null,"minute":400,"subject":"2025331234"}]}
+CCCC /downloads/100
+     200 {"downloads":[{"action":"delete","attempt":2,"cic":null,"id":1,"lrn":null,"minute":400,"subject":"2025331234"}]}
 CCCC /query uri=tel:+12025331234
      200 uri=tel:+12025331234;npdi;rn=+12025440000
 end
@@ -24,6 +36,12 @@ CCCC /versions/1
      200 active attempt=2 since=415
 CCCC /query uri=tel:+12025331234
      200 uri=tel:+12025331234;npdi;rn=+12025440000
+AAAA /downloads/10
+     200 downloads=[]
+BBBB /downloads/10
+     200 downloads=[]
+CCCC /downloads/10
+     200 downloads=[]
 AAAA /downloads/acknowledge attempt=2 id=1
      404 not_queued 25
 BBBB /downloads/acknowledge attempt=2 id=1
