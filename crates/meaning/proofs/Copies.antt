@@ -16,6 +16,7 @@ pub mod Ended
 pub mod LastWord
 pub mod Registered
 pub mod InForce
+pub mod Handed
 use Rattle.std.proofs.Common.{◌≡◌, ℕ, Bool, true, false, cond, not, ◌&&◌, List, [], ◌∷◌, ◌++◌, map, Option, Some, None, refl}
 use Rattle.std.specs.Prelude.{⊤, filter, flat_map, if◌then◌else◌}
 use Rattle.std.specs.List.{AllByRecursion}

@@ -1,8 +1,8 @@
 -- What is among the elements of a list, and what holds of each of them.
-use Rattle.std.proofs.Common.{◌≡◌, inl, inr, Bool, true, false, cond, ◌||◌, List, [], ◌∷◌, ◌++◌, map, Some, refl, ap, sym, ◌∙◌, subst}
-use Rattle.std.specs.Prelude.{◌⊎◌, find, filter, flat_map}
+use Rattle.std.proofs.Common.{◌≡◌, zero, suc, inl, inr, Bool, true, false, cond, ◌||◌, List, [], ◌∷◌, ◌++◌, map, Some, refl, ap, sym, ◌∙◌, subst, arith}
+use Rattle.std.specs.Prelude.{◌⊎◌, find, filter, flat_map, All, Contains}
 use Rattle.std.specs.List.{list_any, AllByRecursion}
-use Rattle.meaning.proofs.Small.{or_true}
+use Rattle.meaning.proofs.Small.{true-false, or_true}
 
 -- ---- among them
 
@@ -91,6 +91,26 @@ found-among test (y ∷ ys) x found = go (λ e. found-among test ys x e) (test y
     go later true e f = let same : y ≡ x = cc in (inl (sym same), ap test (sym same) ∙ e)
     go later false e f = let rest = later f in (inr rest.0, rest.1)
 
+-- one that passes the test is found, it or another
+pub found-there : {A : Type 0} (test : A → Bool) (xs : List A) (x : A) → Among x xs → test x ≡ true → (y : A) × (find test xs ≡ Some y)
+found-there test [] x is passes = absurd is
+found-there {A = A} test (y ∷ ys) x is passes = go (λ there. found-there test ys x there passes) (test y) refl is
+  where
+    go : (Among x ys → (z : A) × (find test ys ≡ Some z)) → (b : Bool) → test y ≡ b → Among x (y ∷ ys) → (z : A) × (cond b (Some y) (find test ys) ≡ Some z)
+    go later true e there = (y, refl)
+    go later false e (inl f) = true-false (test y) (ap test (sym f) ∙ passes) e
+    go later false e (inr there) = later there
+
+pub contained : {A : Type 0} (xs : List A) (x : A) → Among x xs → Contains xs x
+contained [] x there = absurd there
+contained (y ∷ ys) x (inl e) = (0, omega arith, sym e)
+contained (y ∷ ys) x (inr there) = let m : Contains ys x = contained ys x there in (suc m.0, omega (arith, m.1), m.2)
+
+pub contains-among : {A : Type 0} (xs : List A) (x : A) → Contains xs x → Among x xs
+contains-among [] x (k, lt, e) = absurd (omega (arith, lt))
+contains-among (y ∷ ys) x (zero, lt, e) = inl (sym e)
+contains-among (y ∷ ys) x (suc k, lt, e) = inr (contains-among ys x (k, omega (arith, lt), e))
+
 -- ---- of each of them
 
 pub everywhere : {A : Type 0} {P : A → Type 0} → ((x : A) → P x) → (xs : List A) → AllByRecursion P xs
@@ -122,3 +142,8 @@ each_there P (x ∷ xs) step = (step x (inl refl), each_there P xs (λ y there. 
 -- what holds of each holds of one that is found
 pub found_has : {A : Type 0} (P : A → Type 0) (test : A → Bool) (xs : List A) (x : A) → AllByRecursion P xs → find test xs ≡ Some x → P x
 found_has P test xs x all found = each-among P xs x all (found-among test xs x found).0
+
+pub all_of : {A : Type 0} (P : A → Type 0) (xs : List A) → ((x : A) → Among x xs → P x) → All P xs
+all_of P [] step k x lt = absurd (omega (arith, lt))
+all_of P (y ∷ ys) step zero x lt = step y (inl refl)
+all_of P (y ∷ ys) step (suc k) x lt = all_of P ys (λ z there. step z (inr there)) k x (omega (arith, lt))

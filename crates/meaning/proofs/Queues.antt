@@ -1,6 +1,6 @@
 -- A carrier's queue rises by minute, id and attempt: no two of its downloads have one id and attempt.
 use Rattle.std.proofs.Common.{◌≡◌, ◌<◌, ◌≤◌, ◌⊎◌, ℕ, zero, suc, inl, inr, Bool, true, false, List, [], ◌∷◌, ◌++◌, length, Option, Some, None, refl, ap, sym, ◌∙◌, subst, arith}
-use Rattle.std.specs.Prelude.{⊤, ◌==◌, ◌&&◌, not, cond, find, option_and_then, All, Contains, flat_map, filter, map, take, if◌then◌else◌}
+use Rattle.std.specs.Prelude.{⊤, ◌==◌, ◌&&◌, not, cond, find, option_and_then, flat_map, filter, map, take, if◌then◌else◌}
 use Rattle.std.specs.List.{cons_option}
 use Rattle.std.proofs.lemmas.Bool.Decides.{nat_tests}
 use Rattle.numbers.specs.Subjects.{Subject}
@@ -9,7 +9,7 @@ use Rattle.meaning.specs.History.{made_by, subject_of_id}
 use Rattle.meaning.specs.Reading.{State, SubjectVersion, Download, record_now, of_its_subject, versions_made, all_versions, version_of_id, download, downloads_of, is_before, inserted, sorted, queue}
 use Rattle.meaning.specs.Laws.{AllBehind, Rises, IsSentTo, QueueIsWhatWaits}
 use Rattle.meaning.specs.Machine.{IsHistory}
-use Rattle.meaning.proofs.Lists.{Among, mapped-from, filtered-from, flat-from, found-among}
+use Rattle.meaning.proofs.Lists.{Among, mapped-from, filtered-from, flat-from, found-among, contained, all_of}
 use Rattle.meaning.proofs.Shown.{id_found}
 use Rattle.meaning.proofs.Tended.{AreBelow, AreApart, tended_kept}
 use Rattle.meaning.proofs.KeptVersions.{version_now}
@@ -221,16 +221,6 @@ module _ (st : State) (is : IsHistory st.windows st.history st.now) (c : ℕ) wh
       let waits : is_among c (waiters sent.broadcast) ≡ true =
       waits_is c sent.broadcast ∙ (λ i. not (sent.kept i) && (not (sent.missing i) && sent.recipient i)) in
       subst (λ x. Among x (queue st c)) (sym sent.is) (queued-to st is sent.at.subject c sent.at.version sent.broadcast version.0 broadcast.0 waits)
-
-all_of : (P : Download → Type 0) (ds : List Download) → ((d : Download) → Among d ds → P d) → All P ds
-all_of P [] each k d lt = absurd (omega (arith, lt))
-all_of P (x ∷ xs) each zero d lt = each x (inl refl)
-all_of P (x ∷ xs) each (suc k) d lt = all_of P xs (λ y there. each y (inr there)) k d (omega (arith, lt))
-
-contained : (ds : List Download) (d : Download) → Among d ds → Contains ds d
-contained [] d there = absurd there
-contained (x ∷ xs) d (inl e) = (0, omega arith, sym e)
-contained (x ∷ xs) d (inr there) = let m : Contains xs d = contained xs d there in (suc m.0, omega (arith, m.1), m.2)
 
 pub queue_is_what_waits : QueueIsWhatWaits
 queue_is_what_waits st is c = (

@@ -1,5 +1,7 @@
 -- Small lemmas of truth values and options.
-use Rattle.std.proofs.Common.{◌≡◌, Bool, true, false, not, ◌&&◌, ◌||◌, Some, refl, sym, ◌∙◌}
+use Rattle.std.proofs.Common.{◌≡◌, ℕ, Bool, true, false, not, ◌&&◌, ◌||◌, Some, refl, sym, ◌∙◌, arith}
+use Rattle.std.specs.Prelude.{◌==◌}
+use Rattle.std.proofs.lemmas.Bool.Decides.{nat_tests}
 
 pub impossible : {P : Type 0} → true ≡ false → P
 impossible e = cc
@@ -45,3 +47,6 @@ or_right false c e = e
 
 pub some_is : {A : Type 0} (x y : A) → Some x ≡ Some y → x ≡ y
 some_is x y e = cc
+
+pub equal_numbers : (n : ℕ) → (n == n) ≡ true
+equal_numbers n = grind (arith, nat_tests)

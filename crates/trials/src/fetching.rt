@@ -1,23 +1,29 @@
 //! What a carrier fetches.
 use crate::commands::routing;
-use crate::port::{FIRST_PORT, Texts, new_register, served, whole};
+use crate::port::{FIRST_PORT, Said, Texts, new_register, served, whole};
+use calls::{Command, Reply};
 use delivery::{Download, Mirror};
 use meaning::{Action, Refusal};
-use numbers::{Minute, Spid, Subject, Tn};
+use numbers::{Minute, Routing, Spid, Subject, Tn};
 use register::Register;
 use std::alloc::Global;
 use store::MemoryStore;
 
 type Desk = Register<MemoryStore>;
 
-// The first port, as far as its activation: eight messages.
-fn is_sent(alloc: Global, register: &mut Desk) -> bool {
+// The register is told these, so many.
+fn is_told(alloc: Global, register: &mut Desk, rows: &[Said<'_>], count: u64) -> bool {
     let mut texts = Texts::new(alloc);
-    if texts.add_rows(alloc, &FIRST_PORT[..8]).is_err() {
+    if texts.add_rows(alloc, rows).is_err() {
         return false;
     }
     let (_answers, ended) = served(alloc, register, &mut texts.asked.as_bytes());
-    ended == whole(8)
+    ended == whole(count)
+}
+
+// The first port, as far as its activation: eight messages.
+fn is_sent(alloc: Global, register: &mut Desk) -> bool {
+    is_told(alloc, register, &FIRST_PORT[..8], 8)
 }
 
 fn download() -> Option<Download> {
@@ -72,4 +78,97 @@ fn seen(alloc: Global) -> Option<([bool; 4], bool)> {
 #[test]
 fn a_carrier_fetches_what_waits(rt: HostRuntime) {
     assert_eq!(rt; seen(rt.alloc()), Some(([true; 4], true)));
+}
+
+// The number is given back at 10, which one carrier alone acknowledges in time, and is ported again
+// at 30.
+static GIVEN_BACK: [Said<'static>; 7] = [
+    ("NPAC", "/clock", r#"{"minute":10}"#, ""),
+    ("AAAA", "/subscriptionVersionDisconnect", r#"{"id":1}"#, ""),
+    (
+        "AAAA",
+        "/downloads/acknowledge",
+        r#"{"attempt":2,"id":1}"#,
+        "",
+    ),
+    ("NPAC", "/clock", r#"{"minute":30}"#, ""),
+    (
+        "AAAA",
+        "/subscriptionVersionNewSP-Create",
+        r#"{"due":30,"lrn":"2025440000","new":"AAAA","old":"BBBB","tn":"2025331234"}"#,
+        "",
+    ),
+    (
+        "BBBB",
+        "/subscriptionVersionOldSP-Create",
+        r#"{"authorized":true,"due":30,"new":"AAAA","old":"BBBB","tn":"2025331234"}"#,
+        "",
+    ),
+    ("AAAA", "/subscriptionVersionActivate", r#"{"id":2}"#, ""),
+];
+
+// What a carrier's copy has of the number once the carrier has taken its next download, and
+// acknowledged it.
+fn followed(register: &mut Desk, caller: Spid, copy: &mut Mirror) -> Option<Option<Routing>> {
+    let downloads = register.fetch(caller, 1).ok()?;
+    let next = downloads.first()?;
+    copy.apply(next).ok()?;
+    register.acknowledge(caller, next.id, next.attempt).ok()?;
+    Some(copy.get(next.subject))
+}
+
+// A newcomer's copy: it is started with what is in force.
+fn started(alloc: Global, register: &mut Desk, spid: Spid) -> Option<Mirror> {
+    let command = Command::RegisterCarrier { spid };
+    let Reply::Registered { spid: _, rows } = register.do_it(Spid::NPAC, &command).ok()? else {
+        return None;
+    };
+    let mut copy = Mirror::new(alloc);
+    copy.start(&rows).ok()?;
+    Some(copy)
+}
+
+// What the copies of the old provider and of a newcomer have of the number: as it is ported, given
+// back, and ported again.
+type Followed = [[Option<Routing>; 3]; 2];
+
+fn copies(alloc: Global, register: &mut Desk) -> Option<Followed> {
+    let [old, new, newcomer] = [
+        Spid::read("BBBB")?,
+        Spid::read("AAAA")?,
+        Spid::read("CCCC")?,
+    ];
+    register.acknowledge(new, 1, 1).ok()?;
+    let mut olds = Mirror::new(alloc);
+    let ported = followed(register, old, &mut olds)?;
+    let mut newcomers = started(alloc, register, newcomer)?;
+    let begun = newcomers.get(download()?.subject);
+    if !is_told(alloc, register, &GIVEN_BACK, 7) {
+        return None;
+    }
+    let olds = [
+        ported,
+        followed(register, old, &mut olds)?,
+        followed(register, old, &mut olds)?,
+    ];
+    let newcomers = [
+        begun,
+        followed(register, newcomer, &mut newcomers)?,
+        followed(register, newcomer, &mut newcomers)?,
+    ];
+    Some([olds, newcomers])
+}
+
+fn walked(alloc: Global) -> Option<Followed> {
+    let mut register = new_register(alloc)?;
+    if !is_sent(alloc, &mut register) {
+        return None;
+    }
+    copies(alloc, &mut register)
+}
+
+#[test]
+fn copies_follow_a_number(rt: HostRuntime) {
+    let each = [routing(), None, routing()];
+    assert_eq!(rt; walked(rt.alloc()), Some([each, each]));
 }

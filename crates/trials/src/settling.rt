@@ -42,7 +42,7 @@ fn until_120(alloc: Global, register: &mut Desk<'_>) -> Option<()> {
 // What is said, the answer's status, and how often the store is asked for a commit.
 type Step = (Said<'static>, &'static str, u64);
 
-static STEPS: [Step; 5] = [
+static STEPS: [Step; 6] = [
     // a number that no version is of is asked for
     (
         (
@@ -82,6 +82,12 @@ static STEPS: [Step; 5] = [
         "200 OK",
         0,
     ),
+    // the new provider fetches: the other 999 end, and nothing waits
+    (
+        ("AAAA", "/downloads/10", "", r#"{"downloads":[]}"#),
+        "200 OK",
+        999,
+    ),
     // a carrier is registered
     (
         (
@@ -91,7 +97,7 @@ static STEPS: [Step; 5] = [
             r#"{"rows":[],"spid":"CCCC"}"#,
         ),
         "200 OK",
-        1000,
+        1,
     ),
 ];
 

@@ -10,7 +10,7 @@ use Rattle.meaning.specs.History.{Acknowledges}
 use Rattle.meaning.specs.Reading.{State, SubjectVersion, Download, record_now, version_of_id, download, downloads_of, downloads_acknowledged, first_of, is_before, queue}
 use Rattle.meaning.specs.Refusals.{Requests, refusal, tests, is_download, is_preceded}
 use Rattle.meaning.specs.Machine.{IsHistory}
-use Rattle.meaning.proofs.Small.{true-false, and_first, and_second, denied, some_is}
+use Rattle.meaning.proofs.Small.{equal_numbers, true-false, and_first, and_second, denied, some_is}
 use Rattle.meaning.proofs.Lists.{Among, any_there, there_any, mapped-from, mapped-to, filtered-from, filtered-to, flat-from, flat-to, each, each_there, each-among}
 use Rattle.meaning.proofs.Accepted.{none_holds}
 use Rattle.meaning.proofs.Ids.{same_id}
@@ -38,9 +38,6 @@ marked_if b p = if b then record p { marked = true } else p
 
 abbrev mark : (id attempt : ℕ) → Placed → Placed
 mark id attempt p = marked_if (matches id attempt p) p
-
-pub equal_numbers : (n : ℕ) → (n == n) ≡ true
-equal_numbers n = grind (arith, nat_tests)
 
 module _ (id attempt : ℕ) where
   unmarked : (ps : List Placed) → AllByRecursion (λ p. matches id attempt p ≡ false) ps → map (mark id attempt) ps ≡ ps
@@ -183,29 +180,29 @@ waiting_stands c b waits = go (is_withdrawn b) refl
 
 -- ---- an accepted acknowledgement
 
-abbrev as_listed : Subject → Version → SubjectVersion
+abbrev pub as_listed : Subject → Version → SubjectVersion
 as_listed s v = record { subject = s; version = v }
 
 first_among : (ds : List Download) (d : Download) → first_of ds ≡ Some d → Among d ds
 first_among [] d e = cc
 first_among (x ∷ xs) d e = inl (sym (some_is x d e))
 
-none_first : (ds : List Download) (d : Download) → first_of ds ≡ None → Among d ds → ⊥
+pub none_first : (ds : List Download) (d : Download) → first_of ds ≡ None → Among d ds → ⊥
 none_first [] d e there = there
 none_first (x ∷ xs) d e there = cc
 
 module _ (st : State) (is : IsHistory st.windows st.history st.now) (s : Subject) (c id attempt : ℕ) where
-  abbrev versions : List Version
+  abbrev pub versions : List Version
   versions = (record_now st s).versions
 
-  abbrev answered_downloads : SubjectVersion → List Download
+  abbrev pub answered_downloads : SubjectVersion → List Download
   answered_downloads e = downloads_acknowledged c c (Acknowledges id attempt) e
 
-  abbrev acknowledged : List Download
+  abbrev pub acknowledged : List Download
   acknowledged = flat_map answered_downloads (map (as_listed s) versions)
 
   -- those of the version with the attempt
-  of_version : (v : Version) (b : Broadcast) → Among v versions → Among b v.broadcasts → (v.id == id) ≡ true → (b.attempt == attempt) ≡ true → Among (download (as_listed s v) b) acknowledged
+  pub of_version : (v : Version) (b : Broadcast) → Among v versions → Among b v.broadcasts → (v.id == id) ≡ true → (b.attempt == attempt) ≡ true → Among (download (as_listed s v) b) acknowledged
   of_version v b there sent same at = flat-to answered_downloads (map (as_listed s) versions) (as_listed s v) (download (as_listed s v) b) (mapped-to (as_listed s) versions v there)
       (subst (λ t. Among (download (as_listed s v) b) (if t && (v.id == id) then downloads_of (λ x. x.attempt == attempt) (as_listed s v) else [])) (sym (equal_numbers c))
       (subst (λ t. Among (download (as_listed s v) b) (if true && t then downloads_of (λ x. x.attempt == attempt) (as_listed s v) else [])) (sym same)
@@ -224,16 +221,16 @@ module _ (st : State) (is : IsHistory st.windows st.history st.now) (s : Subject
           absurd (none_first acknowledged (download (as_listed s v) b) none (of_version v b there sent (and_first (v.id == id) (b.attempt == attempt) e) (and_second (v.id == id) (b.attempt == attempt) e)))
 
   -- the first of them, with its version and broadcast
-  record IsOf (d : Download) : Type 0 where
-    version : Version
-    broadcast : Broadcast
-    there : Among version versions
-    sent : Among broadcast version.broadcasts
-    has_id : version.id ≡ id
-    has_attempt : broadcast.attempt ≡ attempt
-    is_its : d ≡ download (as_listed s version) broadcast
+  pub record IsOf (d : Download) : Type 0 where
+    pub version : Version
+    pub broadcast : Broadcast
+    pub there : Among version versions
+    pub sent : Among broadcast version.broadcasts
+    pub has_id : version.id ≡ id
+    pub has_attempt : broadcast.attempt ≡ attempt
+    pub is_its : d ≡ download (as_listed s version) broadcast
 
-  it_is_of : (d : Download) → first_of acknowledged ≡ Some d → IsOf d
+  pub it_is_of : (d : Download) → first_of acknowledged ≡ Some d → IsOf d
   it_is_of d first = from (flat-from answered_downloads (map (as_listed s) versions) d (first_among acknowledged d first))
     where
       inner : (v : Version) → Among v versions → (a b : Bool) → (v.id == id) ≡ b → Among d (if a && b then downloads_of (λ x. x.attempt == attempt) (as_listed s v) else []) → IsOf d
@@ -249,9 +246,26 @@ module _ (st : State) (is : IsHistory st.windows st.history st.now) (s : Subject
           let mapped = mapped-from (as_listed s) versions e there in
           inner mapped.0 mapped.1 (c == c) (mapped.0.id == id) refl (subst (λ x. Among d (answered_downloads x)) mapped.2 is)
 
+  -- a download that waits and has this id and attempt is of that version and broadcast
+  pub same_download : (d : Download) → (one : IsOf d) → (x : Download) → Among x (queue st c) → is_download id attempt x ≡ true →
+      (x ≡ download (as_listed s one.version) one.broadcast) × (is_among c (waiters one.broadcast) ≡ true)
+  same_download d one x there matched =
+      let of_it : IsQueued st c x = queued-from st c x there in
+      let its_id : of_it.at.version.id ≡ id = ap (λ (y : Download). y.id) (sym of_it.is) ∙ same_id x.id id (and_first (x.id == id) (x.attempt == attempt) matched) in
+      let its_attempt : of_it.broadcast.attempt ≡ attempt = ap (λ (y : Download). y.attempt) (sym of_it.is) ∙ same_id x.attempt attempt (and_second (x.id == id) (x.attempt == attempt) matched) in
+      let by_its_id : of_it.id ≡ id = sym (id_found of_it.id (record_now st of_it.at.subject).versions of_it.at.version of_it.found) ∙ its_id in
+      let same : as_listed s one.version ≡ of_it.at = some_is (as_listed s one.version) of_it.at
+      (sym (found_is st is s one.version.id one.version (found_by_id st is s one.version one.there)) ∙ ap (version_of_id st) (one.has_id ∙ sym by_its_id) ∙ found_is st is of_it.at.subject of_it.id of_it.at.version of_it.found) in
+      let same_sent : one.broadcast ≡ of_it.broadcast = one_attempt one.version.broadcasts one.broadcast of_it.broadcast
+      (each-among (IsTended (record_now st s).carriers) versions one.version (versions_kept tended_kept st.windows s st.history st.now is) one.there).apart
+      one.sent (subst (λ (e : SubjectVersion). Among of_it.broadcast e.version.broadcasts) (sym same) of_it.sent) (one.has_attempt ∙ sym its_attempt) in (
+        of_it.is ∙ ap (λ e. download e of_it.broadcast) (sym same) ∙ ap (download (as_listed s one.version)) (sym same_sent),
+        ap (λ b. is_among c (waiters b)) same_sent ∙ of_it.waits,
+      )
+
   module _ (ok : refusal st (Requests c (Acknowledges id attempt)) ≡ None) where
     -- it waits
-    queued : list_any (is_download id attempt) (queue st c) ≡ true
+    pub queued : list_any (is_download id attempt) (queue st c) ≡ true
     unfolding tests
     queued = denied (list_any (is_download id attempt) (queue st c)) (none_holds (tests st (Requests c (Acknowledges id attempt))) ok).1.1.0
 
@@ -272,25 +286,12 @@ module _ (st : State) (is : IsHistory st.windows st.history st.now) (s : Subject
         go true e = true-false (is_preceded (queue st c) id attempt)
             (there_any (λ x. is_download id attempt x && list_any (λ y. subject_eq y.subject x.subject && is_before y x) (queue st c)) d (queue st c) there (both (is_download id attempt d) _ is e)) in_turn
 
-    -- the download that waits is of the version and broadcast that the entry acknowledges
+    -- what waits is of the version and broadcast that the entry acknowledges
     waits_for : (d : Download) → (own_one : IsOf d) → Among (download (as_listed s own_one.version) own_one.broadcast) (queue st c) × (is_among c (waiters own_one.broadcast) ≡ true)
     waits_for d one = from (any_there (is_download id attempt) (queue st c) queued)
       where
         from : (x : Download) × Among x (queue st c) × (is_download id attempt x ≡ true) → Among (download (as_listed s one.version) one.broadcast) (queue st c) × (is_among c (waiters one.broadcast) ≡ true)
-        from (x, there, matched) =
-            let of_it : IsQueued st c x = queued-from st c x there in
-            let its_id : of_it.at.version.id ≡ id = ap (λ (y : Download). y.id) (sym of_it.is) ∙ same_id x.id id (and_first (x.id == id) (x.attempt == attempt) matched) in
-            let its_attempt : of_it.broadcast.attempt ≡ attempt = ap (λ (y : Download). y.attempt) (sym of_it.is) ∙ same_id x.attempt attempt (and_second (x.id == id) (x.attempt == attempt) matched) in
-            let by_its_id : of_it.id ≡ id = sym (id_found of_it.id (record_now st of_it.at.subject).versions of_it.at.version of_it.found) ∙ its_id in
-            let same : as_listed s one.version ≡ of_it.at = some_is (as_listed s one.version) of_it.at
-            (sym (found_is st is s one.version.id one.version (found_by_id st is s one.version one.there)) ∙ ap (version_of_id st) (one.has_id ∙ sym by_its_id) ∙ found_is st is of_it.at.subject of_it.id of_it.at.version of_it.found) in
-            let same_sent : one.broadcast ≡ of_it.broadcast = one_attempt one.version.broadcasts one.broadcast of_it.broadcast
-            (each-among (IsTended (record_now st s).carriers) versions one.version (versions_kept tended_kept st.windows s st.history st.now is) one.there).apart
-            one.sent (subst (λ (e : SubjectVersion). Among of_it.broadcast e.version.broadcasts) (sym same) of_it.sent) (one.has_attempt ∙ sym its_attempt) in
-            let same_download : x ≡ download (as_listed s one.version) one.broadcast = of_it.is ∙ ap (λ e. download e of_it.broadcast) (sym same) ∙ ap (download (as_listed s one.version)) (sym same_sent) in (
-              subst (λ y. Among y (queue st c)) same_download there,
-              ap (λ b. is_among c (waiters b)) same_sent ∙ of_it.waits,
-            )
+        from (x, there, matched) = let same = same_download d one x there matched in (subst (λ y. Among y (queue st c)) same.0 there, same.1)
 
     abbrev olds : List Placed
     olds = placed (Carrier c) versions

@@ -44,7 +44,7 @@ none_of f none [] = refl
 none_of f none (e ∷ es) = ap (λ ds. first_of (ds ++ flat_map f es)) (none e) ∙ none_of f none es
 
 -- another's request acknowledges nothing for the carrier
-others_none : (c caller : ℕ) (request : Request) (es : List SubjectVersion) → is_others (Carrier c) caller request ≡ true → first_of (flat_map (downloads_acknowledged c caller request) es) ≡ None
+pub others_none : (c caller : ℕ) (request : Request) (es : List SubjectVersion) → is_others (Carrier c) caller request ≡ true → first_of (flat_map (downloads_acknowledged c caller request) es) ≡ None
 others_none c caller (Commands command) es other = none_of (downloads_acknowledged c caller (Commands command)) (λ e. refl) es
 others_none c caller (Acknowledges id attempt) es other = none_of (downloads_acknowledged c caller (Acknowledges id attempt))
     (λ e. ap (λ t. if t && (e.version.id == id) then downloads_of (λ b. b.attempt == attempt) e else []) (out (caller == c) other)) es
@@ -54,7 +54,7 @@ others_none c caller (Acknowledges id attempt) es other = none_of (downloads_ack
     out false e = refl
 
 -- one that is not another's and no registration is its acknowledgement
-its_own : (c caller : ℕ) (request : Request) → registers c request ≡ false → is_others (Carrier c) caller request ≡ false → (id : ℕ) × (attempt : ℕ) × (request ≡ Acknowledges id attempt) × (caller ≡ c)
+pub its_own : (c caller : ℕ) (request : Request) → registers c request ≡ false → is_others (Carrier c) caller request ≡ false → (id : ℕ) × (attempt : ℕ) × (request ≡ Acknowledges id attempt) × (caller ≡ c)
 its_own c caller (Commands command) unregistered own = true-false (registers c (Commands command)) (denied (registers c (Commands command)) own) unregistered
 its_own c caller (Acknowledges id attempt) unregistered own = (id, attempt, refl, same_id caller c (denied (caller == c) own))
 

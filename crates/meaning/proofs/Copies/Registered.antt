@@ -25,7 +25,7 @@ use Rattle.meaning.proofs.Copies.{Unsent, Closed, Placed, stands_for, place, own
 use Rattle.meaning.proofs.Copies.Followed.{IsNext, next_in_order, next_held}
 use Rattle.meaning.proofs.Copies.Steps.{changed_placed, minute_next}
 use Rattle.meaning.proofs.Copies.Passing.{entry_next}
-use Rattle.meaning.proofs.Copies.Answering.{equal_numbers}
+use Rattle.meaning.proofs.Small.{equal_numbers}
 use Rattle.meaning.proofs.Copies.LastWord.{Say, force_says}
 
 -- ---- where the carrier registers, it becomes a recipient of what is open

@@ -1,6 +1,7 @@
 use Rattle.meaning.proofs.Copies.Law.{copy_is_published}
 use Rattle.meaning.proofs.Copies.InForce.{copy_is_in_force}
+use Rattle.meaning.proofs.Copies.Handed.{copy_is_handed}
 use Rattle.meaning.proofs.laws.law_of_copies.Goals as goal
 
 pub returns : goal.returns
-returns c = record { published = copy_is_published; in_force = copy_is_in_force }
+returns c = record { published = copy_is_published; in_force = copy_is_in_force; handed = copy_is_handed }
