@@ -1,6 +1,6 @@
 -- What is in force, as the definitions list it: rising by subject, each subject once, and each version in force.
 use Rattle.std.proofs.Common.{◌≡◌, ℕ, inl, inr, suc, ◌≤◌, ◌<◌, Bool, true, false, List, [], ◌∷◌, Option, Some, None, refl, ap, sym, ◌∙◌, subst, arith}
-use Rattle.std.specs.Prelude.{⊤, ◌==◌, ◌⊎◌, nat_lt, if◌then◌else◌}
+use Rattle.std.specs.Prelude.{◌==◌, ◌⊎◌, nat_lt, if◌then◌else◌}
 use Rattle.std.specs.List.{cons_option}
 use Rattle.std.proofs.lemmas.Bool.Decides.{nat_tests}
 use Rattle.numbers.specs.Subjects.{Subject, subject_key, subject_lt}
@@ -10,6 +10,7 @@ use Rattle.meaning.specs.History.{subject_of_id}
 use Rattle.meaning.specs.Reading.{SubjectVersion, InForce, of_its_subject, versions_made, row_inserted, rows_in_force}
 use Rattle.meaning.proofs.Small.{equal_numbers}
 use Rattle.meaning.proofs.Lists.{Among}
+use Rattle.meaning.proofs.Ascending as ascending
 
 -- ---- rising lists of rows
 
@@ -17,49 +18,10 @@ abbrev pub key : InForce → ℕ
 key r = subject_key r.subject
 
 abbrev pub AreAbove : ℕ → List InForce → Type 0
-AreAbove k [] = ⊤
-AreAbove k (r ∷ rs) = (k < key r) × AreAbove k rs
+AreAbove = ascending.AreAbove key
 
 abbrev pub Rise : List InForce → Type 0
-Rise [] = ⊤
-Rise (r ∷ rs) = AreAbove (key r) rs × Rise rs
-
-above_each : (k : ℕ) (rs : List InForce) (r : InForce) → AreAbove k rs → Among r rs → k < key r
-above_each k [] r above is = absurd is
-above_each k (q ∷ qs) r above (inl is) = subst (λ (x : InForce). k < key x) (sym is) above.0
-above_each k (q ∷ qs) r above (inr is) = above_each k qs r above.1 is
-
-all_above : (k : ℕ) (rs : List InForce) → ((r : InForce) → Among r rs → k < key r) → AreAbove k rs
-all_above k [] each = tt
-all_above k (r ∷ rs) each = (each r (inl refl), all_above k rs (λ q is. each q (inr is)))
-
--- two rising lists of the same rows are the same
-pub same_rising : (xs ys : List InForce) → Rise xs → Rise ys → ((r : InForce) → Among r xs → Among r ys) → ((r : InForce) → Among r ys → Among r xs) → xs ≡ ys
-same_rising [] [] rise sises there back = refl
-same_rising [] (y ∷ ys) rise sises there back = absurd (back y (inl refl))
-same_rising (x ∷ xs) [] rise sises there back = absurd (there x (inl refl))
-same_rising (x ∷ xs) (y ∷ ys) rise sises there back = go (λ one two. same_rising xs ys rise.1 sises.1 one two) (there x (inl refl)) (back y (inl refl))
-  where
-    below : (h : InForce) (zs : List InForce) (r : InForce) → AreAbove (key h) zs → Among r zs → r ≡ h → ⊥
-    below h zs r above is f = let lt : key h < key r = above_each (key h) zs r above is in let same : key r ≡ key h = ap key f in absurd (omega (arith, lt, same))
-
-    tail_of : (zs : List InForce) (r h : InForce) → (r ≡ h) ⊎ Among r zs → (r ≡ h → ⊥) → Among r zs
-    tail_of zs r h (inl f) never = absurd (never f)
-    tail_of zs r h (inr is) never = is
-
-    same_head : (((r : InForce) → Among r xs → Among r ys) → ((r : InForce) → Among r ys → Among r xs) → xs ≡ ys) → x ≡ y → x ∷ xs ≡ y ∷ ys
-    same_head rest e =
-        ap (λ h. h ∷ xs) e ∙ ap (λ zs. y ∷ zs) (rest
-        (λ r is. tail_of ys r y (there r (inr is)) (λ f. below x xs r rise.0 is (f ∙ sym e)))
-        (λ r is. tail_of xs r x (back r (inr is)) (λ f. below y ys r sises.0 is (f ∙ e))))
-
-    go : (((r : InForce) → Among r xs → Among r ys) → ((r : InForce) → Among r ys → Among r xs) → xs ≡ ys) → (x ≡ y) ⊎ Among x ys → (y ≡ x) ⊎ Among y xs → x ∷ xs ≡ y ∷ ys
-    go rest (inl e) other = same_head rest e
-    go rest (inr is) (inl e) = same_head rest (sym e)
-    go rest (inr is) (inr also) =
-        let one : key y < key x = above_each (key y) ys x sises.0 is in
-        let two : key x < key y = above_each (key x) xs y rise.0 also in
-        absurd (omega (arith, one, two))
+Rise = ascending.Rise key
 
 -- ---- a row inserted
 
@@ -113,13 +75,13 @@ inserted-rise r (q ∷ qs) rise apart = go (inserted-rise r qs rise.1 (λ x is. 
 
     by : (x : InForce) → key q < key r → (x ≡ r) ⊎ Among x qs → key q < key x
     by x less (inl f) = subst (λ (y : InForce). key q < key y) (sym f) less
-    by x less (inr there) = above_each (key q) qs x rise.0 there
+    by x less (inr there) = ascending.above_each key (key q) qs x rise.0 there
 
     go : Rise (row_inserted r qs) → (b : Bool) → subject_lt r.subject q.subject ≡ b → Rise (if b then r ∷ q ∷ qs else q ∷ row_inserted r qs)
     go later true e = let less : key r < key q = lt-of (key r) (key q) e in ((less, more_above (key r) (key q) qs less rise.0), rise)
     go later false e =
         let less : key q < key r = at_most (key q) (key r) (le-of (key r) (key q) e) (apart q (inl refl)) in
-        (all_above (key q) (row_inserted r qs) (λ x is. by x less (inserted-among r qs x is)), later)
+        (ascending.all_above key (key q) (row_inserted r qs) (λ x is. by x less (inserted-among r qs x is)), later)
 
 -- ---- the versions of all subjects
 

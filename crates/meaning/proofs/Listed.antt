@@ -15,7 +15,8 @@ use Rattle.meaning.proofs.Ids.{same_subject, found_given}
 use Rattle.meaning.proofs.Entered.{subject_eq-refl, given_now}
 use Rattle.meaning.proofs.Shown.{id_found}
 use Rattle.meaning.proofs.Orderly.{no_two_active}
-use Rattle.meaning.proofs.InForceRows.{AreAbove, Rise, listed-row, row-listed, listed-rise}
+use Rattle.meaning.proofs.Ascending as ascending
+use Rattle.meaning.proofs.InForceRows.{AreAbove, Rise, lt-of, listed-row, row-listed, listed-rise}
 use Rattle.meaning.proofs.Copies.Queue.{found_by_id}
 
 -- ---- what is in force
@@ -167,6 +168,15 @@ once-to : (ss : List Subject) (x : Subject) → Among x ss → Among x (each_onc
 once-to [] x is = is
 once-to (s ∷ ss) x (inl e) = with-to s (each_once ss) x (inl e)
 once-to (s ∷ ss) x (inr is) = with-to s (each_once ss) x (inr (once-to ss x is))
+
+-- subjects that rise do so by their keys
+pub subjects-ascend : (ss : List Subject) → SubjectsRise ss → ascending.Rise subject_key ss
+subjects-ascend [] rise = tt
+subjects-ascend (s ∷ ss) rise = (above ss rise.0, subjects-ascend ss rise.1)
+  where
+    above : (ts : List Subject) → AllAbove s ts → ascending.AreAbove subject_key (subject_key s) ts
+    above [] all = tt
+    above (t ∷ ts) all = (lt-of (subject_key s) (subject_key t) all.0, above ts all.1)
 
 pub each_is_once : EachIsOnce
 each_is_once ss = (

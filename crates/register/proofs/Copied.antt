@@ -22,7 +22,7 @@ none_taken n [] some e = refl
 none_taken zero (d ∷ ds) some e = absurd (omega (arith, some))
 none_taken (suc n) (d ∷ ds) some e = let f : d ∷ take n ds ≡ [] = e in cc
 
-known_by : (known is_admin : Bool) → may_fetch known is_admin ≡ None → known ≡ true
+pub known_by : (known is_admin : Bool) → may_fetch known is_admin ≡ None → known ≡ true
 known_by true is_admin e = refl
 known_by false is_admin e = let f : ◌≡◌ {A = Option ℕ} (Some 1) None = e in cc
 

@@ -140,7 +140,7 @@ pub fetch_by : (st : State) (caller n : ℕ) → refusal st (Asks caller (Fetch 
 unfolding tests
 fetch_by st caller n = refl
 
-by_caller : (known is_admin b : Bool) → known ≡ b → may_fetch known is_admin ≡ (if b then None else Some 1)
+pub by_caller : (known is_admin b : Bool) → known ≡ b → may_fetch known is_admin ≡ (if b then None else Some 1)
 by_caller true is_admin b is = ap (λ x. if x then None else Some 1) is
 by_caller false is_admin b is = ap (λ x. if x then None else Some 1) is
 

@@ -1,5 +1,5 @@
--- What a carrier knows that has fetched, and nothing was there.
-use Rattle.std.specs.Prelude.{◌≡◌, ℕ, false}
+-- What a carrier knows of its copy by what waits for it.
+use Rattle.std.specs.Prelude.{◌≡◌, ℕ, false, List, Contains}
 use Rattle.numbers.specs.Subjects.{Subject}
 use Rattle.meaning.specs.Laws.{steady_routing}
 use Rattle.meaning.specs.Reading.{State, record_now, any_open, copy_of, published}
@@ -8,3 +8,7 @@ use Rattle.meaning.specs.Reading.{State, record_now, any_open, copy_of, publishe
 pub record HoldsWhatWasPublished (st : State) (c : ℕ) : Type 0 where
   pub published : (s : Subject) → copy_of st.windows c s st.history ≡ published st c s
   pub in_force : any_open st ≡ false → (s : Subject) → copy_of st.windows c s st.history ≡ steady_routing (record_now st s)
+
+-- of each subject but these its copy is what was last published to it
+abbrev pub HoldsAllBut : State → (c : ℕ) → List Subject → Type 0
+HoldsAllBut st c subjects = (s : Subject) → (Contains subjects s → ⊥) → copy_of st.windows c s st.history ≡ published st c s

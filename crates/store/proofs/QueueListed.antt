@@ -1,19 +1,18 @@
 -- The front of a carrier's queue, as a walk over the index lists it.
-use Rattle.std.proofs.Common.{◌≡◌, ◌<◌, ◌≤◌, ◌⊎◌, inl, inr, ℕ, Bool, true, false, cond, List, [], ◌∷◌, ◌++◌, length, Option, Some, None, refl, ap, sym, ◌∙◌, subst, arith}
-use Rattle.std.specs.Prelude.{◌&&◌, not, option_map, is_some, IsSome, Contains}
+use Rattle.std.proofs.Common.{◌≡◌, ◌≤◌, ◌⊎◌, inl, inr, ℕ, Bool, true, false, cond, List, [], ◌∷◌, ◌++◌, length, Option, Some, None, refl, ap, sym, ◌∙◌, subst}
+use Rattle.std.specs.Prelude.{option_map, is_some, IsSome, Contains}
 use Rattle.std.specs.declared.cmp.Ordering.{Ordering}
-use Rattle.std.specs.declared.cmp.Ordering.TheVariants.{Less, Equal, Greater}
+use Rattle.std.specs.declared.cmp.Ordering.TheVariants.{Less, Equal}
 use Rattle.std.specs.declared.ops.Bound.TheVariants.{Included}
 use Rattle.std.specs.List.{AllByRecursion, filter_map, cons_option}
 use Rattle.std.specs.List.Sorted.{IsStrictlySortedBy}
-use Rattle.std.specs.Ordering.{on, is_le, is_lt, nat_cmp, ordering_then}
+use Rattle.std.specs.Ordering.{on, nat_cmp, ordering_then}
 use Rattle.std.specs.Cmp.{eq_by_cmp_equiv}
 use Rattle.std.specs.Map.{lookup}
 use Rattle.std.specs.BTreeMap as tree
 use Rattle.std.specs.BTreeMap.{BTreeMap, is_at}
-use Rattle.std.specs.BTreeMap.Range.{entries_between, range_contains}
-use Rattle.std.specs.FinMap.{FinMap, get, nat_cmp-IsAntisymmetric}
-use Rattle.std.proofs.lemmas.Bool.Decides.{nat_tests}
+use Rattle.std.specs.BTreeMap.Range.{entries_between}
+use Rattle.std.specs.FinMap.{FinMap, get}
 use Rattle.numbers.specs.Subjects.{Subject}
 use Rattle.numbers.specs.declared.spid.Spid.{Spid}
 use Rattle.meaning.specs.Content.{Content, BroadcastRow, WaitKey, wait_cmp, broadcast_cmp, empty_content}
@@ -29,7 +28,7 @@ use Rattle.store.specs.QueueRows.{AreOrdered, order_of, lowest, highest, told, d
 use Rattle.store.proofs.Maps.{get-map_of, entry-of}
 use Rattle.store.proofs.Orders.{wait_total, wait_exact, broadcast_total, broadcast_exact}
 use Rattle.store.proofs.Listed.{Among, contained, all-places, filter_map-filter, listed-sorted, found-listed, equal_cmp}
-use Rattle.store.proofs.Found.{both}
+use Rattle.store.proofs.CarrierKeys.{is_between, carrier-is, within}
 use Rattle.store.proofs.RowsFlat.{tied}
 
 -- ---- lists
@@ -80,7 +79,7 @@ module _ {K X A : Type 0} (F : K → Option A) (P : A → Type 0) where
       go more None p = more
       go more (Some a) p = (each e (inl refl) a p, more)
 
-found-own : {K X : Type 0} (at : K → Bool) (es : List (K × X)) (e : K × X) → Among e es → at e.0 ≡ true → IsSome (lookup at es)
+pub found-own : {K X : Type 0} (at : K → Bool) (es : List (K × X)) (e : K × X) → Among e es → at e.0 ≡ true → IsSome (lookup at es)
 unfolding Among
 found-own at [] e there t = absurd there
 found-own at (x ∷ xs) e (inl same) t = ap (λ b. is_some (cond b (Some x.1) (lookup at xs))) (ap (λ z. at z.0) same ∙ t)
@@ -93,24 +92,6 @@ found-own at (x ∷ xs) e (inr there) t = go (found-own at xs e there t) (at x.0
 in_part : {A : Type 0} (b : Bool) (o : Option A) (d : A) → cond b o None ≡ Some d → (b ≡ true) × (o ≡ Some d)
 in_part true o d e = (refl, e)
 in_part false o d e = let f : None ≡ Some d = e in cc
-
--- ---- a carrier's keys
-
-from_first : (c m i a : ℕ) → is_le (ordering_then (nat_cmp c c) (ordering_then (nat_cmp 0 m) (ordering_then (nat_cmp 0 i) (nat_cmp 0 a)))) ≡ true
-from_first c m i a = grind (arith, nat_tests)
-
-to_last : (c m i a : ℕ) → m < 1099511627776 → i < 18446744073709551616 → a < 18446744073709551616 →
-    not (is_lt (ordering_then (nat_cmp c c) (ordering_then (nat_cmp 1099511627775 m) (ordering_then (nat_cmp 18446744073709551615 i) (nat_cmp 18446744073709551615 a))))) ≡ true
-to_last c m i a p q r = grind (arith, nat_tests)
-
--- what stands between is the carrier's own
-own_carrier : (c k : ℕ) (x y : Ordering) → (is_le (ordering_then (nat_cmp c k) x) && not (is_lt (ordering_then (nat_cmp c k) y))) ≡ true → c ≡ k
-own_carrier c k x y e = go (nat_cmp c k) refl e
-  where
-    go : (r : Ordering) → nat_cmp c k ≡ r → (is_le (ordering_then r x) && not (is_lt (ordering_then r y))) ≡ true → c ≡ k
-    go Equal same t = nat_cmp-IsAntisymmetric c k same
-    go Less same t = let f : false ≡ true = t in cc
-    go Greater same t = let f : false ≡ true = t in cc
 
 module _ (waits : FinMap wait_cmp Subject) (order : BTreeMap WaitKeyCode (Unit {0})) (broadcasts : BTreeMap BroadcastKeyCode Broadcast) (carrier : Spid) (many : ℕ) where
   abbrev content : Content
@@ -140,33 +121,19 @@ module _ (waits : FinMap wait_cmp Subject) (order : BTreeMap WaitKeyCode (Unit {
       go (Some b) at f = (b, ap (option_map (download_told k)) at)
 
   module _ (lo hi : WaitKeyCode) (low : wait_key_of lo ≡ lowest carrier.number) (high : wait_key_of hi ≡ highest carrier.number) (indexed : AreOrdered waits (order_of order)) where
-    abbrev between : WaitKeyCode → Bool
-    between k = range_contains (on wait_key_of wait_cmp) (Included lo) (Included hi) k
-
     abbrev listed : WaitKeyCode → Option Download
-    listed k = cond (between k) (told broadcasts k) None
-
-    carrier-is : (k : WaitKeyCode) → between k ≡ true → carrier.number ≡ k.carrier.number
-    carrier-is k t =
-        own_carrier carrier.number k.carrier.number (ordering_then (nat_cmp 0 k.minute.number) (ordering_then (nat_cmp 0 k.id) (nat_cmp 0 k.attempt)))
-        (ordering_then (nat_cmp 1099511627775 k.minute.number) (ordering_then (nat_cmp 18446744073709551615 k.id) (nat_cmp 18446744073709551615 k.attempt)))
-        (sym (λ i. is_le (wait_cmp (low i) (wait_key_of k)) && not (is_lt (wait_cmp (high i) (wait_key_of k)))) ∙ t)
-
-    within : (k : WaitKeyCode) (minute id attempt : ℕ) → wait_key_of k ≡ own minute id attempt → minute < 1099511627776 → id < 18446744073709551616 → attempt < 18446744073709551616 → between k ≡ true
-    within k minute id attempt same p q r =
-        (λ i. is_le (wait_cmp (low i) (same i)) && not (is_lt (wait_cmp (high i) (same i))))
-        ∙ both _ _ (from_first carrier.number minute id attempt) (to_last carrier.number minute id attempt p q r)
+    listed k = cond (is_between lo hi k) (told broadcasts k) None
 
     -- an entry of the index that is listed waits for the carrier
     waits-is : (e : WaitKeyCode × Unit {0}) → Among e order.entries → (d : Download) → listed e.0 ≡ Some d → Waits content carrier.number d
     waits-is e there d is =
-        let p = in_part (between e.0) (told broadcasts e.0) d is in
+        let p = in_part (is_between lo hi e.0) (told broadcasts e.0) d is in
         let t = told-is e.0 d p.1 in
         let stands : is_some (get (order_of order) (wait_key_of e.0)) ≡ true =
         ap is_some (get-map_of wait_key_of (λ (u : Unit {0}). u) wait_total wait_exact order e.0)
         ∙ present (tree.get (on wait_key_of wait_cmp) order e.0) (found-own (is_at (on wait_key_of wait_cmp e.0)) order.entries e there (here e.0)) in
         let mine : is_some (get waits (own e.0.minute.number e.0.id e.0.attempt)) ≡ true =
-        ap (λ c. is_some (get waits (record { carrier = c; minute = e.0.minute.number; id = e.0.id; attempt = e.0.attempt }))) (carrier-is e.0 p.0) ∙ sym (indexed.same (wait_key_of e.0)) ∙ stands in
+        ap (λ c. is_some (get waits (record { carrier = c; minute = e.0.minute.number; id = e.0.id; attempt = e.0.attempt }))) (carrier-is carrier.number lo hi low high e.0 p.0) ∙ sym (indexed.same (wait_key_of e.0)) ∙ stands in
         subst (Waits content carrier.number) t.2 (broadcast_row_of t.0, (mine, t.1), record { subject = refl; action = refl; routing = refl })
       where
         present : (o : Option (Unit {0})) → IsSome o → is_some (option_map (λ (u : Unit {0}). u) o) ≡ true
@@ -178,11 +145,11 @@ module _ (waits : FinMap wait_cmp Subject) (order : BTreeMap WaitKeyCode (Unit {
 
     rise : (x y : WaitKeyCode) (a b : Download) → listed x ≡ Some a → listed y ≡ Some b → on wait_key_of wait_cmp x y ≡ Less → queue_cmp a b ≡ Less
     rise x y a b p q less =
-        let px = in_part (between x) (told broadcasts x) a p in
-        let py = in_part (between y) (told broadcasts y) b q in
+        let px = in_part (is_between lo hi x) (told broadcasts x) a p in
+        let py = in_part (is_between lo hi y) (told broadcasts y) b q in
         let tx = told-is x a px.1 in
         let ty = told-is y b py.1 in
-        let c : nat_cmp x.carrier.number y.carrier.number ≡ Equal = equal_cmp x.carrier.number y.carrier.number (sym (carrier-is x px.0) ∙ carrier-is y py.0) in
+        let c : nat_cmp x.carrier.number y.carrier.number ≡ Equal = equal_cmp x.carrier.number y.carrier.number (sym (carrier-is carrier.number lo hi low high x px.0) ∙ carrier-is carrier.number lo hi low high y py.0) in
         (λ i. queue_cmp (sym tx.2 i) (sym ty.2 i)) ∙ sym (λ i. ordering_then (c i) (queue_cmp (download_told x tx.0) (download_told y ty.0))) ∙ less
 
     module _ (found later : List Download) (all : found ++ later ≡ filter_map (λ (e : WaitKeyCode × Unit {0}). listed e.0) order.entries) (ordered : tree.IsOrdered (on wait_key_of wait_cmp) order) where
@@ -201,7 +168,7 @@ module _ (waits : FinMap wait_cmp Subject) (order : BTreeMap WaitKeyCode (Unit {
           let same : wait_key_of k ≡ own minute id attempt = sym (wait_exact (wait_key_of q.0) (wait_key_of k) (tied _ tie)) ∙ q.1 in
           let t = is-told k row ((λ i. get content.broadcasts (record { id = (same i).id; attempt = (same i).attempt })) ∙ is.1) in (
             download_told k t.0,
-            ap (λ b. cond b (told broadcasts k) None) (within k minute id attempt same small.0 small.1 small.2) ∙ t.1,
+            ap (λ b. cond b (told broadcasts k) None) (within carrier.number lo hi low high k minute id attempt same small.0 small.1 small.2) ∙ t.1,
             (ap (λ (v : WaitKey). v.minute) same, ap (λ (v : WaitKey). v.id) same, ap (λ (v : WaitKey). v.attempt) same),
           ))
           order.entries q.2 in
@@ -235,7 +202,7 @@ module _ (waits : FinMap wait_cmp Subject) (order : BTreeMap WaitKeyCode (Unit {
   walked lo hi found rest part low high indexed ordered is_part so_far ends most =
       front-are lo hi low high indexed found (filter_map (λ e. told broadcasts e.0) rest)
       (so_far ∙ ap (filter_map (λ e. told broadcasts e.0)) is_part
-      ∙ filter_map-filter (λ e. told broadcasts e.0) (λ e. between lo hi low high indexed e.0) order.entries)
+      ∙ filter_map-filter (λ e. told broadcasts e.0) (λ e. is_between lo hi e.0) order.entries)
       ordered (over ends) most
     where
       over : (rest ≡ []) ⊎ (length found ≡ many) → (filter_map (λ (e : WaitKeyCode × Unit {0}). told broadcasts e.0) rest ≡ []) ⊎ (length found ≡ many)

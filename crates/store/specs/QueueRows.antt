@@ -1,17 +1,19 @@
 -- The index of the downloads that wait, in the order of the carriers' queues.
-use Rattle.std.specs.Prelude.{◌≡◌, ℕ, true, Option, is_some, option_map}
-use Rattle.std.specs.Ordering.{on}
+use Rattle.std.specs.Prelude.{◌≡◌, ℕ, true, List, [], ◌∷◌, Option, Some, None, is_some, option_map}
+use Rattle.std.specs.Ordering.{on, nat_cmp}
 use Rattle.std.specs.BTreeMap as tree
 use Rattle.std.specs.BTreeMap.{BTreeMap}
 use Rattle.std.specs.FinMap.{FinMap, get}
-use Rattle.numbers.specs.Subjects.{Subject}
+use Rattle.numbers.specs.Subjects.{Subject, subject_key}
+use Rattle.numbers.specs.Views.{key_of}
+use Rattle.numbers.specs.declared.ported.Subject.{Subject as SubjectCode}
 use Rattle.meaning.specs.Content.{WaitKey, wait_cmp, broadcast_cmp}
 use Rattle.delivery.specs.declared.broadcast.Broadcast.{Broadcast}
 use Rattle.delivery.specs.declared.download.Download.{Download}
 use Rattle.settle.specs.Views.{broadcast_key_of, wait_key_of}
 use Rattle.settle.specs.declared.rows.BroadcastKey.{BroadcastKey as BroadcastKeyCode}
 use Rattle.settle.specs.declared.rows.WaitKey.{WaitKey as WaitKeyCode}
-use Rattle.store.specs.Maps.{map_of}
+use Rattle.store.specs.Maps.{map_of, set}
 use Rattle.store.specs.WaitRows.{IsDownload, download_of}
 
 abbrev pub order_of : BTreeMap WaitKeyCode (Unit {0}) → FinMap wait_cmp (Unit {0})
@@ -38,3 +40,18 @@ download_told k b = record { id = k.id; attempt = k.attempt; minute = k.minute; 
 -- a download as its broadcast tells it, if there is such a broadcast
 abbrev pub told : BTreeMap BroadcastKeyCode Broadcast → WaitKeyCode → Option Download
 told broadcasts k = option_map (download_told k) (tree.get (on broadcast_key_of broadcast_cmp) broadcasts (broadcast_of k))
+
+-- ---- subjects
+
+-- the subject's key, if there is one, together with those that were there
+abbrev pub with_subject : Option Subject → FinMap nat_cmp (Unit {0}) → FinMap nat_cmp (Unit {0})
+with_subject None m = m
+with_subject (Some s) m = set m (subject_key s) (Some tt)
+
+-- the keys of the subjects that wait at these places, together with those that were there
+abbrev pub gathered : FinMap wait_cmp Subject → List (WaitKeyCode × Unit {0}) → FinMap nat_cmp (Unit {0}) → FinMap nat_cmp (Unit {0})
+gathered waits [] m = m
+gathered waits (e ∷ es) m = gathered waits es (with_subject (get waits (wait_key_of e.0)) m)
+
+abbrev pub subjects_of : BTreeMap SubjectCode (Unit {0}) → FinMap nat_cmp (Unit {0})
+subjects_of m = map_of key_of (λ u. u) m

@@ -4,9 +4,11 @@ ghost use Rattle.std.specs.List.{list_any};
 ghost use Rattle.numbers.specs.declared.spid.Spid.{Spid as SpidCode};
 ghost use Rattle.store.specs.WaitRows.{download_of, wait_for};
 ghost use Rattle.std.specs.FinMap.{get, empty};
-ghost use Rattle.numbers.specs.Views.{subject_of};
+ghost use Rattle.numbers.specs.Views.{subject_of, key_of};
+ghost use Rattle.std.specs.Ordering.{on, nat_cmp};
+ghost use Rattle.std.specs.BTreeMap.{keys, IsOrdered};
 ghost use Rattle.meaning.specs.Content.{empty_content};
-ghost use Rattle.settle.specs.Reads.{AreFirst, AreWaitsAbout};
+ghost use Rattle.settle.specs.Reads.{AreAwaited, AreFirst, AreWaitsAbout};
 ghost use Rattle.settle.specs.Views.{broadcast_row_of, broadcast_key_of, spid_of, wait_key_of};
 ghost use Rattle.store.specs.Maps.{map_of, set};
 ghost use Rattle.store.specs.QueueRows.{lowest, highest, told};
@@ -87,6 +89,18 @@ fn told(broadcasts: &BTreeMap<BroadcastKey, Broadcast>, wait: WaitKey) -> Option
     })
 }
 
+// The keys, rising.
+fn rising(alloc: Global, subjects: &BTreeMap<Subject, ()>) -> Result<Vec<Subject>, AllocError>
+    ensures { IfOk result (λ found. (found.items ≡ keys subjects.now)
+        × IsOrdered (on key_of nat_cmp) subjects.now) }
+{
+    let mut found = Vec::new(alloc);
+    for subject in subjects.keys() {
+        found.push(*subject)?;
+    }
+    Ok(found)
+}
+
 impl Queues {
     /// Empty queues.
     pub fn new(alloc: Global) -> Queues
@@ -158,6 +172,21 @@ impl Queues {
             (subject_of subject) downloads.items) }
     {
         self.waits.about(alloc, carrier, subject)
+    }
+
+    /// The subjects of the carrier's downloads, each once, rising.
+    pub fn subjects(&self, alloc: Global, carrier: Spid) -> Result<Vec<Subject>, AllocError>
+        ensures { IfOk result (λ subjects.
+            AreAwaited (record empty_content { waits = self.now }) (spid_of carrier)
+            subjects.items) }
+    {
+        let mut subjects = BTreeMap::new(alloc);
+        for (key, _) in self.order.range(lowest(carrier)..=highest(carrier)) {
+            if let Some(subject) = self.waits.get(*key) {
+                let _ = subjects.insert(subject, ())?;
+            }
+        }
+        rising(alloc, &subjects)
     }
 
     /// The first downloads of the carrier's queue: so many, or all where there are fewer. What they

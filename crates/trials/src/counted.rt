@@ -77,6 +77,10 @@ impl<S: Store> Store for Counted<'_, S> {
         self.store.waits_about(spid, subject)
     }
 
+    fn waits(&mut self, spid: Spid) -> Result<Vec<Subject>, StoreFault> {
+        self.store.waits(spid)
+    }
+
     fn front(&mut self, spid: Spid, many: usize) -> Result<Vec<Download>, StoreFault> {
         self.store.front(spid, many)
     }

@@ -172,3 +172,43 @@ fn copies_follow_a_number(rt: HostRuntime) {
     let each = [routing(), None, routing()];
     assert_eq!(rt; walked(rt.alloc()), Some([each, each]));
 }
+
+// Whether a download waits for the old provider of this number alone, and of no other one.
+fn waits_for(register: &mut Desk, caller: Spid, subject: Subject) -> Option<bool> {
+    let subjects = register.waiting(caller).ok()?;
+    Some(subjects.as_slice() == [subject].as_slice())
+}
+
+// As the first port is sent, once that is acknowledged, and when two downloads of the number wait.
+fn awaited(alloc: Global) -> Option<[bool; 4]> {
+    let mut register = new_register(alloc)?;
+    if !is_sent(alloc, &mut register) {
+        return None;
+    }
+    let [old, new] = [Spid::read("BBBB")?, Spid::read("AAAA")?];
+    let subject = download()?.subject;
+    let sent = waits_for(&mut register, old, subject)?;
+    register.acknowledge(old, 1, 1).ok()?;
+    register.acknowledge(new, 1, 1).ok()?;
+    let none = register.waiting(old).ok()?.is_empty();
+    if !is_told(alloc, &mut register, &GIVEN_BACK, 7) {
+        return None;
+    }
+    let both = register.fetch(old, 10).ok()?.len() == 2;
+    let again = waits_for(&mut register, old, subject)?;
+    Some([sent, none, both, again])
+}
+
+fn has_no_queue(alloc: Global) -> Option<bool> {
+    let mut register = new_register(alloc)?;
+    match register.waiting(Spid::NPAC) {
+        Err(refusal) => Some(refusal == Refusal::UnknownCarrier),
+        Ok(_) => Some(false),
+    }
+}
+
+#[test]
+fn a_carrier_is_told_what_waits(rt: HostRuntime) {
+    assert_eq!(rt; awaited(rt.alloc()), Some([true; 4]));
+    assert_eq!(rt; has_no_queue(rt.alloc()), Some(true));
+}

@@ -119,17 +119,18 @@ fn ported(store: &mut MemoryStore, sample: &Sample) -> Option<[bool; 5]> {
 }
 
 // How many rows each list has.
-fn listed(store: &mut MemoryStore, sample: &Sample) -> Option<[usize; 6]> {
+fn listed(store: &mut MemoryStore, sample: &Sample) -> Option<[usize; 7]> {
     let about = store
         .waits_about(sample.carrier, sample.subject)
         .ok()?
         .len();
+    let waits = store.waits(sample.carrier).ok()?.len();
     let front = store.front(sample.carrier, 10).ok()?.len();
     let waiters = store.waiters(Minute::ZERO, KEY).ok()?.len();
     let carriers = store.carriers().ok()?.len();
     let broadcasts = store.open_broadcasts().ok()?.len();
     let in_force = store.in_force().ok()?.len();
-    Some([about, front, waiters, carriers, broadcasts, in_force])
+    Some([about, waits, front, waiters, carriers, broadcasts, in_force])
 }
 
 fn is_committed(store: &mut MemoryStore, changes: &Changes) -> bool {
@@ -143,7 +144,7 @@ fn is_read(store: &mut MemoryStore, sample: &Sample, done: bool) -> Option<bool>
     let lists = listed(store, sample)?;
     let are_rows = registered == [false, done, done, done, done];
     let are_versions = ported == [done, done, false, done, !done];
-    Some(are_rows && are_versions && lists == [usize::from(done); 6] && store.failures() == 0)
+    Some(are_rows && are_versions && lists == [usize::from(done); 7] && store.failures() == 0)
 }
 
 fn is_found(alloc: Global) -> Option<bool> {
