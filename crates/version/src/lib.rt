@@ -10,10 +10,12 @@ mod create;
 mod deadline;
 mod disconnect;
 mod firing;
+mod in_use;
 mod phase;
 mod version;
 
 pub use command::{Step, VersionCommand};
 pub use create::{Create, CreateFacts, Created, Creator};
+pub use in_use::NumberInUse;
 pub use phase::Phase;
 pub use version::{FIRST_ID, ID_LIMIT, Version};
