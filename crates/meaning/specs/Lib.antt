@@ -15,7 +15,6 @@ pub mod Copies
 pub mod Content
 pub mod Laws
 pub mod Due
-pub mod Theorems
 pub mod Examples
 pub mod ServiceExamples
 pub mod RefusalExamples

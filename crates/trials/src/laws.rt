@@ -4,8 +4,8 @@ use api::{
     uris_need_no_escape,
 };
 use meaning::laws::{
-    law_of_answers, law_of_copies, law_of_firings, law_of_lists, law_of_queues, law_of_refusals,
-    law_of_routing, law_of_service, laws_of_minutes,
+    law_of_answers, law_of_blocks, law_of_copies, law_of_firings, law_of_lists, law_of_queues,
+    law_of_refusals, law_of_routing, law_of_service, laws_of_minutes,
 };
 use numbers::subjects_in_order_of_texts;
 use register::law_of_new_stores;
@@ -23,6 +23,7 @@ fn laws_return(_rt: HostRuntime) {
     law_of_copies();
     law_of_queues();
     law_of_lists();
+    law_of_blocks();
     subjects_in_order_of_texts();
     tel_uris_are_read();
     faults_are_in_order();
