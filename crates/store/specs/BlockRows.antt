@@ -1,5 +1,5 @@
 -- The numbers of a block that are in use, as they are gathered from the indexes.
-use Rattle.std.specs.Prelude.{◌≡◌, ◌==◌, ◌||◌, ℕ, Bool, true, false, Option, Some, None, is_some, if◌then◌else◌}
+use Rattle.std.specs.Prelude.{◌≡◌, ◌==◌, ◌||◌, ℕ, Bool, true, false, List, [], ◌∷◌, Option, Some, None, is_some, if◌then◌else◌}
 use Rattle.std.specs.Ordering.{nat_cmp}
 use Rattle.std.specs.BTreeMap.{BTreeMap}
 use Rattle.std.specs.FinMap.{FinMap, get}
@@ -9,9 +9,10 @@ use Rattle.numbers.specs.declared.tn.Tn.{Tn}
 use Rattle.meaning.specs.Content.{Content, VersionRow}
 use Rattle.version.specs.declared.in_use.NumberInUse.{NumberInUse}
 use Rattle.settle.specs.Reads.{Holds, Opens, IsTold}
-use Rattle.store.specs.Maps.{map_of}
+use Rattle.store.specs.Maps.{map_of, set}
 use Rattle.store.specs.Tables.{SubjectVersion}
 use Rattle.store.specs.declared.blocks.Standing.{Standing}
+use Rattle.store.specs.declared.keys.SubjectVersion.{SubjectVersion as SubjectVersionCode}
 
 -- before and behind all versions of a block's numbers
 abbrev pub lowest : ℕ → SubjectVersion
@@ -60,6 +61,18 @@ only_held known = record { is_in_force = true; is_open = false }
 
 abbrev pub and_open : Option Standing → Standing
 and_open known = record { is_in_force = has_held known; is_open = true }
+
+-- ---- numbers gathered
+
+-- the number, if there is one, with its mark, together with those that were there
+abbrev pub with_number : (Option Standing → Standing) → Option ℕ → FinMap nat_cmp Standing → FinMap nat_cmp Standing
+with_number mark None m = m
+with_number mark (Some n) m = set m n (Some (mark (get m n)))
+
+-- the numbers of the block that the rows of these keys have in the column, each with its mark, together with those that were there
+abbrev pub marked : (Option Standing → Standing) → (VersionRow → Option Subject) → ℕ → FinMap nat_cmp VersionRow → List (SubjectVersionCode × Unit {0}) → FinMap nat_cmp Standing → FinMap nat_cmp Standing
+marked mark column block versions [] m = m
+marked mark column block versions (e ∷ es) m = marked mark column block versions es (with_number mark (number_at column block (get versions e.0.id)) m)
 
 abbrev pub standings_of : BTreeMap Tn Standing → FinMap nat_cmp Standing
 standings_of m = map_of tn_of (λ s. s) m
