@@ -153,7 +153,7 @@ module _ (block : ℕ) (lo hi : SubjectVersionCode) (low : subject_version_of lo
       where
         go : (o : Option Subject) → column row ≡ o → is_number n (number_of block o) ≡ true → (block_of n ≡ block) × Has
         go None has f = let no : false ≡ true = f in cc
-        go (Some s) has f = let p = own-is s f in (p.0, id, row, at, has ∙ ap (λ q. Some q) p.1)
+        go (Some s) has f = let p = own-is s f in (p.0, (id, row, at, has ∙ ap (λ q. Some q) p.1))
 
     met-from : (es : List (SubjectVersionCode × Unit {0})) → list_any is_met es ≡ true → (block_of n ≡ block) × Has
     met-from [] e = let f : false ≡ true = e in cc
@@ -253,18 +253,18 @@ marked-pass mark column block versions e rest m is = ap (λ o. marked mark colum
 
 -- ---- the list
 
-narrowed : {P Q : Type 0} (b : Bool) → IsTold b (P × Q) → P → IsTold b Q
-narrowed true is p = is.1
-narrowed false is p = λ q. is (p, q)
+narrowed : (P Q : Type 0) (b : Bool) → IsTold b (P × Q) → P → IsTold b Q
+narrowed P Q true is p = is.1
+narrowed P Q false is p = λ q. is (p, q)
 
-sure : {P : Type 0} (b : Bool) → IsTold b P → P → b ≡ true
-sure true is p = refl
-sure false is p = absurd (is p)
+sure : (P : Type 0) (b : Bool) → IsTold b P → P → b ≡ true
+sure P true is p = refl
+sure P false is p = absurd (is p)
 
-own-of : {P Q R : Type 0} (a b : Bool) → (a || b) ≡ true → IsTold a (P × Q) → IsTold b (P × R) → P
-own-of true b e one other = one.0
-own-of false true e one other = other.0
-own-of false false e one other = let f : false ≡ true = e in cc
+own-of : (P Q R : Type 0) (a b : Bool) → (a || b) ≡ true → IsTold a (P × Q) → IsTold b (P × R) → P
+own-of P Q R true b e one other = one.0
+own-of P Q R false true e one other = other.0
+own-of P Q R false false e one other = let f : false ≡ true = e in cc
 
 among-told : (e : Tn × Standing) (es : List (Tn × Standing)) → Among e es → Among (number_told e) (map number_told es)
 unfolding Among
@@ -282,25 +282,24 @@ sorted-told (e ∷ es) sorted = (above es sorted.0, sorted-told es sorted.1)
     above [] all = tt
     above (x ∷ xs) all = (all.0, above xs all.1)
 
-picked : {P : Tn → Type 0} (es : List (Tn × Standing)) (e : Tn × Standing) → AllByRecursion P (keys_of es) → Among e es → P e.0
+picked : (P : Tn → Type 0) (es : List (Tn × Standing)) (e : Tn × Standing) → AllByRecursion P (keys_of es) → Among e es → P e.0
 unfolding Among
-picked [] e all there = absurd there
-picked {P} (x ∷ xs) e all (inl same) = subst (λ (y : Tn × Standing). P y.0) same all.0
-picked {P} (x ∷ xs) e all (inr there) = picked {P} xs e all.1 there
+picked P [] e all there = absurd there
+picked P (x ∷ xs) e all (inl same) = subst (λ (y : Tn × Standing). P y.0) same all.0
+picked P (x ∷ xs) e all (inr there) = picked P xs e all.1 there
 
 not-at : (a b : ℕ) → nat_cmp a b ≡ Less → is_eq (nat_cmp b a) ≡ false
 not-at a b e = grind (arith, nat_tests)
 
 -- an entry is what a look-up of its key finds
 own-value : (es : List (Tn × Standing)) (e : Tn × Standing) → IsStrictlySortedBy (on tn_of nat_cmp) (keys_of es) → Among e es → lookup (is_at (on tn_of nat_cmp e.0)) es ≡ Some e.1
-unfolding Among
-unfolding IsStrictlySortedBy
+unfolding Among IsStrictlySortedBy
 own-value [] e sorted there = absurd there
 own-value (x ∷ xs) e sorted (inl same) =
     ap (λ (y : Tn × Standing). cond (is_at (on tn_of nat_cmp e.0) y.0) (Some y.1) (lookup (is_at (on tn_of nat_cmp e.0)) xs)) same
     ∙ ap (λ b. cond b (Some e.1) (lookup (is_at (on tn_of nat_cmp e.0)) xs)) ((eq_by_cmp_equiv nat_cmp_total).refl (tn_of e.0))
 own-value (x ∷ xs) e sorted (inr there) =
-    ap (λ b. cond b (Some x.1) (lookup (is_at (on tn_of nat_cmp e.0)) xs)) (not-at (tn_of x.0) (tn_of e.0) (picked {λ k. nat_cmp (tn_of x.0) (tn_of k) ≡ Less} xs e sorted.0 there))
+    ap (λ b. cond b (Some x.1) (lookup (is_at (on tn_of nat_cmp e.0)) xs)) (not-at (tn_of x.0) (tn_of e.0) (picked (λ k. nat_cmp (tn_of x.0) (tn_of k) ≡ Less) xs e sorted.0 there))
     ∙ own-value xs e sorted.1 there
 
 module _ (c : Content) (block : ℕ) (numbers : BTreeMap Tn Standing) (ordered : tree.IsOrdered (on tn_of nat_cmp) numbers) (known : AreStandings c block (standings_of numbers)) where
@@ -310,8 +309,8 @@ module _ (c : Content) (block : ℕ) (numbers : BTreeMap Tn Standing) (ordered :
   in-block-is : (e : Tn × Standing) → Among e numbers.entries → IsInBlock c block (number_told e)
   in-block-is e there = record {
     own = own;
-    is_in_force = narrowed e.1.is_in_force held own;
-    is_open = narrowed e.1.is_open opened own;
+    is_in_force = narrowed (block_of (tn_of e.0) ≡ block) (Holds c (Number (tn_of e.0))) e.1.is_in_force held own;
+    is_open = narrowed (block_of (tn_of e.0) ≡ block) (Opens c (Number (tn_of e.0))) e.1.is_open opened own;
     in_use = in_use;
   }
     where
@@ -328,7 +327,7 @@ module _ (c : Content) (block : ℕ) (numbers : BTreeMap Tn Standing) (ordered :
       in_use = sym (subst (λ o. is_some o ≡ (has_held o || has_opened o)) found (known.in_use (tn_of e.0)))
 
       own : block_of (tn_of e.0) ≡ block
-      own = own-of e.1.is_in_force e.1.is_open in_use held opened
+      own = own-of (block_of (tn_of e.0) ≡ block) (Holds c (Number (tn_of e.0))) (Opens c (Number (tn_of e.0))) e.1.is_in_force e.1.is_open in_use held opened
 
   pub in-block-are : (found : List NumberInUse) → found ≡ map number_told numbers.entries → AreInBlock c block found
   in-block-are found is = record {
@@ -345,5 +344,5 @@ module _ (c : Content) (block : ℕ) (numbers : BTreeMap Tn Standing) (ordered :
   }
     where
       stands : (n : ℕ) → block_of n ≡ block → Holds c (Number n) ⊎ Opens c (Number n) → (has_held (at n) || has_opened (at n)) ≡ true
-      stands n own (inl holds) = ap (λ b. b || has_opened (at n)) (sure (has_held (at n)) (known.held n) (own, holds))
-      stands n own (inr opens) = ap (λ b. has_held (at n) || b) (sure (has_opened (at n)) (known.opened n) (own, opens)) ∙ or-true (has_held (at n))
+      stands n own (inl holds) = ap (λ b. b || has_opened (at n)) (sure ((block_of n ≡ block) × Holds c (Number n)) (has_held (at n)) (known.held n) (own, holds))
+      stands n own (inr opens) = ap (λ b. has_held (at n) || b) (sure ((block_of n ≡ block) × Opens c (Number n)) (has_opened (at n)) (known.opened n) (own, opens)) ∙ or-true (has_held (at n))
