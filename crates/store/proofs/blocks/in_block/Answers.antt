@@ -1,6 +1,3 @@
-use Rattle.std.proofs.Common.{rules}
-use Rattle.std.specs.Prelude.{IfOk}
-use Rattle.settle.specs.Reads.{AreInBlock}
 use Rattle.settle.specs.Views.{block_of}
 use Rattle.store.specs.Tables.{content_of}
 use Rattle.store.proofs.BlockListed.{in-block-are}
