@@ -99,7 +99,7 @@ among-filtered b x (y ∷ ys) is = go (among-filtered b x ys) (b y) refl is
     go more true e (inr there) = later (more there)
     go more false e there = later (more there)
 
-filtered-among : {A : Type 0} (b : A → Bool) (x : A) (xs : List A) → Among x xs → b x ≡ true → Among x (filter b xs)
+pub filtered-among : {A : Type 0} (b : A → Bool) (x : A) (xs : List A) → Among x xs → b x ≡ true → Among x (filter b xs)
 unfolding Among
 filtered-among b x [] there t = absurd there
 filtered-among b x (y ∷ ys) (inl same) t = subst (λ c. Among x (cond c (y ∷ filter b ys) (filter b ys))) (sym (ap b same ∙ t)) (inl same)
@@ -110,7 +110,7 @@ filtered-among b x (y ∷ ys) (inr there) t = go (filtered-among b x ys there t)
     go more false = more
 
 -- an entry that a look-up finds
-found-entry : {K X : Type 0} (is_it : K → Bool) (es : List (K × X)) → IsSome (lookup is_it es) → (e : K × X) × Among e es × (is_it e.0 ≡ true)
+pub found-entry : {K X : Type 0} (is_it : K → Bool) (es : List (K × X)) → IsSome (lookup is_it es) → (e : K × X) × Among e es × (is_it e.0 ≡ true)
 unfolding Among
 found-entry is_it [] there = let f : false ≡ true = there in cc
 found-entry {K} {X} is_it (e ∷ es) there = go (found-entry is_it es) (is_it e.0) refl there
@@ -131,7 +131,7 @@ key-among e [] is = absurd is
 key-among e (x ∷ xs) (inl same) = inl (ap (λ z. z.0) same)
 key-among e (x ∷ xs) (inr there) = inr (key-among e xs there)
 
-all-of : {A : Type 0} (P : A → Type 0) (xs : List A) → ((x : A) → Among x xs → P x) → AllByRecursion P xs
+pub all-of : {A : Type 0} (P : A → Type 0) (xs : List A) → ((x : A) → Among x xs → P x) → AllByRecursion P xs
 unfolding Among
 all-of P [] each = tt
 all-of P (x ∷ xs) each = (each x (inl refl), all-of P xs (λ y there. each y (inr there)))

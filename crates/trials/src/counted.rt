@@ -6,6 +6,7 @@ use settle::{
     BlockRow, BroadcastKey, Changes, ClockRow, NumberedRow, Store, StoreFault, VersionRow, WaitKey,
 };
 use std::cell::Cell;
+use version::NumberInUse;
 
 /// Another store, and how many commits it was asked for.
 #[derive(Drop)]
@@ -103,6 +104,10 @@ impl<S: Store> Store for Counted<'_, S> {
 
     fn in_force(&mut self) -> Result<Vec<RoutedRow>, StoreFault> {
         self.store.in_force()
+    }
+
+    fn in_block(&mut self, block: BlockId) -> Result<Vec<NumberInUse>, StoreFault> {
+        self.store.in_block(block)
     }
 
     fn commit(&mut self, changes: &Changes) -> Result<(), StoreFault> {

@@ -119,7 +119,7 @@ fn ported(store: &mut MemoryStore, sample: &Sample) -> Option<[bool; 5]> {
 }
 
 // How many rows each list has.
-fn listed(store: &mut MemoryStore, sample: &Sample) -> Option<[usize; 7]> {
+fn listed(store: &mut MemoryStore, sample: &Sample) -> Option<[usize; 8]> {
     let about = store
         .waits_about(sample.carrier, sample.subject)
         .ok()?
@@ -130,7 +130,10 @@ fn listed(store: &mut MemoryStore, sample: &Sample) -> Option<[usize; 7]> {
     let carriers = store.carriers().ok()?.len();
     let broadcasts = store.open_broadcasts().ok()?.len();
     let in_force = store.in_force().ok()?.len();
-    Some([about, waits, front, waiters, carriers, broadcasts, in_force])
+    let in_block = store.in_block(BlockId::read("2025331")?).ok()?.len();
+    Some([
+        about, waits, front, waiters, carriers, broadcasts, in_force, in_block,
+    ])
 }
 
 fn is_committed(store: &mut MemoryStore, changes: &Changes) -> bool {
@@ -144,7 +147,7 @@ fn is_read(store: &mut MemoryStore, sample: &Sample, done: bool) -> Option<bool>
     let lists = listed(store, sample)?;
     let are_rows = registered == [false, done, done, done, done];
     let are_versions = ported == [done, done, false, done, !done];
-    Some(are_rows && are_versions && lists == [usize::from(done); 7] && store.failures() == 0)
+    Some(are_rows && are_versions && lists == [usize::from(done); 8] && store.failures() == 0)
 }
 
 fn is_found(alloc: Global) -> Option<bool> {

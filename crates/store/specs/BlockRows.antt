@@ -1,0 +1,87 @@
+-- The numbers of a block that are in use, as they are gathered from the indexes.
+use Rattle.std.specs.Prelude.{◌≡◌, ◌==◌, ◌||◌, ℕ, Bool, true, false, List, [], ◌∷◌, Option, Some, None, is_some, if◌then◌else◌}
+use Rattle.std.specs.Ordering.{nat_cmp}
+use Rattle.std.specs.BTreeMap.{BTreeMap}
+use Rattle.std.specs.FinMap.{FinMap, get}
+use Rattle.numbers.specs.Digits.{block_of, number_in}
+use Rattle.numbers.specs.Subjects.{Subject, Number, Block}
+use Rattle.numbers.specs.declared.tn.Tn.{Tn}
+use Rattle.meaning.specs.Content.{Content, VersionRow}
+use Rattle.version.specs.declared.in_use.NumberInUse.{NumberInUse}
+use Rattle.settle.specs.Reads.{Holds, Opens, IsTold}
+use Rattle.store.specs.Maps.{map_of, set}
+use Rattle.store.specs.Tables.{SubjectVersion}
+use Rattle.store.specs.declared.blocks.Standing.{Standing}
+use Rattle.store.specs.declared.keys.SubjectVersion.{SubjectVersion as SubjectVersionCode}
+
+-- before and behind all versions of a block's numbers
+abbrev pub lowest : ℕ → SubjectVersion
+lowest block = record { subject = Number (number_in block 0); id = 0 }
+
+abbrev pub highest : ℕ → SubjectVersion
+highest block = record { subject = Number (number_in block 999); id = 18446744073709551615 }
+
+abbrev pub tn_of : Tn → ℕ
+tn_of t = t.number
+
+-- ---- the number that a row is of
+
+-- the number, if the subject is one of the block's
+abbrev pub own_number : ℕ → Subject → Option ℕ
+own_number block (Number n) = if block_of n == block then Some n else None
+own_number block (Block b) = None
+
+abbrev pub number_of : ℕ → Option Subject → Option ℕ
+number_of block None = None
+number_of block (Some s) = own_number block s
+
+-- the number of the block that the row has in the column, if there is one
+abbrev pub number_at : (VersionRow → Option Subject) → ℕ → Option VersionRow → Option ℕ
+number_at column block None = None
+number_at column block (Some row) = number_of block (column row)
+
+abbrev pub held_number : ℕ → Option VersionRow → Option ℕ
+held_number = number_at (λ row. row.holds)
+
+abbrev pub opened_number : ℕ → Option VersionRow → Option ℕ
+opened_number = number_at (λ row. row.opens)
+
+-- ---- what is known of a number
+
+abbrev pub has_held : Option Standing → Bool
+has_held None = false
+has_held (Some s) = s.is_in_force
+
+abbrev pub has_opened : Option Standing → Bool
+has_opened None = false
+has_opened (Some s) = s.is_open
+
+abbrev pub only_held : Option Standing → Standing
+only_held known = record { is_in_force = true; is_open = false }
+
+abbrev pub and_open : Option Standing → Standing
+and_open known = record { is_in_force = has_held known; is_open = true }
+
+-- ---- numbers gathered
+
+-- the number, if there is one, with its mark, together with those that were there
+abbrev pub with_number : (Option Standing → Standing) → Option ℕ → FinMap nat_cmp Standing → FinMap nat_cmp Standing
+with_number mark None m = m
+with_number mark (Some n) m = set m n (Some (mark (get m n)))
+
+-- the numbers of the block that the rows of these keys have in the column, each with its mark, together with those that were there
+abbrev pub marked : (Option Standing → Standing) → (VersionRow → Option Subject) → ℕ → FinMap nat_cmp VersionRow → List (SubjectVersionCode × Unit {0}) → FinMap nat_cmp Standing → FinMap nat_cmp Standing
+marked mark column block versions [] m = m
+marked mark column block versions (e ∷ es) m = marked mark column block versions es (with_number mark (number_at column block (get versions e.0.id)) m)
+
+abbrev pub standings_of : BTreeMap Tn Standing → FinMap nat_cmp Standing
+standings_of m = map_of tn_of (λ s. s) m
+
+-- of each number of the block that is in use it is known which of its versions stand, and nothing of any other number
+pub record AreStandings (c : Content) (block : ℕ) (standings : FinMap nat_cmp Standing) : Type 0 where
+  pub held : (n : ℕ) → IsTold (has_held (get standings n)) ((block_of n ≡ block) × Holds c (Number n))
+  pub opened : (n : ℕ) → IsTold (has_opened (get standings n)) ((block_of n ≡ block) × Opens c (Number n))
+  pub in_use : (n : ℕ) → is_some (get standings n) ≡ (has_held (get standings n) || has_opened (get standings n))
+
+abbrev pub number_told : Tn × Standing → NumberInUse
+number_told e = record { tn = e.0; is_in_force = e.1.is_in_force; is_open = e.1.is_open }

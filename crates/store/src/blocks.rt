@@ -1,0 +1,139 @@
+//! The numbers of a block that are in use.
+ghost use Rattle.std.specs.Prelude.{◌≡◌, IfOk, map, option_map};
+ghost use Rattle.std.specs.Ordering.{on, nat_cmp};
+ghost use Rattle.std.specs.BTreeMap.{IsOrdered};
+ghost use Rattle.std.specs.FinMap.{get};
+ghost use Rattle.numbers.specs.Views.{subject_of};
+ghost use Rattle.settle.specs.Reads.{AreInBlock};
+ghost use Rattle.settle.specs.Views.{block_of};
+ghost use Rattle.store.specs.Tables.{content_of, subject_version_of, AreIndexed};
+ghost use Rattle.store.specs.BlockRows.{lowest, highest, tn_of, own_number, held_number, opened_number, and_open, standings_of, AreStandings, number_told};
+
+use crate::keys::SubjectVersion;
+use crate::tables::Tables;
+use numbers::{BlockId, Line, Subject, Tn};
+use std::alloc::{AllocError, Global};
+use std::collections::BTreeMap;
+use version::NumberInUse;
+
+/// Which versions of a number stand.
+#[derive(Clone, Copy)]
+pub struct Standing {
+    pub is_in_force: bool,
+    pub is_open: bool,
+}
+
+// The key that stands before those of the block's numbers, if it is none of them.
+fn lowest(block: BlockId) -> SubjectVersion
+    ensures { subject_version_of result ≡ lowest block.number }
+{
+    SubjectVersion {
+        subject: Subject::Number(block.tn(Line { number: 0 })),
+        id: 0,
+    }
+}
+
+// The key that stands behind those of the block's numbers, if it is none of them.
+fn highest(block: BlockId) -> SubjectVersion
+    ensures { subject_version_of result ≡ highest block.number }
+{
+    SubjectVersion {
+        subject: Subject::Number(block.tn(Line { number: 999 })),
+        id: u64::MAX,
+    }
+}
+
+// The number, if it is one of the block.
+fn own_number(block: BlockId, subject: Subject) -> Option<Tn>
+    ensures { option_map tn_of result ≡ own_number block.number (subject_of subject) }
+{
+    match subject {
+        Subject::Number(tn) if tn.block() == block => Some(tn),
+        _ => None,
+    }
+}
+
+// The number of the block that the version with this id holds, if it holds one.
+fn held_number(tables: &Tables, block: BlockId, id: u64) -> Option<Tn>
+    ensures { option_map tn_of result
+        ≡ held_number block.number (get (content_of tables.now).versions id) }
+{
+    own_number(block, tables.versions.get(id)?.holds()?)
+}
+
+// The number of the block that the version with this id opens, if it opens one.
+fn opened_number(tables: &Tables, block: BlockId, id: u64) -> Option<Tn>
+    ensures { option_map tn_of result
+        ≡ opened_number block.number (get (content_of tables.now).versions id) }
+{
+    own_number(block, tables.versions.get(id)?.opens()?)
+}
+
+// What is known of a number, and that it has an open version.
+fn and_open(known: Option<Standing>) -> Standing
+    ensures { result ≡ and_open known }
+{
+    Standing {
+        is_in_force: known.is_some_and(|standing| standing.is_in_force),
+        is_open: true,
+    }
+}
+
+// Which versions stand of each number of the block that is in use.
+fn standings(
+    alloc: Global,
+    tables: &Tables,
+    block: BlockId,
+) -> Result<BTreeMap<Tn, Standing>, AllocError>
+    requires { AreIndexed tables.now }
+    ensures { IfOk result (λ numbers.
+        AreStandings (content_of tables.now) block.number (standings_of numbers)) }
+{
+    let mut numbers = BTreeMap::new(alloc);
+    for (key, _) in tables.holds.range(lowest(block)..=highest(block)) {
+        if let Some(tn) = held_number(tables, block, key.id) {
+            let standing = Standing {
+                is_in_force: true,
+                is_open: false,
+            };
+            let _ = numbers.insert(tn, standing)?;
+        }
+    }
+    for (key, _) in tables.opens.range(lowest(block)..=highest(block)) {
+        if let Some(tn) = opened_number(tables, block, key.id) {
+            let standing = and_open(numbers.get(&tn).copied());
+            let _ = numbers.insert(tn, standing)?;
+        }
+    }
+    Ok(numbers)
+}
+
+// The numbers with what is known of each, rising.
+fn rising(alloc: Global, numbers: &BTreeMap<Tn, Standing>) -> Result<Vec<NumberInUse>, AllocError>
+    ensures { IfOk result (λ found. (found.items ≡ map number_told numbers.now.entries)
+        × IsOrdered (on tn_of nat_cmp) numbers.now) }
+{
+    let mut found = Vec::new(alloc);
+    for (tn, standing) in numbers.iter() {
+        found.push(NumberInUse {
+            tn: *tn,
+            is_in_force: standing.is_in_force,
+            is_open: standing.is_open,
+        })?;
+    }
+    Ok(found)
+}
+
+/// The numbers of the block that have a version in force or an open one, rising, and which of both.
+pub fn in_block(
+    alloc: Global,
+    tables: &Tables,
+    block: BlockId,
+) -> Result<Vec<NumberInUse>, AllocError>
+    requires { AreIndexed tables.now }
+    ensures { IfOk result
+        (λ numbers. AreInBlock (content_of tables.now) (block_of block) numbers.items) }
+{
+    let numbers = standings(alloc, tables, block)?;
+    rising(alloc, &numbers)
+}

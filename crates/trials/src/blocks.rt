@@ -1,0 +1,105 @@
+//! Which numbers of a block are in use.
+use meaning::Status;
+use numbers::{BlockId, Minute, Spid, Subject, Tn};
+use settle::{Changes, Few, Store, VersionRow};
+use std::alloc::Global;
+use store::MemoryStore;
+use version::{NumberInUse, Version};
+
+// A subject, and whether a version of it is in force and open.
+type Row<'a> = (&'a str, bool, bool);
+
+fn row(subject: Subject, is_in_force: bool, is_open: bool) -> Option<VersionRow> {
+    let version = Version {
+        subject,
+        old_provider: Spid::read("A001")?,
+        new_provider: Spid::read("B001")?,
+        due: Minute::ZERO,
+        routing: None,
+        old_at: None,
+        new_at: None,
+        status: Status::Pending,
+        since: Minute::ZERO,
+        attempt: 0,
+        is_conflict_spent: false,
+        is_protective: false,
+    };
+    Some(VersionRow {
+        version,
+        deadline: None,
+        is_in_force,
+        is_open,
+    })
+}
+
+fn subject(text: &str) -> Option<Subject> {
+    match Tn::read(text) {
+        Some(tn) => Some(Subject::Number(tn)),
+        None => Some(Subject::Block(BlockId::read(text)?)),
+    }
+}
+
+// A store with these rows, under the ids from 1 on.
+fn stored(alloc: Global, rows: &[Row<'_>]) -> Option<MemoryStore> {
+    let mut versions = Vec::new(alloc);
+    let mut id = 1;
+    for (text, is_in_force, is_open) in rows {
+        let row = row(subject(text)?, *is_in_force, *is_open)?;
+        versions.push((id, row)).ok()?;
+        id += 1;
+    }
+    let changes = Changes {
+        versions: Few::Many(versions),
+        ..Changes::none(alloc)
+    };
+    let mut store = MemoryStore::new(alloc);
+    store.commit(&changes).ok()?;
+    Some(store)
+}
+
+fn number(text: &str, is_in_force: bool, is_open: bool) -> Option<NumberInUse> {
+    Some(NumberInUse {
+        tn: Tn::read(text)?,
+        is_in_force,
+        is_open,
+    })
+}
+
+fn in_block(store: &mut MemoryStore, block: &str) -> Option<Vec<NumberInUse>> {
+    store.in_block(BlockId::read(block)?).ok()
+}
+
+// The first and the last number of the block, one with a version in force and an open one, one
+// whose version is over, and beside them the block itself and a number of each block next to it.
+static ROWS: [Row<'static>; 9] = [
+    ("2025331999", false, true),
+    ("2025332000", true, true),
+    ("2025331234", false, true),
+    ("2025331", true, true),
+    ("2025330999", true, false),
+    ("2025331500", true, false),
+    ("2025331500", false, true),
+    ("2025331600", false, false),
+    ("2025331000", true, false),
+];
+
+fn are_listed(alloc: Global) -> Option<[bool; 3]> {
+    let mut store = stored(alloc, &ROWS)?;
+    let own = [
+        number("2025331000", true, false)?,
+        number("2025331234", false, true)?,
+        number("2025331500", true, true)?,
+        number("2025331999", false, true)?,
+    ];
+    let next = [number("2025332000", true, true)?];
+    Some([
+        in_block(&mut store, "2025331")?.as_slice() == own.as_slice(),
+        in_block(&mut store, "2025332")?.as_slice() == next.as_slice(),
+        in_block(&mut store, "2025333")?.is_empty(),
+    ])
+}
+
+#[test]
+fn numbers_of_a_block_are_listed(rt: HostRuntime) {
+    assert_eq!(rt; are_listed(rt.alloc()), Some([true; 3]));
+}
