@@ -40,7 +40,7 @@ mapped-from f b [] is = absurd is
 mapped-from f b (x ∷ xs) (inl e) = (x, inl refl, e)
 mapped-from f b (x ∷ xs) (inr there) = let m = mapped-from f b xs there in (m.0, inr m.1, m.2)
 
-all-among : {A : Type 0} (P : A → Type 0) (xs : List A) → All P xs → (x : A) → Among x xs → P x
+pub all-among : {A : Type 0} (P : A → Type 0) (xs : List A) → All P xs → (x : A) → Among x xs → P x
 all-among P [] all x is = absurd is
 all-among P (y ∷ ys) all x (inl e) = subst P (sym e) (all 0 y (omega arith))
 all-among P (y ∷ ys) all x (inr is) = all-among P ys (λ n d lt. all (suc n) d (omega (arith, lt))) x is
