@@ -6,8 +6,8 @@ use std::alloc::Global;
 use store::MemoryStore;
 use version::{NumberInUse, Version};
 
-// A subject, and whether a version of it is in force and open.
-type Row<'a> = (&'a str, bool, bool);
+// The id of a version, its subject, and whether it is in force and open.
+type Row<'a> = (u64, &'a str, bool, bool);
 
 fn row(subject: Subject, is_in_force: bool, is_open: bool) -> Option<VersionRow> {
     let version = Version {
@@ -39,14 +39,12 @@ fn subject(text: &str) -> Option<Subject> {
     }
 }
 
-// A store with these rows, under the ids from 1 on.
+// A store with these rows.
 fn stored(alloc: Global, rows: &[Row<'_>]) -> Option<MemoryStore> {
     let mut versions = Vec::new(alloc);
-    let mut id = 1;
-    for (text, is_in_force, is_open) in rows {
+    for (id, text, is_in_force, is_open) in rows {
         let row = row(subject(text)?, *is_in_force, *is_open)?;
-        versions.push((id, row)).ok()?;
-        id += 1;
+        versions.push((*id, row)).ok()?;
     }
     let changes = Changes {
         versions: Few::Many(versions),
@@ -72,15 +70,15 @@ fn in_block(store: &mut MemoryStore, block: &str) -> Option<Vec<NumberInUse>> {
 // The first and the last number of the block, one with a version in force and an open one, one
 // whose version is over, and beside them the block itself and a number of each block next to it.
 static ROWS: [Row<'static>; 9] = [
-    ("2025331999", false, true),
-    ("2025332000", true, true),
-    ("2025331234", false, true),
-    ("2025331", true, true),
-    ("2025330999", true, false),
-    ("2025331500", true, false),
-    ("2025331500", false, true),
-    ("2025331600", false, false),
-    ("2025331000", true, false),
+    (1, "2025331999", false, true),
+    (2, "2025332000", true, true),
+    (3, "2025331234", false, true),
+    (4, "2025331", true, true),
+    (5, "2025330999", true, false),
+    (6, "2025331500", true, false),
+    (7, "2025331500", false, true),
+    (8, "2025331600", false, false),
+    (9, "2025331000", true, false),
 ];
 
 fn are_listed(alloc: Global) -> Option<[bool; 3]> {
