@@ -1,0 +1,5 @@
+pub mod Facts
+pub mod Donations
+pub mod Assignments
+pub mod Releases
+pub mod Serving
