@@ -1,5 +1,5 @@
 -- What a donation makes, and what it is refused for.
-use Rattle.std.specs.Prelude.{ℕ, suc, ◌+◌, ◌≡◌, Bool, not, ◌==◌, nat_lt, List, [], ◌∷◌, ◌++◌, map, filter, length, Option, is_none, is_some, option_map, ⊤}
+use Rattle.std.specs.Prelude.{ℕ, suc, ◌+◌, ◌≡◌, Bool, not, ◌&&◌, ◌==◌, nat_lt, List, [], ◌∷◌, ◌++◌, map, filter, length, Option, is_none, is_some, option_map, ⊤}
 use Rattle.std.specs.List.{list_any}
 use Rattle.std.specs.BTreeSet.{BTreeSet, keys}
 use Rattle.numbers.specs.Subjects.{Subject, Number, subject_eq}
@@ -16,7 +16,7 @@ use Rattle.meaning.specs.History.{Commands, used_numbers, made_version}
 use Rattle.meaning.specs.Refusals.{first_that_holds}
 use Rattle.pool.specs.declared.donation.Donation.{Donation}
 use Rattle.pool.specs.declared.facts.BlockFacts.{BlockFacts}
-use Rattle.pool.specs.Facts.{carrier_number, in_force_numbers, has_open_port}
+use Rattle.pool.specs.Facts.{carrier_number, in_force_numbers, is_in_force, has_open_port}
 
 -- ---- the donation as the definitions see it
 
@@ -31,8 +31,11 @@ abbrev pub used_by : Donation → List Subject
 used_by d = used_numbers d.block.number (lines_of d.used.now)
 
 -- the same of a set of numbers
+abbrev pub tn_subject : Tn → Subject
+tn_subject t = Number t.number
+
 abbrev pub numbers_in : BTreeSet Tn → List Subject
-numbers_in s = map (λ (t : Tn). Number t.number) (keys s)
+numbers_in s = map tn_subject (keys s)
 
 -- ---- its numbers, over the used ones and those in force
 
@@ -47,6 +50,23 @@ contaminated_numbers used in_force = used ++ unnamed used in_force
 abbrev pub made_numbers : (used in_force : List Subject) → List Subject
 made_numbers used in_force = filter (λ s. not (list_any (subject_eq s) in_force)) used
 
+-- more than a hundred numbers of the block are in use
+abbrev pub is_contaminated : (used : List Subject) → BlockFacts → Bool
+is_contaminated used facts = nat_lt 100 (length (contaminated_numbers used (in_force_numbers facts.numbers.now)))
+
+-- ---- the same over a set of the used numbers
+
+abbrev pub is_named : BTreeSet Tn → Tn → Bool
+is_named used tn = list_any (λ (t : Tn). tn.number == t.number) (keys used)
+
+-- in force, and not among them
+abbrev pub is_unnamed : BTreeSet Tn → NumberInUse → Bool
+is_unnamed used n = n.is_in_force && not (is_named used n.tn)
+
+-- a number without a version in force
+abbrev pub is_unprotected : BlockFacts → Tn → Bool
+is_unprotected facts t = not (list_any (is_in_force t.number) facts.numbers.now)
+
 -- ---- refusals
 
 -- whether the caller may donate
@@ -54,11 +74,13 @@ abbrev pub donor_tests : (caller : ℕ) → BlockFacts → List (ℕ × Bool)
 donor_tests caller facts =
     (3, is_none facts.code_holder) ∷ (7, not facts.is_lrn_good) ∷ (11, not (is_the caller (carrier_number facts.code_holder))) ∷ []
 
--- whether the block may be donated with these used numbers
+-- whether the block may be donated with these used numbers, for which so many versions are made
+abbrev pub tests_by : (used : List Subject) → (versions : ℕ) → BlockFacts → List (ℕ × Bool)
+tests_by used versions facts =
+    (22, is_contaminated used facts) ∷ (23, has_open_port facts.numbers.now) ∷ (24, is_some facts.donor) ∷ (28, nat_lt limit (facts.next_id + versions)) ∷ []
+
 abbrev pub block_tests : (used : List Subject) → BlockFacts → List (ℕ × Bool)
-block_tests used facts =
-    (22, nat_lt 100 (length (contaminated_numbers used (in_force_numbers facts.numbers.now)))) ∷ (23, has_open_port facts.numbers.now)
-    ∷ (24, is_some facts.donor) ∷ (28, nat_lt limit (facts.next_id + length (made_numbers used (in_force_numbers facts.numbers.now)))) ∷ []
+block_tests used facts = tests_by used (length (made_numbers used (in_force_numbers facts.numbers.now))) facts
 
 -- the least number whose condition holds of the donation by a registered carrier
 abbrev pub donation_refusal : (caller : ℕ) → Donation → BlockFacts → Option ℕ

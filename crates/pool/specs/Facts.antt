@@ -1,5 +1,5 @@
 -- What the facts of a block say of its numbers.
-use Rattle.std.specs.Prelude.{ℕ, Bool, not, ◌&&◌, List, map, filter, Option, option_map}
+use Rattle.std.specs.Prelude.{ℕ, Bool, not, ◌&&◌, ◌==◌, List, map, filter, Option, option_map}
 use Rattle.std.specs.List.{list_any}
 use Rattle.numbers.specs.Subjects.{Subject, Number}
 use Rattle.numbers.specs.declared.spid.Spid.{Spid}
@@ -14,6 +14,10 @@ carrier_number = option_map spid_number
 -- the numbers with a version in force
 abbrev pub in_force_numbers : List NumberInUse → List Subject
 in_force_numbers numbers = map (λ n. Number n.tn.number) (filter (λ n. n.is_in_force) numbers)
+
+-- it is this number, and has a version in force
+abbrev pub is_in_force : ℕ → NumberInUse → Bool
+is_in_force tn n = n.is_in_force && (tn == n.tn.number)
 
 -- a number that is being ported: it has an open version and none in force
 abbrev pub is_open_port : NumberInUse → Bool

@@ -1,12 +1,13 @@
 //! Donation: a carrier gives a block back to the pool.
-ghost use Rattle.std.specs.Prelude.{◌≡◌, ◌≢◌, ◌+◌, length, None, Some, IfOk, IfErr, OnOk};
+ghost use Rattle.std.specs.Prelude.{◌≡◌, ◌≢◌, ◌+◌, ◌≤◌, nat_lt, count_by, filter, length, map, None, Some, IfOk, IfErr, OnOk};
+ghost use Rattle.std.specs.BTreeSet.{keys};
+ghost use Rattle.meaning.specs.Conditions.{limit};
 ghost use Rattle.delivery.specs.Refused.{refusal_in};
 ghost use Rattle.meaning.specs.RefusalNumbers.{number_of};
 ghost use Rattle.meaning.specs.declared.refusal.Refusal.TheVariants.{NoMemory};
 ghost use Rattle.meaning.specs.Refusals.{first_that_holds};
 ghost use Rattle.numbers.specs.Subjects.{Number};
-ghost use Rattle.pool.specs.Facts.{in_force_numbers};
-ghost use Rattle.pool.specs.Donations.{block_tests, donation_refusal, donor_tests, made_numbers, numbers_in, unnamed, used_by, AreProtective, IsPlanned, IsProtective};
+ghost use Rattle.pool.specs.Donations.{donation_refusal, donor_tests, is_contaminated, is_named, is_unnamed, is_unprotected, numbers_in, tests_by, tn_subject, used_by, AreProtective, IsPlanned, IsProtective};
 
 use crate::facts::BlockFacts;
 use meaning::{Action, Refusal, Status};
@@ -54,29 +55,68 @@ fn check_donor(caller: Spid, facts: &BlockFacts<'_>) -> Result<(), Refusal>
     Ok(())
 }
 
+// Whether the number is among the used ones.
+fn is_named(used: &BTreeSet<Tn>, tn: Tn) -> bool
+    ensures { result ≡ is_named used.now tn }
+{
+    used.contains(&tn)
+}
+
 // How many numbers in force are not among the used ones.
 fn count_unnamed(used: &BTreeSet<Tn>, facts: &BlockFacts<'_>) -> usize
-    ensures { result
-        ≡ length (unnamed (numbers_in used.now) (in_force_numbers facts.now.numbers.now)) }
+    ensures { result ≡ count_by (is_unnamed used.now) facts.now.numbers.now }
 {
     facts
         .numbers
         .iter()
-        .filter(|number| number.is_in_force && !used.contains(&number.tn))
+        .filter(|number| number.is_in_force && !is_named(used, number.tn))
         .count()
 }
 
-// How many used numbers have no version in force.
-fn count_made(used: &BTreeSet<Tn>, facts: &BlockFacts<'_>) -> usize
-    ensures { result
-        ≡ length (made_numbers (numbers_in used.now) (in_force_numbers facts.now.numbers.now)) }
+// More than a hundred in all.
+fn are_too_many(named: usize, others: usize) -> bool
+    ensures { result ≡ nat_lt 100 (named + others) }
 {
-    used.iter().filter(|tn| !facts.is_in_force(**tn)).count()
+    named > MOST_IN_USE || others > MOST_IN_USE - named
 }
 
-// Whether a block with these used numbers may be donated.
-fn check_block(used: &BTreeSet<Tn>, facts: &BlockFacts<'_>) -> Result<(), Refusal>
-    ensures { refusal_in result ≡ first_that_holds (block_tests (numbers_in used.now) facts.now) }
+// More numbers are in use than a block may be donated with.
+fn is_contaminated(used: &BTreeSet<Tn>, facts: &BlockFacts<'_>) -> bool
+    ensures { result ≡ is_contaminated (numbers_in used.now) facts.now }
+{
+    are_too_many(used.len(), count_unnamed(used, facts))
+}
+
+// Whether ids are wanting for so many versions.
+fn is_past_the_last_id(next_id: u64, versions: usize) -> bool
+    ensures { result ≡ nat_lt limit (next_id + versions) }
+{
+    next_id.saturating_add(versions as u64) > ID_LIMIT
+}
+
+// The used numbers that have no version in force.
+fn unprotected(
+    alloc: Global,
+    used: &BTreeSet<Tn>,
+    facts: &BlockFacts<'_>,
+) -> Result<Vec<Tn>, AllocError>
+    ensures { IfOk result
+        (λ made. made.items ≡ filter (is_unprotected facts.now) (keys used.now)) }
+{
+    used.iter()
+        .filter(|tn| !facts.is_in_force(**tn))
+        .copied()
+        .collect(alloc)
+}
+
+// Whether a block with these used numbers may be donated, for which so many versions are made.
+fn check_block(
+    used: &BTreeSet<Tn>,
+    versions: usize,
+    facts: &BlockFacts<'_>,
+) -> Result<(), Refusal>
+    ensures { refusal_in result
+        ≡ first_that_holds (tests_by (numbers_in used.now) versions facts.now) }
 {
     if is_contaminated(used, facts) {
         return Err(Refusal::Contaminated);
@@ -87,29 +127,10 @@ fn check_block(used: &BTreeSet<Tn>, facts: &BlockFacts<'_>) -> Result<(), Refusa
     if facts.donor.is_some() {
         return Err(Refusal::BlockTaken);
     }
-    if is_past_the_last_id(used, facts) {
+    if is_past_the_last_id(facts.next_id, versions) {
         return Err(Refusal::Full);
     }
     Ok(())
-}
-
-// More numbers are in use than a block may be donated with.
-fn is_contaminated(used: &BTreeSet<Tn>, facts: &BlockFacts<'_>) -> bool
-    ensures { result
-        ≡ nat_lt 100 (length (contaminated_numbers (numbers_in used.now)
-        (in_force_numbers facts.now.numbers.now))) }
-{
-    let named = used.len();
-    named > MOST_IN_USE || count_unnamed(used, facts) > MOST_IN_USE - named
-}
-
-// The ids of the versions would pass the last.
-fn is_past_the_last_id(used: &BTreeSet<Tn>, facts: &BlockFacts<'_>) -> bool
-    ensures { result
-        ≡ nat_lt limit (facts.now.next_id
-        + length (made_numbers (numbers_in used.now) (in_force_numbers facts.now.numbers.now))) }
-{
-    facts.next_id.saturating_add(count_made(used, facts) as u64) > ID_LIMIT
 }
 
 impl Donation<'_> {
@@ -144,25 +165,27 @@ impl Donation<'_> {
         }
     }
 
-    // The protective versions of the used numbers without a version in force.
+    // The protective versions of these numbers, with ids from `first_id` on.
     fn versions(
         &self,
         alloc: Global,
-        used: &BTreeSet<Tn>,
         donor: Spid,
-        facts: &BlockFacts<'_>,
+        numbers: &[Tn],
+        first_id: u64,
         minute: Minute,
     ) -> Result<Vec<(u64, Version)>, AllocError>
+        requires ids { first_id + length numbers.now ≤ limit }
         ensures { IfOk result (λ versions.
-            AreProtective donor.number minute.number self.now facts.now.next_id
-            (made_numbers (numbers_in used.now) (in_force_numbers facts.now.numbers.now))
-            versions.items) }
+            AreProtective donor.number minute.number self.now first_id
+            (map tn_subject numbers.now) versions.items) }
     {
-        used.iter()
-            .filter(|tn| !facts.is_in_force(**tn))
-            .zip(facts.next_id..)
-            .map(|(tn, id)| (id, self.protective(donor, *tn, minute)))
-            .collect(alloc)
+        let mut versions = Vec::with_capacity(alloc, numbers.len())?;
+        let mut id = first_id;
+        for tn in numbers {
+            versions.push((id, self.protective(donor, *tn, minute)))?;
+            id += 1;
+        }
+        Ok(versions)
     }
 
     /// What the donation by `caller`, a registered carrier, makes at `minute`: a protective version
@@ -190,9 +213,10 @@ impl Donation<'_> {
     {
         check_donor(caller, facts)?;
         let used = self.used_numbers(alloc)?;
-        check_block(&used, facts)?;
+        let made = unprotected(alloc, &used, facts)?;
+        check_block(&used, made.len(), facts)?;
         Ok(Plan {
-            versions: self.versions(alloc, &used, caller, facts, minute)?,
+            versions: self.versions(alloc, caller, &made, facts.next_id, minute)?,
         })
     }
 }

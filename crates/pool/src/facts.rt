@@ -1,8 +1,7 @@
 //! What is known of a block.
 ghost use Rattle.std.specs.Prelude.{◌≡◌};
 ghost use Rattle.std.specs.List.{list_any};
-ghost use Rattle.numbers.specs.Subjects.{Number, subject_eq};
-ghost use Rattle.pool.specs.Facts.{has_open_port, in_force_numbers};
+ghost use Rattle.pool.specs.Facts.{has_open_port, is_in_force, is_open_port};
 
 use numbers::{Spid, Tn};
 use version::{NumberInUse, Version};
@@ -43,11 +42,10 @@ impl BlockFacts<'_> {
 
     // Whether a number of the block has a version in force.
     pub(crate) fn is_in_force(&self, tn: Tn) -> bool
-        ensures { result
-            ≡ list_any (subject_eq (Number tn.number)) (in_force_numbers self.now.numbers.now) }
+        ensures { result ≡ list_any (is_in_force tn.number) self.now.numbers.now }
     {
         self.numbers
             .iter()
-            .any(|number| number.is_in_force && number.tn.number == tn.number)
+            .any(|number| number.is_in_force && tn.number == number.tn.number)
     }
 }
