@@ -1,5 +1,5 @@
 //! Donation: a carrier gives a block back to the pool.
-ghost use Rattle.std.specs.Prelude.{◌≡◌, ◌≢◌, ◌+◌, ◌≤◌, nat_lt, count_by, filter, length, map, None, Some, IfOk, IfErr, OnOk};
+ghost use Rattle.std.specs.Prelude.{◌≡◌, ◌≢◌, ◌+◌, ◌≤◌, nat_lt, filter, length, map, None, Some, IfOk, IfErr, OnOk};
 ghost use Rattle.std.specs.BTreeSet.{keys};
 ghost use Rattle.meaning.specs.Conditions.{limit};
 ghost use Rattle.delivery.specs.Refused.{refusal_in};
@@ -64,7 +64,7 @@ fn is_named(used: &BTreeSet<Tn>, tn: Tn) -> bool
 
 // How many numbers in force are not among the used ones.
 fn count_unnamed(used: &BTreeSet<Tn>, facts: &BlockFacts<'_>) -> usize
-    ensures { result ≡ count_by (is_unnamed used.now) facts.now.numbers.now }
+    ensures { result ≡ length (filter (is_unnamed used.now) facts.now.numbers.now) }
 {
     facts
         .numbers
