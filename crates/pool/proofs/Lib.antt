@@ -1,3 +1,4 @@
 pub mod Rising
 pub mod InUse
 pub mod Numbered
+pub mod Planned

@@ -1,5 +1,5 @@
 -- Numbers each once, rising: the order in which they are put does not matter.
-use Rattle.std.proofs.Common.{◌≡◌, ℕ, ◌+◌, ◌*◌, ◌<◌, Bool, true, false, cond, List, [], ◌∷◌, ◌++◌, map, refl, ap, sym, ◌∙◌, arith}
+use Rattle.std.proofs.Common.{◌≡◌, ℕ, ◌+◌, ◌*◌, ◌<◌, ◌≤◌, Bool, true, false, cond, List, [], ◌∷◌, ◌++◌, length, get_or, take, map, refl, ap, sym, ◌∙◌, arith}
 use Rattle.std.specs.Prelude.{◌==◌, nat_lt, if◌then◌else◌}
 use Rattle.std.specs.declared.cmp.Ordering.{Ordering}
 use Rattle.std.specs.declared.cmp.Ordering.TheVariants.{Less, Equal, Greater}
@@ -8,7 +8,12 @@ use Rattle.std.specs.BTreeSet.{insert_key}
 use Rattle.std.proofs.lemmas.Bool.Decides.{nat_tests}
 use Rattle.numbers.specs.Digits.{number_in}
 use Rattle.meaning.specs.Versions.{with_number}
-use Rattle.meaning.specs.History.{rising}
+use Rattle.meaning.specs.History.{rising, used_numbers}
+use Rattle.numbers.specs.Subjects.{Number}
+use Rattle.numbers.specs.declared.line.Line.{Line}
+use Rattle.numbers.specs.declared.tn.Tn.{Tn}
+use Rattle.std.proofs.lemmas.List.{take_more, take_all, map-append}
+use Rattle.pool.specs.Donations.{lines_of, tn_subject}
 
 -- ---- one number at the front of a list
 
@@ -120,3 +125,33 @@ inserted {K} key cmp is (x ∷ xs) k =
     go later true q = refl
     go later false true = refl
     go later false false = ap (λ ns. key x ∷ ns) later
+
+-- ---- the lines of a donation, as they are put into a set
+
+abbrev number : Tn → ℕ
+number t = t.number
+
+taken : (xs : List Line) (i : ℕ) (x : Line) → i < length xs → x ≡ get_or xs i x → lines_of (take (i + 1) xs) ≡ lines_of (take i xs) ++ x.number ∷ []
+taken xs i x within is =
+    ap lines_of (take_more xs i x within) ∙ map-append (λ (l : Line). l.number) (take i xs) (get_or xs i x ∷ []) ∙ ap (λ (l : Line). lines_of (take i xs) ++ l.number ∷ []) (sym is)
+
+pub named-more : (cmp : Tn → Tn → Ordering) → ((a b : Tn) → cmp a b ≡ nat_cmp a.number b.number) → (block : ℕ) (old new : List Tn) (t : Tn) (xs : List Line) (i : ℕ) (x : Line) →
+    new ≡ insert_key cmp old t → t.number ≡ number_in block x.number → i < length xs → x ≡ get_or xs i x → map number old ≡ map (number_in block) (rising (lines_of (take i xs))) →
+    map number new ≡ map (number_in block) (rising (lines_of (take (i + 1) xs)))
+named-more cmp by_number block old new t xs i x is at within item before =
+    ap (map number) is ∙ inserted number cmp by_number old t ∙ ap (λ n. with_number n (map number old)) at ∙ ap (with_number (number_in block x.number)) before
+    ∙ of-block block x.number (rising (lines_of (take i xs))) ∙ ap (map (number_in block)) (sym (rising-more (lines_of (take i xs)) x.number))
+    ∙ ap (λ ns. map (number_in block) (rising ns)) (sym (taken xs i x within item))
+
+seen : (ks : List Tn) → map tn_subject ks ≡ map (λ n. Number n) (map number ks)
+seen [] = refl
+seen (k ∷ ks) = ap (λ ss. Number k.number ∷ ss) (seen ks)
+
+numbered : (block : ℕ) (ns : List ℕ) → map (λ n. Number n) (map (number_in block) ns) ≡ map (λ line. Number (number_in block line)) ns
+numbered block [] = refl
+numbered block (n ∷ ns) = ap (λ ss. Number (number_in block n) ∷ ss) (numbered block ns)
+
+pub all-named : (block : ℕ) (ks : List Tn) (xs : List Line) (i : ℕ) → length xs ≤ i → map number ks ≡ map (number_in block) (rising (lines_of (take i xs))) →
+    map tn_subject ks ≡ used_numbers block (lines_of xs)
+all-named block ks xs i whole is =
+    seen ks ∙ ap (map (λ n. Number n)) (is ∙ ap (λ ys. map (number_in block) (rising (lines_of ys))) (take_all i xs whole)) ∙ numbered block (rising (lines_of xs))
