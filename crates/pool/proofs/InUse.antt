@@ -1,6 +1,6 @@
 -- The numbers of a block that are in use: as they stand in a set and a list, and as the definitions name them.
-use Rattle.std.proofs.Common.{◌≡◌, ℕ, ◌+◌, Bool, true, false, cond, not, ◌&&◌, ◌||◌, List, [], ◌∷◌, ◌++◌, length, map, refl, ap, sym, ◌∙◌, arith}
-use Rattle.std.specs.Prelude.{filter, ◌==◌, nat_lt}
+use Rattle.std.proofs.Common.{◌≡◌, ℕ, ◌+◌, Bool, true, false, cond, not, ◌&&◌, ◌||◌, List, [], ◌∷◌, length, map, refl, ap, arith}
+use Rattle.std.specs.Prelude.{filter, ◌==◌}
 use Rattle.std.specs.List.{list_any}
 use Rattle.std.specs.BTreeSet.{BTreeSet, keys}
 use Rattle.std.proofs.lemmas.List.{length-append, length-map}
@@ -9,7 +9,7 @@ use Rattle.numbers.specs.declared.tn.Tn.{Tn}
 use Rattle.version.specs.declared.in_use.NumberInUse.{NumberInUse}
 use Rattle.pool.specs.declared.facts.BlockFacts.{BlockFacts}
 use Rattle.pool.specs.Facts.{in_force_numbers, is_in_force}
-use Rattle.pool.specs.Donations.{tn_subject, numbers_in, is_named, is_unnamed, is_unprotected, unnamed, made_numbers, contaminated_numbers, is_contaminated}
+use Rattle.pool.specs.Donations.{tn_subject, numbers_in, is_named, is_unnamed, is_unprotected, unnamed, made_numbers, contaminated_numbers}
 
 any-named : (n : ℕ) (ks : List Tn) → list_any (subject_eq (Number n)) (map tn_subject ks) ≡ list_any (λ (t : Tn). n == t.number) ks
 any-named n [] = refl

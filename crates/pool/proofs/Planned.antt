@@ -1,11 +1,10 @@
 -- What a donation is refused for, and makes, by the set of its used numbers and the list of those that need a version.
 use Rattle.std.proofs.Common.{◌≡◌, ℕ, ◌+◌, ◌≤◌, Bool, true, false, List, [], ◌∷◌, ◌++◌, length, map, Option, Some, None, refl, ap, sym, ◌∙◌, subst, arith}
-use Rattle.std.specs.Prelude.{nat_lt, filter, is_some, if◌then◌else◌, Result, Ok, Err, IfErr, ◌≢◌}
+use Rattle.std.specs.Prelude.{nat_lt, filter, is_some, if◌then◌else◌, Result, Ok, Err, IfErr, IsErrAnd, ◌≢◌}
 use Rattle.std.specs.BTreeSet.{BTreeSet, keys}
 use Rattle.std.proofs.lemmas.List.{length-map}
 use Rattle.std.proofs.lemmas.Bool.Decides.{nat_tests}
 use Rattle.numbers.specs.declared.tn.Tn.{Tn}
-use Rattle.delivery.specs.Refused.{refusal_in}
 use Rattle.version.specs.declared.version.Version.{Version as VersionCode}
 use Rattle.meaning.specs.declared.refusal.Refusal.{Refusal}
 use Rattle.meaning.specs.declared.refusal.Refusal.TheVariants.{NoMemory}
@@ -51,18 +50,30 @@ made-are d facts used made all is =
     ap (λ ss. made_numbers ss (in_force_numbers facts.numbers.now)) (sym all) ∙ picked facts (keys used) ∙ ap (map tn_subject) (sym is)
 
 -- the donor is not refused: the block decides
-pub judged : (caller : ℕ) (d : Donation) (facts : BlockFacts) (used : BTreeSet Tn) (made : List Tn) → first_that_holds (donor_tests caller facts) ≡ None → numbers_in used ≡ used_by d →
+judged : (caller : ℕ) (d : Donation) (facts : BlockFacts) (used : BTreeSet Tn) (made : List Tn) → first_that_holds (donor_tests caller facts) ≡ None → numbers_in used ≡ used_by d →
     made ≡ filter (is_unprotected facts) (keys used) → donation_refusal caller d facts ≡ first_that_holds (tests_by (numbers_in used) (length made) facts)
 judged caller d facts used made passed all is =
     passed-first (donor_tests caller facts) (block_tests (used_by d) facts) passed
     ∙ ap (λ n. first_that_holds (tests_by (used_by d) n facts)) (ap length (made-are d facts used made all is) ∙ length-map made tn_subject)
     ∙ ap (λ ss. first_that_holds (tests_by ss (length made) facts)) (sym all)
 
+pub answered : (caller : ℕ) (d : Donation) (facts : BlockFacts) (used : BTreeSet Tn) (made : List Tn) (versions : ℕ) (refusal : Option ℕ) → None ≡ first_that_holds (donor_tests caller facts) →
+    numbers_in used ≡ used_by d → made ≡ filter (is_unprotected facts) (keys used) → versions ≡ length made → refusal ≡ first_that_holds (tests_by (numbers_in used) versions facts) →
+    donation_refusal caller d facts ≡ refusal
+answered caller d facts used made versions refusal passed all is many answer =
+    judged caller d facts used made (sym passed) all is ∙ ap (λ n. first_that_holds (tests_by (numbers_in used) n facts)) (sym many) ∙ sym answer
+
+-- a refusal that is handed on
+pub handed : {A : Type 0} (result : Result A Refusal) (was : Refusal) (o : Option ℕ) → IsErrAnd result (λ r. r ≡ was) → o ≡ Some (number_of was) →
+    IfErr result (λ r. r ≢ NoMemory → o ≡ Some (number_of r))
+handed (Ok value) was o is e = tt
+handed (Err r) was o is e = λ other. e ∙ ap (λ x. Some (number_of x)) (sym is)
+
 -- the ids are within the limit where the block is not refused
 pub within : (facts : BlockFacts) (used : BTreeSet Tn) (versions : ℕ) → first_that_holds (tests_by (numbers_in used) versions facts) ≡ None → facts.next_id + versions ≤ limit
 within facts used versions is = fits (go (is_contaminated (numbers_in used) facts) (has_open_port facts.numbers.now) (is_some facts.donor) (nat_lt limit (facts.next_id + versions)) is)
   where
-    go : (a b c d : Bool) → (if a then Some 22 else (if b then Some 23 else (if c then Some 24 else (if d then Some 28 else None)))) ≡ None → d ≡ false
+    go : (a b c d : Bool) → first_that_holds ((22, a) ∷ (23, b) ∷ (24, c) ∷ (28, d) ∷ []) ≡ None → d ≡ false
     go true b c d e = cc
     go false true c d e = cc
     go false false true d e = cc

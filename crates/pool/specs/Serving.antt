@@ -1,6 +1,5 @@
 -- Who serves a number, by what is known of it and its block.
 use Rattle.std.specs.Prelude.{ℕ, Option, Some, None, option_map, if◌then◌else◌}
-use Rattle.numbers.specs.declared.spid.Spid.{Spid}
 use Rattle.version.specs.Views.{seen}
 use Rattle.meaning.specs.Versions.{Version}
 use Rattle.meaning.specs.Reading.{Server, ByVersion, ByBlock, InPool, ByCode, protected_by, served_by_block}
