@@ -2,3 +2,4 @@ pub mod Rising
 pub mod InUse
 pub mod Numbered
 pub mod Planned
+pub mod Served

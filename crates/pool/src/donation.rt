@@ -110,11 +110,7 @@ fn unprotected(
 }
 
 // Whether a block with these used numbers may be donated, for which so many versions are made.
-fn check_block(
-    used: &BTreeSet<Tn>,
-    versions: usize,
-    facts: &BlockFacts<'_>,
-) -> Result<(), Refusal>
+fn check_block(used: &BTreeSet<Tn>, versions: usize, facts: &BlockFacts<'_>) -> Result<(), Refusal>
     ensures { refusal_in result
         ≡ first_that_holds (tests_by (numbers_in used.now) versions facts.now) }
 {

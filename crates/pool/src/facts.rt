@@ -44,8 +44,6 @@ impl BlockFacts<'_> {
     pub(crate) fn is_in_force(&self, tn: Tn) -> bool
         ensures { result ≡ list_any (is_in_force tn.number) self.now.numbers.now }
     {
-        self.numbers
-            .iter()
-            .any(|number| number.is_in_force && tn.number == number.tn.number)
+        self.numbers.iter().any(|number| number.is_in_force && tn.number == number.tn.number)
     }
 }

@@ -1,9 +1,9 @@
 //! Who serves a number.
 ghost use Rattle.std.specs.Prelude.{◌≡◌, ℕ};
 ghost use Rattle.meaning.specs.Conditions.{is_the};
-ghost use Rattle.meaning.specs.Reading.{is_served_by};
+ghost use Rattle.meaning.specs.Reading.{is_served_by, serving, State};
 ghost use Rattle.pool.specs.Facts.{carrier_number};
-ghost use Rattle.pool.specs.Serving.{carrier_of, server_of, served_by_code, serving_of};
+ghost use Rattle.pool.specs.Serving.{carrier_of, server_of, served_by_code, serving_of, ServingFactsAre};
 
 use numbers::Spid;
 use version::Version;
@@ -68,6 +68,15 @@ fn by_block(facts: &ServingFacts) -> Server
 /// that is protective; else, where its block is donated, the block's holder, or nobody; else the
 /// holder of its code.
 pub fn serving(facts: &ServingFacts) -> Server
+    ensures server { server_of result ≡ serving_of facts.now }
+    ensures state { (st : State) (n : ℕ)
+        → ServingFactsAre st n facts.now → server_of result ≡ serving st n }
+{
+    by_version(facts)
+}
+
+// By a version of the number, or as its block and its code say.
+fn by_version(facts: &ServingFacts) -> Server
     ensures { server_of result ≡ serving_of facts.now }
 {
     match (&facts.in_force, &facts.opened) {
