@@ -3,3 +3,4 @@ pub mod InUse
 pub mod Numbered
 pub mod Planned
 pub mod Served
+pub mod BlockRefused

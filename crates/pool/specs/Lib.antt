@@ -3,3 +3,4 @@ pub mod Donations
 pub mod Assignments
 pub mod Releases
 pub mod Serving
+pub mod Blocks
