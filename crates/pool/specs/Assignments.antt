@@ -1,0 +1,32 @@
+-- What an assignment makes, and what it is refused for.
+use Rattle.std.specs.Prelude.{ℕ, ◌+◌, ◌≡◌, Bool, not, ◌==◌, nat_lt, List, [], ◌∷◌, Option, is_none, option_map}
+use Rattle.numbers.specs.Subjects.{Block}
+use Rattle.numbers.specs.Views.{subject_of}
+use Rattle.numbers.specs.declared.cic.Cic.{Cic}
+use Rattle.version.specs.declared.version.Version.{Version as VersionCode}
+use Rattle.version.specs.Views.{version_of, seen}
+use Rattle.meaning.specs.Commands.{Command, Assign}
+use Rattle.meaning.specs.Conditions.{limit, holds_of, takes_block}
+use Rattle.meaning.specs.History.{Commands, made_version}
+use Rattle.meaning.specs.Refusals.{npac, first_that_holds}
+use Rattle.pool.specs.declared.assignment.Assignment.{Assignment}
+use Rattle.pool.specs.declared.facts.BlockFacts.{BlockFacts}
+use Rattle.pool.specs.Facts.{has_open_port}
+
+abbrev pub command_of : Assignment → Command
+command_of a = Assign a.block.number a.holder.number a.routing.lrn.number (option_map (λ (c : Cic). c.number) a.routing.cic)
+
+-- the least number whose condition holds of the assignment to a registered carrier
+abbrev pub assignment_tests : (caller : ℕ) → BlockFacts → List (ℕ × Bool)
+assignment_tests caller facts =
+    (2, not (caller == npac)) ∷ (3, is_none facts.code_holder) ∷ (7, not facts.is_lrn_good) ∷ (10, is_none facts.donor) ∷ (23, has_open_port facts.numbers.now)
+    ∷ (24, holds_of (λ v. takes_block (seen v).status) facts.last) ∷ (28, nat_lt limit (facts.next_id + 1)) ∷ []
+
+abbrev pub assignment_refusal : (caller : ℕ) → BlockFacts → Option ℕ
+assignment_refusal caller facts = first_that_holds (assignment_tests caller facts)
+
+-- the block's version as the assignment makes it. It has one broadcast, its create
+pub record IsAssigned (minute : ℕ) (a : Assignment) (donor : Option ℕ) (v : VersionCode) : Type 0 where
+  pub subject : subject_of v.subject ≡ Block a.block.number
+  pub version : (id caller : ℕ) (everyone : List ℕ) →
+      let made = made_version id caller minute everyone donor (Commands (command_of a)) in version_of id made.broadcasts v ≡ made

@@ -1,0 +1,107 @@
+-- What a donation makes, and what it is refused for.
+use Rattle.std.specs.Prelude.{ℕ, suc, ◌+◌, ◌≡◌, Bool, not, ◌&&◌, ◌==◌, nat_lt, List, [], ◌∷◌, ◌++◌, map, filter, length, Option, is_none, is_some, option_map, ⊤}
+use Rattle.std.specs.List.{list_any}
+use Rattle.std.specs.BTreeSet.{BTreeSet, keys}
+use Rattle.numbers.specs.Subjects.{Subject, Number, subject_eq}
+use Rattle.numbers.specs.Views.{subject_of}
+use Rattle.numbers.specs.declared.cic.Cic.{Cic}
+use Rattle.numbers.specs.declared.line.Line.{Line}
+use Rattle.numbers.specs.declared.tn.Tn.{Tn}
+use Rattle.version.specs.declared.version.Version.{Version as VersionCode}
+use Rattle.version.specs.declared.in_use.NumberInUse.{NumberInUse}
+use Rattle.version.specs.Views.{version_of}
+use Rattle.meaning.specs.Commands.{Command, Donate}
+use Rattle.meaning.specs.Conditions.{limit, is_the}
+use Rattle.meaning.specs.History.{Commands, used_numbers, made_version}
+use Rattle.meaning.specs.Refusals.{first_that_holds}
+use Rattle.pool.specs.declared.donation.Donation.{Donation}
+use Rattle.pool.specs.declared.facts.BlockFacts.{BlockFacts}
+use Rattle.pool.specs.Facts.{carrier_number, in_force_numbers, is_in_force, has_open_port}
+
+-- ---- the donation as the definitions see it
+
+abbrev pub lines_of : List Line → List ℕ
+lines_of lines = map (λ (l : Line). l.number) lines
+
+abbrev pub command_of : Donation → Command
+command_of d = Donate d.block.number (lines_of d.used.now) d.routing.lrn.number (option_map (λ (c : Cic). c.number) d.routing.cic)
+
+-- the numbers that it names, each once, rising
+abbrev pub used_by : Donation → List Subject
+used_by d = used_numbers d.block.number (lines_of d.used.now)
+
+-- the same of a set of numbers
+abbrev pub tn_subject : Tn → Subject
+tn_subject t = Number t.number
+
+abbrev pub numbers_in : BTreeSet Tn → List Subject
+numbers_in s = map tn_subject (keys s)
+
+-- ---- its numbers, over the used ones and those in force
+
+-- the numbers in force that are not named
+abbrev pub unnamed : (used in_force : List Subject) → List Subject
+unnamed used in_force = filter (λ s. not (list_any (subject_eq s) used)) in_force
+
+abbrev pub contaminated_numbers : (used in_force : List Subject) → List Subject
+contaminated_numbers used in_force = used ++ unnamed used in_force
+
+-- the used numbers that have no version in force, for which versions are made
+abbrev pub made_numbers : (used in_force : List Subject) → List Subject
+made_numbers used in_force = filter (λ s. not (list_any (subject_eq s) in_force)) used
+
+-- more than a hundred numbers of the block are in use
+abbrev pub is_contaminated : (used : List Subject) → BlockFacts → Bool
+is_contaminated used facts = nat_lt 100 (length (contaminated_numbers used (in_force_numbers facts.numbers.now)))
+
+-- ---- the same over a set of the used numbers
+
+abbrev pub is_named : BTreeSet Tn → Tn → Bool
+is_named used tn = list_any (λ (t : Tn). tn.number == t.number) (keys used)
+
+-- in force, and not among them
+abbrev pub is_unnamed : BTreeSet Tn → NumberInUse → Bool
+is_unnamed used n = n.is_in_force && not (is_named used n.tn)
+
+-- a number without a version in force
+abbrev pub is_unprotected : BlockFacts → Tn → Bool
+is_unprotected facts t = not (list_any (is_in_force t.number) facts.numbers.now)
+
+-- ---- refusals
+
+-- whether the caller may donate
+abbrev pub donor_tests : (caller : ℕ) → BlockFacts → List (ℕ × Bool)
+donor_tests caller facts =
+    (3, is_none facts.code_holder) ∷ (7, not facts.is_lrn_good) ∷ (11, not (is_the caller (carrier_number facts.code_holder))) ∷ []
+
+-- whether the block may be donated with these used numbers, for which so many versions are made
+abbrev pub tests_by : (used : List Subject) → (versions : ℕ) → BlockFacts → List (ℕ × Bool)
+tests_by used versions facts =
+    (22, is_contaminated used facts) ∷ (23, has_open_port facts.numbers.now) ∷ (24, is_some facts.donor) ∷ (28, nat_lt limit (facts.next_id + versions)) ∷ []
+
+abbrev pub block_tests : (used : List Subject) → BlockFacts → List (ℕ × Bool)
+block_tests used facts = tests_by used (length (made_numbers used (in_force_numbers facts.numbers.now))) facts
+
+-- the least number whose condition holds of the donation by a registered carrier
+abbrev pub donation_refusal : (caller : ℕ) → Donation → BlockFacts → Option ℕ
+donation_refusal caller d facts = first_that_holds (donor_tests caller facts ++ block_tests (used_by d) facts)
+
+-- ---- what is made
+
+-- a version as the donation makes it for s. It has one broadcast, its create
+pub record IsProtective (caller minute : ℕ) (d : Donation) (s : Subject) (v : VersionCode) : Type 0 where
+  pub subject : subject_of v.subject ≡ s
+  pub version : (id : ℕ) (everyone : List ℕ) (donor : Option ℕ) →
+      let made = made_version id caller minute everyone donor (Commands (command_of d)) in version_of id made.broadcasts v ≡ made
+
+-- a version for each of these subjects, in their order, with ids in turn
+abbrev pub AreProtective : (caller minute : ℕ) → Donation → (from : ℕ) → List Subject → List (ℕ × VersionCode) → Type 0
+AreProtective caller minute d from [] [] = ⊤
+AreProtective caller minute d from (s ∷ ss) (e ∷ es) = (e.0 ≡ from) × IsProtective caller minute d s e.1 × AreProtective caller minute d (suc from) ss es
+AreProtective caller minute d from [] (e ∷ es) = ⊥
+AreProtective caller minute d from (s ∷ ss) [] = ⊥
+
+-- the versions that a donation makes, given what the facts say
+abbrev pub IsPlanned : (caller minute : ℕ) → Donation → BlockFacts → List (ℕ × VersionCode) → Type 0
+IsPlanned caller minute d facts versions =
+    AreProtective caller minute d facts.next_id (made_numbers (used_by d) (in_force_numbers facts.numbers.now)) versions

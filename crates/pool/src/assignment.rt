@@ -1,0 +1,99 @@
+//! Assignment: the administrator gives a donated block to a carrier.
+ghost use Rattle.std.specs.Prelude.{◌≡◌, IfOk};
+ghost use Rattle.delivery.specs.Refused.{refusal_in};
+ghost use Rattle.meaning.specs.Conditions.{holds_of, takes_block};
+ghost use Rattle.version.specs.Views.{seen};
+ghost use Rattle.pool.specs.Facts.{carrier_number};
+ghost use Rattle.pool.specs.Assignments.{assignment_refusal, IsAssigned};
+
+use crate::facts::BlockFacts;
+use meaning::{Action, Refusal, Status};
+use numbers::{BlockId, Minute, Routing, Spid, Subject};
+use version::{ID_LIMIT, Version};
+
+/// The administrator gives a donated block to a carrier, its holder, who from then on serves those
+/// of its numbers that are not ported.
+#[derive(Clone, Copy, Debug, PartialEq, Eq)]
+pub struct Assignment {
+    pub block: BlockId,
+    pub holder: Spid,
+    /// Where calls to the block's numbers are routed.
+    pub routing: Routing,
+}
+
+// Whether the block is a carrier's, on the way to one or on the way back.
+fn is_taken(last: &Option<Version>) -> bool
+    ensures { result ≡ holds_of (λ v. takes_block (seen v).status) last.now }
+{
+    match last {
+        Some(version) => matches!(
+            version.status,
+            Status::Sending(_) | Status::Active | Status::PartialFailure
+        ),
+        None => false,
+    }
+}
+
+impl Assignment {
+    // The block's version from its donor, as its first broadcast begins.
+    fn version(&self, donor: Spid, minute: Minute) -> Version
+        ensures { IsAssigned minute.number self.now (Some donor.number) result }
+    {
+        Version {
+            subject: Subject::Block(self.block),
+            old_provider: donor,
+            new_provider: self.holder,
+            due: minute,
+            routing: Some(self.routing),
+            old_at: None,
+            new_at: None,
+            status: Status::Sending(Action::Create),
+            since: minute,
+            attempt: 1,
+            is_conflict_spent: false,
+            is_protective: false,
+        }
+    }
+
+    /// The version that the assignment commanded by `caller` makes of the block at `minute`. The
+    /// holder is a registered carrier as told, and the version takes the id `facts.next_id`.
+    ///
+    /// Refused with the first that holds: `NotAdmin` where the caller is not the administrator,
+    /// `UnknownCode` where the block's code is not opened, `BadLrn` where the routing number is not
+    /// the holder's, `NotFound` where the block is not donated, `OpenPorts` where a number of it is
+    /// being ported, `BlockTaken` where its last version is sending, active or a partial failure,
+    /// and `Full` where no id is left.
+    pub fn made(
+        &self,
+        caller: Spid,
+        facts: &BlockFacts<'_>,
+        minute: Minute,
+    ) -> Result<Version, Refusal>
+        ensures refusal { refusal_in result ≡ assignment_refusal caller.number facts.now }
+        ensures made { IfOk result
+            (IsAssigned minute.number self.now (carrier_number facts.now.donor)) }
+    {
+        if caller.number != Spid::NPAC.number {
+            return Err(Refusal::NotAdmin);
+        }
+        if facts.code_holder.is_none() {
+            return Err(Refusal::UnknownCode);
+        }
+        if !facts.is_lrn_good {
+            return Err(Refusal::BadLrn);
+        }
+        let Some(donor) = facts.donor else {
+            return Err(Refusal::NotFound);
+        };
+        if facts.has_open_port() {
+            return Err(Refusal::OpenPorts);
+        }
+        if is_taken(&facts.last) {
+            return Err(Refusal::BlockTaken);
+        }
+        if facts.next_id >= ID_LIMIT {
+            return Err(Refusal::Full);
+        }
+        Ok(self.version(donor, minute))
+    }
+}

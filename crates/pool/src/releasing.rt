@@ -1,0 +1,56 @@
+//! Release: a block is given back to the pool.
+ghost use Rattle.std.specs.Prelude.{◌≡◌, ℕ, List, IfOk};
+ghost use Rattle.delivery.specs.Refused.{refusal_in};
+ghost use Rattle.pool.specs.Releases.{is_others, release_refusal, IsReleased};
+
+use crate::facts::BlockFacts;
+use meaning::{Action, Refusal, Status};
+use numbers::{Minute, Spid};
+use version::{Step, Version};
+
+// The caller is neither the administrator nor the version's provider.
+fn is_others(version: &Version, caller: Spid) -> bool
+    ensures { result ≡ is_others caller.number version.now }
+{
+    caller.number != Spid::NPAC.number && caller.number != version.new_provider.number
+}
+
+/// What the release of a block by `caller`, its holder or the administrator, makes at `minute`: the
+/// block's last version sends a delete, its next attempt. When that is closed with an
+/// acknowledgement nobody serves the block's numbers that are not ported.
+///
+/// Refused with the first that holds: `UnknownCode` where the block's code is not opened,
+/// `NotFound` where it is not donated or was never assigned, `NotYours` where the caller is neither
+/// its last version's new provider nor the administrator, `WrongStatus` where that version is not
+/// active, `OpenPorts` where a number of the block is being ported, and `Full` where no attempt is
+/// left.
+pub fn release(caller: Spid, facts: &BlockFacts<'_>, minute: Minute) -> Result<Step, Refusal>
+    ensures refusal { refusal_in result ≡ release_refusal caller.number facts.now }
+    ensures released { IfOk result (IsReleased minute.number facts.now.last) }
+{
+    if facts.code_holder.is_none() {
+        return Err(Refusal::UnknownCode);
+    }
+    if facts.donor.is_none() {
+        return Err(Refusal::NotFound);
+    }
+    let Some(version) = facts.last else {
+        return Err(Refusal::NotFound);
+    };
+    if is_others(&version, caller) {
+        return Err(Refusal::NotYours);
+    }
+    if !matches!(version.status, Status::Active) {
+        return Err(Refusal::WrongStatus);
+    }
+    if facts.has_open_port() {
+        return Err(Refusal::OpenPorts);
+    }
+    if version.is_sent_too_often() {
+        return Err(Refusal::Full);
+    }
+    Ok(Step {
+        version: version.sending(Action::Delete, minute),
+        sends: Some(Action::Delete),
+    })
+}
