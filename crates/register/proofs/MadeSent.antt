@@ -1,5 +1,5 @@
 -- Versions that are made and sent at once: the rows that show them.
-use Rattle.std.proofs.Common.{◌≡◌, ◌≤◌, ℕ, suc, ◌+◌, Bool, true, false, cond, not, ◌&&◌, ◌||◌, List, [], ◌∷◌, map, Option, Some, None, refl, ap, sym, ◌∙◌, subst, arith}
+use Rattle.std.proofs.Common.{◌≡◌, ◌≤◌, ℕ, suc, ◌+◌, Bool, true, false, cond, not, ◌&&◌, List, [], ◌∷◌, map, Some, None, refl, ap, sym, ◌∙◌, subst, arith}
 use Rattle.std.specs.Prelude.{⊤, ◌==◌, find, if◌then◌else◌}
 use Rattle.std.specs.List.{list_any}
 use Rattle.std.specs.FinMap.{get}
@@ -13,7 +13,7 @@ use Rattle.meaning.specs.Concerns.{has_id}
 use Rattle.meaning.specs.Content.{Content, Shows, row_of}
 use Rattle.meaning.specs.History.{id_among, with_made}
 use Rattle.meaning.proofs.Entered.{none_with, subject_eq-refl}
-use Rattle.meaning.proofs.Ids.{same_id, same_subject}
+use Rattle.meaning.proofs.Ids.{same_subject}
 use Rattle.meaning.proofs.Represented.{same_rows_show}
 use Rattle.meaning.proofs.Small.{or_first, or_second, equal_numbers}
 use Rattle.settle.specs.Changes.{IsChanged}

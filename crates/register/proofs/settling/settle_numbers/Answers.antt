@@ -17,7 +17,7 @@ loop-number-preserved g c = (
   omega (arith, c.loop-number.invariant.1, c.settle_subject.ensures.owes.rises),
   λ usable.
       let left : drop c.loop-number.number-index c.args.numbers.now ≡ c.number-item.result ∷ drop (c.loop-number.number-index + 1) c.args.numbers.now =
-    rest_at c.args.numbers.now c.loop-number.number-index c.number-item.result c.loop-number-test.true c.number-item.is in
+      rest_at c.args.numbers.now c.loop-number.number-index c.number-item.result c.loop-number-test.true c.number-item.is in
       next_settled c.args.numbers.now (drop (c.loop-number.number-index + 1) c.args.numbers.now) c.number-item.result (g.S.Store.content c.args.store.now) (g.S.Store.content c.loop-number.store) (g.S.Store.content c.settle_subject.new.store)
       (subst (λ rest. SettlesUpTo c.args.numbers.now rest (g.S.Store.content c.args.store.now) (g.S.Store.content c.loop-number.store)) left (c.loop-number.invariant.2 (c.settle_subject.ensures.owes.usable usable)))
       (c.settle_subject.ensures.kept usable) (c.settle_subject.ensures.elsewhere usable) (c.in_ok-settle_subject.ensures.settled usable),
