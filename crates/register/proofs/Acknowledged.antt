@@ -364,7 +364,7 @@ module _ (st : State) (old new : Content) (stands : Stands old st) (caller : ℕ
 
       registry : RegistryShows new after_it
       registry = record {
-        clock = clock_same st caller (Acknowledges id attempt) s id is.version (acknowledge-names id attempt) stands.represents.history is.found old new changed.clock clock clock_is stands.represents.clock;
+        clock = clock_same st caller (Acknowledges id attempt) s id is.version (acknowledge-names id attempt s) stands.represents.history is.found old new changed.clock clock clock_is stands.represents.clock;
         written = ap is_some changed.clock ∙ stands.written;
         carriers = λ k. ap is_some (changed.carriers k) ∙ stands.represents.carriers k;
         lrns = λ k. changed.lrns k ∙ stands.represents.lrns k;

@@ -1,0 +1,93 @@
+-- The commands on a block: what each makes and changes.
+use Rattle.std.proofs.Common.{◌≡◌, ℕ, Bool, true, false, cond, ◌&&◌, ◌||◌, List, [], ◌∷◌, map, length, Option, Some, None, refl, ap, sym, ◌∙◌, subst}
+use Rattle.std.specs.Prelude.{◌==◌, ⊤, filter, find, is_none, is_some, option_map, unwrap_or, if◌then◌else◌}
+use Rattle.std.specs.List.{list_any}
+use Rattle.std.specs.FinMap.{get}
+use Rattle.numbers.specs.Digits.{number_in}
+use Rattle.numbers.specs.Subjects.{Subject, Number, Block, subject_eq}
+use Rattle.meaning.specs.declared.words.Action.TheVariants.{Delete}
+use Rattle.meaning.specs.Commands.{Donate, Assign, Release}
+use Rattle.meaning.specs.Versions.{Version, in_force, last_version, version_in_force, version_with}
+use Rattle.meaning.specs.Changes.{of_id, sent}
+use Rattle.meaning.specs.Content.{BlockRow, Content, stored_block}
+use Rattle.meaning.specs.History.{AreLines, Commands, Request, blank_version, done_to, donor_named, donor_of, id_among, made_by, next_id, or_else, rising, used_numbers}
+use Rattle.meaning.specs.Machine.{accepted}
+use Rattle.meaning.specs.Reading.{State, record_now}
+use Rattle.meaning.specs.Refusals.{Requests, refusal}
+use Rattle.meaning.proofs.Accepted.{accepted_command}
+use Rattle.meaning.proofs.Entered.{given_now, subject_eq-refl}
+use Rattle.meaning.proofs.Ids.{same_id}
+use Rattle.meaning.proofs.Protected.{undonated}
+use Rattle.settle.specs.Changes.{put_row}
+use Rattle.register.specs.Answers.{Stands}
+use Rattle.register.proofs.Alone.{one_in_force}
+use Rattle.register.proofs.OnVersion.{LeavesRegistry, NamesVersion}
+use Rattle.register.proofs.Pooled.{MakesSent, made-records, unmade-same}
+use Rattle.register.proofs.SecondCreate.{SameEach, same_change}
+
+-- ---- donations
+
+-- a protective version before it is sent
+abbrev pub protective : (donor minute lrn : ℕ) (cic : Option ℕ) → ℕ → Version
+protective donor minute lrn cic id = record (blank_version id donor donor minute minute) { routing = Some (record { lrn = lrn; cic = cic }); protective = true }
+
+-- the used numbers that have no version in force
+abbrev pub to_protect : State → (block : ℕ) (used : List ℕ) → List Subject
+to_protect st block used = filter (λ s. is_none (version_in_force (record_now st s))) (used_numbers block used)
+
+pub donation-makes : (st : State) (caller block : ℕ) (used : List ℕ) (lrn : ℕ) (cic : Option ℕ) → AreLines used →
+    MakesSent st caller (Commands (Donate block used lrn cic)) (to_protect st block used) (protective caller st.now lrn cic)
+donation-makes st caller block used lrn cic lines = record {
+  carrier = refl;
+  lrn = λ k. refl;
+  code = λ k. refl;
+  lines = lines;
+  makes = refl;
+  does = λ s everyone v. refl;
+  made = λ id everyone. refl;
+  is_id = λ id. refl;
+  unsent = λ id. refl;
+  quiet_before = λ id. refl;
+}
+
+-- the block is none of the numbers
+no_block : (b block : ℕ) (test : Subject → Bool) (lines : List ℕ) → list_any (subject_eq (Block b)) (filter test (map (λ line. Number (number_in block line)) lines)) ≡ false
+no_block b block test [] = refl
+no_block b block test (line ∷ lines) = go (no_block b block test lines) (test (Number (number_in block line)))
+  where
+    go : list_any (subject_eq (Block b)) (filter test (map (λ l. Number (number_in block l)) lines)) ≡ false → (c : Bool) →
+        list_any (subject_eq (Block b)) (cond c (Number (number_in block line) ∷ filter test (map (λ l. Number (number_in block l)) lines)) (filter test (map (λ l. Number (number_in block l)) lines))) ≡ false
+    go later true = later
+    go later false = later
+
+is_some-none : {A : Type 0} (o : Option A) → is_some o ≡ false → o ≡ None
+is_some-none None e = refl
+is_some-none (Some x) e = cc
+
+-- the block's row: its donor, and no version
+abbrev pub donated_row : (block donor : ℕ) → Option (ℕ × BlockRow)
+donated_row block donor = Some (block, record { donor = donor; last = None })
+
+pub donation-blocks : (st : State) (old : Content) (caller block : ℕ) (used : List ℕ) (lrn : ℕ) (cic : Option ℕ) → AreLines used → Stands old st →
+    refusal st (Requests caller (Commands (Donate block used lrn cic))) ≡ None → (k : ℕ) →
+    put_row ◌==◌ (donated_row block caller) k (get old.blocks k) ≡ stored_block (accepted st (Requests caller (Commands (Donate block used lrn cic)))) k
+donation-blocks st old caller block used lrn cic lines stands none k = go (block == k) refl
+  where
+    same : (b : ℕ) → record_now (accepted st (Requests caller (Commands (Donate block used lrn cic)))) (Block b) ≡ record_now st (Block b)
+    same b = unmade-same st caller (Commands (Donate block used lrn cic)) (to_protect st block used) (protective caller st.now lrn cic) (donation-makes st caller block used lrn cic lines) (Block b)
+        (no_block b block (λ s. is_none (version_in_force (record_now st s))) (rising used))
+
+    free : donor_of block st.history ≡ None
+    free = is_some-none (donor_of block st.history) (accepted_command st caller (Donate block used lrn cic) none).block_taken
+
+    row_of : Option Version → ℕ → BlockRow
+    row_of v donor = record { donor = donor; last = option_map (λ (u : Version). u.id) v }
+
+    go : (b : Bool) → (block == k) ≡ b →
+        (if b then Some (record { donor = caller; last = None }) else get old.blocks k)
+        ≡ option_map (row_of (last_version (record_now (accepted st (Requests caller (Commands (Donate block used lrn cic)))) (Block k)))) (or_else (if b then Some caller else None) (donor_of k st.history))
+    go true e =
+        let none_made : last_version (record_now st (Block k)) ≡ None = ap (λ j. last_version (record_now st (Block j))) (sym (same_id block k e))
+        ∙ ap (λ vs. last_version (record { carriers = []; versions = vs })) (undonated st.windows block st.history st.now stands.represents.history free) in
+        sym (ap (λ v. Some (row_of v caller)) (ap last_version (same k) ∙ none_made))
+    go false e = stands.represents.blocks k ∙ sym (ap (λ r. option_map (row_of (last_version r)) (donor_of k st.history)) (same k))
