@@ -1,16 +1,16 @@
 -- The commands on a block: what each makes and changes.
-use Rattle.std.proofs.Common.{◌≡◌, ℕ, Bool, true, false, cond, ◌&&◌, ◌||◌, List, [], ◌∷◌, map, length, Option, Some, None, refl, ap, sym, ◌∙◌, subst}
+use Rattle.std.proofs.Common.{◌≡◌, ℕ, Bool, true, false, cond, not, ◌&&◌, ◌||◌, List, [], ◌∷◌, map, length, Option, Some, None, refl, ap, sym, ◌∙◌, subst}
 use Rattle.std.specs.Prelude.{◌==◌, ⊤, filter, find, is_none, is_some, option_map, unwrap_or, if◌then◌else◌}
 use Rattle.std.specs.List.{list_any}
 use Rattle.std.specs.FinMap.{get}
 use Rattle.numbers.specs.Digits.{number_in}
 use Rattle.numbers.specs.Subjects.{Subject, Number, Block, subject_eq}
-use Rattle.meaning.specs.declared.words.Action.TheVariants.{Delete}
+use Rattle.meaning.specs.declared.words.Action.TheVariants.{Create, Delete}
 use Rattle.meaning.specs.Commands.{Donate, Assign, Release}
-use Rattle.meaning.specs.Versions.{Version, in_force, last_version, version_in_force, version_with}
+use Rattle.meaning.specs.Versions.{Version, Record, first_of_versions, in_force, last_version, version_in_force, version_with}
 use Rattle.meaning.specs.Changes.{of_id, sent}
 use Rattle.meaning.specs.Content.{BlockRow, Content, stored_block}
-use Rattle.meaning.specs.History.{AreLines, Commands, Request, blank_version, done_to, donor_named, donor_of, id_among, made_by, next_id, or_else, rising, used_numbers}
+use Rattle.meaning.specs.History.{AreLines, Commands, Request, blank_version, done_to, donor_named, donor_of, id_among, made_by, next_id, or_else, rising, used_numbers, with_made}
 use Rattle.meaning.specs.Machine.{accepted}
 use Rattle.meaning.specs.Reading.{State, record_now}
 use Rattle.meaning.specs.Refusals.{Requests, refusal}
@@ -24,6 +24,11 @@ use Rattle.register.proofs.Alone.{one_in_force}
 use Rattle.register.proofs.OnVersion.{LeavesRegistry, NamesVersion}
 use Rattle.register.proofs.Pooled.{MakesSent, made-records, unmade-same}
 use Rattle.register.proofs.SecondCreate.{SameEach, same_change}
+use Rattle.register.proofs.Stepped.{StepsOne}
+use Rattle.register.proofs.Before.{turned}
+use Rattle.meaning.proofs.Lists.{each}
+use Rattle.std.proofs.Common.{arith}
+use Rattle.std.proofs.lemmas.Bool.Decides.{nat_tests}
 
 -- ---- donations
 
@@ -91,3 +96,70 @@ donation-blocks st old caller block used lrn cic lines stands none k = go (block
         ∙ ap (λ vs. last_version (record { carriers = []; versions = vs })) (undonated st.windows block st.history st.now stands.represents.history free) in
         sym (ap (λ v. Some (row_of v caller)) (ap last_version (same k) ∙ none_made))
     go false e = stands.represents.blocks k ∙ sym (ap (λ r. option_map (row_of (last_version r)) (donor_of k st.history)) (same k))
+
+-- ---- assignments
+
+-- the block's version before it is sent
+abbrev pub unsent_block : (donor : Option ℕ) → (holder minute lrn : ℕ) (cic : Option ℕ) → ℕ → Version
+unsent_block donor holder minute lrn cic id = record (blank_version id (unwrap_or donor 0) holder minute minute) { routing = Some (record { lrn = lrn; cic = cic }) }
+
+pub assignment-makes : (st : State) (caller block holder lrn : ℕ) (cic : Option ℕ) →
+    MakesSent st caller (Commands (Assign block holder lrn cic)) (Block block ∷ []) (unsent_block (donor_of block st.history) holder st.now lrn cic)
+assignment-makes st caller block holder lrn cic = record {
+  carrier = refl;
+  lrn = λ k. refl;
+  code = λ k. refl;
+  lines = tt;
+  makes = refl;
+  does = λ s everyone v. refl;
+  made = λ id everyone. refl;
+  is_id = λ id. refl;
+  unsent = λ id. refl;
+  quiet_before = λ id. refl;
+}
+
+-- the block's row: its donor as before, and the version that is made
+abbrev pub assigned_row : (block donor id : ℕ) → Option (ℕ × BlockRow)
+assigned_row block donor id = Some (block, record { donor = donor; last = Some id })
+
+pub assignment-blocks : (st : State) (old : Content) (caller block holder lrn : ℕ) (cic : Option ℕ) (donor : ℕ) → Stands old st → donor_of block st.history ≡ Some donor → (k : ℕ) →
+    put_row ◌==◌ (assigned_row block donor (next_id st.windows st.history)) k (get old.blocks k) ≡ stored_block (accepted st (Requests caller (Commands (Assign block holder lrn cic)))) k
+assignment-blocks st old caller block holder lrn cic donor stands donated k = go (block == k) refl
+  where
+    row_of : Option Version → ℕ → BlockRow
+    row_of v d = record { donor = d; last = option_map (λ (u : Version). u.id) v }
+
+    after_it : State
+    after_it = accepted st (Requests caller (Commands (Assign block holder lrn cic)))
+
+    another : (block == k) ≡ false → (subject_eq (Block k) (Block block) || false) ≡ false
+    another e = grind (arith, nat_tests)
+
+    go : (b : Bool) → (block == k) ≡ b →
+        (if b then Some (record { donor = donor; last = Some (next_id st.windows st.history) }) else get old.blocks k)
+        ≡ option_map (row_of (last_version (record_now (accepted st (Requests caller (Commands (Assign block holder lrn cic)))) (Block k)))) (donor_of k st.history)
+    go true e =
+        let here : subject_eq (Block k) (Block block) ≡ true = ap (λ j. subject_eq (Block j) (Block block)) (sym (same_id block k e)) ∙ subject_eq-refl (Block block) in
+        sym (ap (λ j. option_map (row_of (last_version (record_now (accepted st (Requests caller (Commands (Assign block holder lrn cic)))) (Block k)))) (donor_of j st.history)) (sym (same_id block k e))
+        ∙ ap (option_map (row_of (last_version (record_now (accepted st (Requests caller (Commands (Assign block holder lrn cic)))) (Block k))))) donated
+        ∙ ap (λ (r : Record). Some (row_of (last_version r) donor)) (made-records st caller (Commands (Assign block holder lrn cic)) (Block block ∷ []) (unsent_block (donor_of block st.history) holder st.now lrn cic) (assignment-makes st caller block holder lrn cic) (Block k))
+        ∙ ap (λ b. Some (row_of (first_of_versions (with_made (if b then Some (next_id st.windows st.history) else None) (λ id. sent Create (record_now st (Block k)).carriers st.now (unsent_block (donor_of block st.history) holder st.now lrn cic id)) (record_now st (Block k)).versions)) donor)) here)
+    go false e = stands.represents.blocks k
+        ∙ sym (ap (λ r. option_map (row_of (last_version r)) (donor_of k st.history))
+        (unmade-same st caller (Commands (Assign block holder lrn cic)) (Block block ∷ []) (unsent_block (donor_of block st.history) holder st.now lrn cic) (assignment-makes st caller block holder lrn cic) (Block k) (another e)))
+
+-- ---- releases
+
+-- a release changes the block's version in force alone, which sends a delete
+pub release-steps : (st : State) (old : Content) (caller block : ℕ) (v : Version) → Stands old st → version_with v.id (record_now st (Block block)) ≡ Some v → in_force v ≡ true →
+    StepsOne st caller (Commands (Release block)) (Block block) v.id (sent Delete (record_now st (Block block)).carriers st.now) (Some Delete) v
+release-steps st old caller block v stands found forced = record {
+  leaves = record { carrier = refl; lrn = λ k. refl; code = λ k. refl; donor = λ k. refl; lines = tt };
+  names = record { unmade = λ at. refl; elsewhere = λ t vs apart none. turned (Block block) t apart };
+  does = each (λ u same. ap (λ b. if b && in_force u then sent Delete (record_now st (Block block)).carriers st.now u else u) (subject_eq-refl (Block block)) ∙ same) (record_now st (Block block)).versions
+      (same_change (made_by st.windows st.history) (Block block) in_force (sent Delete (record_now st (Block block)).carriers st.now) v.id (record_now st (Block block)).versions v
+      (given_now st stands.represents.history (Block block)) (one_in_force st old stands (Block block)) found forced);
+  keeps = λ u. refl;
+  stepped = (refl, ap (λ b. not b && true) forced);
+  settles = ap (λ b. b || false) (subject_eq-refl (Block block));
+}
