@@ -29,6 +29,7 @@ use Rattle.settle.specs.Settling.{IsSettled}
 use Rattle.settle.proofs.AsideMany.{AreAmong, ArePutsAmong, among_lagging}
 use Rattle.settle.proofs.Applied.{Puts, same_shows, sent_in_turn, sent_puts}
 use Rattle.register.specs.Answers.{Stands}
+use Rattle.register.specs.Pooling.{pooling}
 use Rattle.register.specs.Settling.{LeavesOthers, settles}
 use Rattle.register.proofs.FirstCreate.{none_with_id}
 use Rattle.register.proofs.MadeSent.{AreApart, AreBegun, each_shown}
@@ -47,10 +48,6 @@ pub record MakesSent (st : State) (caller : ℕ) (request : Request) (news : Lis
   pub is_id : (id : ℕ) → (blank id).id ≡ id
   pub unsent : (id : ℕ) → (blank id).broadcasts ≡ []
   pub quiet_before : (id : ℕ) → in_force (blank id) ≡ false
-
--- the rows of these, and those of a block and of the clock
-abbrev pub pooling : Changes → Option (ℕ × BlockRow) → ClockRow → Changes
-pooling changes block clock = record changes { block = block; clock = Some clock }
 
 more : (xs ys : List Subject) → length (xs ++ ys) ≡ length xs + length ys
 more [] ys = omega arith
