@@ -8,7 +8,7 @@ use Rattle.std.proofs.lemmas.Bool.Decides.{nat_tests}
 use Rattle.meaning.specs.Versions.{is_among, with_number}
 use Rattle.meaning.specs.Changes.{is_empty}
 use Rattle.meaning.specs.Content.{is_nonempty}
-use Rattle.meaning.specs.History.{Entry, carriers, carrier_named, carrier_added}
+use Rattle.meaning.specs.History.{Entry, carriers, carrier_named, carrier_added, rising}
 
 -- ---- one more number
 
@@ -65,11 +65,11 @@ joined-some test c (d ∷ ds) some = go (λ more. joined-some test c ds more) (n
 
 -- ---- rising lists of the same numbers
 
-abbrev AreAbove : ℕ → List ℕ → Type 0
+abbrev pub AreAbove : ℕ → List ℕ → Type 0
 AreAbove k [] = ⊤
 AreAbove k (n ∷ ns) = (k < n) × AreAbove k ns
 
-abbrev Rise : List ℕ → Type 0
+abbrev pub Rise : List ℕ → Type 0
 Rise [] = ⊤
 Rise (n ∷ ns) = AreAbove n ns × Rise ns
 
@@ -148,6 +148,10 @@ with-rise c (n ∷ ns) rise = go (with-rise c ns rise.1) (nat_lt c n) (c == n) r
     go later true q e f = ((lt_of e, more_above c n ns (lt_of e) rise.0), rise)
     go later false true e f = rise
     go later false false e f = (with-above n c ns (gt_of e f) rise.0, later)
+
+pub rising-rise : (ns : List ℕ) → Rise (rising ns)
+rising-rise [] = tt
+rising-rise (n ∷ ns) = with-rise n (rising ns) (rising-rise ns)
 
 pub carriers-rise : (h : List Entry) → Rise (carriers h)
 carriers-rise [] = tt

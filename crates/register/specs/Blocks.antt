@@ -1,0 +1,35 @@
+-- What stands of a block, of a content.
+use Rattle.std.specs.Prelude.{◌≡◌, ℕ, true, Option, Some, None, is_some, option_map, ⊤}
+use Rattle.std.specs.FinMap.{get}
+use Rattle.numbers.specs.Digits.{block_code_of}
+use Rattle.meaning.specs.Content.{Content}
+use Rattle.version.specs.declared.version.Version.{Version as VersionCode}
+use Rattle.settle.specs.declared.rows.VersionRow.TheInside.{Inside}
+use Rattle.settle.specs.declared.rows.BlockRow.{BlockRow as BlockRowCode}
+use Rattle.settle.specs.Reads.{AreInBlock}
+use Rattle.settle.specs.Views.{version_row_of, block_row_of, spid_of}
+use Rattle.register.specs.declared.blocks.BlockRead.{BlockRead}
+
+-- the id of the version that was made last of a block, by the block's row
+abbrev pub last_id : Option BlockRowCode → Option ℕ
+last_id None = None
+last_id (Some row) = row.last
+
+-- the version with this id, where one is named
+abbrev pub IsLast : Content → Option ℕ → Option (ℕ × VersionCode) → Type 0
+IsLast c None None = ⊤
+IsLast c (Some id) (Some e) = (e.0 ≡ id) × (row : Inside) × (get c.versions id ≡ Some (version_row_of row)) × (row.version ≡ e.1)
+IsLast c None (Some e) = ⊥
+IsLast c (Some id) None = ⊥
+
+-- where an id is named, a row has it
+abbrev pub IsRowThere : Content → Option ℕ → Type 0
+IsRowThere c None = ⊤
+IsRowThere c (Some id) = is_some (get c.versions id) ≡ true
+
+-- what was read of the block
+pub record IsBlockRead (c : Content) (block : ℕ) (read : BlockRead) : Type 0 where
+  pub code : option_map spid_of read.code_holder ≡ get c.codes (block_code_of block)
+  pub row : option_map block_row_of read.row ≡ get c.blocks block
+  pub last : IsLast c (last_id read.row) read.last
+  pub numbers : AreInBlock c block read.numbers.items

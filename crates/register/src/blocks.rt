@@ -1,0 +1,72 @@
+//! What stands of a block.
+ghost use Rattle.settle.specs.Owing.{Reads, SaysStorage};
+ghost use Rattle.std.specs.Prelude.{◌≡◌, Err, IfOk};
+ghost use Rattle.register.specs.Blocks.{IsLast, IsRowThere, IsBlockRead, last_id};
+
+use numbers::{BlockId, Spid};
+use settle::{BlockRow, Store, StoreFault};
+use version::{NumberInUse, Version};
+
+/// What the registry and the rows say of a block.
+#[derive(Drop)]
+pub struct BlockRead {
+    /// For whom the block's code is opened.
+    pub code_holder: Option<Spid>,
+    /// The block's row, where it is donated.
+    pub row: Option<BlockRow>,
+    /// The id of the version that was made last of it, and the version.
+    pub last: Option<(u64, Version)>,
+    /// Its numbers with a version in force or an open one.
+    pub numbers: Vec<NumberInUse>,
+}
+
+// The version with this id, where one is named.
+fn last_made<S: Store>(
+    store: &mut S,
+    id: Option<u64>,
+) -> Result<Option<(u64, Version)>, StoreFault>
+    ensures value { S.IsUsable store.new → IfOk result (IsLast (S.content store.old) id) }
+    ensures reads { Reads (S.IsUsable store.old) (S.IsUsable store.new)
+        (S.content store.old) (S.content store.new) (S.failed store.old) (S.failed store.new)
+        (S.IsUsable store.new × IsRowThere (S.content store.old) id
+        × (result ≡ Err StoreFault.Storage)) }
+{
+    let Some(id) = id else {
+        return Ok(None);
+    };
+    let Some(row) = store.version(id)? else {
+        return Err(StoreFault::Storage);
+    };
+    Ok(Some((id, row.version)))
+}
+
+// The id of the version that was made last of a block.
+fn last_id(row: Option<BlockRow>) -> Option<u64>
+    ensures { result ≡ last_id row }
+{
+    match row {
+        None => None,
+        Some(row) => row.last,
+    }
+}
+
+/// Reads what stands of a block.
+pub fn read_block<S: Store>(store: &mut S, block: BlockId) -> Result<BlockRead, StoreFault>
+    ensures value { S.IsUsable store.new
+        → IfOk result (IsBlockRead (S.content store.old) block.number) }
+    ensures reads { Reads (S.IsUsable store.old) (S.IsUsable store.new)
+        (S.content store.old) (S.content store.new) (S.failed store.old) (S.failed store.new)
+        (SaysStorage (S.IsUsable store.new) (S.content store.old)
+        (result ≡ Err StoreFault.Storage)) }
+{
+    let code_holder = store.code(block.code())?;
+    let row = store.block(block)?;
+    let last = last_made(store, last_id(row))?;
+    let numbers = store.in_block(block)?;
+    Ok(BlockRead {
+        code_holder,
+        row,
+        last,
+        numbers,
+    })
+}
