@@ -5,7 +5,7 @@ use Rattle.settle.specs.Views.{block_row_of}
 use Rattle.settle.specs.declared.store.StoreFault.TheVariants.{Storage}
 use Rattle.register.specs.Blocks.{IsRowThere, last_id}
 use Rattle.register.proofs.BlockRow.{last_is_there}
-use Rattle.register.proofs.ForceCounted.{length-rows}
+use Rattle.register.proofs.BlockFacts.{block_facts_are}
 use Rattle.register.proofs.blocks.read_block.Goals as goal
 
 pub returns-in_err-last-clause-reads : goal.returns-in_err-last-clause-reads
