@@ -1,17 +1,16 @@
 -- The facts of a block that are read are those of the state.
 use Rattle.std.proofs.Common.{◌≡◌, ℕ, Bool, true, false, not, ◌||◌, List, [], ◌∷◌, Option, Some, None, refl, ap, sym, ◌∙◌, subst, inl}
-use Rattle.std.specs.Prelude.{is_some, option_map}
+use Rattle.std.specs.Prelude.{option_map}
 use Rattle.std.specs.FinMap.{get}
 use Rattle.numbers.specs.Digits.{block_code_of}
-use Rattle.numbers.specs.Subjects.{Subject, Block, subject_eq}
-use Rattle.numbers.specs.declared.spid.Spid.{Spid}
+use Rattle.numbers.specs.Subjects.{Subject, Block}
 use Rattle.meaning.specs.Versions.{Version, last_version, first_of_versions}
 use Rattle.meaning.specs.Commands.{Command, RegisterCarrier, RegisterRoutingNumber, OpenCode, OldProviderCreate, NewProviderCreate, OnVersion, Donate, Assign, Release}
 use Rattle.meaning.specs.Conditions.{is_the}
 use Rattle.meaning.specs.History.{donor_of, lrn_owner}
 use Rattle.meaning.specs.Reading.{State, record_now}
-use Rattle.meaning.specs.Refusals.{bad_lrn, is_in_block}
-use Rattle.meaning.specs.Content.{Content, BlockRow, ClockRow, row_of, stored_block}
+use Rattle.meaning.specs.Refusals.{bad_lrn}
+use Rattle.meaning.specs.Content.{Content, BlockRow, ClockRow, row_of}
 use Rattle.meaning.proofs.Lists.{Among}
 use Rattle.meaning.proofs.Small.{some_is}
 use Rattle.meaning.proofs.Entered.{subject_eq-refl}
@@ -83,7 +82,7 @@ module _ (st : State) (c : Content) (stands : Stands c st) (block : ℕ) (settle
   seen_by_id v last None is = absurd is
   seen_by_id v last (Some e) is =
       let there = row_there st.windows (Block block) c (record_now st (Block block)) block_due.shows v.id v
-          (found_by_id st stands.represents.history (Block block) v (first_among (record_now st (Block block)).versions v last)) in
+      (found_by_id st stands.represents.history (Block block) v (first_among (record_now st (Block block)).versions v last)) in
       ap (λ (u : VersionCode). version_of v.id v.broadcasts u) (sym is.3)
       ∙ row_version st.windows (Block block) v is.1 (some_is (version_row_of is.1) (row_of st.windows (Block block) v) (sym is.2 ∙ there))
 

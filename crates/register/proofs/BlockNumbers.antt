@@ -1,21 +1,20 @@
 -- The numbers of a block that a store lists are those of the state.
-use Rattle.std.proofs.Common.{◌≡◌, ℕ, ◌<◌, ◌*◌, ◌+◌, ◌/◌, ◌%◌, inl, inr, Bool, true, false, not, ◌&&◌, ◌||◌, List, length, map, Option, Some, None, refl, ap, sym, ◌∙◌, subst, arith}
-use Rattle.std.specs.Prelude.{◌==◌, ◌⊎◌, find, filter, is_some, is_none, Contains}
+use Rattle.std.proofs.Common.{◌≡◌, ℕ, ◌<◌, inl, inr, Bool, true, false, not, ◌&&◌, List, length, map, Option, Some, None, refl, ap, sym, ◌∙◌, subst, arith}
+use Rattle.std.specs.Prelude.{◌==◌, ◌⊎◌, filter, is_some, is_none}
 use Rattle.std.specs.List.{list_any}
-use Rattle.std.specs.FinMap.{get}
 use Rattle.numbers.specs.Digits.{block_of, number_in}
 use Rattle.numbers.specs.Subjects.{Subject, Number, Block, subject_eq, subject_key}
 use Rattle.version.specs.declared.in_use.NumberInUse.{NumberInUse}
 use Rattle.meaning.specs.Versions.{Version, in_force, is_open, version_in_force, version_with}
 use Rattle.meaning.specs.History.{made_by}
 use Rattle.meaning.specs.Laws.{IsState}
-use Rattle.meaning.specs.Reading.{State, SubjectVersion, InForce, record_now, all_versions, all_in_force, rows_in_force}
+use Rattle.meaning.specs.Reading.{State, SubjectVersion, InForce, record_now, all_versions, all_in_force}
 use Rattle.meaning.specs.Refusals.{is_in_block, has_open_port as has_open_port_in}
 use Rattle.meaning.specs.Content.{Content, VersionRow, row_of, subject_if}
 use Rattle.meaning.proofs.Small.{and_first, and_second, equal_numbers, or_right}
 use Rattle.meaning.proofs.Lists.{Among, any_there, there_any, contains-among, mapped-from, mapped-to, filtered-from, filtered-to, found-among}
 use Rattle.meaning.proofs.Ascending as ascending
-use Rattle.meaning.proofs.Entered.{sound_now, given_now, subject_eq-refl}
+use Rattle.meaning.proofs.Entered.{sound_now, subject_eq-refl}
 use Rattle.meaning.proofs.Ids.{same_id, same_subject}
 use Rattle.meaning.proofs.Listed.{rows_rise, row_is, row_there as row_listed}
 use Rattle.meaning.proofs.Copies.Queue.{found_by_id, is_listed, listed-from}
@@ -28,7 +27,7 @@ use Rattle.pool.specs.Donations.{unnamed}
 use Rattle.pool.specs.Facts.{has_open_port, in_force_numbers, is_open_port}
 use Rattle.register.specs.Answers.{Stands}
 use Rattle.register.specs.Settling.{is_of_block}
-use Rattle.register.proofs.Alone.{row_is_held, none_held, one_in_force}
+use Rattle.register.proofs.Alone.{row_is_held, one_in_force}
 use Rattle.register.proofs.Awaited.{all-among}
 use Rattle.register.proofs.ForceCounted.{filtered-rise, rekeyed-rise, passing_rows, length-rows}
 
@@ -100,7 +99,7 @@ module _ (st : State) (c : Content) (stands : Stands c st) where
     pub opens-open : Opens c s → (v : Version) × Among v (record_now st s).versions × (is_open s v ≡ true)
     opens-open opened =
         let is = row_is_held st c stands s due (λ t v. is_open t v) (λ (row : VersionRow). row.opens) (λ t v. refl) (sound_open s (record_now st s).versions (sound_now st stands.represents.history s))
-            opened.0 opened.1 opened.2 opened.3 in
+        opened.0 opened.1 opened.2 opened.3 in
         let among = found-among (is_open s) (record_now st s).versions is.0 is.1 in
         (is.0, among.0, among.1)
 

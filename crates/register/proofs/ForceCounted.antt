@@ -1,10 +1,9 @@
 -- What is in force counts as many subjects that pass a test as rows of them.
-use Rattle.std.proofs.Common.{◌≡◌, ℕ, suc, ◌<◌, inl, inr, Bool, true, false, cond, List, [], ◌∷◌, length, map, refl, ap, sym, ◌∙◌, arith}
+use Rattle.std.proofs.Common.{◌≡◌, ℕ, suc, ◌<◌, Bool, true, false, cond, List, [], ◌∷◌, length, map, refl, ap, sym, ◌∙◌}
 use Rattle.std.specs.Prelude.{filter, if◌then◌else◌}
 use Rattle.numbers.specs.Subjects.{Subject, subject_lt}
 use Rattle.meaning.specs.Versions.{in_force}
 use Rattle.meaning.specs.Reading.{SubjectVersion, InForce, row_inserted, rows_in_force}
-use Rattle.meaning.proofs.Lists.{Among}
 use Rattle.meaning.proofs.Ascending as ascending
 
 -- ---- rising lists

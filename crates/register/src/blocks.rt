@@ -58,10 +58,7 @@ impl BlockRead {
 }
 
 // The version with this id, where one is named.
-fn last_made<S: Store>(
-    store: &mut S,
-    id: Option<u64>,
-) -> Result<Option<(u64, Version)>, StoreFault>
+fn last_made<S: Store>(store: &mut S, id: Option<u64>) -> Result<Option<(u64, Version)>, StoreFault>
     ensures value { S.IsUsable store.new → IfOk result (IsLast (S.content store.old) id) }
     ensures reads { Reads (S.IsUsable store.old) (S.IsUsable store.new)
         (S.content store.old) (S.content store.new) (S.failed store.old) (S.failed store.new)
