@@ -1,14 +1,13 @@
 -- The row of a block names a version of which there is a row.
-use Rattle.std.proofs.Common.{◌≡◌, ℕ, Bool, true, false, List, [], ◌∷◌, ◌||◌, Option, Some, None, refl, ap, sym, ◌∙◌, subst}
+use Rattle.std.proofs.Common.{◌≡◌, ℕ, true, false, List, [], ◌∷◌, ◌||◌, Option, Some, None, refl, ap, sym, ◌∙◌, subst}
 use Rattle.std.specs.Prelude.{◌==◌, is_some, option_map}
 use Rattle.std.specs.FinMap.{get}
-use Rattle.numbers.specs.Digits.{block_of}
 use Rattle.numbers.specs.Subjects.{Subject, Block}
 use Rattle.meaning.specs.Versions.{Version, last_version, first_of_versions}
 use Rattle.meaning.specs.History.{donor_of}
 use Rattle.meaning.specs.Reading.{State, record_now}
 use Rattle.meaning.specs.Concerns.{has_id}
-use Rattle.meaning.specs.Content.{Content, BlockRow, VersionRow, Represents, stored_block}
+use Rattle.meaning.specs.Content.{Content, BlockRow, VersionRow, Represents}
 use Rattle.meaning.proofs.Small.{equal_numbers}
 use Rattle.meaning.proofs.Lagging.{no_row_at}
 use Rattle.settle.specs.declared.rows.BlockRow.{BlockRow as BlockRowCode}

@@ -1,13 +1,16 @@
 -- What stands of a block, of a content.
-use Rattle.std.specs.Prelude.{◌≡◌, ℕ, true, Option, Some, None, is_some, option_map, ⊤}
+use Rattle.std.specs.Prelude.{◌≡◌, ℕ, Bool, true, Option, Some, None, is_some, option_map, ⊤}
 use Rattle.std.specs.FinMap.{get}
 use Rattle.numbers.specs.Digits.{block_code_of}
+use Rattle.meaning.specs.Commands.{Command, RegisterCarrier, RegisterRoutingNumber, OpenCode, OldProviderCreate, NewProviderCreate, OnVersion, Donate, Assign, Release}
+use Rattle.meaning.specs.Conditions.{is_the}
 use Rattle.meaning.specs.Content.{Content}
 use Rattle.version.specs.declared.version.Version.{Version as VersionCode}
 use Rattle.settle.specs.declared.rows.VersionRow.TheInside.{Inside}
 use Rattle.settle.specs.declared.rows.BlockRow.{BlockRow as BlockRowCode}
 use Rattle.settle.specs.Reads.{AreInBlock}
 use Rattle.settle.specs.Views.{version_row_of, block_row_of, spid_of}
+use Rattle.pool.specs.declared.facts.BlockFacts.{BlockFacts}
 use Rattle.register.specs.declared.blocks.BlockRead.{BlockRead}
 
 -- the id of the version that was made last of a block, by the block's row
@@ -33,3 +36,24 @@ pub record IsBlockRead (c : Content) (block : ℕ) (read : BlockRead) : Type 0 w
   pub row : option_map block_row_of read.row ≡ get c.blocks block
   pub last : IsLast c (last_id read.row) read.last
   pub numbers : AreInBlock c block read.numbers.items
+
+-- the routing number, if one is named, is that of the carrier to whom calls will be routed
+abbrev pub is_routing_good : Content → (caller : ℕ) → Command → Bool
+is_routing_good c caller (Donate block used lrn cic) = is_the caller (get c.lrns lrn)
+is_routing_good c caller (Assign block holder lrn cic) = is_the holder (get c.lrns lrn)
+is_routing_good c caller (Release block) = true
+is_routing_good c caller (RegisterCarrier spid) = true
+is_routing_good c caller (RegisterRoutingNumber lrn) = true
+is_routing_good c caller (OpenCode code spid) = true
+is_routing_good c caller (OldProviderCreate tn old_provider new_provider due authorized) = true
+is_routing_good c caller (NewProviderCreate tn old_provider new_provider due lrn cic) = is_the new_provider (get c.lrns lrn)
+is_routing_good c caller (OnVersion id command) = true
+
+-- the facts of the block are what was read, and these two
+pub record AreBlockFacts (read : BlockRead) (is_lrn_good : Bool) (next : ℕ) (facts : BlockFacts) : Type 0 where
+  pub code : facts.code_holder ≡ read.code_holder
+  pub lrn : facts.is_lrn_good ≡ is_lrn_good
+  pub donor : facts.donor ≡ option_map (λ (row : BlockRowCode). row.donor) read.row
+  pub last : facts.last ≡ option_map (λ e. e.1) read.last
+  pub numbers : facts.numbers.now ≡ read.numbers.items
+  pub next_id : facts.next_id ≡ next

@@ -1,9 +1,10 @@
 //! What stands of a block.
 ghost use Rattle.settle.specs.Owing.{Reads, SaysStorage};
-ghost use Rattle.std.specs.Prelude.{◌≡◌, Err, IfOk};
-ghost use Rattle.register.specs.Blocks.{IsLast, IsRowThere, IsBlockRead, last_id};
+ghost use Rattle.std.specs.Prelude.{◌≡◌, Err, IfOk, option_map};
+ghost use Rattle.register.specs.Blocks.{IsLast, IsRowThere, IsBlockRead, AreBlockFacts, last_id};
 
 use numbers::{BlockId, Spid};
+use pool::BlockFacts;
 use settle::{BlockRow, Store, StoreFault};
 use version::{NumberInUse, Version};
 
@@ -20,11 +21,44 @@ pub struct BlockRead {
     pub numbers: Vec<NumberInUse>,
 }
 
+impl BlockRead {
+    // Who donated the block.
+    fn donor(&self) -> Option<Spid>
+        ensures { result ≡ option_map (λ row. row.donor) self.now.row }
+    {
+        match self.row {
+            None => None,
+            Some(row) => Some(row.donor),
+        }
+    }
+
+    // The version that was made last of it.
+    fn last(&self) -> Option<Version>
+        ensures { result ≡ option_map (λ e. e.1) self.now.last }
+    {
+        match self.last {
+            None => None,
+            Some((_, version)) => Some(version),
+        }
+    }
+
+    /// What a command on the block is told.
+    pub fn facts(&self, is_lrn_good: bool, next_id: u64) -> BlockFacts<'_>
+        ensures { AreBlockFacts self.now is_lrn_good next_id result }
+    {
+        BlockFacts {
+            code_holder: self.code_holder,
+            is_lrn_good,
+            donor: self.donor(),
+            last: self.last(),
+            numbers: &self.numbers,
+            next_id,
+        }
+    }
+}
+
 // The version with this id, where one is named.
-fn last_made<S: Store>(
-    store: &mut S,
-    id: Option<u64>,
-) -> Result<Option<(u64, Version)>, StoreFault>
+fn last_made<S: Store>(store: &mut S, id: Option<u64>) -> Result<Option<(u64, Version)>, StoreFault>
     ensures value { S.IsUsable store.new → IfOk result (IsLast (S.content store.old) id) }
     ensures reads { Reads (S.IsUsable store.old) (S.IsUsable store.new)
         (S.content store.old) (S.content store.new) (S.failed store.old) (S.failed store.new)
