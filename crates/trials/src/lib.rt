@@ -30,9 +30,13 @@ mod numbers_trials;
 #[cfg(test)]
 mod opening;
 #[cfg(test)]
+mod pool_trials;
+#[cfg(test)]
 mod port;
 #[cfg(test)]
 mod retries;
+#[cfg(test)]
+mod sending;
 #[cfg(test)]
 mod settling;
 #[cfg(test)]
