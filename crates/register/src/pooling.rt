@@ -38,8 +38,14 @@ fn commit_made<S: Store>(
 {
     let everyone = store.carriers()?;
     let minute = clock.minute;
-    let sent =
-        begin_sending_each(alloc, made, Action::Create, minute, &clock.windows, &everyone)?;
+    let sent = begin_sending_each(
+        alloc,
+        made,
+        Action::Create,
+        minute,
+        &clock.windows,
+        &everyone,
+    )?;
     store.commit(&Changes {
         block: Some(block),
         clock: Some(next),
