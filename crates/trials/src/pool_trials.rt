@@ -113,14 +113,12 @@ fn protective(tn: Tn, routing: Routing) -> Option<Version> {
     })
 }
 
-// Whether the versions are those of these lines, in their order, with ids from 41 on.
-fn are_protective(plan: &Plan, lines: &[u64]) -> Option<bool> {
-    let mut id = 41;
-    for (version, line) in plan.versions.iter().zip(lines) {
-        if *version != (id, protective(tn_of(*line)?, routing()?)?) {
+// Whether the versions are those of these lines, in their order, each behind its id.
+fn are_protective(plan: &Plan, lines: &[(u64, u64)]) -> Option<bool> {
+    for (version, (id, line)) in plan.versions.iter().zip(lines) {
+        if *version != (*id, protective(tn_of(*line)?, routing()?)?) {
             return Some(false);
         }
-        id += 1;
     }
     Some(plan.versions.len() == lines.len())
 }
@@ -188,7 +186,7 @@ fn a_donation_counts_each_number_once(rt: HostRuntime) {
 fn are_whole(alloc: Global) -> Option<bool> {
     let lines = lines(alloc, 0, &[7, 3, 5, 3])?;
     let plan = planned(alloc, "BBBB", &lines, &facts(&OWN, None, &[]))?.ok()?;
-    are_protective(&plan, &[3, 5, 7])
+    are_protective(&plan, &[(41, 3), (42, 5), (43, 7)])
 }
 
 // The first and the last of a hundred.
