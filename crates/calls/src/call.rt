@@ -1,11 +1,12 @@
 //! What may be asked, and what is replied.
 use crate::view::{Ids, VersionView};
 use delivery::{Download, RoutedRow};
-use numbers::{CodeId, Lrn, Minute, Spid, Tn};
+use numbers::{BlockId, CodeId, Line, Lrn, Minute, Routing, Spid, Tn};
+use pool::Assignment;
 use version::{Create, VersionCommand};
 
 /// What is asked of a register, but for its caller.
-#[derive(Clone, Copy, Debug, PartialEq, Eq)]
+#[derive(Debug, Drop)]
 pub enum Call {
     Command(Command),
     /// A carrier acknowledges an attempt of a version.
@@ -21,7 +22,7 @@ pub enum Call {
 }
 
 /// A caller's command.
-#[derive(Clone, Copy, Debug, PartialEq, Eq)]
+#[derive(Debug, Drop)]
 pub enum Command {
     /// The administrator registers a carrier.
     RegisterCarrier { spid: Spid },
@@ -33,6 +34,17 @@ pub enum Command {
     Create(Create),
     /// A provider commands a version.
     OnVersion { id: u64, command: VersionCommand },
+    /// A carrier gives a block back to the pool, with the lines of it that are in use.
+    Donate {
+        block: BlockId,
+        used: Vec<Line>,
+        /// Where calls to the used numbers are routed.
+        routing: Routing,
+    },
+    /// The administrator gives a donated block to a carrier.
+    Assign(Assignment),
+    /// The holder of a block or the administrator gives it back to the pool.
+    Release { block: BlockId },
 }
 
 /// What an accepted call answers.
@@ -46,6 +58,8 @@ pub enum Reply {
     CodeOpened { code: CodeId, spid: Spid },
     /// The version, as it stands after the call.
     Shown(VersionView),
+    /// The donated block, and the ids of the versions of its used numbers, by rising number.
+    Donated { block: BlockId, ids: Vec<u64> },
     /// The ids of a number's versions.
     Found(Ids),
     /// The first downloads of the caller's queue.
