@@ -98,11 +98,11 @@ with_number-lines n (m ∷ ms) small lines = go (with_number-lines n ms small li
     go rest false true = lines
     go rest false false = (lines.0, rest)
 
-rising-lines : (ns : List ℕ) → AreLines ns → AreLines (rising ns)
+pub rising-lines : (ns : List ℕ) → AreLines ns → AreLines (rising ns)
 rising-lines [] lines = tt
 rising-lines (n ∷ ns) lines = with_number-lines n (rising ns) lines.0 (rising-lines ns lines.1)
 
-are_lines : (ls : List Line) → AreLines (lines_of ls)
+pub are_lines : (ls : List Line) → AreLines (lines_of ls)
 are_lines [] = tt
 are_lines (l ∷ ls) = (l.valid, are_lines ls)
 

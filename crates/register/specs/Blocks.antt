@@ -1,10 +1,13 @@
 -- What stands of a block, of a content.
-use Rattle.std.specs.Prelude.{◌≡◌, ℕ, Bool, true, Option, Some, None, is_some, option_map, ⊤}
+use Rattle.std.specs.Prelude.{◌≡◌, ◌⊎◌, ℕ, Bool, true, false, nat_lt, Option, Some, None, is_some, option_map, ⊤}
 use Rattle.std.specs.FinMap.{get}
 use Rattle.numbers.specs.Digits.{block_code_of}
 use Rattle.meaning.specs.Commands.{Command, RegisterCarrier, RegisterRoutingNumber, OpenCode, OldProviderCreate, NewProviderCreate, OnVersion, Donate, Assign, Release}
 use Rattle.meaning.specs.Conditions.{is_the}
-use Rattle.meaning.specs.Content.{Content}
+use Rattle.meaning.specs.Content.{Content, ClockRow}
+use Rattle.meaning.specs.RefusalNumbers.{number_of}
+use Rattle.meaning.specs.declared.refusal.Refusal.{Refusal}
+use Rattle.meaning.specs.declared.refusal.Refusal.TheVariants.{UnknownCarrier}
 use Rattle.version.specs.declared.version.Version.{Version as VersionCode}
 use Rattle.settle.specs.declared.rows.VersionRow.TheInside.{Inside}
 use Rattle.settle.specs.declared.rows.BlockRow.{BlockRow as BlockRowCode}
@@ -36,6 +39,16 @@ pub record IsBlockRead (c : Content) (block : ℕ) (read : BlockRead) : Type 0 w
   pub row : option_map block_row_of read.row ≡ get c.blocks block
   pub last : IsLast c (last_id read.row) read.last
   pub numbers : AreInBlock c block read.numbers.items
+
+-- the carriers of the command are known, this is the clock's row, and this was read of the block
+pub record IsBlockFound (c : Content) (is_known : Bool) (block : ℕ) (clock : ClockRow) (read : BlockRead) : Type 0 where
+  pub known : is_known ≡ true
+  pub clock_is : c.clock ≡ Some clock
+  pub is_read : IsBlockRead c block read
+
+-- they are not known; or it is no refusal of the machine's
+abbrev pub IsBlockFoundInVain : (is_known : Bool) → Refusal → Type 0
+IsBlockFoundInVain is_known r = ((r ≡ UnknownCarrier) × (is_known ≡ false)) ⊎ (nat_lt (number_of r) 29 ≡ false)
 
 -- the routing number, if one is named, is that of the carrier to whom calls will be routed
 abbrev pub is_routing_good : Content → (caller : ℕ) → Command → Bool

@@ -1,11 +1,13 @@
 //! What stands of a block.
 ghost use Rattle.settle.specs.Owing.{Reads, SaysStorage};
-ghost use Rattle.std.specs.Prelude.{◌≡◌, Err, IfOk, option_map};
-ghost use Rattle.register.specs.Blocks.{IsLast, IsRowThere, IsBlockRead, AreBlockFacts, last_id};
+ghost use Rattle.settle.specs.Views.{clock_row_of};
+ghost use Rattle.std.specs.Prelude.{◌≡◌, Err, IfOk, IfErr, option_map};
+ghost use Rattle.register.specs.Blocks.{IsLast, IsRowThere, IsBlockFound, IsBlockFoundInVain, IsBlockRead, AreBlockFacts, last_id};
 
+use meaning::Refusal;
 use numbers::{BlockId, Spid};
 use pool::BlockFacts;
-use settle::{BlockRow, Store, StoreFault};
+use settle::{BlockRow, ClockRow, Store, StoreFault};
 use version::{NumberInUse, Version};
 
 /// What the registry and the rows say of a block.
@@ -103,4 +105,38 @@ pub fn read_block<S: Store>(store: &mut S, block: BlockId) -> Result<BlockRead, 
         last,
         numbers,
     })
+}
+
+/// A block that a caller names, and the minute, windows and next id under which it stands.
+#[derive(Drop)]
+pub struct BlockFound {
+    pub clock: ClockRow,
+    pub read: BlockRead,
+}
+
+/// Reads the block that a caller names, where the carriers of the command are known.
+///
+/// Refused with `UnknownCarrier` where they are not.
+pub fn find_block<S: Store>(
+    store: &mut S,
+    is_known: bool,
+    block: BlockId,
+) -> Result<BlockFound, Refusal>
+    ensures found { S.IsUsable store.new
+        → IfOk result (λ found. IsBlockFound (S.content store.old) is_known block.number
+        (clock_row_of found.clock) found.read) }
+    ensures refused { S.IsUsable store.new → IfErr result (IsBlockFoundInVain is_known) }
+    ensures reads { Reads (S.IsUsable store.old) (S.IsUsable store.new)
+        (S.content store.old) (S.content store.new) (S.failed store.old) (S.failed store.new)
+        (SaysStorage (S.IsUsable store.new) (S.content store.old)
+        (result ≡ Err Refusal.Storage)) }
+{
+    if !is_known {
+        return Err(Refusal::UnknownCarrier);
+    }
+    let Some(clock) = store.clock()? else {
+        return Err(Refusal::Storage);
+    };
+    let read = read_block(store, block)?;
+    Ok(BlockFound { clock, read })
 }

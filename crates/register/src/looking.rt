@@ -1,11 +1,14 @@
 //! The version that a caller names.
 ghost use Rattle.settle.specs.Owing.{Reads};
 ghost use Rattle.std.specs.Prelude.{◌≡◌, Err, true, is_some, IfOk, IfErr};
+ghost use Rattle.std.specs.FinMap.{get};
+ghost use Rattle.meaning.specs.Conditions.{is_the};
 ghost use Rattle.settle.specs.Views.{clock_row_of};
 ghost use Rattle.register.specs.Looking.{IsLookedUp, IsLookedUpInVain};
 
 use meaning::Refusal;
-use settle::{ClockRow, Store, VersionRow};
+use numbers::{Lrn, Spid};
+use settle::{ClockRow, Store, StoreFault, VersionRow};
 
 /// A version that a caller names, and the minute and windows under which it stands.
 #[derive(Drop)]
@@ -40,4 +43,19 @@ pub fn look_up<S: Store>(store: &mut S, is_known: bool, id: u64) -> Result<Looke
         return Err(Refusal::NotFound);
     };
     Ok(LookedUp { clock, row })
+}
+
+/// Whether the routing number is registered, and the carrier's.
+pub fn is_lrn_of<S: Store>(store: &mut S, lrn: Lrn, carrier: Spid) -> Result<bool, StoreFault>
+    ensures value { S.IsUsable store.new
+        → IfOk result (λ good. good
+        ≡ is_the carrier.number (get (S.content store.old).lrns lrn.number)) }
+    ensures reads { Reads (S.IsUsable store.old) (S.IsUsable store.new)
+        (S.content store.old) (S.content store.new) (S.failed store.old) (S.failed store.new)
+        (result ≡ Err StoreFault.Storage) }
+{
+    match store.lrn(lrn)? {
+        None => Ok(false),
+        Some(owner) => Ok(carrier.number == owner.number),
+    }
 }
