@@ -69,12 +69,12 @@ routing_is st c stands caller (OnVersion id change) = refl
 
 -- ---- the version made last
 
-first_among : (vs : List Version) (v : Version) → first_of_versions vs ≡ Some v → Among v vs
+pub first_among : (vs : List Version) (v : Version) → first_of_versions vs ≡ Some v → Among v vs
 first_among [] v is = cc
 first_among (u ∷ us) v is = inl (sym (some_is u v is))
 
 module _ (st : State) (c : Content) (stands : Stands c st) (block : ℕ) (settled : (s : Subject) → is_of_block block st s ≡ true → IsSettled c st s) where
-  block_due : IsSettled c st (Block block)
+  pub block_due : IsSettled c st (Block block)
   block_due = settled (Block block) (ap (λ b. b || false) (subject_eq-refl (Block block)))
 
   -- what was read by the id of the version made last
