@@ -1,6 +1,6 @@
 -- What an assignment leaves and answers, over contents.
-use Rattle.std.proofs.Common.{◌≡◌, ℕ, ◌+◌, ◌≤◌, Bool, true, false, cond, not, ◌||◌, List, [], ◌∷◌, map, Option, Some, None, refl, ap, sym, ◌∙◌, subst, arith}
-use Rattle.std.specs.Prelude.{◌==◌, nat_lt, is_none, option_map, Result, Err, if◌then◌else◌}
+use Rattle.std.proofs.Common.{◌≡◌, ℕ, ◌+◌, ◌≤◌, Bool, true, false, cond, ◌||◌, List, [], ◌∷◌, Option, Some, None, refl, ap, sym, ◌∙◌, subst, arith}
+use Rattle.std.specs.Prelude.{nat_lt, is_none, option_map, if◌then◌else◌}
 use Rattle.std.specs.List.{list_any}
 use Rattle.std.specs.FinMap.{get, keys}
 use Rattle.std.proofs.lemmas.Bool.Decides.{nat_tests}
@@ -13,21 +13,19 @@ use Rattle.meaning.specs.declared.words.Action.TheVariants.{Create}
 use Rattle.meaning.specs.Changes.{sent}
 use Rattle.meaning.specs.Conditions.{limit}
 use Rattle.meaning.specs.Content.{ClockRow, Content, stored_block}
-use Rattle.meaning.specs.History.{Commands, donor_of, id_among, made_version, next_id, with_made}
+use Rattle.meaning.specs.History.{Commands, donor_of, made_version, next_id, with_made}
 use Rattle.meaning.specs.Machine.{Shown, accepted, answer_of}
 use Rattle.meaning.specs.Reading.{State, View, record_now, view_of}
 use Rattle.meaning.specs.RefusalNumbers.{number_of}
 use Rattle.meaning.specs.Refusals.{Requests, is_in_block, refusal}
-use Rattle.meaning.specs.Versions.{Record, Version, version_with}
+use Rattle.meaning.specs.Versions.{Version, version_with}
 use Rattle.meaning.proofs.Accepted.{accepted_command}
 use Rattle.meaning.proofs.Entered.{subject_eq-refl}
-use Rattle.meaning.proofs.Ids.{same_subject}
-use Rattle.meaning.proofs.Small.{equal_numbers, or_first, or_second}
+use Rattle.meaning.proofs.Small.{equal_numbers, or_second}
 use Rattle.version.specs.declared.version.Version.{Version as VersionCode}
-use Rattle.version.specs.Views.{seen, version_of}
+use Rattle.version.specs.Views.{version_of}
 use Rattle.settle.specs.Changes.{IsChanged}
 use Rattle.settle.specs.Sending.{Begun, begun_of, sending_each}
-use Rattle.settle.specs.Settling.{IsSettled}
 use Rattle.pool.specs.declared.assignment.Assignment.{Assignment}
 use Rattle.pool.specs.declared.facts.BlockFacts.{BlockFacts}
 use Rattle.pool.specs.Assignments.{IsAssigned, assignment_refusal, assignment_tests, command_of as assigned}
@@ -42,7 +40,7 @@ use Rattle.register.proofs.BlockCalled.{HasFound}
 use Rattle.register.proofs.BlockCommands.{assigned_row, assignment-blocks, assignment-makes, unsent_block}
 use Rattle.register.proofs.BlockFacts.{block_facts_are}
 use Rattle.register.proofs.Composed.{Views, answers_accepted, answers_refused_same}
-use Rattle.register.proofs.MadeSent.{AreApart, AreBegun, bare}
+use Rattle.register.proofs.MadeSent.{AreBegun, bare}
 use Rattle.register.proofs.OnVersion.{clock_is_of, clock_of, shown_is}
 use Rattle.register.proofs.Pooled.{made-records, pooled-leaves, pooled-stands}
 use Rattle.register.proofs.Unfailing.{never_storage}

@@ -1,8 +1,8 @@
 -- What the commands on a block leave and answer, over contents.
-use Rattle.std.proofs.Common.{◌≡◌, ℕ, Bool, true, false, cond, not, ◌||◌, List, [], ◌∷◌, Option, Some, None, refl, ap, sym, ◌∙◌, subst}
+use Rattle.std.proofs.Common.{◌≡◌, ℕ, true, cond, not, List, [], ◌∷◌, Some, None, ap, sym, ◌∙◌, subst}
 use Rattle.std.specs.Prelude.{◌==◌, find, option_map}
 use Rattle.std.specs.FinMap.{keys}
-use Rattle.numbers.specs.Subjects.{Subject, Block}
+use Rattle.numbers.specs.Subjects.{Block}
 use Rattle.numbers.specs.Views.{subject_of}
 use Rattle.meaning.specs.declared.words.Action.TheVariants.{Delete}
 use Rattle.meaning.specs.Commands.{Release}

@@ -1,5 +1,5 @@
 -- What a command on a block has read, and how it is refused, over contents.
-use Rattle.std.proofs.Common.{◌≡◌, ℕ, Bool, true, false, not, ◌&&◌, ◌||◌, inl, inr, List, Option, Some, None, refl, ap, sym, ◌∙◌, subst}
+use Rattle.std.proofs.Common.{◌≡◌, ℕ, Bool, true, false, not, ◌&&◌, ◌||◌, inl, inr, List, Option, Some, refl, ap, sym, ◌∙◌, subst}
 use Rattle.std.specs.Prelude.{◌==◌, ◌≢◌, nat_lt, is_some, if◌then◌else◌, Result, Err}
 use Rattle.std.specs.FinMap.{get}
 use Rattle.meaning.specs.Commands.{Command, Donate, Assign, Release}
@@ -10,7 +10,7 @@ use Rattle.meaning.specs.Reading.{State, is_carrier}
 use Rattle.meaning.specs.RefusalNumbers.{number_of}
 use Rattle.meaning.specs.Refusals.{Requests, npac, refusal, tests, unknown_carrier}
 use Rattle.meaning.specs.declared.refusal.Refusal.{Refusal}
-use Rattle.meaning.specs.declared.refusal.Refusal.TheVariants.{NoMemory, UnknownCarrier}
+use Rattle.meaning.specs.declared.refusal.Refusal.TheVariants.{NoMemory}
 use Rattle.pool.specs.declared.facts.BlockFacts.{BlockFacts}
 use Rattle.calls.specs.Calls.{refused_with, replied}
 use Rattle.register.specs.declared.blocks.BlockRead.{BlockRead}

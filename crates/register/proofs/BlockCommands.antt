@@ -1,6 +1,6 @@
 -- The commands on a block: what each makes and changes.
-use Rattle.std.proofs.Common.{◌≡◌, ℕ, Bool, true, false, cond, not, ◌&&◌, ◌||◌, List, [], ◌∷◌, map, length, Option, Some, None, refl, ap, sym, ◌∙◌, subst}
-use Rattle.std.specs.Prelude.{◌==◌, ⊤, filter, find, is_none, is_some, option_map, unwrap_or, if◌then◌else◌}
+use Rattle.std.proofs.Common.{◌≡◌, ℕ, Bool, true, false, cond, not, ◌&&◌, ◌||◌, List, [], ◌∷◌, map, Option, Some, None, refl, ap, sym, ◌∙◌}
+use Rattle.std.specs.Prelude.{◌==◌, filter, is_none, is_some, option_map, unwrap_or, if◌then◌else◌}
 use Rattle.std.specs.List.{list_any}
 use Rattle.std.specs.FinMap.{get}
 use Rattle.numbers.specs.Digits.{number_in}
@@ -8,9 +8,9 @@ use Rattle.numbers.specs.Subjects.{Subject, Number, Block, subject_eq}
 use Rattle.meaning.specs.declared.words.Action.TheVariants.{Create, Delete}
 use Rattle.meaning.specs.Commands.{Donate, Assign, Release}
 use Rattle.meaning.specs.Versions.{Version, Record, first_of_versions, in_force, last_version, version_in_force, version_with}
-use Rattle.meaning.specs.Changes.{of_id, sent}
+use Rattle.meaning.specs.Changes.{sent}
 use Rattle.meaning.specs.Content.{BlockRow, Content, stored_block}
-use Rattle.meaning.specs.History.{AreLines, Commands, Request, blank_version, done_to, donor_named, donor_of, id_among, made_by, next_id, or_else, rising, used_numbers, with_made}
+use Rattle.meaning.specs.History.{AreLines, Commands, blank_version, donor_of, made_by, next_id, or_else, rising, used_numbers, with_made}
 use Rattle.meaning.specs.Machine.{accepted}
 use Rattle.meaning.specs.Reading.{State, record_now}
 use Rattle.meaning.specs.Refusals.{Requests, refusal}
@@ -21,9 +21,8 @@ use Rattle.meaning.proofs.Protected.{undonated}
 use Rattle.settle.specs.Changes.{put_row}
 use Rattle.register.specs.Answers.{Stands}
 use Rattle.register.proofs.Alone.{one_in_force}
-use Rattle.register.proofs.OnVersion.{LeavesRegistry, NamesVersion}
 use Rattle.register.proofs.Pooled.{MakesSent, made-records, unmade-same}
-use Rattle.register.proofs.SecondCreate.{SameEach, same_change}
+use Rattle.register.proofs.SecondCreate.{same_change}
 use Rattle.register.proofs.Stepped.{StepsOne}
 use Rattle.register.proofs.Before.{turned}
 use Rattle.meaning.proofs.Lists.{each}

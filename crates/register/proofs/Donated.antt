@@ -1,6 +1,6 @@
 -- What a donation leaves and answers, over contents.
-use Rattle.std.proofs.Common.{◌≡◌, ℕ, suc, ◌+◌, ◌≤◌, ◌<◌, Bool, true, false, ◌||◌, List, [], ◌∷◌, map, length, Option, Some, None, refl, ap, sym, ◌∙◌, subst, arith, inl, inr}
-use Rattle.std.specs.Prelude.{◌==◌, ◌≢◌, nat_lt, filter, is_none, option_map, Result, Err, if◌then◌else◌}
+use Rattle.std.proofs.Common.{◌≡◌, ℕ, suc, ◌+◌, ◌≤◌, ◌<◌, Bool, true, false, List, [], ◌∷◌, map, length, Some, None, refl, ap, sym, ◌∙◌, subst, arith, inl, inr}
+use Rattle.std.specs.Prelude.{◌==◌, ◌≢◌, nat_lt, filter, is_none, Result, Err, if◌then◌else◌}
 use Rattle.std.specs.List.{list_any}
 use Rattle.std.specs.FinMap.{get, keys}
 use Rattle.std.proofs.lemmas.Bool.Decides.{nat_tests}
@@ -11,11 +11,11 @@ use Rattle.meaning.specs.declared.refusal.Refusal.TheVariants.{NoMemory}
 use Rattle.meaning.specs.declared.words.Action.TheVariants.{Create}
 use Rattle.meaning.specs.Conditions.{limit}
 use Rattle.meaning.specs.Content.{ClockRow, Content, stored_block}
-use Rattle.meaning.specs.History.{AreLines, Commands, makes, next_id, rising, used_numbers}
-use Rattle.meaning.specs.Machine.{Donated, Reply, accepted, answer_of, ids_from}
+use Rattle.meaning.specs.History.{AreLines, Commands, next_id, rising, used_numbers}
+use Rattle.meaning.specs.Machine.{Donated, Reply, accepted, ids_from}
 use Rattle.meaning.specs.Reading.{State, record_now}
 use Rattle.meaning.specs.RefusalNumbers.{number_of}
-use Rattle.meaning.specs.Refusals.{Requests, is_in_block, refusal, unknown_carrier}
+use Rattle.meaning.specs.Refusals.{Requests, is_in_block, refusal}
 use Rattle.meaning.specs.Versions.{version_in_force}
 use Rattle.meaning.proofs.Accepted.{accepted_command}
 use Rattle.meaning.proofs.Ids.{same_subject}
@@ -24,7 +24,6 @@ use Rattle.meaning.proofs.Small.{equal_numbers, or_right, or_second}
 use Rattle.version.specs.declared.version.Version.{Version as VersionCode}
 use Rattle.settle.specs.Changes.{IsChanged}
 use Rattle.settle.specs.Sending.{Begun, begun_of, sending_each}
-use Rattle.settle.specs.Settling.{IsSettled}
 use Rattle.pool.specs.declared.donation.Donation.{Donation}
 use Rattle.pool.specs.declared.facts.BlockFacts.{BlockFacts}
 use Rattle.pool.specs.Donations.{AreProtective, IsPlanned, command_of as donated, donation_refusal, lines_of, made_numbers, used_by}
@@ -34,12 +33,11 @@ use Rattle.calls.specs.Calls.{replied}
 use Rattle.register.specs.declared.blocks.BlockRead.{BlockRead}
 use Rattle.register.specs.Answers.{Stands}
 use Rattle.register.specs.Pooling.{pooling}
-use Rattle.register.specs.Settling.{AnswersSettled, AreSettled, LeavesOthers, is_of_block, settles}
+use Rattle.register.specs.Settling.{AnswersSettled, AreSettled, LeavesOthers, is_of_block}
 use Rattle.register.proofs.BlockCalled.{HasFound, answers_or_no_memory}
 use Rattle.register.proofs.BlockCommands.{donated_row, donation-blocks, donation-makes, protective, to_protect}
 use Rattle.register.proofs.BlockFacts.{block_facts_are, facts_numbers_are}
 use Rattle.register.proofs.Composed.{answers_accepted}
-use Rattle.register.proofs.MadeSent.{AreApart, AreBegun}
 use Rattle.register.proofs.OnVersion.{clock_is_of, clock_of}
 use Rattle.register.proofs.Planned.{Once, cic_of, once-apart, planned-begun, planned-subjects, used_once}
 use Rattle.register.proofs.Pooled.{pooled-leaves, pooled-stands}

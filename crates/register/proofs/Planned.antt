@@ -1,13 +1,11 @@
 -- The versions that a donation plans, as they begin to send.
-use Rattle.std.proofs.Common.{◌≡◌, ◌<◌, ℕ, suc, Bool, true, false, cond, ◌||◌, List, [], ◌∷◌, map, Option, Some, None, refl, ap, sym, ◌∙◌, subst, arith}
-use Rattle.std.specs.Prelude.{⊤, ◌==◌, filter, nat_lt, option_map, if◌then◌else◌}
+use Rattle.std.proofs.Common.{◌≡◌, ◌<◌, ℕ, suc, Bool, true, false, cond, ◌||◌, List, [], ◌∷◌, map, Option, None, refl, ap, ◌∙◌, arith}
+use Rattle.std.specs.Prelude.{⊤, ◌==◌, filter, option_map}
 use Rattle.std.specs.List.{list_any}
 use Rattle.std.proofs.lemmas.Bool.Decides.{nat_tests}
 use Rattle.numbers.specs.Digits.{number_in}
 use Rattle.numbers.specs.Subjects.{Subject, Number, subject_eq}
 use Rattle.numbers.specs.declared.cic.Cic.{Cic}
-use Rattle.meaning.specs.Changes.{sent}
-use Rattle.meaning.specs.declared.words.Action.TheVariants.{Create}
 use Rattle.meaning.specs.History.{rising, used_numbers}
 use Rattle.meaning.specs.Versions.{Version, in_force}
 use Rattle.meaning.proofs.Rising.{AreAbove, Rise, rising-rise}

@@ -1,17 +1,14 @@
 -- A request that makes versions which begin to send as they are made, and changes none that is there.
-use Rattle.std.proofs.Common.{◌≡◌, ◌≤◌, ℕ, suc, ◌+◌, Bool, true, false, ◌&&◌, ◌||◌, List, [], ◌∷◌, ◌++◌, map, length, Option, Some, None, refl, ap, sym, ◌∙◌, subst, arith}
-use Rattle.std.specs.Prelude.{⊤, ◌==◌, nat_le, flat_map, is_some, option_map, if◌then◌else◌}
+use Rattle.std.proofs.Common.{◌≡◌, ◌≤◌, ℕ, suc, ◌+◌, Bool, true, false, ◌||◌, List, [], ◌∷◌, ◌++◌, map, length, Option, Some, None, refl, ap, sym, ◌∙◌, subst, arith}
+use Rattle.std.specs.Prelude.{⊤, nat_le, flat_map, is_some, if◌then◌else◌}
 use Rattle.std.specs.List.{list_any}
 use Rattle.std.specs.FinMap.{get, keys}
 use Rattle.std.proofs.lemmas.Bool.Decides.{nat_tests}
 use Rattle.numbers.specs.Subjects.{Subject, subject_eq}
 use Rattle.meaning.specs.declared.words.Action.TheVariants.{Create}
-use Rattle.meaning.specs.Windows.{Windows}
 use Rattle.meaning.specs.Versions.{Version, Record, in_force, is_among, version_with}
 use Rattle.meaning.specs.Changes.{changed_at, sent}
-use Rattle.meaning.specs.Judge.{is_over}
 use Rattle.meaning.specs.Laws.{IsQuiet}
-use Rattle.meaning.specs.Concerns.{concerns}
 use Rattle.meaning.specs.Content.{BlockRow, ClockShows, BroadcastKey, BroadcastRow, ClockRow, Content, SameRows, Shows, VersionRow, WaitKey, stored_block}
 use Rattle.meaning.specs.History.{HasLines, Request, assigned_block, carrier_added, carrier_named, carriers, code_holder, code_named, done_to, donor_of, effect, after, meaning, id_among, lrn_named, lrn_owner, made_by, made_version, makes, next_after, next_id, or_else, with_made}
 use Rattle.meaning.specs.Machine.{IsHistory, accepted}
@@ -23,7 +20,7 @@ use Rattle.meaning.proofs.Lists.{everywhere}
 use Rattle.meaning.proofs.Minutes.{changed_at-same}
 use Rattle.meaning.proofs.Settling.{newborn}
 use Rattle.meaning.proofs.Small.{or_first, or_second, or_right}
-use Rattle.settle.specs.Changes.{Changes, IsChanged, wait_put}
+use Rattle.settle.specs.Changes.{IsChanged, wait_put}
 use Rattle.settle.specs.Sending.{Begun, begun_version, begun_broadcast, begun_waits, sending_each}
 use Rattle.settle.specs.Settling.{IsSettled}
 use Rattle.settle.proofs.AsideMany.{AreAmong, ArePutsAmong, among_lagging}

@@ -1,8 +1,8 @@
 -- What a release has read, over contents, and what it leaves and answers.
-use Rattle.std.proofs.Common.{◌≡◌, ℕ, Bool, true, false, ◌||◌, List, [], ◌∷◌, Option, Some, None, refl, ap, sym, ◌∙◌, subst}
-use Rattle.std.specs.Prelude.{◌==◌, is_none, option_map, if◌then◌else◌}
+use Rattle.std.proofs.Common.{◌≡◌, ℕ, false, ◌||◌, List, Option, Some, None, refl, ap, sym, ◌∙◌, subst}
+use Rattle.std.specs.Prelude.{is_none, option_map, if◌then◌else◌}
 use Rattle.std.specs.FinMap.{get, keys}
-use Rattle.numbers.specs.Subjects.{Subject, Block}
+use Rattle.numbers.specs.Subjects.{Block}
 use Rattle.numbers.specs.Views.{subject_of}
 use Rattle.meaning.specs.declared.refusal.Refusal.{Refusal}
 use Rattle.meaning.specs.declared.refusal.Refusal.TheVariants.{Storage}
@@ -18,9 +18,7 @@ use Rattle.meaning.specs.Refusals.{Requests, refusal}
 use Rattle.meaning.specs.Versions.{Version, last_version}
 use Rattle.meaning.proofs.Accepted.{accepted_command}
 use Rattle.meaning.proofs.Copies.Queue.{found_by_id}
-use Rattle.meaning.proofs.Entered.{subject_eq-refl}
 use Rattle.meaning.proofs.Small.{some_is}
-use Rattle.version.specs.declared.command.Step.{Step}
 use Rattle.version.specs.declared.version.Version.{Version as VersionCode}
 use Rattle.version.specs.Facts.{Sees}
 use Rattle.version.specs.Views.{Becomes, seen, version_of}
@@ -37,7 +35,7 @@ use Rattle.calls.specs.Calls.{refused_with}
 use Rattle.register.specs.declared.blocks.BlockRead.{BlockRead}
 use Rattle.register.specs.Answers.{Stands}
 use Rattle.register.specs.Blocks.{IsLast, last_id}
-use Rattle.register.specs.Settling.{AnswersSettled, AreSettled, is_of_block}
+use Rattle.register.specs.Settling.{AnswersSettled, AreSettled}
 use Rattle.register.proofs.BlockAnswered.{released-answer, released-leaves, released-stands}
 use Rattle.register.proofs.BlockCalled.{HasFound}
 use Rattle.register.proofs.BlockFacts.{block_due, block_facts_are, first_among}

@@ -1,10 +1,10 @@
-use Rattle.std.proofs.Common.{rules, arith, ◌≡◌, ◌+◌, ◌≤◌, [], ◌∷◌, Some, Err, ap, sym, ◌∙◌, subst}
+use Rattle.std.proofs.Common.{rules, arith, ◌≡◌, ◌+◌, [], ◌∷◌, Some, Err, ap, sym, ◌∙◌, subst}
 use Rattle.std.specs.Prelude.{option_map, Result}
 use Rattle.std.specs.FinMap.{get, keys}
 use Rattle.numbers.specs.declared.cic.Cic.{Cic}
 use Rattle.meaning.specs.declared.refusal.Refusal.{Refusal}
 use Rattle.meaning.specs.declared.words.Action.TheVariants.{Create}
-use Rattle.meaning.specs.Conditions.{is_the, limit}
+use Rattle.meaning.specs.Conditions.{is_the}
 use Rattle.meaning.specs.Content.{Content}
 use Rattle.meaning.specs.History.{Commands}
 use Rattle.meaning.specs.Machine.{Shown}

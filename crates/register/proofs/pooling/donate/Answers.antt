@@ -7,14 +7,12 @@ use Rattle.meaning.specs.Conditions.{is_the, limit}
 use Rattle.meaning.specs.Content.{Content}
 use Rattle.meaning.specs.History.{Commands}
 use Rattle.meaning.specs.Machine.{Donated}
-use Rattle.meaning.specs.Reading.{State}
-use Rattle.meaning.specs.Refusals.{Requests, unknown_carrier}
+use Rattle.meaning.specs.Refusals.{Requests}
 use Rattle.version.specs.Views.{windows_of}
 use Rattle.pool.specs.Donations.{command_of as donation_of, lines_of}
 use Rattle.settle.specs.Changes.{IsChanged}
 use Rattle.settle.specs.Sending.{begun_of, sending_each}
 use Rattle.settle.specs.Views.{clock_row_of}
-use Rattle.register.specs.Answers.{Stands}
 use Rattle.register.specs.Pooling.{pooling}
 use Rattle.register.proofs.BlockCalled.{HasFound, answers_unfound, donor_unknown, has_found}
 use Rattle.register.proofs.BlockCommands.{donated_row}
