@@ -53,11 +53,15 @@ AAAA /blocks/release block=2025337
 CCCC,NPAC /blocks/release block=2025337
      409 wrong_status 13
 
+# it is not the caller's, and a number is open
+CCCC /downloads/acknowledge attempt=1 id=3
+     200 held since=37 status=active
+AAAA /blocks/release block=2025337
+     403 not_yours 11
+
 # each of them alone
 NPAC /blocks/release block=2025335
      404 not_found 10
-CCCC /downloads/acknowledge attempt=1 id=3
-     200 held since=37 status=active
 CCCC,NPAC /blocks/release block=2025337
      409 open_ports 23
 AAAA /subscriptionVersionCancel id=4
