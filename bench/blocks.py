@@ -4,12 +4,11 @@ Each block takes the next 101 ids: one for each line in use, by rising number, a
 minute 0, so that no window ends.
 """
 import os
-import subprocess
 import sys
 import tempfile
-import time
 
-from ports import CARRIERS, PROGRAM, WINDOWS, message
+from lives import run
+from ports import CARRIERS, message
 
 BLOCKS_OF_A_CODE = 10
 CODES_OF_AN_AREA = 800
@@ -115,17 +114,6 @@ def check(path, count):
                 sys.exit(f"{asked}\nwanted {wanted}\nheard  {heard}")
         if out.read(1):
             sys.exit("more was answered than was asked")
-
-
-def run(stream, answers):
-    """Seconds of the processor and on the clock, and the peak memory in kilobytes."""
-    begun = time.monotonic()
-    with open(stream, "rb") as messages, open(answers, "wb") as out:
-        program = subprocess.Popen([PROGRAM, "feed", "--windows", WINDOWS], stdin=messages, stdout=out)
-        _, status, usage = os.wait4(program.pid, 0)
-    if status != 0:
-        sys.exit(f"the program ended with {status}")
-    return usage.ru_utime + usage.ru_stime, time.monotonic() - begun, usage.ru_maxrss
 
 
 def main():
