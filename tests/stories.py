@@ -8,6 +8,7 @@ tests/stories.py --play    runs the built program, and names the rows that it an
 tests/stories/README.md says how a story is written.
 """
 
+import itertools
 import json
 import re
 import subprocess
@@ -22,9 +23,12 @@ EXAMPLES = HERE.parent / "examples"
 WINDOWS = EXAMPLES / "windows.toml"
 
 # the stories that are examples too: a stream of messages, and its answers
-SHOWN = ("carrier", "first-port")
+SHOWN = ("block", "carrier", "first-port")
 
-NUMBERS = {"attempt", "due", "id", "in_force", "minute", "now", "open", "release", "since"}
+NUMBERS = {"attempt", "due", "id", "ids", "in_force", "minute", "now", "open", "release", "since"}
+# the keys of lists: of texts or numbers, and of what `let` has named
+LISTS = {"ids", "used"}
+NAMED_LISTS = {"downloads", "rows"}
 PHRASES = {
     200: "OK",
     400: "Bad Request",
@@ -73,11 +77,38 @@ class Piece:
     text: str
 
 
-def value(key: str, text: str) -> str:
+def between(low: str, high: str) -> list[str]:
+    """The numbers from one to another, each with as many digits as the first has."""
+    return [str(number).zfill(len(low)) for number in range(int(low), int(high) + 1)]
+
+
+def items(text: str) -> list[str]:
+    """The items of a list: one by one, `001..100` for each from one to another, `001*9` for nine times one."""
+    made: list[str] = []
+    for part in text.split(","):
+        if ends := re.fullmatch(r"(\d+)\.\.(\d+)", part):
+            made += between(ends[1], ends[2])
+        elif counted := re.fullmatch(r"(\w+)\*(\d+)", part):
+            made += [counted[1]] * int(counted[2])
+        else:
+            made.append(part)
+    return made
+
+
+def value(key: str, text: str, names: Names) -> str:
     """A value as JSON writes it."""
-    if text in ("null", "true", "false") or text[:1] in ("[", "{") or key in NUMBERS:
+    if text in ("null", "true", "false") or text[:1] in ("[", "{"):
         return text
-    return json.dumps(text)
+    if key in NAMED_LISTS:
+        return "[" + ",".join(object_of(names.fields[name], names) for name in text.split(",")) + "]"
+    if key in LISTS:
+        return "[" + ",".join(item if key in NUMBERS else json.dumps(item) for item in items(text)) + "]"
+    return text if key in NUMBERS else json.dumps(text)
+
+
+def object_of(fields: dict[str, str], names: Names) -> str:
+    """Fields as an object of JSON, with the keys in rising order."""
+    return "{" + ",".join(f'"{key}":{value(key, fields[key], names)}' for key in sorted(fields)) + "}"
 
 
 def fields_of(words: list[str], names: Names) -> dict[str, str]:
@@ -97,8 +128,7 @@ def body_of(text: str, names: Names) -> str:
         return text
     if text.startswith("raw "):
         return texts_of(text.removeprefix("raw "), names)
-    fields = fields_of(text.split(), names)
-    return "{" + ",".join(f'"{key}":{value(key, fields[key])}' for key in sorted(fields)) + "}"
+    return object_of(fields_of(text.split(), names), names)
 
 
 def texts_of(text: str, names: Names) -> str:
@@ -137,8 +167,7 @@ def unrolled(lines: list[tuple[str, str]]) -> list[tuple[str, str]]:
     numbers: list[str] = []
     for where, line in lines:
         if loop := re.fullmatch(r"for (\d+) to (\d+)", line):
-            low, high = loop[1], loop[2]
-            numbers = [str(number).zfill(len(low)) for number in range(int(low), int(high) + 1)]
+            numbers = between(loop[1], loop[2])
             repeated = []
         elif line == "end":
             made += [(at, each.replace("#", number)) for number in numbers for at, each in repeated]
@@ -150,13 +179,30 @@ def unrolled(lines: list[tuple[str, str]]) -> list[tuple[str, str]]:
     return made
 
 
+def said_by_each(lines: list[tuple[str, str]]) -> list[tuple[str, str]]:
+    """The lines, with a row of several callers once for each of them, and its answers behind each."""
+    made: list[tuple[str, str]] = []
+    rows: list[list[tuple[str, str]]] = []
+    for where, line in lines:
+        if line.startswith(" "):
+            for row in rows:
+                row.append((where, line))
+        else:
+            made += itertools.chain(*rows)
+            several = re.fullmatch(r"([A-Z0-9]{4}(?:,[A-Z0-9]{4})+)( /.*)", line)
+            said = [each + several[2] for each in several[1].split(",")] if several else [line]
+            rows = [[(where, each)] for each in said]
+    return [*made, *itertools.chain(*rows)]
+
+
 def lines_of(name: str) -> list[tuple[str, str]]:
     path = STORIES / f"{name}.story"
     lines = path.read_text(encoding="utf-8").splitlines()
     if not lines or not lines[0].startswith("# "):
         raise Mistake(f"{path.name}: the first line is no title")
     numbered = [(f"{path.name}:{number}", line) for number, line in enumerate(lines, 1)]
-    return unrolled([(at, line) for at, line in numbered if line and not line.startswith("#")])
+    said = [(at, line) for at, line in numbered if line and not line.startswith("#")]
+    return said_by_each(unrolled(said))
 
 
 def let(line: str, names: Names) -> None:
