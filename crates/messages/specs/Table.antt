@@ -9,14 +9,18 @@ use Rattle.messages.specs.Fields.{number_of}
 use Rattle.messages.specs.declared.paths.Method.{Method}
 use Rattle.messages.specs.declared.paths.Method.TheVariants.{Get, Post, Other}
 use Rattle.messages.specs.declared.paths.Route.{Route}
-use Rattle.messages.specs.declared.paths.Route.TheVariants.{Carriers, Clock, RoutingNumbers, Codes, OldProviderCreate, NewProviderCreate, OnVersion, Acknowledge, Query, Version, Number, Downloads}
+use Rattle.messages.specs.declared.paths.Route.TheVariants.{Carriers, Clock, RoutingNumbers, Codes, OldProviderCreate, NewProviderCreate, OnVersion, OnBlock, Acknowledge, Query, Version, Number, Downloads}
+use Rattle.messages.specs.declared.paths.BlockPath.TheVariants.{Assign, Donate, Release}
 use Rattle.messages.specs.declared.paths.VersionPath.TheVariants.{Activate, PutInConflict, RemoveFromConflict, Cancel, OldProviderCancellationAcknowledge, NewProviderCancellationAcknowledge, Disconnect}
 
 -- ---- the paths that are one text
 
 abbrev pub paths : List (List ℕ × Route)
 paths =
-    (codes "/carriers", Carriers)
+    (codes "/blocks/assign", OnBlock Assign)
+    ∷ (codes "/blocks/donate", OnBlock Donate)
+    ∷ (codes "/blocks/release", OnBlock Release)
+    ∷ (codes "/carriers", Carriers)
     ∷ (codes "/clock", Clock)
     ∷ (codes "/codes", Codes)
     ∷ (codes "/downloads/acknowledge", Acknowledge)
@@ -33,7 +37,7 @@ paths =
     ∷ (codes "/subscriptionVersionRemoveFromConflict", OnVersion RemoveFromConflict)
     ∷ []
 
--- all but those of commands on a version
+-- all but those of commands on a block or on a version
 abbrev pub first_paths : List (List ℕ × Route)
 first_paths =
     (codes "/carriers", Carriers)
@@ -45,6 +49,14 @@ first_paths =
     ∷ (codes "/subscriptionVersionNewSP-Create", NewProviderCreate)
     ∷ (codes "/subscriptionVersionOldSP-Create", OldProviderCreate)
     ∷ []
+
+-- all but those of commands on a version
+abbrev pub second_paths : List (List ℕ × Route)
+second_paths =
+    (codes "/blocks/assign", OnBlock Assign)
+    ∷ (codes "/blocks/donate", OnBlock Donate)
+    ∷ (codes "/blocks/release", OnBlock Release)
+    ∷ first_paths
 
 -- the first of these whose text is the target, byte for byte
 abbrev pub path_among : List (List ℕ × Route) → List ℕ → Option Route
@@ -116,6 +128,7 @@ takes Acknowledge method = is_post method
 takes RoutingNumbers method = is_post method
 takes Query method = is_post method
 takes (OnVersion path) method = is_post method
+takes (OnBlock path) method = is_post method
 takes NewProviderCreate method = is_post method
 takes OldProviderCreate method = is_post method
 
@@ -129,6 +142,7 @@ among_offered false (Some Acknowledge) = Some Acknowledge
 among_offered false (Some RoutingNumbers) = Some RoutingNumbers
 among_offered false (Some Query) = Some Query
 among_offered false (Some (OnVersion path)) = Some (OnVersion path)
+among_offered false (Some (OnBlock path)) = Some (OnBlock path)
 among_offered false (Some NewProviderCreate) = Some NewProviderCreate
 among_offered false (Some OldProviderCreate) = Some OldProviderCreate
 among_offered false (Some (Version number)) = Some (Version number)

@@ -15,5 +15,5 @@ pub use fault::MessageFault;
 pub use head::read_number;
 pub use held::Held;
 pub use message::{Next, NextFault, Request, cuts_of_the_input, next_held, next_message};
-pub use paths::{Method, Route, VersionPath, offered, router, takes};
+pub use paths::{BlockPath, Method, Route, VersionPath, offered, router, takes};
 pub use send::send_all;

@@ -2,7 +2,7 @@
 ghost use Rattle.std.specs.Prelude.{◌≡◌, [], map, IfOk, IfErr, OnOk};
 ghost use Rattle.matchit.specs.declared.error.InsertError.TheVariants.{OutOfMemory};
 ghost use Rattle.std.specs.List.{list_all};
-ghost use Rattle.messages.specs.Table.{table, fixed, first_paths, paths, path_among, path_of, numbered_path, number_behind, number_in, is_of_part, is_part as is_one_part, method_of as method_seen, takes as takes_method, among_offered};
+ghost use Rattle.messages.specs.Table.{table, fixed, first_paths, second_paths, paths, path_among, path_of, numbered_path, number_behind, number_in, is_of_part, is_part as is_one_part, method_of as method_seen, takes as takes_method, among_offered};
 
 use crate::head::read_number;
 use matchit::{InsertError, Router};
@@ -28,6 +28,14 @@ pub enum VersionPath {
     Disconnect,
 }
 
+/// The paths of commands on a block.
+#[derive(Clone, Copy, Debug, PartialEq, Eq)]
+pub enum BlockPath {
+    Assign,
+    Donate,
+    Release,
+}
+
 /// A path of the interface.
 #[derive(Clone, Copy, Debug, PartialEq, Eq)]
 pub enum Route {
@@ -38,6 +46,7 @@ pub enum Route {
     OldProviderCreate,
     NewProviderCreate,
     OnVersion(VersionPath),
+    OnBlock(BlockPath),
     Acknowledge,
     Query,
     /// A version, by its id, where the path's last part is a number below 2^40 with no zero in
@@ -76,6 +85,7 @@ pub fn takes(route: Route, method: Method) -> bool
         | Route::OldProviderCreate
         | Route::NewProviderCreate
         | Route::OnVersion(_)
+        | Route::OnBlock(_)
         | Route::Acknowledge
         | Route::Query => matches!(method, Method::Post),
     }
@@ -109,9 +119,21 @@ fn insert_paths(router: &mut Router<Route>) -> Result<(), InsertError>
     Ok(())
 }
 
+// And those of commands on a block.
+fn insert_block_paths(router: &mut Router<Route>) -> Result<(), InsertError>
+    requires { router.old ≡ map fixed first_paths }
+    ensures paths { OnOk result (router.new ≡ map fixed second_paths) }
+    ensures memory { IfErr result (λ e. e ≡ OutOfMemory) }
+{
+    router.insert("/blocks/assign", Route::OnBlock(BlockPath::Assign))?;
+    router.insert("/blocks/donate", Route::OnBlock(BlockPath::Donate))?;
+    router.insert("/blocks/release", Route::OnBlock(BlockPath::Release))?;
+    Ok(())
+}
+
 // And those of commands on a version.
 fn insert_version_paths(router: &mut Router<Route>) -> Result<(), InsertError>
-    requires { router.old ≡ map fixed first_paths }
+    requires { router.old ≡ map fixed second_paths }
     ensures paths { OnOk result (router.new ≡ table) }
     ensures memory { IfErr result (λ e. e ≡ OutOfMemory) }
 {
@@ -151,6 +173,7 @@ pub fn router(alloc: Global) -> Result<Router<Route>, InsertError>
 {
     let mut router = Router::new(alloc);
     insert_paths(&mut router)?;
+    insert_block_paths(&mut router)?;
     insert_version_paths(&mut router)?;
     Ok(router)
 }
