@@ -1,18 +1,20 @@
 -- A body asks one thing at most.
-use Rattle.std.proofs.Common.{◌≡◌, ℕ, ◌/◌, ◌%◌, codes, List, Option, Some, None, true, get_or, option_and_then, refl, ap, sym, ◌∙◌, arith}
-use Rattle.serde_json.specs.Data.{Data, null, boolean, number, string, array, object}
+use Rattle.std.proofs.Common.{◌≡◌, ℕ, ◌/◌, ◌%◌, codes, List, Option, Some, None, true, get_or, option_and_then, IsSomeAnd, [], ◌∷◌, refl, ap, sym, ◌∙◌, arith}
+use Rattle.serde_json.specs.Data.{Data, null, boolean, number, string, array, object, Items, no_items, item}
 use Rattle.serde_json.specs.Find.{get, as_number, as_str, as_u64}
 use Rattle.messages.specs.Table.{below_limit}
 use Rattle.numbers.specs.Texts.{spid_text}
 use Rattle.numbers.proofs.DigitLemmas.{digits_of-injective}
-use Rattle.meaning.specs.Commands.{Command, VersionCommand, RegisterCarrier, RegisterRoutingNumber, Disconnect}
+use Rattle.meaning.specs.Commands.{Command, VersionCommand, RegisterCarrier, RegisterRoutingNumber, Disconnect, Release}
 use Rattle.meaning.specs.History.{Commands}
 use Rattle.calls.specs.Calls.{Wants, Moves}
 use Rattle.messages.specs.declared.paths.Route.{Route}
-use Rattle.messages.specs.declared.paths.Route.TheVariants.{Carriers, Clock, RoutingNumbers, Codes, OldProviderCreate as OldProviderPath, NewProviderCreate as NewProviderPath, OnVersion as VersionPaths, Acknowledge, Query, Version, Number, Downloads}
+use Rattle.messages.specs.declared.paths.Route.TheVariants.{Carriers, Clock, RoutingNumbers, Codes, OldProviderCreate as OldProviderPath, NewProviderCreate as NewProviderPath, OnVersion as VersionPaths, OnBlock as BlockPaths, Acknowledge, Query, Version, Number, Downloads}
 use Rattle.messages.specs.declared.paths.VersionPath.{VersionPath}
 use Rattle.messages.specs.declared.paths.VersionPath.TheVariants.{Activate as ActivatePath, PutInConflict as PutInConflictPath, RemoveFromConflict as RemoveFromConflictPath, Cancel as CancelPath, OldProviderCancellationAcknowledge as OldAcknowledgePath, NewProviderCancellationAcknowledge as NewAcknowledgePath, Disconnect as DisconnectPath}
-use Rattle.bodies.specs.Forms.{Asked, Calling, Seeking, HasRelease, HasVersionCommand, text, whole, HasSpid, HasTn, HasLrn, HasCode, HasCic, HasCommand, HasOrder, HasValues, HasForm, is_left_out, flag}
+use Rattle.messages.specs.declared.paths.BlockPath.{BlockPath}
+use Rattle.messages.specs.declared.paths.BlockPath.TheVariants.{Assign as AssignPath, Donate as DonatePath, Release as ReleasePath}
+use Rattle.bodies.specs.Forms.{Asked, Calling, Seeking, items, AreLineTexts, HasBlock, HasUsed, HasBlockCommand, HasRelease, HasVersionCommand, text, whole, HasSpid, HasTn, HasLrn, HasCode, HasCic, HasCommand, HasOrder, HasValues, HasForm, is_left_out, flag}
 
 same_said : {A : Type 0} (given : Option A) (a b : A) → given ≡ Some a → given ≡ Some b → a ≡ b
 same_said given a b e f = cc
@@ -84,6 +86,42 @@ same_version_command OldAcknowledgePath d b c x y = x ∙ sym y
 same_version_command NewAcknowledgePath d b c x y = x ∙ sym y
 same_version_command DisconnectPath d b c x y = x.2 ∙ ap Disconnect (same_release d x.0 y.0 x.1 y.1) ∙ sym y.2
 
+same_block : (d : Data) (m n : ℕ) → HasBlock d m → HasBlock d n → m ≡ n
+same_block d m n h k = digits_of-injective 7 m n h.valid.0 k.valid.0 (same_said (text (codes "block") d) _ _ h.said k.said)
+
+same_lines : (is : Items) (ms ns : List ℕ) → AreLineTexts is ms → AreLineTexts is ns → ms ≡ ns
+same_lines no_items [] [] h k = refl
+same_lines no_items [] (n ∷ ns) h k = absurd k
+same_lines no_items (m ∷ ms) ns h k = absurd h
+same_lines (item d ds) [] ns h k = absurd h
+same_lines (item d ds) (m ∷ ms) [] h k = absurd k
+same_lines (item d ds) (m ∷ ms) (n ∷ ns) h k =
+    rw (digits_of-injective 3 m n h.0.valid k.0.valid (same_said (as_str d) _ _ h.0.said k.0.said), same_lines ds ms ns h.1 k.1) refl
+
+same_lines_of : (o : Option Items) (ms ns : List ℕ) → IsSomeAnd o (λ is. AreLineTexts is ms) → IsSomeAnd o (λ is. AreLineTexts is ns) → ms ≡ ns
+same_lines_of None ms ns h k = absurd h
+same_lines_of (Some is) ms ns h k = same_lines is ms ns h k
+
+same_used : (d : Data) (ms ns : List ℕ) → HasUsed d ms → HasUsed d ns → ms ≡ ns
+same_used d ms ns h k = same_lines_of (items (codes "used") d) ms ns h k
+
+same_block_command : (path : BlockPath) (d : Data) (b c : Command) → HasBlockCommand path d b → HasBlockCommand path d c → b ≡ c
+same_block_command AssignPath d b c x y =
+    x.8 ∙ rw (
+      same_block d x.0 y.0 x.4 y.4,
+      same_spid (codes "holder") d x.1 y.1 x.5 y.5,
+      same_lrn d x.2 y.2 x.6 y.6,
+      same_cic d x.3 y.3 x.7 y.7,
+    ) (sym y.8)
+same_block_command DonatePath d b c x y =
+    x.8 ∙ rw (
+      same_block d x.0 y.0 x.4 y.4,
+      same_used d x.1 y.1 x.5 y.5,
+      same_lrn d x.2 y.2 x.6 y.6,
+      same_cic d x.3 y.3 x.7 y.7,
+    ) (sym y.8)
+same_block_command ReleasePath d b c x y = x.2 ∙ ap Release (same_block d x.0 y.0 x.1 y.1) ∙ sym y.2
+
 same_command : (route : Route) (d : Data) (b c : Command) → HasCommand route d b → HasCommand route d c → b ≡ c
 same_command Carriers d b c x y = x.2 ∙ ap RegisterCarrier (same_spid (codes "spid") d x.0 y.0 x.1 y.1) ∙ sym y.2
 same_command RoutingNumbers d b c x y = x.2 ∙ ap RegisterRoutingNumber (same_lrn d x.0 y.0 x.1 y.1) ∙ sym y.2
@@ -107,6 +145,7 @@ same_command NewProviderPath d b c x y =
     ) (sym y.9)
 same_command (VersionPaths path) d b c x y =
     x.4 ∙ rw (same_said (whole (codes "id") d) x.0 y.0 x.2 y.2, same_version_command path d x.1 y.1 x.3 y.3) (sym y.4)
+same_command (BlockPaths path) d b c x y = same_block_command path d b c x y
 same_command Acknowledge d b c x y = absurd x
 same_command Query d b c x y = absurd x
 same_command Clock d b c x y = absurd x
@@ -130,6 +169,7 @@ same_values Codes d a b x y = same_order Codes d a b x y
 same_values OldProviderPath d a b x y = same_order OldProviderPath d a b x y
 same_values NewProviderPath d a b x y = same_order NewProviderPath d a b x y
 same_values (VersionPaths path) d a b x y = same_order (VersionPaths path) d a b x y
+same_values (BlockPaths path) d a b x y = same_order (BlockPaths path) d a b x y
 
 pub same_form : (route : Route) (d : Data) (a b : Asked) → HasForm route d a → HasForm route d b → a ≡ b
 same_form route d a b h k = same_values route d a b h.values k.values

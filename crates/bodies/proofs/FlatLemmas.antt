@@ -1,6 +1,8 @@
 -- Members that were read one after another.
-use Rattle.std.proofs.Common.{◌≡◌, ℕ, ◌<◌, ◌≤◌, ◌+◌, ◌-◌, Bool, Option, None, List, [], ◌∷◌, ◌++◌, get_or, length, Some, refl, ap, sym, ◌∙◌, arith}
+use Rattle.std.proofs.Common.{◌≡◌, ℕ, ◌<◌, ◌≤◌, ◌+◌, ◌-◌, Bool, true, false, Option, None, List, [], ◌∷◌, ◌++◌, get_or, length, Some, refl, ap, sym, ◌∙◌, arith}
 use Rattle.std.specs.Prelude.{take, option_map, option_and_then}
+use Rattle.std.specs.Str.{bytes_eq}
+use Rattle.std.proofs.lemmas.Slice.Eq.{bytes_eq-Decides}
 use Rattle.std.proofs.lemmas.List.{take_more}
 use Rattle.json.specs.Token.{Token}
 use Rattle.json.specs.Lex.{tokens}
@@ -9,9 +11,12 @@ use Rattle.json.specs.Json.{Parse, parse_map, members, read_key, value, if_last}
 use Rattle.json.proofs.Grammar.{value_is, value-begin_object, members_end, members_more}
 use Rattle.serde_json.specs.Data.{Data, Members, no_members, null, boolean, number, string, object, unsigned, put}
 use Rattle.serde_json.specs.Read.{of_json, of_members, converted, number_of, read}
-use Rattle.serde_json.specs.Find.{get_member}
+use Rattle.serde_json.specs.Find.{get_member, as_array}
 use Rattle.serde_json.proofs.Views.{get_member-put, get_member-put_other}
-use Rattle.bodies.specs.Flat.{scalar_data, members_upon, read_object}
+use Rattle.bodies.specs.Flat.{scalar_data, flat_data, members_upon, read_object}
+use Rattle.bodies.specs.Forms.{items}
+use Rattle.bodies.specs.declared.flat.Scalar.{Scalar}
+use Rattle.bodies.specs.declared.flat.Scalar.TheVariants.{Null, Flag, Whole, Text}
 use Rattle.bodies.specs.declared.flat.Member.{Member}
 
 pub members_upon-last : (found : Members) (ms : List Member) (m : Member) → members_upon found (ms ++ m ∷ []) ≡ put m.key.now (scalar_data m.value) (members_upon found ms)
@@ -101,3 +106,30 @@ whole_object text ts ms begins found =
     ∙ ap (λ o. option_and_then of_json (option_and_then (λ p. if_last p.0 p.1) o)) (value-begin_object 127 ts (omega arith))
     ∙ ap (λ o. option_and_then of_json (option_and_then (λ p. if_last p.0 p.1) (parse_map json.object o))) parts.1
     ∙ ap (option_map object) parts.2
+
+-- ---- no array stands under a key
+
+no_array : (s : Scalar) → as_array (scalar_data s) ≡ None
+no_array Null = refl
+no_array (Flag b) = refl
+no_array (Whole n) = refl
+no_array (Text t) = refl
+
+no_array_put : (k l : List ℕ) (s : Scalar) (found : Members) (b : Bool) → bytes_eq k l ≡ b → option_and_then as_array (get_member k found) ≡ None
+    → option_and_then as_array (get_member k (put l (scalar_data s) found)) ≡ None
+no_array_put k l s found true e none =
+    ap (λ (x : List ℕ). option_and_then as_array (get_member k (put x (scalar_data s) found))) (sym ((bytes_eq-Decides k l).0 e))
+    ∙ ap (option_and_then as_array) (get_member-put k (scalar_data s) found) ∙ no_array s
+no_array_put k l s found false e none =
+    let other : k ≡ l → ⊥ = λ same. (let yes : bytes_eq k l ≡ true = (bytes_eq-Decides k l).1 same in cc) in
+    ap (option_and_then as_array) (get_member-put_other k l (scalar_data s) found other) ∙ none
+
+no_array_upon : (k : List ℕ) (found : Members) (ms : List Member) → option_and_then as_array (get_member k found) ≡ None
+    → option_and_then as_array (get_member k (members_upon found ms)) ≡ None
+no_array_upon k found [] none = none
+no_array_upon k found (m ∷ ms) none =
+    no_array_upon k (put m.key.now (scalar_data m.value) found) ms (no_array_put k m.key.now m.value found (bytes_eq k m.key.now) refl none)
+
+pub no_items : (k : List ℕ) (ms : List Member) → None ≡ items k (flat_data ms)
+unfolding items
+no_items k ms = sym (no_array_upon k no_members ms refl)

@@ -3,6 +3,7 @@ mod DigitLemmas
 mod FlatLemmas
 mod FormLemmas
 mod KeyLemmas
+mod LineLemmas
 mod ListLemmas
 mod Members
 mod Phrases

@@ -1,21 +1,23 @@
 -- The forms of request bodies: what each asks.
-use Rattle.std.specs.Prelude.{◌≡◌, ℕ, ◌&&◌, List, [], ◌∷◌, codes, Bool, true, false, if◌then◌else◌, Option, Some, None, option_and_then}
+use Rattle.std.specs.Prelude.{◌≡◌, ℕ, ◌&&◌, List, [], ◌∷◌, codes, Bool, true, false, if◌then◌else◌, Option, Some, None, option_and_then, IsSomeAnd, ⊤}
 use Rattle.std.specs.List.{list_any}
 use Rattle.std.specs.Str.{is_utf8, bytes_eq}
-use Rattle.serde_json.specs.Data.{Data, null, boolean, number, string, array, object, Members, no_members, member}
+use Rattle.serde_json.specs.Data.{Data, null, boolean, number, string, array, object, Items, no_items, item, Members, no_members, member}
 use Rattle.serde_json.specs.Read.{read}
-use Rattle.serde_json.specs.Find.{get, as_number, as_u64, as_str, as_bool}
-use Rattle.numbers.specs.Digits.{IsTn, IsCode, IsLrn, IsCic}
+use Rattle.serde_json.specs.Find.{get, as_number, as_u64, as_str, as_bool, as_array}
+use Rattle.numbers.specs.Digits.{IsTn, IsCode, IsLrn, IsCic, IsBlock, IsLine}
 use Rattle.numbers.specs.Spids.{IsSpid}
-use Rattle.numbers.specs.Texts.{tn_text, code_text, lrn_text, cic_text, spid_text}
-use Rattle.meaning.specs.Commands.{Command, VersionCommand, RegisterCarrier, RegisterRoutingNumber, OpenCode, OldProviderCreate, NewProviderCreate, OnVersion, Activate, PutInConflict, RemoveFromConflict, Cancel, OldProviderCancellationAcknowledge, NewProviderCancellationAcknowledge, Disconnect}
+use Rattle.numbers.specs.Texts.{tn_text, code_text, lrn_text, cic_text, spid_text, block_text, line_text}
+use Rattle.meaning.specs.Commands.{Command, VersionCommand, RegisterCarrier, RegisterRoutingNumber, OpenCode, OldProviderCreate, NewProviderCreate, OnVersion, Activate, PutInConflict, RemoveFromConflict, Cancel, OldProviderCancellationAcknowledge, NewProviderCancellationAcknowledge, Disconnect, Donate, Assign, Release}
 use Rattle.meaning.specs.History.{Commands, Acknowledges}
 use Rattle.calls.specs.Calls.{Called, Wants, Moves, called_of}
 use Rattle.messages.specs.Table.{below_limit}
 use Rattle.messages.specs.declared.paths.Route.{Route}
-use Rattle.messages.specs.declared.paths.Route.TheVariants.{Carriers, Clock, RoutingNumbers, Codes, OldProviderCreate as OldProviderPath, NewProviderCreate as NewProviderPath, OnVersion as VersionPaths, Acknowledge, Query, Version, Number, Downloads}
+use Rattle.messages.specs.declared.paths.Route.TheVariants.{Carriers, Clock, RoutingNumbers, Codes, OldProviderCreate as OldProviderPath, NewProviderCreate as NewProviderPath, OnVersion as VersionPaths, OnBlock as BlockPaths, Acknowledge, Query, Version, Number, Downloads}
 use Rattle.messages.specs.declared.paths.VersionPath.{VersionPath}
 use Rattle.messages.specs.declared.paths.VersionPath.TheVariants.{Activate as ActivatePath, PutInConflict as PutInConflictPath, RemoveFromConflict as RemoveFromConflictPath, Cancel as CancelPath, OldProviderCancellationAcknowledge as OldAcknowledgePath, NewProviderCancellationAcknowledge as NewAcknowledgePath, Disconnect as DisconnectPath}
+use Rattle.messages.specs.declared.paths.BlockPath.{BlockPath}
+use Rattle.messages.specs.declared.paths.BlockPath.TheVariants.{Assign as AssignPath, Donate as DonatePath, Release as ReleasePath}
 use Rattle.bodies.specs.declared.forms.Asked.{Asked as AskedCode}
 use Rattle.bodies.specs.declared.forms.Asked.TheVariants.{Call as CallCode, Uri as UriCode}
 
@@ -58,6 +60,12 @@ version_keys OldAcknowledgePath = codes "id" ∷ []
 version_keys NewAcknowledgePath = codes "id" ∷ []
 version_keys DisconnectPath = codes "id" ∷ codes "release" ∷ []
 
+-- the keys of a command on a block
+abbrev pub block_keys : BlockPath → List (List ℕ)
+block_keys AssignPath = codes "block" ∷ codes "cic" ∷ codes "holder" ∷ codes "lrn" ∷ []
+block_keys DonatePath = codes "block" ∷ codes "cic" ∷ codes "lrn" ∷ codes "used" ∷ []
+block_keys ReleasePath = codes "block" ∷ []
+
 -- the keys of a path's body
 abbrev pub keys : Route → List (List ℕ)
 keys Carriers = codes "spid" ∷ []
@@ -66,6 +74,7 @@ keys Codes = codes "code" ∷ codes "spid" ∷ []
 keys OldProviderPath = codes "authorized" ∷ codes "due" ∷ codes "new" ∷ codes "old" ∷ codes "tn" ∷ []
 keys NewProviderPath = codes "cic" ∷ codes "due" ∷ codes "lrn" ∷ codes "new" ∷ codes "old" ∷ codes "tn" ∷ []
 keys (VersionPaths path) = version_keys path
+keys (BlockPaths path) = block_keys path
 keys Acknowledge = codes "attempt" ∷ codes "id" ∷ []
 keys Query = codes "uri" ∷ []
 keys Clock = codes "minute" ∷ []
@@ -87,6 +96,10 @@ text key d = option_and_then as_str (get key d)
 unfoldable pub flag : List ℕ → Data → Option Bool
 flag key d = option_and_then as_bool (get key d)
 
+-- the items of an array
+unfoldable pub items : List ℕ → Data → Option Items
+items key d = option_and_then as_array (get key d)
+
 -- the text of a number of its kind
 pub record Writes (IsOne : ℕ → Type 0) (text_of : ℕ → List ℕ) (given : Option (List ℕ)) (n : ℕ) : Type 0 where
   pub valid : IsOne n
@@ -103,6 +116,24 @@ HasLrn d n = Writes IsLrn lrn_text (text (codes "lrn") d) n
 
 abbrev pub HasCode : Data → ℕ → Type 0
 HasCode d n = Writes IsCode code_text (text (codes "code") d) n
+
+abbrev pub HasBlock : Data → ℕ → Type 0
+HasBlock d n = Writes IsBlock block_text (text (codes "block") d) n
+
+-- the value is the text of a line
+abbrev pub IsLineText : Data → ℕ → Type 0
+IsLineText d line = Writes IsLine line_text (as_str d) line
+
+-- the values are the texts of these lines, in their order
+abbrev pub AreLineTexts : Items → List ℕ → Type 0
+AreLineTexts no_items [] = ⊤
+AreLineTexts no_items (line ∷ lines) = ⊥
+AreLineTexts (item d ds) [] = ⊥
+AreLineTexts (item d ds) (line ∷ lines) = IsLineText d line × AreLineTexts ds lines
+
+-- an array of the texts of these lines
+abbrev pub HasUsed : Data → List ℕ → Type 0
+HasUsed d lines = IsSomeAnd (items (codes "used") d) (λ values. AreLineTexts values lines)
 
 -- nothing, or null
 abbrev pub is_left_out : Option Data → Bool
@@ -143,6 +174,14 @@ HasVersionCommand OldAcknowledgePath d command = command ≡ OldProviderCancella
 HasVersionCommand NewAcknowledgePath d command = command ≡ NewProviderCancellationAcknowledge
 HasVersionCommand DisconnectPath d command = (release : Option ℕ) × HasRelease d release × (command ≡ Disconnect release)
 
+-- a path's command on a block
+abbrev pub HasBlockCommand : BlockPath → Data → Command → Type 0
+HasBlockCommand AssignPath d c =
+    (block : ℕ) × (holder : ℕ) × (lrn : ℕ) × (cic : Option ℕ) × HasBlock d block × HasSpid (codes "holder") d holder × HasLrn d lrn × HasCic d cic × (c ≡ Assign block holder lrn cic)
+HasBlockCommand DonatePath d c =
+    (block : ℕ) × (used : List ℕ) × (lrn : ℕ) × (cic : Option ℕ) × HasBlock d block × HasUsed d used × HasLrn d lrn × HasCic d cic × (c ≡ Donate block used lrn cic)
+HasBlockCommand ReleasePath d c = (block : ℕ) × HasBlock d block × (c ≡ Release block)
+
 -- a path's command
 abbrev pub HasCommand : Route → Data → Command → Type 0
 HasCommand Carriers d c = (spid : ℕ) × HasSpid (codes "spid") d spid × (c ≡ RegisterCarrier spid)
@@ -156,6 +195,7 @@ HasCommand NewProviderPath d c =
     × HasLrn d lrn × HasCic d cic × (c ≡ NewProviderCreate tn old_provider new_provider due lrn cic)
 HasCommand (VersionPaths path) d c =
     (id : ℕ) × (command : VersionCommand) × (whole (codes "id") d ≡ Some id) × HasVersionCommand path d command × (c ≡ OnVersion id command)
+HasCommand (BlockPaths path) d c = HasBlockCommand path d c
 HasCommand Acknowledge d c = ⊥
 HasCommand Query d c = ⊥
 HasCommand Clock d c = ⊥
@@ -180,6 +220,7 @@ HasValues Codes d asked = HasOrder Codes d asked
 HasValues OldProviderPath d asked = HasOrder OldProviderPath d asked
 HasValues NewProviderPath d asked = HasOrder NewProviderPath d asked
 HasValues (VersionPaths path) d asked = HasOrder (VersionPaths path) d asked
+HasValues (BlockPaths path) d asked = HasOrder (BlockPaths path) d asked
 
 -- the value is an object of the path's form, with no other keys, that asks this
 pub record HasForm (route : Route) (d : Data) (asked : Asked) : Type 0 where

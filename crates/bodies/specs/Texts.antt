@@ -1,7 +1,7 @@
 -- The bodies of replies, byte for byte.
 use Rattle.std.specs.Prelude.{ℕ, List, [], ◌∷◌, ◌++◌, codes, decimal, Option, Some, None, option_map, option_and_then}
 use Rattle.std.specs.List.{flat_map}
-use Rattle.numbers.specs.Texts.{code_text, lrn_text, cic_text, spid_text, subject_text}
+use Rattle.numbers.specs.Texts.{block_text, code_text, lrn_text, cic_text, spid_text, subject_text}
 use Rattle.numbers.specs.Routings.{Routing}
 use Rattle.meaning.specs.Statuses.{Status, Pending, Conflict, CancelPending, Sending, Active, PartialFailure, Failed, DisconnectPending, Old, Canceled}
 use Rattle.meaning.specs.Reading.{View, InForce, Download, Phase, Initial, Final, Ended}
@@ -131,6 +131,12 @@ routing_number_text lrn spid = codes "{\"lrn\":\"" ++ lrn_text lrn ++ codes "\",
 -- a code, and its holder
 unfoldable pub opened_code_text : (code spid : ℕ) → List ℕ
 opened_code_text code spid = codes "{\"code\":\"" ++ code_text code ++ codes "\",\"spid\":\"" ++ spid_text spid ++ codes "\"}"
+
+-- ---- a donation
+
+-- the donated block, and the ids of the versions that were made
+unfoldable pub donated_text : (block : ℕ) → (ids : List ℕ) → List ℕ
+donated_text block ids = codes "{\"block\":\"" ++ block_text block ++ codes "\",\"ids\":[" ++ listed decimal ids ++ codes "]}"
 
 -- ---- the ids of a number's versions
 

@@ -42,6 +42,13 @@ impl Fields for Body<'_> {
         }
     }
 
+    fn items(&self, key: &str) -> Option<&[Value]> {
+        match self {
+            Body::Flat(flat) => flat.items(key),
+            Body::Tree(value) => value.items(key),
+        }
+    }
+
     fn is_left_out(&self, key: &str) -> bool {
         match self {
             Body::Flat(flat) => flat.is_left_out(key),
@@ -72,8 +79,8 @@ fn tree(alloc: Global, text: &str) -> Result<Option<Value>, AllocError>
 
 /// The JSON value of a body, or `None` where it is no JSON. `Err` is want of memory.
 ///
-/// An object of plain values, which is what every body of a form is, takes no memory of its own:
-/// its texts are the body's, or where they have escapes the scratch's.
+/// An object of plain values, which is what every body of a form is but a donation's, takes no
+/// memory of its own: its texts are the body's, or where they have escapes the scratch's.
 pub fn json<'a>(
     alloc: Global,
     body: &'a [u8],

@@ -5,7 +5,8 @@ ghost use Rattle.std.specs.Str.{bytes_eq};
 ghost use Rattle.std.specs.BTreeMap.{keys as keys_in};
 ghost use Rattle.serde_json.specs.Data.{Data};
 ghost use Rattle.serde_json.specs.Find.{get};
-ghost use Rattle.bodies.specs.Forms.{only_keys, whole, text, flag, is_left_out as is_missing};
+ghost use Rattle.serde_json.specs.View.{items_view};
+ghost use Rattle.bodies.specs.Forms.{only_keys, whole, text, flag, items, is_left_out as is_missing};
 
 use serde_json::{Map, Value};
 use std::alloc::Global;
@@ -26,6 +27,10 @@ pub trait Fields {
     /// The flag under a key.
     fn flag(&self, key: &str) -> Option<bool>
         ensures { result ≡ flag key.now (value self.now) };
+
+    /// The items of the array under a key.
+    fn items(&self, key: &str) -> Option<&[Value]>
+        ensures { option_map (λ s. items_view s.now) result ≡ items key.now (value self.now) };
 
     /// Whether there is nothing under a key, or null.
     fn is_left_out(&self, key: &str) -> bool
@@ -71,6 +76,11 @@ impl Fields for Value {
     #[tactic(auto, unfolding(crate::specs::Forms::flag))]
     fn flag(&self, key: &str) -> Option<bool> {
         self.get(key)?.as_bool()
+    }
+
+    #[tactic(auto, unfolding(crate::specs::Forms::items))]
+    fn items(&self, key: &str) -> Option<&[Value]> {
+        Some(self.get(key)?.as_array()?.as_slice())
     }
 
     fn is_left_out(&self, key: &str) -> bool {

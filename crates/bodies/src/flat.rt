@@ -13,6 +13,7 @@ use crate::fields::{Fields, is_one_of};
 use arrayvec::ArrayVec;
 use json::{Reader, Scratch, Token};
 use messages::read_number;
+use serde_json::Value;
 use std::alloc::AllocError;
 
 /// What stands under a key.
@@ -153,6 +154,11 @@ impl Fields for Flat<'_> {
             Scalar::Flag(flag) => Some(flag),
             _ => None,
         }
+    }
+
+    #[tactic(auto, using(crate::proofs::FlatLemmas::no_items))]
+    fn items(&self, _key: &str) -> Option<&[Value]> {
+        None
     }
 
     fn is_left_out(&self, key: &str) -> bool {

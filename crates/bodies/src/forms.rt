@@ -1,23 +1,26 @@
 //! The forms of request bodies: JSON objects with exactly their keys.
-ghost use Rattle.std.specs.Prelude.{◌≡◌, ℕ, IfOk, IfSome, IfNone, Option, option_map, codes, map, Some, true};
+ghost use Rattle.std.specs.Prelude.{◌≡◌, ℕ, List, IfOk, IfSome, IfNone, Option, option_map, codes, map, Some, true};
 ghost use Rattle.serde_json.specs.View.{view};
 ghost use Rattle.numbers.specs.declared.cic.Cic.{Cic as CicSeen};
 ghost use Rattle.numbers.specs.declared.minute.Minute.{Minute as MinuteSeen};
 ghost use Rattle.meaning.specs.Commands.{Command as CommandSeen, VersionCommand as VersionCommandSeen};
 ghost use Rattle.calls.specs.Calls.{command_of as command_seen};
+ghost use Rattle.pool.specs.Donations.{lines_of as lines_seen};
 ghost use Rattle.version.specs.Commands.{asked_of as version_command_seen};
-ghost use Rattle.bodies.specs.Forms.{Asked as AskedSeen, AsksOnce, asked_of as asked_seen, json_of, keys, whole, HasSpid, HasTn, HasLrn, HasCode, HasCic, HasRelease, HasPort, HasVersionCommand, HasCommand, HasValues, HasForm, version_keys};
+ghost use Rattle.bodies.specs.Forms.{Asked as AskedSeen, AsksOnce, asked_of as asked_seen, json_of, keys, whole, HasSpid, HasTn, HasLrn, HasCode, HasCic, HasBlock, HasUsed, HasRelease, HasPort, HasVersionCommand, HasBlockCommand, HasCommand, HasValues, HasForm, version_keys, block_keys};
 
 use crate::fields::Fields;
+use crate::used::lines_of;
 use calls::{Call, Command};
-use messages::{Route, VersionPath};
-use numbers::{Cic, CodeId, Lrn, Minute, Routing, Spid, Tn};
+use messages::{BlockPath, Route, VersionPath};
+use numbers::{BlockId, Cic, CodeId, Line, Lrn, Minute, Routing, Spid, Tn};
+use pool::Assignment;
 use serde_json::{Category, Value};
 use std::alloc::{AllocError, Global};
 use version::{Create, Creator, VersionCommand};
 
 /// What a message asks: a call of the register, or where the number of a URI is routed.
-#[derive(Clone, Copy, Debug)]
+#[derive(Debug, Drop)]
 pub enum Asked<'a> {
     Call(Call),
     Uri(&'a str),
@@ -64,6 +67,14 @@ fn code_at<F: Fields>(fields: &F) -> Option<CodeId>
 }
 
 #[tactic(auto, using(crate::proofs::FormLemmas::no_text, crate::proofs::FormLemmas::other_text))]
+fn block_at<F: Fields>(fields: &F) -> Option<BlockId>
+    ensures some { IfSome result (λ block. HasBlock (F.value fields.now) block.number) }
+    ensures none { IfNone result ((n : ℕ) → ¬ (HasBlock (F.value fields.now) n)) }
+{
+    BlockId::read(fields.text("block")?)
+}
+
+#[tactic(auto, using(crate::proofs::FormLemmas::no_text, crate::proofs::FormLemmas::other_text))]
 fn given_cic_at<F: Fields>(fields: &F) -> Option<Cic>
     ensures some { IfSome result (λ cic. HasCic (F.value fields.now) (Some cic.number)) }
     ensures none { IfNone result ((n : ℕ) → ¬ (HasCic (F.value fields.now) (Some n))) }
@@ -105,6 +116,17 @@ fn version_keys_of(path: VersionPath) -> &'static [&'static str]
     }
 }
 
+// The keys of a command on a block.
+fn block_keys_of(path: BlockPath) -> &'static [&'static str]
+    ensures { map (λ s. s.now) result.now ≡ block_keys path }
+{
+    match path {
+        BlockPath::Assign => &["block", "cic", "holder", "lrn"],
+        BlockPath::Donate => &["block", "cic", "lrn", "used"],
+        BlockPath::Release => &["block"],
+    }
+}
+
 // The keys of a path's body.
 fn keys_of(route: Route) -> &'static [&'static str]
     ensures { map (λ s. s.now) result.now ≡ keys route }
@@ -116,6 +138,7 @@ fn keys_of(route: Route) -> &'static [&'static str]
         Route::OldProviderCreate => &["authorized", "due", "new", "old", "tn"],
         Route::NewProviderCreate => &["cic", "due", "lrn", "new", "old", "tn"],
         Route::OnVersion(path) => version_keys_of(path),
+        Route::OnBlock(path) => block_keys_of(path),
         Route::Acknowledge => &["attempt", "id"],
         Route::Query => &["uri"],
         Route::Clock => &["minute"],
@@ -245,23 +268,106 @@ fn on_version<F: Fields>(path: VersionPath, fields: &F) -> Option<Command>
     })
 }
 
-fn command_of<F: Fields>(route: Route, fields: &F) -> Option<Command>
-    ensures some { IfSome result (λ c. HasCommand route (F.value fields.now) (command_seen c)) }
-    ensures none { IfNone result ((c : CommandSeen) → ¬ (HasCommand route (F.value fields.now) c)) }
+// The lines that a donation says are used.
+fn used_at<F: Fields>(alloc: Global, fields: &F) -> Result<Option<Vec<Line>>, AllocError>
+    ensures some { IfOk result (λ read. IfSome read (λ used.
+        HasUsed (F.value fields.now) (lines_seen used.items))) }
+    ensures none { IfOk result (λ read. IfNone read ((used : List ℕ)
+        → ¬ (HasUsed (F.value fields.now) used))) }
+{
+    match fields.items("used") {
+        Some(values) => lines_of(alloc, values),
+        None => Ok(None),
+    }
+}
+
+fn donation<F: Fields>(alloc: Global, fields: &F) -> Result<Option<Command>, AllocError>
+    ensures some { IfOk result (λ read. IfSome read (λ c.
+        HasBlockCommand BlockPath.Donate (F.value fields.now) (command_seen c))) }
+    ensures none { IfOk result (λ read. IfNone read ((c : CommandSeen)
+        → ¬ (HasBlockCommand BlockPath.Donate (F.value fields.now) c))) }
+{
+    let Some(block) = block_at(fields) else {
+        return Ok(None);
+    };
+    let Some(routing) = routing_at(fields) else {
+        return Ok(None);
+    };
+    let Some(used) = used_at(alloc, fields)? else {
+        return Ok(None);
+    };
+    Ok(Some(Command::Donate {
+        block,
+        used,
+        routing,
+    }))
+}
+
+fn assignment<F: Fields>(fields: &F) -> Option<Command>
+    ensures some { IfSome result (λ c. HasBlockCommand BlockPath.Assign (F.value fields.now)
+        (command_seen c)) }
+    ensures none { IfNone result ((c : CommandSeen)
+        → ¬ (HasBlockCommand BlockPath.Assign (F.value fields.now) c)) }
+{
+    Some(Command::Assign(Assignment {
+        block: block_at(fields)?,
+        holder: spid_at(fields, "holder")?,
+        routing: routing_at(fields)?,
+    }))
+}
+
+fn release<F: Fields>(fields: &F) -> Option<Command>
+    ensures some { IfSome result (λ c. HasBlockCommand BlockPath.Release (F.value fields.now)
+        (command_seen c)) }
+    ensures none { IfNone result ((c : CommandSeen)
+        → ¬ (HasBlockCommand BlockPath.Release (F.value fields.now) c)) }
+{
+    Some(Command::Release {
+        block: block_at(fields)?,
+    })
+}
+
+fn on_block<F: Fields>(
+    alloc: Global,
+    path: BlockPath,
+    fields: &F,
+) -> Result<Option<Command>, AllocError>
+    ensures some { IfOk result (λ read. IfSome read (λ c.
+        HasBlockCommand path (F.value fields.now) (command_seen c))) }
+    ensures none { IfOk result (λ read. IfNone read ((c : CommandSeen)
+        → ¬ (HasBlockCommand path (F.value fields.now) c))) }
+{
+    match path {
+        BlockPath::Assign => Ok(assignment(fields)),
+        BlockPath::Donate => donation(alloc, fields),
+        BlockPath::Release => Ok(release(fields)),
+    }
+}
+
+fn command_of<F: Fields>(
+    alloc: Global,
+    route: Route,
+    fields: &F,
+) -> Result<Option<Command>, AllocError>
+    ensures some { IfOk result (λ read. IfSome read (λ c.
+        HasCommand route (F.value fields.now) (command_seen c))) }
+    ensures none { IfOk result (λ read. IfNone read ((c : CommandSeen)
+        → ¬ (HasCommand route (F.value fields.now) c))) }
 {
     match route {
-        Route::Carriers => register_carrier(fields),
-        Route::RoutingNumbers => register_routing_number(fields),
-        Route::Codes => open_code(fields),
-        Route::OldProviderCreate => old_provider_create(fields),
-        Route::NewProviderCreate => new_provider_create(fields),
-        Route::OnVersion(path) => on_version(path, fields),
+        Route::Carriers => Ok(register_carrier(fields)),
+        Route::RoutingNumbers => Ok(register_routing_number(fields)),
+        Route::Codes => Ok(open_code(fields)),
+        Route::OldProviderCreate => Ok(old_provider_create(fields)),
+        Route::NewProviderCreate => Ok(new_provider_create(fields)),
+        Route::OnVersion(path) => Ok(on_version(path, fields)),
+        Route::OnBlock(path) => on_block(alloc, path, fields),
         Route::Acknowledge
         | Route::Query
         | Route::Clock
         | Route::Version(_)
         | Route::Number(_)
-        | Route::Downloads(_) => None,
+        | Route::Downloads(_) => Ok(None),
     }
 }
 
@@ -298,17 +404,24 @@ fn clock_of<F: Fields>(fields: &F) -> Option<Asked<'_>>
 }
 
 // What the values of an object ask on a path.
-fn values_of<F: Fields>(route: Route, fields: &F) -> Option<Asked<'_>>
-    ensures some { IfSome result (λ asked. HasValues route (F.value fields.now)
-        (asked_seen asked)) }
-    ensures none { IfNone result ((asked : AskedSeen)
-        → ¬ (HasValues route (F.value fields.now) asked)) }
+fn values_of<F: Fields>(
+    alloc: Global,
+    route: Route,
+    fields: &F,
+) -> Result<Option<Asked<'_>>, AllocError>
+    ensures some { IfOk result (λ read. IfSome read (λ asked.
+        HasValues route (F.value fields.now) (asked_seen asked))) }
+    ensures none { IfOk result (λ read. IfNone read ((asked : AskedSeen)
+        → ¬ (HasValues route (F.value fields.now) asked))) }
 {
     match route {
-        Route::Acknowledge => acknowledgement_of(fields),
-        Route::Query => query_of(fields),
-        Route::Clock => clock_of(fields),
-        _ => Some(Asked::Call(Call::Command(command_of(route, fields)?))),
+        Route::Acknowledge => Ok(acknowledgement_of(fields)),
+        Route::Query => Ok(query_of(fields)),
+        Route::Clock => Ok(clock_of(fields)),
+        _ => match command_of(alloc, route, fields)? {
+            Some(command) => Ok(Some(Asked::Call(Call::Command(command)))),
+            None => Ok(None),
+        },
     }
 }
 
@@ -317,14 +430,20 @@ pub fn body_asks_once()
     ensures { AsksOnce }
 {}
 
-/// What a body asks on a path, or `None` where it does not have the path's form.
-pub fn asked_of<F: Fields>(route: Route, fields: &F) -> Option<Asked<'_>>
-    ensures some { IfSome result (λ asked. HasForm route (F.value fields.now) (asked_seen asked)) }
-    ensures none { IfNone result ((asked : AskedSeen)
-        → ¬ (HasForm route (F.value fields.now) asked)) }
+/// What a body asks on a path, or `None` where it does not have the path's form. `Err` is want of
+/// memory for the lines of a donation, the one part of a form that takes memory of its own.
+pub fn asked_of<F: Fields>(
+    alloc: Global,
+    route: Route,
+    fields: &F,
+) -> Result<Option<Asked<'_>>, AllocError>
+    ensures some { IfOk result (λ read. IfSome read (λ asked.
+        HasForm route (F.value fields.now) (asked_seen asked))) }
+    ensures none { IfOk result (λ read. IfNone read ((asked : AskedSeen)
+        → ¬ (HasForm route (F.value fields.now) asked))) }
 {
     if !fields.has_only(keys_of(route)) {
-        return None;
+        return Ok(None);
     }
-    values_of(route, fields)
+    values_of(alloc, route, fields)
 }

@@ -10,6 +10,7 @@ mod forms;
 mod list;
 mod reply;
 mod room;
+mod used;
 
 pub use answer::Room;
 pub use body::{Body, json};
@@ -17,6 +18,6 @@ pub use fault::Failure;
 pub use fields::Fields;
 pub use forms::{Asked, asked_of, body_asks_once};
 pub use reply::{
-    DOWNLOAD_ROOM, ROW_ROOM, URI_ROOM, put_downloads, put_failure, put_ids, put_now,
-    put_opened_code, put_registered, put_routing_number, put_uri, put_version,
+    DOWNLOAD_ROOM, ID_ROOM, ROW_ROOM, URI_ROOM, put_donated, put_downloads, put_failure, put_ids,
+    put_now, put_opened_code, put_registered, put_routing_number, put_uri, put_version,
 };

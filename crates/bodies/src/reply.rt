@@ -1,5 +1,5 @@
 //! The bodies of answers.
-ghost use Rattle.std.specs.Prelude.{◌≡◌, ◌+◌, ◌*◌, ◌≤◌, ◌++◌, length, map, option_map, string_bytes, string_len, string_capacity};
+ghost use Rattle.std.specs.Prelude.{◌≡◌, ◌+◌, ◌*◌, ◌≤◌, ◌++◌, length, map, decimal, option_map, string_bytes, string_len, string_capacity};
 ghost use Rattle.numbers.specs.declared.cic.Cic.{Cic as CicSeen};
 ghost use Rattle.numbers.specs.declared.lrn.Lrn.{Lrn as LrnSeen};
 ghost use Rattle.numbers.specs.Views.{routing_of};
@@ -9,15 +9,17 @@ ghost use Rattle.version.specs.Views.{routings_of, phase_seen};
 ghost use Rattle.calls.specs.Calls.{view_of, in_force_of, download_of};
 ghost use Rattle.bodies.specs.Answer.{refusal_body};
 ghost use Rattle.bodies.specs.Failures.{failure_body};
-ghost use Rattle.bodies.specs.Texts.{cic_value, lrn_value, number_value, phase_value, status_word, cic_in, lrn_in, counts_text, parties_text, times_text, standing_text, view_text, listed, row_text, registered_text, action_word, sent_text, placed_text, download_text, downloads_text, routing_number_text, opened_code_text, ids_text, now_text, uri_text};
+ghost use Rattle.bodies.specs.Texts.{cic_value, lrn_value, number_value, phase_value, status_word, cic_in, lrn_in, counts_text, parties_text, times_text, standing_text, view_text, listed, row_text, registered_text, donated_text, action_word, sent_text, placed_text, download_text, downloads_text, routing_number_text, opened_code_text, ids_text, now_text, uri_text};
 
 use crate::fault::Failure;
 use crate::list::{Item, put_list};
-use crate::room::{put, put_cic, put_code, put_lrn, put_minute, put_number, put_spid, put_subject};
+use crate::room::{
+    put, put_block, put_cic, put_code, put_lrn, put_minute, put_number, put_spid, put_subject,
+};
 use calls::{Ids, VersionView};
 use delivery::{Download, RoutedRow};
 use meaning::{Action, Status};
-use numbers::{Cic, CodeId, Lrn, Minute, Routing, Spid};
+use numbers::{BlockId, Cic, CodeId, Lrn, Minute, Routing, Spid};
 use version::Phase;
 
 /// The most bytes that a version's body takes.
@@ -25,6 +27,9 @@ pub const VERSION_ROOM: usize = 400;
 
 /// The most bytes that a row in force takes, with a comma.
 pub const ROW_ROOM: usize = 64;
+
+/// The most bytes that an id takes, with a comma.
+pub const ID_ROOM: usize = 21;
 
 /// The most bytes that a download takes, with a comma.
 pub const DOWNLOAD_ROOM: usize = 192;
@@ -327,6 +332,44 @@ pub fn put_registered(out: &mut String, spid: Spid, rows: &[RoutedRow])
     put(out, "],\"spid\":\"");
     put_spid(out, spid);
     put(out, "\"}");
+}
+
+// An id.
+impl Item for u64 {
+    ghost text = { λ id. decimal id };
+
+    ghost room = { 20 };
+
+    fn put(&self, out: &mut String) {
+        put_number(out, *self);
+    }
+}
+
+// Ids, one after another.
+fn put_id_list(out: &mut String, ids: &[u64])
+    requires { string_len out.old + length ids.now * 21 ≤ string_capacity out.old }
+    ensures bytes { string_bytes out.new ≡ string_bytes out.old ++ listed decimal ids.now }
+    ensures len { string_len out.new ≤ string_len out.old + length ids.now * 21 }
+    ensures capacity { string_capacity out.old ≤ string_capacity out.new }
+{
+    put_list(out, ids);
+}
+
+/// Appends the body that shows a donated block and the ids of the versions that were made, of at
+/// most 64 bytes and 21 for each id.
+#[tactic(auto, unfolding(crate::specs::Texts::donated_text))]
+pub fn put_donated(out: &mut String, block: BlockId, ids: &[u64])
+    requires { string_len out.old + 64 + length ids.now * 21 ≤ string_capacity out.old }
+    ensures bytes { string_bytes out.new
+        ≡ string_bytes out.old ++ donated_text block.number ids.now }
+    ensures len { string_len out.new ≤ string_len out.old + 64 + length ids.now * 21 }
+    ensures capacity { string_capacity out.old ≤ string_capacity out.new }
+{
+    put(out, "{\"block\":\"");
+    put_block(out, block);
+    put(out, "\",\"ids\":[");
+    put_id_list(out, ids);
+    put(out, "]}");
 }
 
 fn action_text(action: Action) -> &'static str

@@ -1,9 +1,9 @@
 //! Writing into room that was taken before, which cannot fail.
 ghost use Rattle.std.specs.Prelude.{◌≡◌, ◌+◌, ◌≤◌, ◌++◌, length, decimal, string_bytes, string_len, string_capacity};
-ghost use Rattle.numbers.specs.Texts.{digits_of, spid_text, subject_text};
+ghost use Rattle.numbers.specs.Texts.{block_text, digits_of, spid_text, subject_text};
 ghost use Rattle.numbers.specs.Views.{subject_of};
 
-use numbers::{Cic, CodeId, Lrn, Minute, Spid, Subject};
+use numbers::{BlockId, Cic, CodeId, Lrn, Minute, Spid, Subject};
 
 /// Appends a text.
 pub fn put(out: &mut String, text: &str)
@@ -85,6 +85,19 @@ pub fn put_code(out: &mut String, code: CodeId)
     ensures capacity { string_capacity out.old ≤ string_capacity out.new }
 {
     match code.write(out) {
+        Ok(()) => {}
+        Err(_) => unreachable!(),
+    }
+}
+
+/// Appends a block's seven digits.
+pub fn put_block(out: &mut String, block: BlockId)
+    requires { string_len out.old + 7 ≤ string_capacity out.old }
+    ensures bytes { string_bytes out.new ≡ string_bytes out.old ++ block_text block.number }
+    ensures len { string_len out.new ≤ string_len out.old + 7 }
+    ensures capacity { string_capacity out.old ≤ string_capacity out.new }
+{
+    match block.write(out) {
         Ok(()) => {}
         Err(_) => unreachable!(),
     }

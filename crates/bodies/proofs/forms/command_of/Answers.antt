@@ -17,3 +17,6 @@ returns-in-NewProviderCreate-clause-none g c = rw c.in-NewProviderCreate.is c.ne
 
 pub returns-in-OnVersion-clause-none : goal.returns-in-OnVersion-clause-none
 returns-in-OnVersion-clause-none g c = rw c.in-OnVersion.is c.on_version.ensures.none
+
+pub returns-in-OnBlock-clause-none : goal.returns-in-OnBlock-clause-none
+returns-in-OnBlock-clause-none g c = rw c.in-OnBlock.is c.on_block.ensures.none

@@ -1,3 +1,7 @@
+use Rattle.std.proofs.Common.{IfSome, IfNone, subst}
+use Rattle.calls.specs.Calls.{command_of}
+use Rattle.meaning.specs.Commands.{Command}
+use Rattle.bodies.specs.Forms.{HasCommand}
 use Rattle.bodies.proofs.FormLemmas.{no_values, values_of_command}
 use Rattle.bodies.proofs.forms.values_of.Goals as goal
 
@@ -10,14 +14,16 @@ returns-in-Query-clause-none g c = rw c.in-Query.is c.query_of.ensures.none
 pub returns-in-Clock-clause-none : goal.returns-in-Clock-clause-none
 returns-in-Clock-clause-none g c = rw c.in-Clock.is c.clock_of.ensures.none
 
-pub returns-in_ok-command_of-in_default : goal.returns-in_ok-command_of-in_default
-returns-in_ok-command_of-in_default g c = record {
-  some = values_of_command _ _ _ c.in_default.not-Acknowledge c.in_default.not-Query c.in_default.not-Clock c.in_ok-command_of-in_default.ensures.some;
+pub returns-in-Some : goal.returns-in-Some
+returns-in-Some g c = record {
+  some = values_of_command _ _ _ c.in_default.not-Acknowledge c.in_default.not-Query c.in_default.not-Clock
+      (subst (λ read. IfSome read (λ k. HasCommand c.args.route (g.F.Fields.value c.args.fields.now) (command_of k))) c.in-Some.is c.in_ok-command-in_default.ensures.some);
   none = tt;
 }
 
-pub returns-in_err-command_of-in_default : goal.returns-in_err-command_of-in_default
-returns-in_err-command_of-in_default g c = rw c.from_residual.ensures (record {
+pub returns-in-None : goal.returns-in-None
+returns-in-None g c = record {
   some = tt;
-  none = no_values _ _ c.in_default.not-Acknowledge c.in_default.not-Query c.in_default.not-Clock c.in_err-command_of-in_default.ensures.none;
-})
+  none = no_values _ _ c.in_default.not-Acknowledge c.in_default.not-Query c.in_default.not-Clock
+      (subst (λ read. IfNone read ((k : Command) → ¬ (HasCommand c.args.route (g.F.Fields.value c.args.fields.now) k))) c.in-None.is c.in_ok-command-in_default.ensures.none);
+}
