@@ -11,7 +11,7 @@ use Rattle.messages.specs.declared.fault.MessageFault.{MessageFault}
 use Rattle.messages.specs.declared.message.Request.{Request}
 use Rattle.messages.specs.declared.paths.Method.{Method}
 use Rattle.messages.specs.declared.paths.Route.{Route}
-use Rattle.messages.specs.declared.paths.Route.TheVariants.{Carriers, Clock, RoutingNumbers, Codes, OldProviderCreate, NewProviderCreate, OnVersion, Acknowledge, Query as QueryPath, Version, Number, Downloads}
+use Rattle.messages.specs.declared.paths.Route.TheVariants.{Carriers, Clock, RoutingNumbers, Codes, OldProviderCreate, NewProviderCreate, OnVersion, OnBlock, Acknowledge, Query as QueryPath, Version, Number, Downloads}
 use Rattle.messages.specs.Table.{takes, among_offered}
 use Rattle.calls.specs.Calls.{Wonders, input_of}
 use Rattle.bodies.specs.Forms.{Asked, Calling, Seeking, HasForm, json_of}
@@ -90,6 +90,7 @@ asks_once Codes body a b x y = same_asked Codes (json_of body) a b x y
 asks_once OldProviderCreate body a b x y = same_asked OldProviderCreate (json_of body) a b x y
 asks_once NewProviderCreate body a b x y = same_asked NewProviderCreate (json_of body) a b x y
 asks_once (OnVersion path) body a b x y = same_asked (OnVersion path) (json_of body) a b x y
+asks_once (OnBlock path) body a b x y = same_asked (OnBlock path) (json_of body) a b x y
 asks_once Acknowledge body a b x y = same_asked Acknowledge (json_of body) a b x y
 asks_once QueryPath body a b x y = same_asked QueryPath (json_of body) a b x y
 

@@ -12,6 +12,7 @@ use Rattle.meaning.specs.History.{Commands, Acknowledges}
 use Rattle.meaning.specs.Reading.{State, InForce, Download, all_in_force, queue}
 use Rattle.meaning.specs.Refusals.{Input, Question, Moment, Asks, Knows, Fetch, ShowVersion, Query, AllInForce, Waiting, Ids, npac, refusal, tests}
 use Rattle.meaning.specs.Machine.{Reply, Refused as MachineRefused, Moved, Registered, LrnAdded, CodeOpened, Shown, Donated, Known, Fetched, Answered, Rows, Awaited, Found, Answer, out, next, unless_refused, refused_or, reply_of, answer_of, accepted}
+use Rattle.meaning.proofs.DonatedIds.{donated_few}
 use Rattle.settle.specs.Owing.{Owes, SaysStorage}
 use Rattle.settle.specs.Reads.{HasRisen}
 use Rattle.register.specs.Answers.{Stands, AnswersAs}
@@ -35,7 +36,7 @@ use Rattle.serde_json.specs.Data.{Data}
 use Rattle.messages.specs.declared.message.Request.{Request}
 use Rattle.messages.specs.declared.paths.Method.{Method}
 use Rattle.messages.specs.declared.paths.Route.{Route}
-use Rattle.messages.specs.declared.paths.Route.TheVariants.{Carriers, Clock, RoutingNumbers, Codes, OldProviderCreate as OldProviderPath, NewProviderCreate as NewProviderPath, OnVersion as VersionPaths, Acknowledge, Query as QueryPath, Version, Number, Downloads}
+use Rattle.messages.specs.declared.paths.Route.TheVariants.{Carriers, Clock, RoutingNumbers, Codes, OldProviderCreate as OldProviderPath, NewProviderCreate as NewProviderPath, OnVersion as VersionPaths, OnBlock as BlockPaths, Acknowledge, Query as QueryPath, Version, Number, Downloads}
 use Rattle.messages.specs.Table.{takes, among_offered}
 use Rattle.bodies.proofs.RefusalLemmas.{text_by_number}
 use Rattle.std.proofs.Math.Nat.{le_trans}
@@ -238,6 +239,46 @@ fetched_of : (st : State) (caller : ℕ) (called : Called) (downloads : List Dow
 unfolding out
 fetched_of st caller called downloads e = fetched_by st (refusal st (input_of caller called)) (accepted st (input_of caller called)) caller called downloads e
 
+-- ---- a donation
+
+-- a donation was asked for
+abbrev IsDonation : Called → Type 0
+IsDonation called = (block : ℕ) × (used : List ℕ) × (lrn : ℕ) × (cic : Option ℕ) × (called ≡ Wants (Commands (Donate block used lrn cic)))
+
+same_donation : (st : State) (r : Option ℕ) (new : State) (caller : ℕ) (c : Command) (b : ℕ) (ids : List ℕ) → Donated b ids ≡ refused_or r (reply_of st new caller c) → IsDonation (Wants (Commands c))
+same_donation st (Some k) new caller c b ids e = let x : ⊥ = cc in absurd x
+same_donation st None new caller (RegisterCarrier spid) b ids e = let x : ⊥ = cc in absurd x
+same_donation st None new caller (RegisterRoutingNumber lrn) b ids e = let x : ⊥ = cc in absurd x
+same_donation st None new caller (OpenCode code holder) b ids e = let x : ⊥ = cc in absurd x
+same_donation st None new caller (OldProviderCreate tn old_provider new_provider due authorized) b ids e = let x : ⊥ = cc in absurd x
+same_donation st None new caller (NewProviderCreate tn old_provider new_provider due lrn cic) b ids e = let x : ⊥ = cc in absurd x
+same_donation st None new caller (OnVersion id command) b ids e = let x : ⊥ = cc in absurd x
+same_donation st None new caller (Donate block used lrn cic) b ids e = (block, used, lrn, cic, refl)
+same_donation st None new caller (Assign block holder lrn cic) b ids e = let x : ⊥ = cc in absurd x
+same_donation st None new caller (Release block) b ids e = let x : ⊥ = cc in absurd x
+
+donated_by : (st : State) (r : Option ℕ) (new : State) (caller : ℕ) (called : Called) (b : ℕ) (ids : List ℕ) → Donated b ids ≡ refused_or r (answer_of st new (input_of caller called)) → IsDonation called
+donated_by st (Some k) new caller called b ids e = let x : ⊥ = cc in absurd x
+donated_by st None new caller (Wants (Commands c)) b ids e = same_donation st None new caller c b ids e
+donated_by st None new caller (Wants (Acknowledges id attempt)) b ids e = let x : ⊥ = cc in absurd x
+donated_by st None new caller (Wonders Knows) b ids e = let x : ⊥ = cc in absurd x
+donated_by st None new caller (Wonders (Fetch n)) b ids e = let x : ⊥ = cc in absurd x
+donated_by st None new caller (Wonders (ShowVersion id)) b ids e = let x : ⊥ = cc in absurd x
+donated_by st None new caller (Wonders (Query tn)) b ids e = let x : ⊥ = cc in absurd x
+donated_by st None new caller (Wonders AllInForce) b ids e = let x : ⊥ = cc in absurd x
+donated_by st None new caller (Wonders Waiting) b ids e = let x : ⊥ = cc in absurd x
+donated_by st None new caller (Wonders (Ids tn)) b ids e = let x : ⊥ = cc in absurd x
+donated_by st None new caller (Moves minute) b ids e = let x : ⊥ = cc in absurd x
+
+donated_of : (st : State) (caller : ℕ) (called : Called) (b : ℕ) (ids : List ℕ) → Donated b ids ≡ out st (input_of caller called) → IsDonation called
+unfolding out
+donated_of st caller called b ids e = donated_by st (refusal st (input_of caller called)) (accepted st (input_of caller called)) caller called b ids e
+
+-- it has so many ids at most
+few_donated : (st : State) (caller : ℕ) (called : Called) (b : ℕ) (ids : List ℕ) → Donated b ids ≡ out st (input_of caller called) → IsDonation called → length ids ≤ 100
+few_donated st caller called b ids e is =
+    donated_few st caller is.0 is.1 is.2 is.3 b ids (e ∙ ap (λ (k : Called). out st (input_of caller k)) is.4)
+
 -- ---- what was counted
 
 not_outgrown : (st : State) (caller : ℕ) (c : Called) (reply : Reply) (counted : Counted) → reply ≡ out st (input_of caller c) → IsCounted st c counted → ¬ (Outgrows counted reply)
@@ -253,12 +294,17 @@ not_outgrown st caller c (Fetched downloads) counted e is x =
     let many : found.0 ≡ counted.downloads = is.downloads found.0 found.1 in
     let lt : counted.downloads < length downloads = x in
     omega (arith, most, many, lt)
+not_outgrown st caller c (Donated block ids) counted e is x =
+    let found = donated_of st caller c block ids e in
+    let few : length ids ≤ 100 = few_donated st caller c block ids e found in
+    let room : 100 ≤ counted.ids = is.ids found.0 found.1 found.2 found.3 found.4 in
+    let lt : counted.ids < length ids = x in
+    omega (arith, few, room, lt)
 not_outgrown st caller c (MachineRefused number) counted e is x = x
 not_outgrown st caller c (Moved now) counted e is x = x
 not_outgrown st caller c (LrnAdded lrn spid) counted e is x = x
 not_outgrown st caller c (CodeOpened code spid) counted e is x = x
 not_outgrown st caller c (Shown view) counted e is x = x
-not_outgrown st caller c (Donated block ids) counted e is x = x
 not_outgrown st caller c Known counted e is x = x
 not_outgrown st caller c (Answered answered) counted e is x = x
 not_outgrown st caller c (Rows rows) counted e is x = x
@@ -447,6 +493,7 @@ path_carried from to new st Codes caller body text other another third x = x
 path_carried from to new st OldProviderPath caller body text other another third x = x
 path_carried from to new st NewProviderPath caller body text other another third x = x
 path_carried from to new st (VersionPaths path) caller body text other another third x = x
+path_carried from to new st (BlockPaths path) caller body text other another third x = x
 path_carried from to new st Acknowledge caller body text other another third x = x
 path_carried from to new st QueryPath caller body text other another third x = x
 path_carried from to new st (Version number) caller body text other another third x = absurd (other number refl)

@@ -15,7 +15,7 @@ use Rattle.calls.specs.Calls.{Called, Wants, Wonders, Moves, input_of}
 use Rattle.bodies.specs.Forms.{Asked, Calling, Seeking}
 use Rattle.bodies.specs.RefusalTexts.{refusal_text}
 use Rattle.api.specs.Step.{Step, Meets, MeetsPath, Calls, Answers, AnswersAdmitted, turned_away, AnswersQuery, AnswersUri, Withholds, WithholdsTick, Takes, ticked, success, reply_text, routed_text}
-use Rattle.bodies.specs.Texts.{registered_text, routing_number_text, opened_code_text, ids_text, now_text, view_text, looked_up, uri_text, downloads_text}
+use Rattle.bodies.specs.Texts.{registered_text, donated_text, routing_number_text, opened_code_text, ids_text, now_text, view_text, looked_up, uri_text, downloads_text}
 use Rattle.bodies.specs.declared.fault.Failure.TheVariants.{Uri, Message}
 use Rattle.messages.specs.declared.fault.MessageFault.TheVariants.{BadRequest, NoPath, BadMethod}
 use Rattle.telnp.specs.declared.fault.TelFault.{TelFault}
@@ -192,7 +192,7 @@ reply_differs (Registered spid rows) machine = succeeds (registered_text spid ro
 reply_differs (LrnAdded lrn spid) machine = succeeds (routing_number_text lrn spid)
 reply_differs (CodeOpened code spid) machine = succeeds (opened_code_text code spid)
 reply_differs (Moved now) machine = succeeds (now_text now)
-reply_differs (Donated block ids) machine = nothing
+reply_differs (Donated block ids) machine = succeeds (donated_text block ids)
 reply_differs Known machine = nothing
 reply_differs (Fetched downloads) machine = succeeds (downloads_text downloads)
 reply_differs (Answered answered) machine = nothing

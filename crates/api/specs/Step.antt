@@ -32,7 +32,7 @@ use Rattle.bodies.specs.Failures.{failure_text}
 use Rattle.bodies.specs.RefusalTexts.{refusal_text}
 use Rattle.bodies.specs.Forms.{Asked, Calling, Seeking, HasForm, json_of}
 use Rattle.messages.specs.Table.{takes, among_offered}
-use Rattle.bodies.specs.Texts.{registered_text, routing_number_text, opened_code_text, ids_text, now_text, view_text, downloads_text, looked_up, uri_text}
+use Rattle.bodies.specs.Texts.{registered_text, donated_text, routing_number_text, opened_code_text, ids_text, now_text, view_text, downloads_text, looked_up, uri_text}
 
 -- ---- the answers to what was asked, byte for byte
 
@@ -49,7 +49,7 @@ reply_text (CodeOpened code spid) = success (opened_code_text code spid)
 reply_text (Shown (Some view)) = success (view_text view)
 reply_text (Shown None) = []
 reply_text (Moved now) = success (now_text now)
-reply_text (Donated block ids) = []
+reply_text (Donated block ids) = success (donated_text block ids)
 reply_text Known = []
 reply_text (Fetched downloads) = success (downloads_text downloads)
 reply_text (Answered answered) = []
@@ -82,10 +82,11 @@ told (Err failure) body = failure_text failure
 abbrev pub IsShort : (from to : ℕ) → Refusal → Type 0
 IsShort from to refusal = ((refusal ≡ Storage) × HasRisen from to) ⊎ (refusal ≡ NoMemory)
 
--- a registration shows more rows, or a carrier's queue more downloads, than were counted
+-- a registration shows more rows, a carrier's queue more downloads, or a donation more ids, than were counted
 abbrev pub Outgrows : Counted → Reply → Type 0
 Outgrows counted (Registered spid rows) = counted.rows < length rows
 Outgrows counted (Fetched downloads) = counted.downloads < length downloads
+Outgrows counted (Donated block ids) = counted.ids < length ids
 Outgrows counted _ = ⊥
 
 -- ---- what happens to a state. From and to are the counts of the device's failures before a message and after it

@@ -83,7 +83,11 @@ fn admit<S: Store>(register: &mut Register<S>, caller: Spid, call: &Call) -> Res
     }
 }
 
-// How many rows a call may show, if it is a registration, or how many downloads it asks for.
+// The most ids that a donation answers.
+const MOST_IDS: usize = 100;
+
+// How many rows a call may show, if it is a registration, how many ids, if it is a donation, or how
+// many downloads it asks for.
 fn count<S: Store>(register: &mut Register<S>, call: &Call) -> Result<Counted, Refusal>
     ensures kept { S.IsUsable register.new.store → (st : State)
         → Stands (S.content register.old.store) st → Stands (S.content register.new.store) st }
@@ -103,6 +107,10 @@ fn count<S: Store>(register: &mut Register<S>, call: &Call) -> Result<Counted, R
                 ..Counted::NONE
             })
         }
+        Call::Command(Command::Donate { .. }) => Ok(Counted {
+            ids: MOST_IDS,
+            ..Counted::NONE
+        }),
         Call::Downloads { count } => Ok(Counted {
             downloads: *count,
             ..Counted::NONE
@@ -111,8 +119,8 @@ fn count<S: Store>(register: &mut Register<S>, call: &Call) -> Result<Counted, R
     }
 }
 
-// Takes the room for the starting rows of a registration, or for a carrier's first downloads,
-// before the call is made: nothing may fail after it.
+// Takes the room for the starting rows of a registration, for the ids of a donation, or for a
+// carrier's first downloads, before the call is made: nothing may fail after it.
 fn take_room<S: Store>(
     register: &mut Register<S>,
     call: &Call,
@@ -214,10 +222,11 @@ fn carry_out_body<S: Store>(
         Ok(None) => return Err(Failure::Message(MessageFault::BadRequest)),
         Err(_) => return Err(Failure::Refused(Refusal::NoMemory)),
     };
-    match asked_of(route, &value) {
-        Some(Asked::Call(call)) => answer(register, caller, &call, room),
-        Some(Asked::Uri(uri)) => query(alloc, register, caller, uri, room),
-        None => Err(Failure::Message(MessageFault::BadRequest)),
+    match asked_of(alloc, route, &value) {
+        Ok(Some(Asked::Call(call))) => answer(register, caller, &call, room),
+        Ok(Some(Asked::Uri(uri))) => query(alloc, register, caller, uri, room),
+        Ok(None) => Err(Failure::Message(MessageFault::BadRequest)),
+        Err(_) => Err(Failure::Refused(Refusal::NoMemory)),
     }
 }
 

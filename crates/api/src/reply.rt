@@ -3,38 +3,40 @@ ghost use Rattle.std.specs.Prelude.{◌≡◌, ℕ, ◌+◌, ◌*◌, ◌<◌, �
 ghost use Rattle.calls.specs.Calls.{view_of, reply_of, in_force_of, download_of};
 ghost use Rattle.bodies.specs.Failures.{failure_text};
 ghost use Rattle.bodies.specs.Rooms.{HasRoom, IsEmpty, IsWritten};
-ghost use Rattle.bodies.specs.Texts.{registered_text, ids_text, now_text, view_text, downloads_text};
+ghost use Rattle.bodies.specs.Texts.{registered_text, donated_text, ids_text, now_text, view_text, downloads_text};
 ghost use Rattle.api.specs.Counting.{HasRoomFor};
 ghost use Rattle.api.specs.Step.{Outgrows, success, reply_text};
 
 use bodies::{
-    DOWNLOAD_ROOM, Failure, ROW_ROOM, Room, put_downloads, put_failure, put_ids, put_now,
-    put_opened_code, put_registered, put_routing_number, put_version,
+    DOWNLOAD_ROOM, Failure, ID_ROOM, ROW_ROOM, Room, put_donated, put_downloads, put_failure,
+    put_ids, put_now, put_opened_code, put_registered, put_routing_number, put_version,
 };
 use calls::{Ids, Reply, VersionView};
 use delivery::{Download, RoutedRow};
 use meaning::Refusal;
-use numbers::{Minute, Spid};
+use numbers::{BlockId, Minute, Spid};
 
-// The rows, or downloads, that an answer may show.
+// The rows, downloads or ids that an answer may show.
 const MOST: usize = 1 << 40;
 
-/// How many rows an answer may show, and how many downloads.
+/// How many rows an answer may show, how many downloads, and how many ids.
 #[derive(Clone, Copy, Debug)]
 pub struct Counted {
     pub rows: usize,
     pub downloads: usize,
+    pub ids: usize,
 }
 
 impl Counted {
-    /// Neither rows nor downloads.
+    /// Neither rows nor downloads, and no ids.
     pub const NONE: Counted = Counted {
         rows: 0,
         downloads: 0,
+        ids: 0,
     };
 }
 
-/// Takes the room for a body of so many rows, or of so many downloads.
+/// Takes the room for a body of so many rows, of so many downloads, or of so many ids.
 pub fn take_counted(room: &mut Room, counted: Counted) -> Result<(), Refusal>
     requires empty { IsEmpty room.old }
     ensures ok { OnOk result (HasRoomFor counted room.new) }
@@ -42,10 +44,11 @@ pub fn take_counted(room: &mut Room, counted: Counted) -> Result<(), Refusal>
     ensures empty { IsEmpty room.new }
     ensures room { (n : ℕ) → HasRoom n room.old → HasRoom n room.new }
 {
-    if counted.rows > MOST || counted.downloads > MOST {
+    if counted.rows > MOST || counted.downloads > MOST || counted.ids > MOST {
         return Err(Refusal::NoMemory);
     }
-    room.take(64 + counted.rows * ROW_ROOM + counted.downloads * DOWNLOAD_ROOM)?;
+    let listed = counted.rows * ROW_ROOM + counted.downloads * DOWNLOAD_ROOM;
+    room.take(64 + listed + counted.ids * ID_ROOM)?;
     Ok(())
 }
 
@@ -92,6 +95,25 @@ fn put_fetched(room: &mut Room, downloads: &[Download], counted: Counted) -> Res
     Ok(())
 }
 
+// The room for a hundred was taken before. A donation never makes more: that refusal is no
+// message's answer.
+fn put_made(room: &mut Room, block: BlockId, ids: &[u64], counted: Counted) -> Result<(), Failure>
+    requires empty { IsEmpty room.old }
+    requires room { HasRoom 512 room.old }
+    requires counted { HasRoomFor counted room.old }
+    ensures ok { OnOk result (IsWritten room.new) }
+    ensures room { HasRoom 512 room.new }
+    ensures body { OnOk result
+        (string_bytes room.new.body ≡ donated_text block.number ids.now) }
+    ensures more { OnErr result (counted.ids < length ids.now) }
+{
+    if ids.len() > counted.ids {
+        return Err(Failure::Refused(Refusal::Storage));
+    }
+    put_donated(&mut room.body, block, ids);
+    Ok(())
+}
+
 fn put_shown(room: &mut Room, view: &VersionView)
     requires empty { IsEmpty room.old }
     requires room { HasRoom 512 room.old }
@@ -122,8 +144,8 @@ fn put_moved(room: &mut Room, now: Minute)
     put_now(&mut room.body, now);
 }
 
-/// Writes a reply. It fails alone where a registration shows more rows than were counted, or more
-/// downloads are shown than were asked for.
+/// Writes a reply. It fails alone where a registration shows more rows than were counted, more
+/// downloads are shown than were asked for, or a donation shows more ids than room was taken for.
 pub fn put_reply(room: &mut Room, reply: &Reply, counted: Counted) -> Result<(), Failure>
     requires empty { IsEmpty room.old }
     requires room { HasRoom 512 room.old }
@@ -137,6 +159,7 @@ pub fn put_reply(room: &mut Room, reply: &Reply, counted: Counted) -> Result<(),
     match reply {
         Reply::Registered { spid, rows } => put_starting_rows(room, *spid, rows, counted),
         Reply::Fetched(downloads) => put_fetched(room, downloads, counted),
+        Reply::Donated { block, ids } => put_made(room, *block, ids, counted),
         Reply::RoutingNumberRegistered { lrn, spid } => {
             put_routing_number(&mut room.body, *lrn, *spid);
             Ok(())

@@ -1,4 +1,4 @@
-use Rattle.std.proofs.Common.{inl, inr, refl, ap, sym, subst, ◌∙◌, option_map}
+use Rattle.std.proofs.Common.{inl, inr, refl, Some, IfSome, ap, sym, subst, ◌∙◌, option_map}
 use Rattle.meaning.specs.declared.refusal.Refusal.TheVariants.{NoMemory}
 use Rattle.calls.specs.Calls.{called_of}
 use Rattle.bodies.specs.Forms.{Calling, Seeking, HasForm, asked_of}
@@ -10,12 +10,17 @@ use Rattle.api.proofs.call.carry_out_body.Goals as goal
 pub returns-in-Err-clause-calls : goal.returns-in-Err-clause-calls
 returns-in-Err-clause-calls g c = λ u st s. (st, inl (inr (text_by_number NoMemory), refl), s)
 
-pub returns-in-Some-Call-clause-calls : goal.returns-in-Some-Call-clause-calls
-returns-in-Some-Call-clause-calls g c = λ u st s.
-    calls_carried (g.S.Store.failed c.args.register.now.store) (g.S.Store.failed c.answer.new.register.store) (g.S.Store.content c.answer.new.register.store) st c.args.route c.args.caller.number c.args.body.now (body_data c.in-Ok-Some.value) (Calling (called_of c.in-Some-Call.call)) _
-    (sym (ap (option_map body_data) c.in-Ok-Some.field-0-is) ∙ c.in-Ok-Some.ensures) (subst (λ asked. HasForm c.args.route (body_data c.in-Ok-Some.value) (asked_of asked)) c.in-Some-Call.field-0-is c.in-Some-Call.ensures.some) (c.answer.ensures.carries u st s)
+pub returns-in-Ok-Some-Call-clause-calls : goal.returns-in-Ok-Some-Call-clause-calls
+returns-in-Ok-Some-Call-clause-calls g c = λ u st s.
+    calls_carried (g.S.Store.failed c.args.register.now.store) (g.S.Store.failed c.answer.new.register.store) (g.S.Store.content c.answer.new.register.store) st c.args.route c.args.caller.number c.args.body.now (body_data c.in-Ok-Some.value) (Calling (called_of c.in-Ok-Some-Call.call)) _
+    (sym (ap (option_map body_data) c.in-Ok-Some.field-0-is) ∙ c.in-Ok-Some.ensures)
+    (subst (λ read. IfSome read (λ asked. HasForm c.args.route (body_data c.in-Ok-Some.value) (asked_of asked))) (c.in-Ok-Some-Call.field-0-is ∙ ap Some c.in-Ok-Some-Call.field-0-0-is) c.in-Ok-Some-Call.ensures.some) (c.answer.ensures.carries u st s)
 
-pub returns-in-Some-Uri-clause-calls : goal.returns-in-Some-Uri-clause-calls
-returns-in-Some-Uri-clause-calls g c = λ u st s.
-    calls_carried (g.S.Store.failed c.args.register.now.store) (g.S.Store.failed c.query.new.register.store) (g.S.Store.content c.query.new.register.store) st c.args.route c.args.caller.number c.args.body.now (body_data c.in-Ok-Some.value) (Seeking c.in-Some-Uri.uri.now) _
-    (sym (ap (option_map body_data) c.in-Ok-Some.field-0-is) ∙ c.in-Ok-Some.ensures) (subst (λ asked. HasForm c.args.route (body_data c.in-Ok-Some.value) (asked_of asked)) c.in-Some-Uri.field-0-is c.in-Some-Uri.ensures.some) (c.query.ensures.carries u st s)
+pub returns-in-Ok-Some-Uri-clause-calls : goal.returns-in-Ok-Some-Uri-clause-calls
+returns-in-Ok-Some-Uri-clause-calls g c = λ u st s.
+    calls_carried (g.S.Store.failed c.args.register.now.store) (g.S.Store.failed c.query.new.register.store) (g.S.Store.content c.query.new.register.store) st c.args.route c.args.caller.number c.args.body.now (body_data c.in-Ok-Some.value) (Seeking c.in-Ok-Some-Uri.uri.now) _
+    (sym (ap (option_map body_data) c.in-Ok-Some.field-0-is) ∙ c.in-Ok-Some.ensures)
+    (subst (λ read. IfSome read (λ asked. HasForm c.args.route (body_data c.in-Ok-Some.value) (asked_of asked))) (c.in-Ok-Some-Uri.field-0-is ∙ ap Some c.in-Ok-Some-Uri.field-0-0-is) c.in-Ok-Some-Uri.ensures.some) (c.query.ensures.carries u st s)
+
+pub returns-clause-calls : goal.returns-clause-calls
+returns-clause-calls g c = λ u st s. (st, inl (inr (text_by_number NoMemory), refl), s)
