@@ -2,6 +2,8 @@
 #![tactic(auto)]
 
 #[cfg(test)]
+mod block_bodies;
+#[cfg(test)]
 mod blocks;
 #[cfg(test)]
 mod commands;
