@@ -1,5 +1,5 @@
 //! Bodies of commands on a block: which are of their form, and which are not.
-use crate::port::{Said, answer, asked, hears, new_register, whole};
+use crate::port::{FIRST_PORT, Said, answer, asked, hears, new_register, stream_of, whole};
 use register::Register;
 use std::alloc::{AllocError, Global};
 use std::process::Abort;
@@ -129,12 +129,7 @@ static BAD_REST: [Said<'static>; 6] = [
         r#"{"block":"2025337","holder":"CCCC","lrn":"2025550000","used":[]}"#,
         BAD_REQUEST,
     ),
-    (
-        "CCCC",
-        "/blocks/release",
-        r#"{"block":null}"#,
-        BAD_REQUEST,
-    ),
+    ("CCCC", "/blocks/release", r#"{"block":null}"#, BAD_REQUEST),
     (
         "CCCC",
         "/blocks/release",
@@ -185,7 +180,7 @@ static GOOD: [Said<'static>; 6] = [
     (
         "BBBB",
         "/blocks/donate",
-        r#"{ "used" : [ "999" , "00\u0030" ] , "lrn" : "2025330000" , "cic" : "0288" , "block" : "2025337" }"#,
+        r#"{"used": ["999", "00\u0030" ], "lrn":"2025330000","cic":"0288" ,"block":"2025337"}"#,
         UNKNOWN,
     ),
     (
@@ -200,12 +195,7 @@ static GOOD: [Said<'static>; 6] = [
         r#"{"holder":"CCCC","lrn":"2025550000","cic":"0288","block":"2025337"}"#,
         UNKNOWN,
     ),
-    (
-        "CCCC",
-        "/blocks/release",
-        r#"{"block":"2025337"}"#,
-        UNKNOWN,
-    ),
+    ("CCCC", "/blocks/release", r#"{"block":"2025337"}"#, UNKNOWN),
 ];
 
 // A new register knows no carrier, so a body of the form is judged by that.
@@ -245,4 +235,41 @@ fn a_hundred_thousand_lines_are_read(rt: HostRuntime) {
 #[test]
 fn the_last_of_many_lines_is_looked_at(rt: HostRuntime) {
     assert!(rt; is_long_answered(&rt, r#""12""#, "400 Bad Request", BAD_REQUEST).is_some());
+}
+
+// A donation of two numbers, one of them named twice, and one of none.
+static DONATIONS: [Said<'static>; 2] = [
+    (
+        "BBBB",
+        "/blocks/donate",
+        r#"{"block":"2025337","lrn":"2025330000","used":["002","001","002"]}"#,
+        r#"{"block":"2025337","ids":[1,2]}"#,
+    ),
+    (
+        "BBBB",
+        "/blocks/donate",
+        r#"{"block":"2025338","lrn":"2025330000","used":[]}"#,
+        r#"{"block":"2025338","ids":[]}"#,
+    ),
+];
+
+// Behind the carriers, the routing numbers and the code of the first port.
+fn are_donated<T: Abort + AllocGlobal>(rt: &T) -> Option<()> {
+    let mut texts = stream_of(rt.alloc(), &FIRST_PORT[..5])?;
+    texts.add_rows(rt.alloc(), &DONATIONS).ok()?;
+    let mut register = new_register(rt.alloc())?;
+    let mut reader = texts.asked.as_bytes();
+    hears(
+        rt,
+        &mut register,
+        &mut reader,
+        texts.answered.as_str(),
+        whole(7),
+    );
+    Some(())
+}
+
+#[test]
+fn a_donation_tells_the_ids_that_it_made(rt: HostRuntime) {
+    assert!(rt; are_donated(&rt).is_some());
 }
