@@ -1,9 +1,8 @@
 -- What an assignment leaves and answers, over contents.
-use Rattle.std.proofs.Common.{◌≡◌, ℕ, ◌+◌, ◌≤◌, Bool, true, false, cond, ◌||◌, List, [], ◌∷◌, Option, Some, None, refl, ap, sym, ◌∙◌, subst, arith}
+use Rattle.std.proofs.Common.{◌≡◌, ℕ, ◌+◌, ◌≤◌, Bool, true, false, cond, ◌||◌, List, [], ◌∷◌, Option, Some, None, refl, ap, sym, ◌∙◌, subst}
 use Rattle.std.specs.Prelude.{nat_lt, is_none, option_map, if◌then◌else◌}
 use Rattle.std.specs.List.{list_any}
 use Rattle.std.specs.FinMap.{get, keys}
-use Rattle.std.proofs.lemmas.Bool.Decides.{nat_tests}
 use Rattle.numbers.specs.Subjects.{Subject, Block, subject_eq}
 use Rattle.numbers.specs.Views.{subject_of}
 use Rattle.numbers.specs.declared.cic.Cic.{Cic}
@@ -36,7 +35,7 @@ use Rattle.register.specs.declared.blocks.BlockRead.{BlockRead}
 use Rattle.register.specs.Answers.{Stands}
 use Rattle.register.specs.Pooling.{pooling}
 use Rattle.register.specs.Settling.{AnswersSettled, AreSettled, LeavesOthers, is_of_block}
-use Rattle.register.proofs.BlockCalled.{HasFound}
+use Rattle.register.proofs.BlockCalled.{HasFound, not_past}
 use Rattle.register.proofs.BlockCommands.{assigned_row, assignment-blocks, assignment-makes, unsent_block}
 use Rattle.register.proofs.BlockFacts.{block_facts_are}
 use Rattle.register.proofs.Composed.{Views, answers_accepted, answers_refused_same}
@@ -44,9 +43,6 @@ use Rattle.register.proofs.MadeSent.{AreBegun, bare}
 use Rattle.register.proofs.OnVersion.{clock_is_of, clock_of, shown_is}
 use Rattle.register.proofs.Pooled.{made-records, pooled-leaves, pooled-stands}
 use Rattle.register.proofs.Unfailing.{never_storage}
-
-not_past : (n : ℕ) → nat_lt limit n ≡ false → n ≤ limit
-not_past n below = grind (arith, nat_tests)
 
 is_there : {A : Type 0} (o : Option A) → is_none o ≡ false → (x : A) × (o ≡ Some x)
 is_there None e = cc

@@ -1,14 +1,16 @@
 -- What a command on a block has read, and how it is refused, over contents.
-use Rattle.std.proofs.Common.{◌≡◌, ℕ, Bool, true, false, not, ◌&&◌, ◌||◌, inl, inr, List, Option, Some, refl, ap, sym, ◌∙◌, subst}
-use Rattle.std.specs.Prelude.{◌==◌, ◌≢◌, nat_lt, is_some, if◌then◌else◌, Result, Err}
+use Rattle.std.proofs.Common.{arith, ◌≡◌, ◌≤◌, ℕ, Bool, true, false, not, ◌&&◌, ◌||◌, inl, inr, List, Option, Some, refl, ap, sym, ◌∙◌, subst}
+use Rattle.std.specs.Prelude.{◌==◌, ◌≢◌, nat_lt, is_some, Result, Err}
 use Rattle.std.specs.FinMap.{get}
+use Rattle.std.proofs.lemmas.Bool.Decides.{nat_tests}
 use Rattle.meaning.specs.Commands.{Command, Donate, Assign, Release}
+use Rattle.meaning.specs.Conditions.{limit}
 use Rattle.meaning.specs.Content.{Content, ClockRow}
 use Rattle.meaning.specs.History.{Commands}
 use Rattle.meaning.specs.Machine.{Reply}
 use Rattle.meaning.specs.Reading.{State, is_carrier}
 use Rattle.meaning.specs.RefusalNumbers.{number_of}
-use Rattle.meaning.specs.Refusals.{Requests, npac, refusal, tests, unknown_carrier}
+use Rattle.meaning.specs.Refusals.{Requests, npac, refusal, unknown_carrier}
 use Rattle.meaning.specs.declared.refusal.Refusal.{Refusal}
 use Rattle.meaning.specs.declared.refusal.Refusal.TheVariants.{NoMemory}
 use Rattle.pool.specs.declared.facts.BlockFacts.{BlockFacts}
@@ -17,7 +19,7 @@ use Rattle.register.specs.declared.blocks.BlockRead.{BlockRead}
 use Rattle.register.specs.Answers.{Stands}
 use Rattle.register.specs.Blocks.{AreBlockFacts, IsBlockFound, IsBlockFoundInVain, IsBlockRead, is_routing_good}
 use Rattle.register.specs.Settling.{AnswersSettled, AreSettled}
-use Rattle.register.proofs.Composed.{answers_refused_same, answers_without}
+use Rattle.register.proofs.Composed.{answers_refused_same, answers_without, first_refusal}
 
 -- ---- carriers
 
@@ -56,14 +58,6 @@ releaser_unknown st old caller block stands known is =
 
 -- ---- refused for carriers
 
-pub first_refusal : (st : State) (caller : ℕ) (c : Command) → unknown_carrier st (Requests caller (Commands c)) ≡ true → refusal st (Requests caller (Commands c)) ≡ Some 1
-unfolding tests
-first_refusal st caller c unknown = go (unknown_carrier st (Requests caller (Commands c))) _ unknown
-  where
-    go : (b : Bool) (rest : Option ℕ) → b ≡ true → (if b then Some 1 else rest) ≡ Some 1
-    go true rest e = refl
-    go false rest e = cc
-
 -- by what was answered where no block was found
 pub answers_unfound : {A : Type 0} (old new : Content) (caller : ℕ) (command : Command) (is_known : Bool) (seen : A → Reply) (result : Result A Refusal) (r : Refusal) →
     result ≡ Err r → new ≡ old → IsBlockFoundInVain is_known r →
@@ -76,6 +70,11 @@ answers_unfound old new caller command is_known seen result r is same vain unkno
     go (inl (its, stranger)) = subst (λ x. AnswersSettled old new (Requests caller (Commands command)) (replied seen (Err x))) (sym its)
         (answers_refused_same old new (Requests caller (Commands command)) 1 same (λ st stands settled. first_refusal st caller command (unknown st stands ∙ ap not stranger)))
     go (inr past) = answers_without old new (Requests caller (Commands command)) (number_of r) past same
+
+-- ---- ids
+
+pub not_past : (n : ℕ) → nat_lt limit n ≡ false → n ≤ limit
+not_past n below = grind (arith, nat_tests)
 
 -- ---- what was read
 

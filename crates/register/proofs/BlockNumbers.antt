@@ -79,7 +79,7 @@ none_there (Some x) e = cc
 grows : (n m : ℕ) → n < m → subject_key (Number n) < subject_key (Number m)
 grows n m less = omega (arith, less)
 
-in_this_block : (block line : ℕ) → line < 1000 → block_of (number_in block line) ≡ block
+pub in_this_block : (block line : ℕ) → line < 1000 → block_of (number_in block line) ≡ block
 in_this_block block line small = omega (arith, small)
 
 module _ (st : State) (c : Content) (stands : Stands c st) where

@@ -1,9 +1,8 @@
 -- What a donation leaves and answers, over contents.
-use Rattle.std.proofs.Common.{◌≡◌, ℕ, suc, ◌+◌, ◌≤◌, ◌<◌, Bool, true, false, List, [], ◌∷◌, map, length, Some, None, refl, ap, sym, ◌∙◌, subst, arith, inl, inr}
+use Rattle.std.proofs.Common.{◌≡◌, ℕ, suc, ◌+◌, ◌≤◌, ◌<◌, Bool, true, false, List, [], ◌∷◌, map, length, Some, None, refl, ap, sym, ◌∙◌, subst, inl, inr}
 use Rattle.std.specs.Prelude.{◌==◌, ◌≢◌, nat_lt, filter, is_none, Result, Err, if◌then◌else◌}
 use Rattle.std.specs.List.{list_any}
 use Rattle.std.specs.FinMap.{get, keys}
-use Rattle.std.proofs.lemmas.Bool.Decides.{nat_tests}
 use Rattle.numbers.specs.Digits.{block_of, number_in}
 use Rattle.numbers.specs.Subjects.{Subject, Number, Block, subject_eq}
 use Rattle.meaning.specs.declared.refusal.Refusal.{Refusal}
@@ -34,9 +33,10 @@ use Rattle.register.specs.declared.blocks.BlockRead.{BlockRead}
 use Rattle.register.specs.Answers.{Stands}
 use Rattle.register.specs.Pooling.{pooling}
 use Rattle.register.specs.Settling.{AnswersSettled, AreSettled, LeavesOthers, is_of_block}
-use Rattle.register.proofs.BlockCalled.{HasFound, answers_or_no_memory}
+use Rattle.register.proofs.BlockCalled.{HasFound, answers_or_no_memory, not_past}
 use Rattle.register.proofs.BlockCommands.{donated_row, donation-blocks, donation-makes, protective, to_protect}
 use Rattle.register.proofs.BlockFacts.{block_facts_are, facts_numbers_are}
+use Rattle.register.proofs.BlockNumbers.{in_this_block}
 use Rattle.register.proofs.Composed.{answers_accepted}
 use Rattle.register.proofs.OnVersion.{clock_is_of, clock_of}
 use Rattle.register.proofs.Planned.{Once, cic_of, once-apart, planned-begun, planned-subjects, used_once}
@@ -48,9 +48,6 @@ each_line : (ns : List ℕ) → AreLines ns → (n : ℕ) → Among n ns → n <
 each_line [] lines n there = absurd there
 each_line (m ∷ ms) lines n (inl is) = subst (λ k. k < 1000) (sym is) lines.0
 each_line (m ∷ ms) lines n (inr there) = each_line ms lines.1 n there
-
-in_this_block : (block line : ℕ) → line < 1000 → block_of (number_in block line) ≡ block
-in_this_block block line small = omega (arith, small)
 
 used-inside : (st : State) (block : ℕ) (test : Subject → Bool) (used : List ℕ) → AreLines used → (t : Subject) → list_any (subject_eq t) (filter test (used_numbers block used)) ≡ true → is_of_block block st t ≡ true
 used-inside st block test used lines t named =
@@ -75,9 +72,6 @@ so_many caller minute d from [] [] are = refl
 so_many caller minute d from (s ∷ ss) (e ∷ es) are = ap suc (so_many caller minute d (suc from) ss es are.2)
 so_many caller minute d from [] (e ∷ es) are = absurd are
 so_many caller minute d from (s ∷ ss) [] are = absurd are
-
-not_past : (n : ℕ) → nat_lt limit n ≡ false → n ≤ limit
-not_past n below = grind (arith, nat_tests)
 
 -- ---- the donation
 
