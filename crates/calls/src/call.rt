@@ -25,15 +25,25 @@ pub enum Call {
 #[derive(Debug, Drop)]
 pub enum Command {
     /// The administrator registers a carrier.
-    RegisterCarrier { spid: Spid },
+    RegisterCarrier {
+        spid: Spid,
+    },
     /// A carrier registers a routing number of its own.
-    RegisterRoutingNumber { lrn: Lrn },
+    RegisterRoutingNumber {
+        lrn: Lrn,
+    },
     /// The administrator opens a code for its holder.
-    OpenCode { code: CodeId, spid: Spid },
+    OpenCode {
+        code: CodeId,
+        spid: Spid,
+    },
     /// A provider creates a port.
     Create(Create),
     /// A provider commands a version.
-    OnVersion { id: u64, command: VersionCommand },
+    OnVersion {
+        id: u64,
+        command: VersionCommand,
+    },
     /// A carrier gives a block back to the pool, with the lines of it that are in use.
     Donate {
         block: BlockId,
@@ -44,7 +54,9 @@ pub enum Command {
     /// The administrator gives a donated block to a carrier.
     Assign(Assignment),
     /// The holder of a block or the administrator gives it back to the pool.
-    Release { block: BlockId },
+    Release {
+        block: BlockId,
+    },
 }
 
 /// What an accepted call answers.
