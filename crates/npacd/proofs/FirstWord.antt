@@ -32,6 +32,10 @@ feed_met : IsMet (codes "feed")
 unfolding clap_on_literals
 feed_met = refl
 
+serve_met : IsMet (codes "serve")
+unfolding clap_on_literals
+serve_met = refl
+
 -- where a name is met at once, its rule reads the words after it
 entered_at : (program name : Text) (after : List Text) → IsMet name
     → subcommand_of npacd_app (program ∷ name ∷ after) ≡ entered (built npacd_app) (Some (name, after))
@@ -49,6 +53,10 @@ feed_rows : (after : List Text) (rows : List Row) → Reads (codes "feed") after
 unfolding clap_on_literals
 feed_rows after rows e = ap (option_map (λ (p : Pair). p.1)) e
 
+serve_rows : (after : List Text) (rows : List Row) → Reads (codes "serve") after rows
+unfolding clap_on_literals
+serve_rows after rows e = ap (option_map (λ (p : Pair). p.1)) e
+
 at_name : (program literal name : Text) (after : List Text) (rows : List Row) → IsMet literal → Reads literal after rows → name ≡ literal
     → subcommand_of npacd_app (program ∷ name ∷ after) ≡ Some (name, rows) → rows_named name after ≡ Some rows
 at_name program literal name after rows met reads e found =
@@ -59,3 +67,4 @@ at_name program literal name after rows met reads e found =
 pub rows_are_named : (program name : Text) (after : List Text) (rows : List Row) (s : Subcommand) → IsSubcommand name rows s
     → subcommand_of npacd_app (program ∷ name ∷ after) ≡ Some (name, rows) → rows_named name after ≡ Some rows
 rows_are_named program name after rows sub.Feed h found = at_name program (codes "feed") name after rows feed_met (feed_rows after rows) h found
+rows_are_named program name after rows (sub.Serve port connections) h found = at_name program (codes "serve") name after rows serve_met (serve_rows after rows) h.0 found

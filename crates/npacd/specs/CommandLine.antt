@@ -1,5 +1,7 @@
 -- The command line: what `clap`'s rule reads off the words.
-use Rattle.std.specs.Prelude.{◌≡◌, Bool, true, List, ◌∷◌, [], codes, Option, Some, option_map, find}
+use Rattle.std.specs.Prelude.{◌≡◌, ℕ, nat_lt, Bool, true, false, List, ◌∷◌, [], codes, Option, Some, None, option_map, option_and_then, find, if◌then◌else◌}
+use Rattle.clap.specs.declared.builder.value_parser.ValueParser.TheVariants.{Unsigned}
+use Rattle.messages.specs.Fields.{number_of}
 use Rattle.clap.specs.Walk.{answers_to, rows_after}
 use Rattle.clap.specs.Simple.{built, label_of}
 use Rattle.clap.specs.Words.{App, Row, Rule, Text, first_of, new_app, new_rule, with_rule, with_subcommand}
@@ -11,23 +13,48 @@ use Rattle.npacd.specs.declared.parse.Line.{Line}
 abbrev pub option_rule : Text → Bool → Rule
 option_rule id required = record (new_rule id) { long = Some id; value_names = 1; required = required }
 
+-- the same, of a whole number from 1 to 65535
+abbrev pub number_rule : Text → Bool → Rule
+number_rule id required = record (option_rule id required) { parser = Some (Unsigned 1 65535) }
+
 -- a subcommand with the options that each has
 abbrev pub plain_app : Text → App
-plain_app name = with_rule (new_app name) (option_rule (codes "windows") true)
+plain_app name = with_rule (with_rule (new_app name) (option_rule (codes "windows") true)) (option_rule (codes "feed") false)
+
+abbrev pub serve_app : App
+serve_app = with_rule (with_rule (plain_app (codes "serve")) (number_rule (codes "port") true)) (number_rule (codes "connections") false)
 
 abbrev pub with_wanted_subcommand : App → App
 with_wanted_subcommand a = record a { top = record a.top { subcommand_required = true } }
 
+abbrev pub with_version : App → App
+with_version a = record a { top = record a.top { has_version = true } }
+
 abbrev pub npacd_app : App
-npacd_app = with_subcommand (with_wanted_subcommand (new_app (codes "npacd"))) (plain_app (codes "feed")).top
+npacd_app = with_subcommand (with_subcommand (with_wanted_subcommand (with_version (new_app (codes "npacd")))) (plain_app (codes "feed")).top) serve_app.top
+
+-- a number below 2^16
+abbrev pub small_number : Option ℕ → Option ℕ
+small_number o = option_and_then (λ n. if nat_lt n 65536 then Some n else None) o
+
+-- the number below 2^16 that an option's value writes in digits
+abbrev pub number_under : Text → List Row → Option ℕ
+number_under id rows = small_number (option_and_then number_of (first_of id rows))
+
+-- the same of an option that may be left out
+abbrev pub IsNumberIfAny : Text → List Row → Option ℕ → Type 0
+IsNumberIfAny id rows None = first_of id rows ≡ None
+IsNumberIfAny id rows (Some n) = number_under id rows ≡ Some n
 
 -- which subcommand a name is
 abbrev pub IsSubcommand : Text → List Row → Subcommand → Type 0
 IsSubcommand name rows sub.Feed = name ≡ codes "feed"
+IsSubcommand name rows (sub.Serve port connections) = (name ≡ codes "serve") × (number_under (codes "port") rows ≡ Some port) × IsNumberIfAny (codes "connections") rows connections
 
 pub record IsLineOf (name : Text) (rows : List Row) (line : Line) : Type 0 where
   pub subcommand : IsSubcommand name rows line.subcommand
   pub windows : first_of (codes "windows") rows ≡ Some line.windows.now
+  pub feed : first_of (codes "feed") rows ≡ option_map (λ s. s.now) line.feed
 
 -- the rows that the rule of the subcommand of this name reads off the words after it
 abbrev pub rows_named : Text → List Text → Option (List Row)

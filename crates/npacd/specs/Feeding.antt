@@ -42,6 +42,7 @@ Feeds w input had has unwritten (Err (fault.Open opening.NoMemory)) = append_kno
 Feeds w input had has unwritten (Err (fault.Open opening.Storage)) = ⊥
 Feeds w input had has unwritten (Err (fault.Open opening.WindowsDiffer)) = ⊥
 Feeds w input had has unwritten (Err (fault.Windows refused)) = ⊥
+Feeds w input had has unwritten (Err fault.Listen) = ⊥
 
 -- how serving ended, as the program's fault
 abbrev pub fault_of_end : End → Result (Unit {0}) Fault

@@ -12,6 +12,8 @@ pub enum Fault {
     Windows(WindowFault),
     Open(OpenFault),
     Message(MessageFault),
+    /// The port was not had.
+    Listen,
     Read,
     Write,
     NoMemory,
@@ -28,6 +30,7 @@ impl Fault {
             Fault::Open(OpenFault::Storage) => "storage",
             Fault::Open(OpenFault::NoMemory) | Fault::NoMemory => "no_memory",
             Fault::Message(fault) => fault.name(),
+            Fault::Listen => "listen",
             Fault::Read => "read",
             Fault::Write => "write",
         }
@@ -40,6 +43,7 @@ impl Fault {
         match self {
             Fault::Windows(WindowFault::NoMemory)
             | Fault::Open(OpenFault::Storage | OpenFault::NoMemory)
+            | Fault::Listen
             | Fault::Read
             | Fault::Write
             | Fault::NoMemory => 3,

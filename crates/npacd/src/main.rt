@@ -2,11 +2,15 @@
 #![tactic(auto)]
 
 mod command;
+#[cfg(test)]
+mod connections;
 mod fault;
+mod listening;
 mod options;
 pub mod parse;
 mod running;
 
+pub use listening::{MachineMinutes, serve_next};
 pub use running::run;
 use std::process::ExitCode;
 use std::{env, io};

@@ -14,6 +14,8 @@ use std::convert::AsStr;
 pub enum Subcommand {
     /// Serves standard input to standard output.
     Feed,
+    /// Serves connections to a port of this machine: so many, or without end.
+    Serve { port: u16, connections: Option<u16> },
 }
 
 /// A command line that is carried out.
@@ -22,6 +24,8 @@ pub struct Line<'a> {
     pub subcommand: Subcommand,
     /// The file of the windows.
     pub windows: &'a str,
+    /// The file of the messages that are served first, if there is one.
+    pub feed: Option<&'a str>,
 }
 
 /// A text for the user and the exit status that goes with it.
@@ -35,6 +39,15 @@ fn no_memory(alloc: Global) -> Usage {
     Usage {
         text: String::new(alloc),
         status: 3,
+    }
+}
+
+// A number that `clap` reads and that is not written in digits alone.
+fn no_digits(alloc: Global) -> Usage {
+    let mut text = String::new(alloc);
+    match text.push_str("error: a number is written in digits\n") {
+        Ok(()) => Usage { text, status: 2 },
+        Err(_) => no_memory(alloc),
     }
 }
 
@@ -78,7 +91,7 @@ pub fn parse<'a, S: AsStr>(alloc: Global, words: &'a [S]) -> Result<Line<'a>, Us
     match matches.subcommand() {
         Some((name, found)) if is_second(words, name) => match line_of(name, found) {
             Ok(line) => Ok(line),
-            Err(_) => Err(no_memory(alloc)),
+            Err(_) => Err(no_digits(alloc)),
         },
         _ => Err(no_memory(alloc)),
     }

@@ -9,12 +9,16 @@ ghost use Rattle.store.specs.Tables.{content_of};
 ghost use Rattle.npacd.specs.Feeding.{Feeds, outcome_of};
 
 use crate::fault::Fault;
+use crate::listening::listen;
 use crate::parse::{Line, Subcommand, Usage, parse};
 use api::{End, NoTicks, Options, Served, serve};
 use register::{Register, law_of_new_stores};
 use std::alloc::Global;
+use std::fs::File;
 use std::io::{BufWriter, ErrorKind, Read, Write};
+use std::net::Net;
 use std::rt::Files;
+use std::time::Clock;
 use std::{fs, io};
 use store::MemoryStore;
 use windows::{WindowFault, Windows};
@@ -51,7 +55,7 @@ fn ended(served: Result<Served, api::Fault>) -> Result<(), Fault>
 }
 
 // How many bytes of answers are gathered, at most, before they are written.
-const GATHERED: usize = 65_536;
+pub(crate) const GATHERED: usize = 65_536;
 
 // Serves the reader to the writer over a register in memory: where its content stands for the first
 // state of some windows, the answers are those of the history machine from there on. Unless a write
@@ -117,15 +121,73 @@ fn feed_gathering<R: Read, W: Write>(
     outcome
 }
 
-fn run_subcommand<T: Files + AllocGlobal, R: Read, W: Write>(
+// Serves the messages of a file, whose answers nobody sees.
+fn feed_file<T: Files + AllocGlobal>(
+    rt: &T,
+    register: &mut Register<MemoryStore>,
+    path: &str,
+) -> Result<(), Fault> {
+    let mut file = File::open(rt, path).map_err(read_fault)?;
+    let options = Options { clock_route: true };
+    let mut nobody = io::sink();
+    ended(serve(
+        rt.alloc(),
+        register,
+        &mut NoTicks,
+        &options,
+        &mut file,
+        &mut nobody,
+    ))
+}
+
+// A new register in memory, to which a file of messages was fed.
+fn fed_register<T: Files + AllocGlobal>(
+    rt: &T,
+    windows: &Windows,
+    path: Option<&str>,
+) -> Result<Register<MemoryStore>, Fault> {
+    let store = MemoryStore::new(rt.alloc());
+    let mut register = match Register::open(rt.alloc(), store, windows) {
+        Ok(register) => register,
+        Err((_store, fault)) => return Err(Fault::Open(fault)),
+    };
+    if let Some(path) = path {
+        feed_file(rt, &mut register, path)?;
+    }
+    Ok(register)
+}
+
+// Serves the reader to the writer over a register to which a file of messages was fed.
+fn feed_after<T: Files + AllocGlobal, R: Read, W: Write>(
+    rt: &T,
+    windows: &Windows,
+    path: &str,
+    reader: &mut R,
+    writer: &mut W,
+) -> Result<(), Fault> {
+    let mut register = fed_register(rt, windows, Some(path))?;
+    let Ok(mut gathering) = BufWriter::with_capacity(rt.alloc(), GATHERED, writer) else {
+        return Err(Fault::NoMemory);
+    };
+    let outcome = feed_to(rt.alloc(), &mut register, reader, &mut gathering);
+    let (_writer, _unwritten) = gathering.into_parts();
+    outcome
+}
+
+fn run_subcommand<T: Files + AllocGlobal + Net + Clock, R: Read, W: Write>(
     rt: &T,
     line: &Line<'_>,
     reader: &mut R,
     writer: &mut W,
 ) -> Result<(), Fault> {
     let windows = windows_at(rt, line.windows)?;
-    match line.subcommand {
-        Subcommand::Feed => feed_gathering(rt.alloc(), &windows, reader, writer),
+    match (line.subcommand, line.feed) {
+        (Subcommand::Feed, None) => feed_gathering(rt.alloc(), &windows, reader, writer),
+        (Subcommand::Feed, Some(path)) => feed_after(rt, &windows, path, reader, writer),
+        (Subcommand::Serve { port, connections }, feed) => {
+            let mut register = fed_register(rt, &windows, feed)?;
+            listen(rt, &mut register, port, connections, writer)
+        }
     }
 }
 
@@ -149,7 +211,7 @@ fn tell<E: Write>(errors: &mut E, fault: Fault) -> u8 {
 /// exit status: 0 done, or help; 1 a refused windows file, or input that ended by a message's
 /// fault; 2 the command line; 3 memory, a read or a write. With 1 and 3 one line `npacd: ` and the
 /// fault's name goes to the errors.
-pub fn run<T: Files + AllocGlobal, R: Read, W: Write, E: Write>(
+pub fn run<T: Files + AllocGlobal + Net + Clock, R: Read, W: Write, E: Write>(
     rt: &T,
     words: &[String],
     reader: &mut R,

@@ -1,0 +1,132 @@
+//! Serving the connections to a port of this machine.
+ghost use Rattle.std.specs.Prelude.{◌≤◌};
+ghost use Rattle.meaning.specs.Reading.{State};
+ghost use Rattle.register.specs.Answers.{Stands};
+
+use crate::fault::Fault;
+use crate::running::GATHERED;
+use api::{Options, Served, Ticks, serve};
+use numbers::Minute;
+use register::Register;
+use settle::Store;
+use std::alloc::Global;
+use std::io::{BufWriter, Read, Write};
+use std::net::{Ipv4Addr, Net, OpenListener, OpenStream, TcpListener};
+use std::time::{Clock, Duration};
+
+/// How long a connection may say nothing before it ends, in seconds: all others wait meanwhile.
+const PATIENCE: u64 = 30;
+
+/// The machine's minutes: whole minutes since 1970.
+#[derive(Clone, Copy, Debug)]
+pub struct MachineMinutes<'a, T: Clock> {
+    pub clock: &'a T,
+}
+
+impl<T: Clock> Ticks for MachineMinutes<'_, T> {
+    fn next(&mut self) -> Option<Minute> {
+        match self.clock.since_1970() {
+            Ok(time) => Minute::new(time.as_secs() / 60),
+            Err(_) => None,
+        }
+    }
+}
+
+// The listener at a port of 127.0.0.1.
+fn listener_at<T: Net>(rt: &T, port: u16) -> Result<T::Listener, Fault> {
+    TcpListener::bind(rt, (Ipv4Addr::LOCALHOST, port)).map_err(|_| Fault::Listen)
+}
+
+// Serves a stream, whose other handle takes the answers.
+fn serve_stream<C: Read, W: Write, S: Store, T: Ticks>(
+    alloc: Global,
+    reader: &mut C,
+    writer: &mut W,
+    register: &mut Register<S>,
+    ticks: &mut T,
+) -> Result<Served, api::Fault>
+    ensures state { S.IsUsable register.new.store → (st : State)
+        → Stands (S.content register.old.store) st
+        → (after : State) × Stands (S.content register.new.store) after }
+    ensures usable { S.IsUsable register.new.store → S.IsUsable register.old.store }
+    ensures rises { S.failed register.old.store ≤ S.failed register.new.store }
+{
+    let Ok(mut gathering) = BufWriter::with_capacity(alloc, GATHERED, writer) else {
+        return Err(api::Fault::Memory(0));
+    };
+    let options = Options { clock_route: false };
+    let served = serve(alloc, register, ticks, &options, reader, &mut gathering);
+    let flushed = gathering.flush();
+    let (_writer, _unwritten) = gathering.into_parts();
+    match (served, flushed) {
+        (Ok(served), Err(_)) => Err(api::Fault::Write(served.count)),
+        (served, _) => served,
+    }
+}
+
+/// Accepts one connection and serves it, with no clock route. A connection that is refused counts
+/// as one that could not be read. One that says nothing for half a minute ends.
+///
+/// What a socket said and was told no clause can say. The rows stand for some state afterwards.
+pub fn serve_next<L: OpenListener, S: Store, T: Ticks>(
+    alloc: Global,
+    listener: &L,
+    register: &mut Register<S>,
+    ticks: &mut T,
+) -> Result<Served, api::Fault>
+where
+    L::Stream: Read + Write + OpenStream + Drop,
+    ensures state { S.IsUsable register.new.store → (st : State)
+        → Stands (S.content register.old.store) st
+        → (after : State) × Stands (S.content register.new.store) after }
+    ensures usable { S.IsUsable register.new.store → S.IsUsable register.old.store }
+    ensures rises { S.failed register.old.store ≤ S.failed register.new.store }
+{
+    let Ok((mut stream, _)) = listener.accept() else {
+        return Err(api::Fault::Read(0));
+    };
+    let Ok(mut answers) = stream.try_clone() else {
+        return Err(api::Fault::Read(0));
+    };
+    let _ = stream.set_read_timeout(Some(Duration::from_secs(PATIENCE)));
+    serve_stream(alloc, &mut stream, &mut answers, register, ticks)
+}
+
+// Serves so many connections, or without end. What becomes of one is its own.
+fn serve_connections<T: AllocGlobal + Clock, L: OpenListener, S: Store>(
+    rt: &T,
+    listener: &L,
+    register: &mut Register<S>,
+    connections: Option<u16>,
+)
+where
+    L::Stream: Read + Write + OpenStream + Drop,
+{
+    let mut ticks = MachineMinutes { clock: rt };
+    let mut left = connections;
+    for _ in 0..u64::MAX {
+        match left {
+            Some(0) => return,
+            Some(n) => left = Some(n - 1),
+            None => {}
+        }
+        let _ = serve_next(rt.alloc(), listener, register, &mut ticks);
+    }
+}
+
+/// Listens at a port of 127.0.0.1, tells so, and serves.
+pub fn listen<T: AllocGlobal + Net + Clock, S: Store, W: Write>(
+    rt: &T,
+    register: &mut Register<S>,
+    port: u16,
+    connections: Option<u16>,
+    writer: &mut W,
+) -> Result<(), Fault> {
+    let listener = listener_at(rt, port)?;
+    let told = writeln!(writer, "listening on 127.0.0.1:{port}");
+    if told.is_err() || writer.flush().is_err() {
+        return Err(Fault::Write);
+    }
+    serve_connections(rt, &listener, register, connections);
+    Ok(())
+}
