@@ -128,13 +128,13 @@ fn feed_file<T: Files + AllocGlobal>(
     path: &str,
 ) -> Result<(), Fault> {
     let mut file = File::open(rt, path).map_err(read_fault)?;
-    let options = Options { clock_route: true };
+    let offered = Options { clock_route: true };
     let mut nobody = io::sink();
     ended(serve(
         rt.alloc(),
         register,
         &mut NoTicks,
-        &options,
+        &offered,
         &mut file,
         &mut nobody,
     ))
