@@ -19,9 +19,10 @@ def free_port():
         return probe.getsockname()[1]
 
 
-def served(port, connections):
+def served(port, connections, feed):
     """The program, once it listens."""
-    words = [PROGRAM, "serve", "--windows", WINDOWS, "--feed", FED, "--port", str(port), "--connections", str(connections)]
+    words = [PROGRAM, "serve", "--windows", WINDOWS, "--port", str(port), "--connections", str(connections)]
+    words += ["--feed", feed] if feed else []
     program = subprocess.Popen(words, stdout=subprocess.PIPE)
     assert program.stdout.readline() == f"listening on 127.0.0.1:{port}\n".encode()
     return program
@@ -62,7 +63,7 @@ def on_each(port, many):
 def main():
     many = int(sys.argv[1])
     port = free_port()
-    program = served(port, 2 + many // 10)
+    program = served(port, 2 + many // 10, FED)
     with connected(port) as client:
         ask(client, GARBAGE, BAD_HEAD)
         assert client.recv(1) == b"", "the connection was left open"
@@ -71,4 +72,5 @@ def main():
     assert program.wait() == 0
 
 
-main()
+if __name__ == "__main__":
+    main()
