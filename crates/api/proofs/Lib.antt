@@ -1,3 +1,4 @@
+mod Follows
 mod Going
 mod OnceLemmas
 mod PlainLemmas

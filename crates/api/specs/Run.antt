@@ -1,12 +1,11 @@
 -- A run over the messages of an input.
-use Rattle.std.specs.Prelude.{◌≡◌, ◌≢◌, ℕ, List, [], ◌∷◌, Bool, false, Option, All}
+use Rattle.std.specs.Prelude.{◌≡◌, ◌≢◌, ℕ, List, [], ◌∷◌, Bool, false, Option, All, map}
 use Rattle.std.specs.List.{flat_map}
 use Rattle.meaning.specs.Reading.{State}
 use Rattle.settle.specs.Reads.{HasRisen}
 use Rattle.bodies.specs.RefusalTexts.{refusal_text}
 use Rattle.messages.specs.Cuts.{Cuts, Whole}
 use Rattle.api.specs.Step.{Step}
-use Rattle.api.specs.Ticks.{first_tick, later_ticks}
 use Rattle.messages.specs.declared.message.Request.{Request}
 
 -- a message, the minute handed in beside it, and its answer
@@ -19,17 +18,21 @@ pub record Exchange : Type 0 where
 abbrev pub answers : List Exchange → List ℕ
 answers = flat_map (λ x. x.answer)
 
+-- the minutes handed in
+abbrev pub ticks_of : List Exchange → List (Option ℕ)
+ticks_of = map (λ x. x.tick)
+
 -- From the state st the messages at the front of the input are carried out and answered so, one after another, up to rest.
 -- None of them closes. Each begins at the count of the device's failures at which the one before it ended: the first at from,
--- and the last ends at to. The minutes handed in are the ticks, one after another, up to later.
-abbrev pub Run : (offered : Bool) → (from to : ℕ) → State → List ℕ → (ticks : List (Option ℕ)) → List Exchange → State → List ℕ → (later : List (Option ℕ)) → Type 0
-Run offered from to st input ticks [] end rest later = (to ≡ from) × (end ≡ st) × (rest ≡ input) × (later ≡ ticks)
-Run offered from to st input ticks (x ∷ xs) end rest later =
-    (between : ℕ) × (mid : State) × (next : List ℕ) × Cuts input (Whole x.request x.body next) × (x.request.closes ≡ false) × (x.tick ≡ first_tick ticks)
-    × Step offered x.tick from between st x.request x.body x.answer mid × Run offered between to mid next (later_ticks ticks) xs end rest later
+-- and the last ends at to.
+abbrev pub Run : (offered : Bool) → (from to : ℕ) → State → List ℕ → List Exchange → State → List ℕ → Type 0
+Run offered from to st input [] end rest = (to ≡ from) × (end ≡ st) × (rest ≡ input)
+Run offered from to st input (x ∷ xs) end rest =
+    (between : ℕ) × (mid : State) × (next : List ℕ) × Cuts input (Whole x.request x.body next) × (x.request.closes ≡ false)
+    × Step offered x.tick from between st x.request x.body x.answer mid × Run offered between to mid next xs end rest
 
 -- a run in which the device does not fail has no answer that storage fails (29)
 abbrev pub StaysClear : Type 0
 StaysClear =
-    (offered : Bool) (from to : ℕ) (st end : State) (input rest : List ℕ) (ticks later : List (Option ℕ)) (exchanges : List Exchange) →
-    Run offered from to st input ticks exchanges end rest later → ¬ (HasRisen from to) → All (λ x. x.answer ≢ refusal_text 29) exchanges
+    (offered : Bool) (from to : ℕ) (st end : State) (input rest : List ℕ) (exchanges : List Exchange) →
+    Run offered from to st input exchanges end rest → ¬ (HasRisen from to) → All (λ x. x.answer ≢ refusal_text 29) exchanges

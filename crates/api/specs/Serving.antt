@@ -1,21 +1,24 @@
--- What `serve` makes of the input, from the state st on: has and had are what the writer holds after and before, to and from
--- the counts of the device's failures, offered says whether the clock's path is there, and the ticks are the minutes handed in.
-use Rattle.std.specs.Prelude.{◌≡◌, ℕ, ◌+◌, ◌⊎◌, List, ◌++◌, length, take, Option, Some, None, Bool, true, if◌then◌else◌}
-use Rattle.std.specs.Io.KnownBytes.{Appends}
+-- What `serve` makes of the input, from the state st on. From and to are the counts of the device's failures before and after, offered says
+-- whether the clock's path is there, and new is the content afterwards.
+use Rattle.std.specs.Prelude.{◌≡◌, ℕ, ◌+◌, ◌⊎◌, List, [], ◌∷◌, ◌++◌, length, take, Option, Some, None, Result, Ok, Err, Bool, true, if◌then◌else◌}
+use Rattle.std.specs.Io.KnownBytes.{Appends, IsAtEnd}
 use Rattle.meaning.specs.Content.{Content}
+use Rattle.meaning.specs.Machine.{state_after}
 use Rattle.meaning.specs.Reading.{State}
+use Rattle.meaning.specs.Refusals.{Input as MachineInput}
 use Rattle.register.specs.Answers.{Stands}
 use Rattle.messages.specs.Cuts.{Cuts, Done, Refuses, Whole}
+use Rattle.messages.specs.Reading.{HasNoWhole, IsReadAhead, IsReadTo}
 use Rattle.bodies.specs.Failures.{failure_text}
-use Rattle.api.specs.Run.{Exchange, Run, answers}
+use Rattle.api.specs.Run.{Exchange, Run, answers, ticks_of}
 use Rattle.api.specs.Step.{Step}
-use Rattle.api.specs.Ticks.{first_tick, HandsIn}
+use Rattle.api.specs.Ticks.{HandsIn, HandsInAll}
 use Rattle.bodies.specs.declared.fault.Failure.TheVariants as Failure
 use Rattle.messages.specs.declared.fault.MessageFault.{MessageFault}
-use Rattle.messages.specs.declared.message.Request.{Request}
 use Rattle.messages.specs.declared.message.Next.{Next}
 use Rattle.api.specs.declared.serving.End.{End}
 use Rattle.api.specs.declared.serving.End.TheVariants.{Input, Closed, Refused}
+use Rattle.api.specs.declared.serving.Served.{Served}
 use Rattle.api.specs.declared.serving.Fault.{Fault}
 use Rattle.api.specs.declared.serving.Fault.TheVariants.{Read, Write, Memory}
 
@@ -23,27 +26,37 @@ use Rattle.api.specs.declared.serving.Fault.TheVariants.{Read, Write, Memory}
 abbrev pub refusal : MessageFault → List ℕ
 refusal fault = failure_text (Failure.Message fault)
 
--- k messages were carried out and answered whole, and nothing else was written
-pub record AfterWhole (offered : Bool) (from to : ℕ) (st : State) (new : Content) (input : List ℕ) (ticks : List (Option ℕ)) (had has : Option (List ℕ)) (k : ℕ) : Type 0 where
+-- what the reader, the ticks and the writer tell, before serving and after it
+pub record Told : Type 0 where
+  -- the bytes that the reader has, and then still has
+  pub input : List ℕ
+  pub unread : Option (List ℕ)
+  -- the minutes that the ticks hand in from there on, and then from there on
+  pub before : Option (List (Option ℕ))
+  pub behind : Option (List (Option ℕ))
+  -- what the writer holds, and then holds
+  pub had : Option (List ℕ)
+  pub has : Option (List ℕ)
+
+-- k messages were carried out and answered whole, each beside a minute that was handed in, and nothing else was written
+pub record AfterWhole (offered : Bool) (from to : ℕ) (st : State) (new : Content) (told : Told) (k : ℕ) : Type 0 where
   pub exchanges : List Exchange
   pub end : State
   pub rest : List ℕ
-  pub later : List (Option ℕ)
-  pub run : Run offered from to st input ticks exchanges end rest later
+  pub run : Run offered from to st told.input exchanges end rest
   pub stands : Stands new end
   pub count : length exchanges ≡ k
-  pub written : Appends had has (answers exchanges)
+  pub handed : HandsInAll told.before (ticks_of exchanges) told.behind
+  pub written : Appends told.had told.has (answers exchanges)
 
 -- the last of k messages closes, and nothing behind it was answered
-pub record AfterClose (offered : Bool) (from to : ℕ) (st : State) (new : Content) (input : List ℕ) (ticks : List (Option ℕ)) (had has : Option (List ℕ)) (k : ℕ) : Type 0 where
+pub record AfterClose (offered : Bool) (from to : ℕ) (st : State) (new : Content) (told : Told) (k : ℕ) : Type 0 where
   pub exchanges : List Exchange
   pub between : ℕ
   pub mid : State
   pub rest : List ℕ
-  pub later : List (Option ℕ)
-  pub run : Run offered from between st input ticks exchanges mid rest later
+  pub run : Run offered from between st told.input exchanges mid rest
   pub last : Exchange
-  pub tick : last.tick ≡ first_tick later
   pub left : List ℕ
   pub cuts : Cuts rest (Whole last.request last.body left)
   pub closes : last.request.closes ≡ true
@@ -51,51 +64,67 @@ pub record AfterClose (offered : Bool) (from to : ℕ) (st : State) (new : Conte
   pub step : Step offered last.tick between to mid last.request last.body last.answer end
   pub stands : Stands new end
   pub count : length exchanges + 1 ≡ k
-  pub written : Appends had has (answers exchanges ++ last.answer)
+  pub handed : HandsInAll told.before (ticks_of (exchanges ++ last ∷ [])) told.behind
+  pub read : IsReadAhead left told.unread
+  pub written : Appends told.had told.has (answers exchanges ++ last.answer)
 
--- what comes after the messages is refused; its answer is written, and it is counted
-pub record AfterRefusal (fault : MessageFault) (offered : Bool) (from to : ℕ) (st : State) (new : Content) (input : List ℕ) (ticks : List (Option ℕ)) (had has : Option (List ℕ)) (k : ℕ) : Type 0 where
+-- what comes after the messages is refused; its answer is written, and it is counted. No minute is handed in beside it
+pub record AfterRefusal (fault : MessageFault) (offered : Bool) (from to : ℕ) (st : State) (new : Content) (told : Told) (k : ℕ) : Type 0 where
   pub exchanges : List Exchange
   pub end : State
   pub rest : List ℕ
-  pub later : List (Option ℕ)
-  pub run : Run offered from to st input ticks exchanges end rest later
+  pub run : Run offered from to st told.input exchanges end rest
   pub refused : Cuts rest (Refuses fault)
   pub stands : Stands new end
   pub count : length exchanges + 1 ≡ k
-  pub written : Appends had has (answers exchanges ++ refusal fault)
+  pub handed : HandsInAll told.before (ticks_of exchanges) told.behind
+  pub read : IsReadTo fault rest told.unread
+  pub written : Appends told.had told.has (answers exchanges ++ refusal fault)
 
--- the answer to what stands at the front of the rest: a message, which was carried out, or what is refused
-abbrev pub IsNextAnswer : (offered : Bool) → (tick : Option ℕ) → (from to : ℕ) → State → List ℕ → List ℕ → State → Type 0
-IsNextAnswer offered tick from to mid rest answer end =
-    ((request : Request) × (body : List ℕ) × (left : List ℕ) × Cuts rest (Whole request body left) × Step offered tick from to mid request body answer end)
-    ⊎ ((fault : MessageFault) × Cuts rest (Refuses fault) × (answer ≡ refusal fault) × (end ≡ mid) × (to ≡ from))
+-- the answer to what stands at the front of the rest: a message, which was carried out beside the next minute, or what is refused
+abbrev pub IsNextAnswer : (offered : Bool) → (from to : ℕ) → State → List ℕ → (unread : Option (List ℕ)) → (before behind : Option (List (Option ℕ))) → List ℕ → State → Type 0
+IsNextAnswer offered from to mid rest unread before behind answer end =
+    ((x : Exchange) × (left : List ℕ) × Cuts rest (Whole x.request x.body left) × IsReadAhead left unread × HandsIn before x.tick behind × Step offered x.tick from to mid x.request x.body x.answer end × (answer ≡ x.answer))
+    ⊎ ((fault : MessageFault) × Cuts rest (Refuses fault) × IsReadTo fault rest unread × (behind ≡ before) × (answer ≡ refusal fault) × (end ≡ mid) × (to ≡ from))
 
 -- k messages were carried out and answered whole, and of the next answer a front was written
-pub record AfterPart (offered : Bool) (from to : ℕ) (st : State) (new : Content) (input : List ℕ) (ticks : List (Option ℕ)) (had has : Option (List ℕ)) (k : ℕ) : Type 0 where
+pub record AfterPart (offered : Bool) (from to : ℕ) (st : State) (new : Content) (told : Told) (k : ℕ) : Type 0 where
   pub exchanges : List Exchange
   pub between : ℕ
   pub mid : State
   pub rest : List ℕ
-  pub later : List (Option ℕ)
-  pub run : Run offered from between st input ticks exchanges mid rest later
+  pub run : Run offered from between st told.input exchanges mid rest
+  pub untold : Option (List (Option ℕ))
+  pub handed : HandsInAll told.before (ticks_of exchanges) untold
   pub answer : List ℕ
   pub end : State
-  pub next : IsNextAnswer offered (first_tick later) between to mid rest answer end
+  pub next : IsNextAnswer offered between to mid rest told.unread untold told.behind answer end
   pub stands : Stands new end
   pub count : length exchanges ≡ k
   pub part : ℕ
-  pub written : Appends had has (answers exchanges ++ take part answer)
+  pub written : Appends told.had told.has (answers exchanges ++ take part answer)
 
-abbrev pub EndsAt : End → (offered : Bool) → (from to : ℕ) → State → Content → List ℕ → (ticks : List (Option ℕ)) → Option (List ℕ) → Option (List ℕ) → ℕ → Type 0
-EndsAt Input offered from to st new input ticks had has k = (whole : AfterWhole offered from to st new input ticks had has k) × Cuts whole.rest Done
-EndsAt Closed offered from to st new input ticks had has k = AfterClose offered from to st new input ticks had has k
-EndsAt (Refused fault) offered from to st new input ticks had has k = AfterRefusal fault offered from to st new input ticks had has k
+-- at the end of the input nothing is left of it
+abbrev pub EndsAt : End → (offered : Bool) → (from to : ℕ) → State → Content → Told → ℕ → Type 0
+EndsAt Input offered from to st new told k = (whole : AfterWhole offered from to st new told k) × Cuts whole.rest Done × IsAtEnd told.unread
+EndsAt Closed offered from to st new told k = AfterClose offered from to st new told k
+EndsAt (Refused fault) offered from to st new told k = AfterRefusal fault offered from to st new told k
 
-abbrev pub FailsAt : Fault → (offered : Bool) → (from to : ℕ) → State → Content → List ℕ → (ticks : List (Option ℕ)) → Option (List ℕ) → Option (List ℕ) → Type 0
-FailsAt (Read k) offered from to st new input ticks had has = AfterWhole offered from to st new input ticks had has k
-FailsAt (Memory k) offered from to st new input ticks had has = AfterWhole offered from to st new input ticks had has k
-FailsAt (Write k) offered from to st new input ticks had has = AfterPart offered from to st new input ticks had has k
+-- a reader that fails was asked for bytes of a message that was not there whole; where a buffer finds no memory, no more is read; and there
+-- may be more messages than can be counted
+abbrev pub FailsAt : Fault → (offered : Bool) → (from to : ℕ) → State → Content → Told → Type 0
+FailsAt (Read k) offered from to st new told = (whole : AfterWhole offered from to st new told k) × HasNoWhole whole.rest told.unread
+FailsAt (Memory k) offered from to st new told = (whole : AfterWhole offered from to st new told k) × (IsReadAhead whole.rest told.unread ⊎ (k ≡ 18446744073709551615))
+FailsAt (Write k) offered from to st new told = AfterPart offered from to st new told k
+
+-- serving ended or failed so
+abbrev pub Serves : Result Served Fault → (offered : Bool) → (from to : ℕ) → State → Content → Told → Type 0
+Serves (Ok served) offered from to st new told = EndsAt served.end offered from to st new told served.count
+Serves (Err fault) offered from to st new told = FailsAt fault offered from to st new told
+
+-- the content stands for a state that some list of the machine's inputs leads to from st
+abbrev pub Follows : State → Content → Type 0
+Follows st new = (inputs : List MachineInput) × Stands new (state_after st inputs)
 
 -- a message was carried out, beside the minute that was handed in, and the text answers it; or the text is that of a refusal,
 -- and nothing was carried out or handed in. Before and behind are the ticks as they are told

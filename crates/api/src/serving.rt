@@ -6,7 +6,8 @@ ghost use Rattle.register.specs.Answers.{Stands};
 ghost use Rattle.messages.specs.Cuts.{IsNext, IsTaken};
 ghost use Rattle.messages.specs.Held.{held_bytes, input_left};
 ghost use Rattle.bodies.specs.Rooms.{HasRoom};
-ghost use Rattle.api.specs.Serving.{EndsAt, FailsAt, Responds, end_of};
+ghost use Rattle.messages.specs.Reading.{IsRead};
+ghost use Rattle.api.specs.Serving.{Follows, Responds, Serves, end_of};
 ghost use Rattle.messages.specs.Table.{table};
 ghost use Rattle.api.specs.Ticks.{HandsIn};
 
@@ -168,6 +169,9 @@ fn next_of<R: Read>(
         → IsTaken left at_hand body.old.items (input_left held.old (R.remaining reader.old))
         → IfOk result (λ next. IfSome left (λ input. IsNext input next body.new.items
         (input_left held.new (R.remaining reader.new)))) }
+    ensures read { (left : Option (List ℕ))
+        → IsTaken left at_hand body.old.items (input_left held.old (R.remaining reader.old))
+        → IfSome left (λ input. IsRead result input (R.remaining reader.new)) }
 {
     match at_hand {
         Some(request) => Ok(Some(Next::Message(request))),
@@ -204,28 +208,22 @@ fn serve_with<S: Store, T: Ticks, R: Read, W: Write>(
     requires empty { held_bytes held.old ≡ [] }
     requires room { HasRoom 512 room.old }
     requires router { router.now ≡ table }
-    ensures served { S.IsUsable register.new.store → (st : State)
+    ensures serves { S.IsUsable register.new.store → (st : State)
         → Stands (S.content register.old.store) st
-        → IfOk result
-        (λ served. IfSome (R.remaining reader.old) (λ input. IfSome (T.told ticks.old)
-        (λ minutes. EndsAt served.end options.now.clock_route
-        (S.failed register.old.store)
-        (S.failed register.new.store) st
-        (S.content register.new.store) input minutes
-        (W.contents writer.old) (W.contents writer.new)
-        served.count))) }
-    ensures fault { S.IsUsable register.new.store → (st : State)
-        → Stands (S.content register.old.store) st
-        → IfErr result
-        (λ fault. IfSome (R.remaining reader.old) (λ input. IfSome (T.told ticks.old)
-        (λ minutes. FailsAt fault options.now.clock_route
-        (S.failed register.old.store)
-        (S.failed register.new.store) st
-        (S.content register.new.store) input minutes
-        (W.contents writer.old) (W.contents writer.new)))) }
+        → IfSome (R.remaining reader.old)
+        (λ input. Serves result options.now.clock_route (S.failed register.old.store)
+        (S.failed register.new.store) st (S.content register.new.store)
+        (record {
+          input = input;
+          unread = R.remaining reader.new;
+          before = T.told ticks.old;
+          behind = T.told ticks.new;
+          had = W.contents writer.old;
+          has = W.contents writer.new;
+        })) }
     ensures state { S.IsUsable register.new.store → (st : State)
         → Stands (S.content register.old.store) st
-        → (after : State) × Stands (S.content register.new.store) after }
+        → Follows st (S.content register.new.store) }
     ensures usable { S.IsUsable register.new.store → S.IsUsable register.old.store }
     ensures rises { S.failed register.old.store ≤ S.failed register.new.store }
 {
@@ -269,7 +267,7 @@ fn serve_with<S: Store, T: Ticks, R: Read, W: Write>(
             });
         }
     }
-    Err(Fault::Read(u64::MAX))
+    Err(Fault::Memory(u64::MAX))
 }
 
 /// Serves the messages of a reader, one after the other, and writes their answers.
@@ -294,28 +292,22 @@ pub fn serve<S: Store, T: Ticks, R: Read, W: Write>(
     reader: &mut R,
     writer: &mut W,
 ) -> Result<Served, Fault>
-    ensures served { S.IsUsable register.new.store → (st : State)
+    ensures serves { S.IsUsable register.new.store → (st : State)
         → Stands (S.content register.old.store) st
-        → IfOk result
-        (λ served. IfSome (R.remaining reader.old) (λ input. IfSome (T.told ticks.old)
-        (λ minutes. EndsAt served.end options.now.clock_route
-        (S.failed register.old.store)
-        (S.failed register.new.store) st
-        (S.content register.new.store) input minutes
-        (W.contents writer.old) (W.contents writer.new)
-        served.count))) }
-    ensures fault { S.IsUsable register.new.store → (st : State)
-        → Stands (S.content register.old.store) st
-        → IfErr result
-        (λ fault. IfSome (R.remaining reader.old) (λ input. IfSome (T.told ticks.old)
-        (λ minutes. FailsAt fault options.now.clock_route
-        (S.failed register.old.store)
-        (S.failed register.new.store) st
-        (S.content register.new.store) input minutes
-        (W.contents writer.old) (W.contents writer.new)))) }
+        → IfSome (R.remaining reader.old)
+        (λ input. Serves result options.now.clock_route (S.failed register.old.store)
+        (S.failed register.new.store) st (S.content register.new.store)
+        (record {
+          input = input;
+          unread = R.remaining reader.new;
+          before = T.told ticks.old;
+          behind = T.told ticks.new;
+          had = W.contents writer.old;
+          has = W.contents writer.new;
+        })) }
     ensures state { S.IsUsable register.new.store → (st : State)
         → Stands (S.content register.old.store) st
-        → (after : State) × Stands (S.content register.new.store) after }
+        → Follows st (S.content register.new.store) }
     ensures usable { S.IsUsable register.new.store → S.IsUsable register.old.store }
     ensures rises { S.failed register.old.store ≤ S.failed register.new.store }
 {

@@ -1,5 +1,6 @@
 use Rattle.std.proofs.Common.{◌≡◌, ℕ, ◌+◌, ◌-◌, ◌≤◌, List, ◌++◌, length, take, drop, ap, ◌∙◌, sym, arith, append_assoc, append-nil, [], ◌∷◌, refl, Option, Some, None, length-drop}
 use Rattle.std.specs.Io.KnownBytes.{Keeps, prepend_known}
+use Rattle.std.specs.Vec.{with_items}
 use Rattle.messages.specs.Held.{ReadsAt, held_bytes}
 use Rattle.messages.specs.declared.held.Held.{Held}
 use Rattle.std.proofs.lemmas.List.{take-append-le, drop-append-le, drop-drop, drop-take, length-take-le}
@@ -43,12 +44,17 @@ Keeps-read old new held held' filled n (Some xs) (Some ys) r e =
     ap (λ (t : List ℕ). t ++ ys) e ∙ append_assoc held r.more ys ∙ ap (λ (t : List ℕ). held ++ t) (sym r.read)
 
 -- a read that failed leaves what is held
-pub held_kept : (items old new : List ℕ) (start filled : ℕ) → old ≡ items → start ≤ filled → take filled new ≡ take filled old
+held_kept : (items old new : List ℕ) (start filled : ℕ) → old ≡ items → start ≤ filled → take filled new ≡ take filled old
     → take (filled - start) (drop start new) ≡ take (filled - start) (drop start items)
 held_kept items old new start filled e s same =
     let before : start + (filled - start) ≡ filled = omega arith in
     sym (drop-take start (filled - start) new) ∙ ap (λ (m : ℕ). drop start (take m new)) before ∙ ap (drop start) same
     ∙ ap (λ (t : List ℕ). drop start (take filled t)) e ∙ ap (λ (m : ℕ). drop start (take m items)) (sym before) ∙ drop-take start (filled - start) items
+
+pub same_held : (room : Held) (buf old held : List ℕ) → (with_items room.bytes buf).items ≡ buf → old ≡ room.bytes.items → take room.filled buf ≡ take room.filled old → held_bytes room ≡ held
+    → take (room.filled - room.start) (drop room.start (with_items room.bytes buf).items) ≡ held
+same_held room buf old held written e same is =
+    ap (λ (t : List ℕ). take (room.filled - room.start) (drop room.start t)) written ∙ held_kept room.bytes.items old buf room.start room.filled e room.begins same ∙ is
 
 pub Keeps-same : (held held' : List ℕ) (had has : Option (List ℕ)) → held' ≡ held → Keeps had has → Keeps (prepend_known held had) (prepend_known held' has)
 Keeps-same held held' None has e k = tt

@@ -7,3 +7,4 @@ mod HeldLemmas
 mod MessageLemmas
 mod NumberLemmas
 mod PathLemmas
+mod ReadLemmas

@@ -5,5 +5,6 @@ pub mod Fields
 pub mod Front
 pub mod Head
 pub mod Held
+pub mod Reading
 pub mod Sending
 pub mod Table

@@ -1,5 +1,5 @@
 //! Reading the body of a message.
-ghost use Rattle.std.specs.Prelude.{◌≡◌, ◌+◌, ◌-◌, ◌≤◌, ◌<◌, ◌++◌, [], true, false, Ok, take, drop, length, vec_len, vec_capacity, IfSome};
+ghost use Rattle.std.specs.Prelude.{◌≡◌, ◌+◌, ◌-◌, ◌≤◌, ◌<◌, ◌++◌, [], true, false, Ok, take, drop, length, vec_len, vec_capacity, IfSome, OnErr};
 ghost use Rattle.std.specs.Io.KnownBytes.{Keeps, Consumes, IsAtEnd};
 ghost use Rattle.messages.specs.Held.{held_bytes, input_left};
 
@@ -32,6 +32,7 @@ fn holds_some<R: Read>(held: &mut Held, reader: &mut R) -> io::Result<bool>
     ensures some { result ≡ Ok true → 0 < length (held_bytes held.new) }
     ensures none { result ≡ Ok false
         → (held_bytes held.new ≡ []) × IsAtEnd (R.remaining reader.new) }
+    ensures fault { OnErr result (held_bytes held.new ≡ []) }
 {
     if held.len() > 0 {
         return Ok(true);
@@ -56,6 +57,9 @@ pub fn read_body<R: Read>(
         × (length body.new.items ≡ count) }
     ensures cut { result ≡ Ok false
         → IfSome (input_left held.old (R.remaining reader.old)) (λ input. length input < count) }
+    ensures end { result ≡ Ok false → IsAtEnd (R.remaining reader.new) }
+    ensures fault { OnErr result (Consumes (input_left held.old (R.remaining reader.old))
+        (R.remaining reader.new) body.new.items × (length body.new.items < count)) }
 {
     'pieces: while body.len() < count {
         if !holds_some(held, reader)? {

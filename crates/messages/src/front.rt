@@ -1,6 +1,7 @@
 //! The next head of the input.
 
-ghost use Rattle.std.specs.Prelude.{◌≡◌, ℕ, ◌≤◌, ◌<◌, List, length, vec_len, IfOk, IfSome, Ok};
+ghost use Rattle.std.specs.Prelude.{◌≡◌, ℕ, ◌≤◌, ◌<◌, List, length, vec_len, IfOk, IfSome, OnErr, Ok};
+ghost use Rattle.httparse.specs.Grammar.{HasNoRequest};
 ghost use Rattle.std.specs.Io.KnownBytes.{Keeps};
 ghost use Rattle.messages.specs.Held.{held_bytes, input_left};
 ghost use Rattle.messages.specs.Blank.{is_blank};
@@ -56,6 +57,7 @@ pub fn next_head<R: Read>(
         → IfSome (input_left held.new (R.remaining reader.new)) HasNoHead }
     ensures not_blank { result ≡ Ok Front.Bad
         → IfSome (input_left held.new (R.remaining reader.new)) (λ input. ¬ (IsBlank input)) }
+    ensures fault { OnErr result (HasNoRequest (held_bytes held.new)) }
 {
     'reads: loop {
         match look_at(held.held(), headers) {

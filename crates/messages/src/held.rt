@@ -1,5 +1,5 @@
 //! The bytes that were read and are not yet used up.
-ghost use Rattle.std.specs.Prelude.{◌≡◌, ℕ, ◌≤◌, ◌<◌, vec_len, IfOk, List, [], take, length, drop, ◌+◌};
+ghost use Rattle.std.specs.Prelude.{◌≡◌, ℕ, ◌≤◌, ◌<◌, vec_len, IfOk, OnErr, List, [], take, length, drop, ◌+◌};
 ghost use Rattle.std.specs.Io.KnownBytes.{Keeps, IsAtEnd};
 
 use std::alloc::{AllocError, Global};
@@ -102,6 +102,7 @@ impl Held {
         ensures end { IfOk result (λ n. n ≡ 0
             → IsAtEnd (R.remaining reader.new)
             × (held_bytes self.new ≡ held_bytes self.old)) }
+        ensures same { OnErr result (held_bytes self.new ≡ held_bytes self.old) }
     {
         self.make_room();
         let start = self.filled;

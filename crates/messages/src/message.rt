@@ -5,6 +5,7 @@ ghost use Rattle.httparse.specs.Spans.{IsRequestAt, IsRequestWithin};
 ghost use Rattle.messages.specs.Cuts.{Cut, Cuts, IsCaller, IsNamed, IsNext, IsRequestOf, IsTaken, RefusesHead};
 ghost use Rattle.messages.specs.Fields.{IsFound, IsFoundWithin};
 ghost use Rattle.messages.specs.Held.{input_left};
+ghost use Rattle.messages.specs.Reading.{IsRead};
 ghost use Rattle.messages.specs.Table.{table};
 
 use crate::body::{read_body, take_held};
@@ -157,7 +158,8 @@ pub fn next_held(
 /// Reads the next message, if there is one: its head, and then its body into `body`.
 ///
 /// A message is refused with `BadHead`, `TooLarge` or `CutBody`, in this order; its path, its
-/// method and its form are judged later.
+/// method and its form are judged later. It makes no read once the message is held whole, and none
+/// behind what is refused for its head.
 pub fn next_message<R: Read>(
     held: &mut Held,
     headers: &mut [HeaderSpan],
@@ -173,6 +175,8 @@ pub fn next_message<R: Read>(
     ensures cut { IfOk result (λ next. IfSome (input_left held.old (R.remaining reader.old))
         (λ input. IsNext input next body.new.items
         (input_left held.new (R.remaining reader.new)))) }
+    ensures read { IfSome (input_left held.old (R.remaining reader.old))
+        (λ input. IsRead result input (R.remaining reader.new)) }
 {
     let spans = match next_head(held, headers, reader) {
         Err(_) => return Err(NextFault::Read),

@@ -7,7 +7,7 @@ use Rattle.clap.specs.Simple.{built, names_of, entered}
 use Rattle.clap.proofs.OnLiterals.{clap_on_literals}
 use Rattle.npacd.specs.declared.parse.Subcommand.{Subcommand}
 use Rattle.npacd.specs.declared.parse.Subcommand.TheVariants as sub
-use Rattle.npacd.specs.CommandLine.{npacd_app, rows_named, IsSubcommand}
+use Rattle.npacd.specs.CommandLine.{IsLineOf, IsNoLine, IsNoLineOf, IsSubcommand, npacd_app, rows_named}
 
 abbrev Stop : Type 0
 Stop = Text × List Text
@@ -64,7 +64,30 @@ at_name program literal name after rows met reads e found =
     let Q : Text → Type 0 = λ n. rows_named n after ≡ Some rows in
     subst Q (sym e) (reads (sym (entered_at program literal after met) ∙ subst P e found))
 
-pub rows_are_named : (program name : Text) (after : List Text) (rows : List Row) (s : Subcommand) → IsSubcommand name rows s
+second_same : {p q a b : Text} {xs ys : List Text} → p ∷ a ∷ xs ≡ q ∷ b ∷ ys → a ≡ b
+second_same e = cc
+
+rest_same : {p q a b : Text} {xs ys : List Text} → p ∷ a ∷ xs ≡ q ∷ b ∷ ys → xs ≡ ys
+rest_same e = cc
+
+some_same : {r s : List Row} → Some r ≡ Some s → r ≡ s
+some_same e = cc
+
+-- by whatever rows the name is known to be a subcommand's
+pub rows_are_named : (program name : Text) (after : List Text) (told rows : List Row) (s : Subcommand) → IsSubcommand name told s
     → subcommand_of npacd_app (program ∷ name ∷ after) ≡ Some (name, rows) → rows_named name after ≡ Some rows
-rows_are_named program name after rows sub.Feed h found = at_name program (codes "feed") name after rows feed_met (feed_rows after rows) h found
-rows_are_named program name after rows (sub.Serve port connections) h found = at_name program (codes "serve") name after rows serve_met (serve_rows after rows) h.0 found
+rows_are_named program name after told rows sub.Feed h found = at_name program (codes "feed") name after rows feed_met (feed_rows after rows) h found
+rows_are_named program name after told rows (sub.Serve port connections) h found = at_name program (codes "serve") name after rows serve_met (serve_rows after rows) h.0 found
+
+-- where the rows after a word are no line of it, the words are no line
+pub no_line : (program name : Text) (after : List Text) (rows : List Row) → subcommand_of npacd_app (program ∷ name ∷ after) ≡ Some (name, rows)
+    → IsNoLineOf name rows → IsNoLine (program ∷ name ∷ after)
+no_line program name after rows found none line takes is =
+    let same = is.words_are in
+    let name_is : is.name ≡ name = sym (second_same same) in
+    let after_is : is.after ≡ after = sym (rest_same same) in
+    let told = subst (λ (n : Text). IsSubcommand n is.rows line.subcommand) name_is is.line_is.subcommand in
+    let named : rows_named name after ≡ Some rows = rows_are_named program name after is.rows rows line.subcommand told found in
+    let other : rows_named name after ≡ Some is.rows = subst (λ (n : Text). rows_named n after ≡ Some is.rows) name_is (subst (λ (a : List Text). rows_named is.name a ≡ Some is.rows) after_is is.rows_are) in
+    let rows_is : is.rows ≡ rows = some_same (sym other ∙ named) in
+    none line (subst (λ (n : Text). IsLineOf n rows line) name_is (subst (λ (r : List Row). IsLineOf is.name r line) rows_is is.line_is))

@@ -4,6 +4,7 @@ use Rattle.clap.specs.declared.builder.value_parser.ValueParser.TheVariants.{Uns
 use Rattle.messages.specs.Fields.{number_of}
 use Rattle.clap.specs.Walk.{answers_to, rows_after}
 use Rattle.clap.specs.Simple.{built, label_of}
+use Rattle.clap.specs.Takes.{takes}
 use Rattle.clap.specs.Words.{App, Row, Rule, Text, first_of, new_app, new_rule, with_rule, with_subcommand}
 use Rattle.npacd.specs.declared.parse.Subcommand.{Subcommand}
 use Rattle.npacd.specs.declared.parse.Subcommand.TheVariants as sub
@@ -46,15 +47,26 @@ abbrev pub IsNumberIfAny : Text → List Row → Option ℕ → Type 0
 IsNumberIfAny id rows None = first_of id rows ≡ None
 IsNumberIfAny id rows (Some n) = number_under id rows ≡ Some n
 
+-- no number is given so, and neither is it left out
+abbrev pub IsNoNumber : Text → List Row → Type 0
+IsNoNumber id rows = (number : Option ℕ) → ¬ (IsNumberIfAny id rows number)
+
 -- which subcommand a name is
 abbrev pub IsSubcommand : Text → List Row → Subcommand → Type 0
 IsSubcommand name rows sub.Feed = name ≡ codes "feed"
 IsSubcommand name rows (sub.Serve port connections) = (name ≡ codes "serve") × (number_under (codes "port") rows ≡ Some port) × IsNumberIfAny (codes "connections") rows connections
 
+-- it is none
+abbrev pub IsNoSubcommand : Text → List Row → Type 0
+IsNoSubcommand name rows = (subcommand : Subcommand) → ¬ (IsSubcommand name rows subcommand)
+
 pub record IsLineOf (name : Text) (rows : List Row) (line : Line) : Type 0 where
   pub subcommand : IsSubcommand name rows line.subcommand
   pub windows : first_of (codes "windows") rows ≡ Some line.windows.now
   pub feed : first_of (codes "feed") rows ≡ option_map (λ s. s.now) line.feed
+
+abbrev pub IsNoLineOf : Text → List Row → Type 0
+IsNoLineOf name rows = (line : Line) → ¬ (IsLineOf name rows line)
 
 -- the rows that the rule of the subcommand of this name reads off the words after it
 abbrev pub rows_named : Text → List Text → Option (List Row)
@@ -70,6 +82,10 @@ pub record IsLine (words : List Text) (line : Line) : Type 0 where
   pub words_are : words ≡ program ∷ name ∷ after
   pub rows_are : rows_named name after ≡ Some rows
   pub line_is : IsLineOf name rows line
+
+-- no line that `clap` takes is in these words
+abbrev pub IsNoLine : List Text → Type 0
+IsNoLine words = (line : Line) → takes npacd_app words ≡ true → ¬ (IsLine words line)
 
 -- the second word is this one
 abbrev pub HasSecond : List Text → Text → Type 0

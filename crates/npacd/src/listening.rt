@@ -2,6 +2,7 @@
 ghost use Rattle.std.specs.Prelude.{◌≤◌};
 ghost use Rattle.meaning.specs.Reading.{State};
 ghost use Rattle.register.specs.Answers.{Stands};
+ghost use Rattle.api.specs.Serving.{Follows};
 
 use crate::fault::Fault;
 use crate::running::GATHERED;
@@ -47,7 +48,7 @@ fn serve_stream<C: Read, W: Write, S: Store, T: Ticks>(
 ) -> Result<Served, api::Fault>
     ensures state { S.IsUsable register.new.store → (st : State)
         → Stands (S.content register.old.store) st
-        → (after : State) × Stands (S.content register.new.store) after }
+        → Follows st (S.content register.new.store) }
     ensures usable { S.IsUsable register.new.store → S.IsUsable register.old.store }
     ensures rises { S.failed register.old.store ≤ S.failed register.new.store }
 {
@@ -67,7 +68,8 @@ fn serve_stream<C: Read, W: Write, S: Store, T: Ticks>(
 /// Accepts one connection and serves it, with no clock route. A connection that is refused counts
 /// as one that could not be read. One that says nothing for half a minute ends.
 ///
-/// What a socket said and was told no clause can say. The rows stand for some state afterwards.
+/// What a socket said and was told no clause can say. The rows stand afterwards for a state that some
+/// list of the machine's inputs leads to.
 pub fn serve_next<L: OpenListener, S: Store, T: Ticks>(
     alloc: Global,
     listener: &L,
@@ -78,7 +80,7 @@ where
     L::Stream: Read + Write + OpenStream + Drop,
     ensures state { S.IsUsable register.new.store → (st : State)
         → Stands (S.content register.old.store) st
-        → (after : State) × Stands (S.content register.new.store) after }
+        → Follows st (S.content register.new.store) }
     ensures usable { S.IsUsable register.new.store → S.IsUsable register.old.store }
     ensures rises { S.failed register.old.store ≤ S.failed register.new.store }
 {
@@ -92,17 +94,18 @@ where
     serve_stream(alloc, &mut stream, &mut answers, register, ticks)
 }
 
-// Serves so many connections, or without end. What becomes of one is its own.
-fn serve_connections<T: AllocGlobal + Clock, L: OpenListener, S: Store>(
-    rt: &T,
+/// Serves so many connections, or without end, one after the other. What becomes of one is its own:
+/// one that could not be accepted, or was cut, counts, and the next is served.
+pub fn serve_connections<L: OpenListener, S: Store, T: Ticks>(
+    alloc: Global,
     listener: &L,
     register: &mut Register<S>,
+    ticks: &mut T,
     connections: Option<u16>,
 )
 where
     L::Stream: Read + Write + OpenStream + Drop,
 {
-    let mut ticks = MachineMinutes { clock: rt };
     let mut left = connections;
     for _ in 0..u64::MAX {
         match left {
@@ -110,7 +113,7 @@ where
             Some(n) => left = Some(n - 1),
             None => {}
         }
-        let _ = serve_next(rt.alloc(), listener, register, &mut ticks);
+        let _ = serve_next(alloc, listener, register, ticks);
     }
 }
 
@@ -127,6 +130,7 @@ pub fn listen<T: AllocGlobal + Net + Clock, S: Store, W: Write>(
     if told.is_err() || writer.flush().is_err() {
         return Err(Fault::Write);
     }
-    serve_connections(rt, &listener, register, connections);
+    let mut ticks = MachineMinutes { clock: rt };
+    serve_connections(rt.alloc(), &listener, register, &mut ticks, connections);
     Ok(())
 }

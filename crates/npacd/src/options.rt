@@ -1,8 +1,8 @@
 //! Reading the options of a subcommand.
-ghost use Rattle.std.specs.Prelude.{◌≡◌, IfOk, option_map, codes};
+ghost use Rattle.std.specs.Prelude.{◌≡◌, IfErr, IfOk, option_map, codes};
 ghost use Rattle.messages.specs.Fields.{number_of as number_in};
 ghost use Rattle.clap.specs.Words.{first_of, rows_of, found_of};
-ghost use Rattle.npacd.specs.CommandLine.{IsNumberIfAny, IsSubcommand, IsLineOf, number_under, small_number};
+ghost use Rattle.npacd.specs.CommandLine.{IsLineOf, IsNoLineOf, IsNoNumber, IsNoSubcommand, IsNumberIfAny, IsSubcommand, number_under, small_number};
 
 use crate::parse::{Line, Subcommand};
 use clap::ArgMatches;
@@ -38,7 +38,8 @@ fn number_under(matches: &ArgMatches<'_>, id: &str) -> Option<u16>
 
 // The number that an option is given, if it is.
 fn number_if_any(matches: &ArgMatches<'_>, id: &str) -> Result<Option<u16>, NoLine>
-    ensures { IfOk result (IsNumberIfAny id.now (rows_of (found_of matches.now))) }
+    ensures given { IfOk result (IsNumberIfAny id.now (rows_of (found_of matches.now))) }
+    ensures none { IfErr result (λ _. IsNoNumber id.now (rows_of (found_of matches.now))) }
 {
     if text_of(matches, id).is_none() {
         return Ok(None);
@@ -51,7 +52,9 @@ fn number_if_any(matches: &ArgMatches<'_>, id: &str) -> Result<Option<u16>, NoLi
 
 // The port and the connections of a `serve`.
 fn serve_of(matches: &ArgMatches<'_>) -> Result<Subcommand, NoLine>
-    ensures { IfOk result (IsSubcommand (codes "serve") (rows_of (found_of matches.now))) }
+    ensures given { IfOk result (IsSubcommand (codes "serve") (rows_of (found_of matches.now))) }
+    ensures none { IfErr result (λ _. IsNoSubcommand (codes "serve")
+        (rows_of (found_of matches.now))) }
 {
     let Some(port) = number_under(matches, "port") else {
         return Err(NoLine);
@@ -61,7 +64,8 @@ fn serve_of(matches: &ArgMatches<'_>) -> Result<Subcommand, NoLine>
 }
 
 fn subcommand_of(name: &str, matches: &ArgMatches<'_>) -> Result<Subcommand, NoLine>
-    ensures { IfOk result (IsSubcommand name.now (rows_of (found_of matches.now))) }
+    ensures given { IfOk result (IsSubcommand name.now (rows_of (found_of matches.now))) }
+    ensures none { IfErr result (λ _. IsNoSubcommand name.now (rows_of (found_of matches.now))) }
 {
     if name == "feed" {
         return Ok(Subcommand::Feed);
@@ -74,7 +78,8 @@ fn subcommand_of(name: &str, matches: &ArgMatches<'_>) -> Result<Subcommand, NoL
 
 /// The line of a subcommand and its matches.
 pub fn line_of<'a>(name: &str, matches: &ArgMatches<'a>) -> Result<Line<'a>, NoLine>
-    ensures { IfOk result (IsLineOf name.now (rows_of (found_of matches.now))) }
+    ensures given { IfOk result (IsLineOf name.now (rows_of (found_of matches.now))) }
+    ensures none { IfErr result (λ _. IsNoLineOf name.now (rows_of (found_of matches.now))) }
 {
     let subcommand = subcommand_of(name, matches)?;
     match text_of(matches, "windows") {

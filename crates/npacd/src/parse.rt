@@ -1,6 +1,9 @@
 //! The command line.
-ghost use Rattle.std.specs.Prelude.{IfOk, IsTrue, map};
-ghost use Rattle.npacd.specs.CommandLine.{IsLine, HasSecond};
+ghost use Rattle.std.specs.Prelude.{◌≡◌, ◌≢◌, ◌⊎◌, IfErr, IfOk, IsTrue, map};
+ghost use Rattle.clap.specs.Values.{kind_of};
+ghost use Rattle.clap.specs.declared.error.kind.ErrorKind.TheVariants.{DisplayHelp, DisplayVersion, OutOfMemory as NoRoom};
+ghost use Rattle.npacd.specs.CommandLine.{IsLine, IsNoLine, HasSecond};
+ghost use Rattle.npacd.specs.Telling.{AsksForHelp, IsMistake, IsUsage};
 
 use crate::command::npacd;
 use crate::options::line_of;
@@ -28,30 +31,41 @@ pub struct Line<'a> {
     pub feed: Option<&'a str>,
 }
 
-/// A text for the user and the exit status that goes with it.
+/// A text for the user and the exit status that goes with it: 0 for help, 2 for a mistake, 3 where
+/// memory was refused, and then there is no text.
 #[derive(Debug, Drop)]
 pub struct Usage {
     pub text: String,
     pub status: u8,
 }
 
-fn no_memory(alloc: Global) -> Usage {
+/// No line for want of memory.
+pub fn no_memory(alloc: Global) -> Usage
+    ensures { result.status ≡ 3 }
+{
     Usage {
         text: String::new(alloc),
         status: 3,
     }
 }
 
-// A number that `clap` reads and that is not written in digits alone.
-fn no_digits(alloc: Global) -> Usage {
+/// A mistake in the words that `clap` does not know of, with the text that tells it.
+pub fn mistake(alloc: Global, why: &str) -> Usage
+    ensures { IsMistake result.status }
+{
     let mut text = String::new(alloc);
-    match text.push_str("error: a number is written in digits\n") {
+    match text.push_str(why) {
         Ok(()) => Usage { text, status: 2 },
         Err(_) => no_memory(alloc),
     }
 }
 
-fn usage_of(alloc: Global, error: &Error) -> Usage {
+fn usage_of(alloc: Global, error: &Error) -> Usage
+    ensures status { IsUsage result.status }
+    ensures memory { kind_of error.now ≡ NoRoom → result.status ≡ 3 }
+    ensures help { result.status ≡ 0
+        → (kind_of error.now ≡ DisplayHelp) ⊎ (kind_of error.now ≡ DisplayVersion) }
+{
     if error.kind() == ErrorKind::OutOfMemory {
         return no_memory(alloc);
     }
@@ -75,10 +89,15 @@ fn is_second<S: AsStr>(words: &[S], name: &str) -> bool
 }
 
 /// Reads the words of a command line, of which the first is the program's name. Where there is no
-/// line, the answer is a text for the user with the exit status: 0 for help, 2 for a fault of the
-/// line, 3 where memory was refused.
+/// line, the answer is a text for the user with the exit status: 0 for help, 2 for a mistake in the
+/// words, 3 where memory was refused.
 pub fn parse<'a, S: AsStr>(alloc: Global, words: &'a [S]) -> Result<Line<'a>, Usage>
-    ensures { IfOk result (IsLine (map S.text words.entry.now)) }
+    ensures line { IfOk result (IsLine (map S.text words.entry.now)) }
+    ensures status { IfErr result (λ usage. IsUsage usage.status) }
+    ensures help { IfErr result (λ usage. usage.status ≡ 0
+        → AsksForHelp (map S.text words.entry.now)) }
+    ensures refused { IfErr result (λ usage. usage.status ≢ 3
+        → IsNoLine (map S.text words.entry.now)) }
 {
     let command = match npacd(alloc) {
         Ok(command) => command,
@@ -91,7 +110,7 @@ pub fn parse<'a, S: AsStr>(alloc: Global, words: &'a [S]) -> Result<Line<'a>, Us
     match matches.subcommand() {
         Some((name, found)) if is_second(words, name) => match line_of(name, found) {
             Ok(line) => Ok(line),
-            Err(_) => Err(no_digits(alloc)),
+            Err(_) => Err(mistake(alloc, "error: a number is written in digits\n")),
         },
         _ => Err(no_memory(alloc)),
     }

@@ -1,19 +1,22 @@
 //! Carrying out a command line.
-ghost use Rattle.std.specs.Prelude.{◌≡◌, IfSome};
+ghost use Rattle.std.specs.Prelude.{◌≡◌, IfSome, map};
 ghost use Rattle.std.specs.Io.Buffered.{writer_buffer, writer_contents, writer_inner};
 ghost use Rattle.meaning.specs.Reading.{first_state};
 ghost use Rattle.meaning.specs.Windows.{Windows as WindowsMeant};
 ghost use Rattle.version.specs.Views.{windows_of};
 ghost use Rattle.register.specs.Answers.{Stands};
 ghost use Rattle.store.specs.Tables.{content_of};
-ghost use Rattle.npacd.specs.Feeding.{Feeds, outcome_of};
+ghost use Rattle.npacd.specs.Feeding.{Feeds, fed, outcome_of};
+ghost use Rattle.npacd.specs.Telling.{Ends};
 
 use crate::fault::Fault;
 use crate::listening::listen;
-use crate::parse::{Line, Subcommand, Usage, parse};
+use crate::parse::{Line, Subcommand, parse};
+use crate::telling::{tell_outcome, tell_usage};
 use api::{End, NoTicks, Options, Served, serve};
 use register::{Register, law_of_new_stores};
 use std::alloc::Global;
+use std::convert::AsStr;
 use std::fs::File;
 use std::io::{BufWriter, ErrorKind, Read, Write};
 use std::net::Net;
@@ -68,8 +71,9 @@ fn feed_to<R: Read, W: Write + Drop>(
 ) -> Result<(), Fault>
     ensures { (w : WindowsMeant) → Stands (content_of register.old.store.tables) (first_state w)
         → IfSome (R.remaining reader.old)
-        (λ input. Feeds w input (writer_contents W.contents writer.old)
-        (W.contents (writer_inner writer.new)) (writer_buffer writer.new) result) }
+        (λ input. Feeds w (fed input (R.remaining reader.new)
+        (writer_contents W.contents writer.old) (W.contents (writer_inner writer.new)))
+        (writer_buffer writer.new) result) }
 {
     let options = Options { clock_route: true };
     let served = serve(alloc, register, &mut NoTicks, &options, reader, writer);
@@ -79,18 +83,24 @@ fn feed_to<R: Read, W: Write + Drop>(
     }
 }
 
-// Serves the reader to the writer over a new store in memory: the answers are those of the history
-// machine, from the first state of the windows on. Unless a write fails, all of them are handed on
-// to the writer behind the buffer.
-fn feed<R: Read, W: Write + Drop>(
+/// Serves the messages of a reader to a writer, over a new register in memory with these windows
+/// and with the path of the clock. The answers are those of the history machine, from its first
+/// state on. Unless a write fails, all of them are handed on to the writer behind the buffer.
+///
+/// Input that ends with a message that is refused with `BadHead`, `TooLarge` or `CutBody` is a
+/// `Fault::Message`, and that message is answered too. A read or a write that fails is a
+/// `Fault::Read` or a `Fault::Write`, memory that is refused a `Fault::NoMemory`, or, for a
+/// register that was not opened, a `Fault::Open`.
+pub fn feed<R: Read, W: Write + Drop>(
     alloc: Global,
     windows: &Windows,
     reader: &mut R,
     writer: &mut BufWriter<W>,
 ) -> Result<(), Fault>
     ensures { IfSome (R.remaining reader.old) (λ input.
-        Feeds (windows_of windows.now) input (writer_contents W.contents writer.old)
-        (W.contents (writer_inner writer.new)) (writer_buffer writer.new) result) }
+        Feeds (windows_of windows.now) (fed input (R.remaining reader.new)
+        (writer_contents W.contents writer.old) (W.contents (writer_inner writer.new)))
+        (writer_buffer writer.new) result) }
 {
     law_of_new_stores();
     let store = MemoryStore::new(alloc);
@@ -174,7 +184,8 @@ fn feed_after<T: Files + AllocGlobal, R: Read, W: Write>(
     outcome
 }
 
-fn run_subcommand<T: Files + AllocGlobal + Net + Clock, R: Read, W: Write>(
+// Carries out a line.
+fn carry_out<T: Files + AllocGlobal + Net + Clock, R: Read, W: Write>(
     rt: &T,
     line: &Line<'_>,
     reader: &mut R,
@@ -191,41 +202,24 @@ fn run_subcommand<T: Files + AllocGlobal + Net + Clock, R: Read, W: Write>(
     }
 }
 
-fn show<W: Write>(writer: &mut W, usage: &Usage) -> u8 {
-    match writer.write_all(usage.text.as_bytes()) {
-        Ok(()) => usage.status,
-        Err(_) => 3,
-    }
-}
-
-// One line on the errors, and the exit status.
-fn tell<E: Write>(errors: &mut E, fault: Fault) -> u8 {
-    let name = fault.name();
-    match writeln!(errors, "npacd: {name}") {
-        Ok(()) => fault.status(),
-        Err(_) => 3,
-    }
-}
-
 /// Carries out the words of a command line, of which the first is the program's name, and gives the
 /// exit status: 0 done, or help; 1 a refused windows file, or input that ended by a message's
 /// fault; 2 the command line; 3 memory, a read or a write. With 1 and 3 one line `npacd: ` and the
-/// fault's name goes to the errors.
-pub fn run<T: Files + AllocGlobal + Net + Clock, R: Read, W: Write, E: Write>(
+/// fault's name goes to the errors, unless it cannot be written.
+///
+/// The windows file comes first, then the file of `--feed`, then the subcommand: nothing is done
+/// behind the first fault.
+pub fn run<T: Files + AllocGlobal + Net + Clock, S: AsStr, R: Read, W: Write, E: Write>(
     rt: &T,
-    words: &[String],
+    words: &[S],
     reader: &mut R,
     writer: &mut W,
     errors: &mut E,
-) -> u8 {
-    let line = match parse(rt.alloc(), words) {
-        Ok(line) => line,
-        Err(usage) if usage.status == 0 => return show(writer, &usage),
-        Err(usage) if usage.status == 3 => return tell(errors, Fault::NoMemory),
-        Err(usage) => return show(errors, &usage),
-    };
-    match run_subcommand(rt, &line, reader, writer) {
-        Ok(()) => 0,
-        Err(fault) => tell(errors, fault),
+) -> u8
+    ensures { Ends (map S.text words.now) (E.contents errors.old) (E.contents errors.new) result }
+{
+    match parse(rt.alloc(), words) {
+        Ok(line) => tell_outcome(errors, carry_out(rt, &line, reader, writer)),
+        Err(usage) => tell_usage(writer, errors, &usage),
     }
 }

@@ -20,6 +20,8 @@ mod failing;
 #[cfg(test)]
 mod fetching;
 #[cfg(test)]
+mod interrupted;
+#[cfg(test)]
 mod large;
 #[cfg(test)]
 mod laws;

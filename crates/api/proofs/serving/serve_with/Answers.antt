@@ -3,8 +3,12 @@ use Rattle.std.proofs.Math.Nat.{le_refl, le_trans}
 use Rattle.std.specs.Io.KnownBytes.{Appends}
 use Rattle.messages.specs.Held.{input_left}
 use Rattle.messages.specs.Sending.{AppendsFront}
-use Rattle.api.specs.Serving.{AfterWhole, Responds}
-use Rattle.api.proofs.Going.{Known, started, whole_of, ended, state_then, went_on, finished, partly}
+use Rattle.std.specs.Prelude.{IfSome}
+use Rattle.meaning.specs.Reading.{State}
+use Rattle.register.specs.Answers.{Stands}
+use Rattle.api.specs.Serving.{FailsAt, Responds}
+use Rattle.api.specs.declared.serving.Fault.TheVariants.{Memory}
+use Rattle.api.proofs.Going.{started, ended, failed_read, no_memory, full, state_then, went_on, finished, partly}
 use Rattle.api.proofs.serving.serve_with.Goals as goal
 
 pub loop-count-init : goal.loop-count-init
@@ -16,58 +20,46 @@ loop-count-init g c = (
   λ usable. (input_left c.args.held.now (g.R.Read.remaining c.args.reader.now), refl, started c.args.options.now.clock_route (g.S.Store.failed c.args.register.now.store) (g.S.Store.content c.args.register.now.store) _ (g.R.Read.remaining c.args.reader.now) (g.W.Write.contents c.args.writer.now) (g.T.Ticks.told c.args.ticks.now) c.requires.empty),
 )
 
-pub returns-in-Ok-None-clause-served : goal.returns-in-Ok-None-clause-served
-returns-in-Ok-None-clause-served g c = λ usable.
+pub returns-in-Ok-None-clause-serves : goal.returns-in-Ok-None-clause-serves
+returns-in-Ok-None-clause-serves g c = λ usable.
     let at = c.loop-count.invariant.4 usable in
-    ended c.args.options.now.clock_route (g.S.Store.failed c.args.register.now.store) (g.S.Store.failed c.loop-count.register.store) (g.S.Store.content c.args.register.now.store) (g.S.Store.content c.loop-count.register.store) (g.R.Read.remaining c.args.reader.now) at.0
-    (g.W.Write.contents c.args.writer.now) (g.W.Write.contents c.loop-count.writer) (g.T.Ticks.told c.args.ticks.now) (g.T.Ticks.told c.loop-count.ticks) c.loop-count.count at.2
-    (rw c.in-Ok-None.field-0-is at (c.in-Ok-None.ensures.cut at.0 at.1))
+    ended _ _ _ _ _ _ _ _ _ _ _ _ at.2 (g.R.Read.remaining c.next_of.new.reader) (rw c.in-Ok-None.field-0-is at (c.in-Ok-None.ensures.cut at.0 at.1)) (rw c.in-Ok-None.field-0-is at (c.in-Ok-None.ensures.read at.0 at.1))
 
-pub returns-in-Err-Read-clause-fault : goal.returns-in-Err-Read-clause-fault
-returns-in-Err-Read-clause-fault g c = λ usable.
+pub returns-in-Err-Read-clause-serves : goal.returns-in-Err-Read-clause-serves
+returns-in-Err-Read-clause-serves g c = λ usable.
     let at = c.loop-count.invariant.4 usable in
-    whole_of c.args.options.now.clock_route (g.S.Store.failed c.args.register.now.store) (g.S.Store.failed c.loop-count.register.store) (g.S.Store.content c.args.register.now.store) (g.S.Store.content c.loop-count.register.store) (g.R.Read.remaining c.args.reader.now) at.0
-    (g.W.Write.contents c.args.writer.now) (g.W.Write.contents c.loop-count.writer) (g.T.Ticks.told c.args.ticks.now) (g.T.Ticks.told c.loop-count.ticks) c.loop-count.count at.2
+    failed_read _ _ _ _ _ _ _ _ _ _ _ _ at.2 (g.R.Read.remaining c.next_of.new.reader) (rw c.in-Err-Read.field-0-is at (c.in-Err-Read.ensures.read at.0 at.1))
 
-pub returns-in-Err-Memory-clause-fault : goal.returns-in-Err-Memory-clause-fault
-returns-in-Err-Memory-clause-fault g c = λ usable.
+pub returns-in-Err-Memory-clause-serves : goal.returns-in-Err-Memory-clause-serves
+returns-in-Err-Memory-clause-serves g c = λ usable.
     let at = c.loop-count.invariant.4 usable in
-    whole_of c.args.options.now.clock_route (g.S.Store.failed c.args.register.now.store) (g.S.Store.failed c.loop-count.register.store) (g.S.Store.content c.args.register.now.store) (g.S.Store.content c.loop-count.register.store) (g.R.Read.remaining c.args.reader.now) at.0
-    (g.W.Write.contents c.args.writer.now) (g.W.Write.contents c.loop-count.writer) (g.T.Ticks.told c.args.ticks.now) (g.T.Ticks.told c.loop-count.ticks) c.loop-count.count at.2
+    no_memory _ _ _ _ _ _ _ _ _ _ _ _ at.2 (g.R.Read.remaining c.next_of.new.reader) (rw c.in-Err-Memory.field-0-is at (c.in-Err-Memory.ensures.read at.0 at.1))
 
-pub returns-in-Err-clause-fault : goal.returns-in-Err-clause-fault
-returns-in-Err-clause-fault g c = λ usable.
+pub returns-in-Err-clause-serves : goal.returns-in-Err-clause-serves
+returns-in-Err-clause-serves g c = λ usable.
     let at = c.loop-count.invariant.4 (c.respond-end.ensures.usable usable) in
-    partly c.args.options.now.clock_route (g.S.Store.failed c.args.register.now.store) (g.S.Store.failed c.loop-count.register.store) (g.S.Store.content c.args.register.now.store) (g.S.Store.content c.loop-count.register.store) (g.R.Read.remaining c.args.reader.now) at.0
-    (g.W.Write.contents c.args.writer.now) (g.W.Write.contents c.loop-count.writer) (g.T.Ticks.told c.args.ticks.now) (g.T.Ticks.told c.loop-count.ticks) c.loop-count.count at.2
-    (g.S.Store.failed c.respond-end.new.register.store) (g.S.Store.content c.respond-end.new.register.store) (input_left c.next_of.new.held (g.R.Read.remaining c.next_of.new.reader)) (g.W.Write.contents c.send_all.new.writer) (g.T.Ticks.told c.respond-end.new.ticks) c.in-Ok-Some.next c.next_of.new.body.items (string_bytes c.respond-end.new.room.text)
-    (rw c.in-Ok-Some.field-0-is at (c.in-Ok-Some.ensures.cut at.0 at.1))
+    partly _ _ _ _ _ _ _ _ _ _ _ _ at.2 _ _ c.next_of.new.held (g.R.Read.remaining c.next_of.new.reader) c.in-Ok-Some.ensures.size _ _ _ _ c.in-Ok-Some.next
+    (rw c.in-Ok-Some.field-0-is at (c.in-Ok-Some.ensures.cut at.0 at.1)) (rw c.in-Ok-Some.field-0-is at (c.in-Ok-Some.ensures.read at.0 at.1))
     (subst (λ (b : List ℕ). Responds c.args.options.now.clock_route (g.T.Ticks.told c.loop-count.ticks) (g.T.Ticks.told c.respond-end.new.ticks) (g.S.Store.failed c.loop-count.register.store) (g.S.Store.failed c.respond-end.new.register.store) c.in-Ok-Some.next b (string_bytes c.respond-end.new.room.text) (g.S.Store.content c.loop-count.register.store) (g.S.Store.content c.respond-end.new.register.store)) c.deref.ensures.value (c.respond-end.ensures.responds usable))
     (subst (AppendsFront (g.W.Write.contents c.loop-count.writer) (g.W.Write.contents c.send_all.new.writer)) c.as_bytes.ensures.value c.in-Err.ensures.err)
 
 pub returns-in-Err-clause-state : goal.returns-in-Err-clause-state
 returns-in-Err-clause-state g c = λ usable.
     let at = c.loop-count.invariant.4 (c.respond-end.ensures.usable usable) in
-    state_then c.args.options.now.clock_route (g.S.Store.failed c.args.register.now.store) (g.S.Store.failed c.loop-count.register.store) (g.S.Store.content c.args.register.now.store) (g.S.Store.content c.loop-count.register.store) (g.R.Read.remaining c.args.reader.now) at.0
-    (g.W.Write.contents c.args.writer.now) (g.W.Write.contents c.loop-count.writer) (g.T.Ticks.told c.args.ticks.now) (g.T.Ticks.told c.loop-count.ticks) c.loop-count.count at.2
-    (g.S.Store.failed c.respond-end.new.register.store) (g.S.Store.content c.respond-end.new.register.store) (g.T.Ticks.told c.respond-end.new.ticks) c.in-Ok-Some.next c.deref.result.now _ (c.respond-end.ensures.responds usable)
+    state_then _ _ _ _ _ _ _ _ _ _ _ _ at.2 _ _ c.next_of.new.held (g.R.Read.remaining c.next_of.new.reader) c.in-Ok-Some.ensures.size _ _ _ c.in-Ok-Some.next (c.respond-end.ensures.responds usable)
 
-pub returns-in-Some-clause-served : goal.returns-in-Some-clause-served
-returns-in-Some-clause-served g c = λ usable.
+pub returns-in-Some-clause-serves : goal.returns-in-Some-clause-serves
+returns-in-Some-clause-serves g c = λ usable.
     let at = c.loop-count.invariant.4 (c.respond-end.ensures.usable usable) in
-    finished c.args.options.now.clock_route (g.S.Store.failed c.args.register.now.store) (g.S.Store.failed c.loop-count.register.store) (g.S.Store.content c.args.register.now.store) (g.S.Store.content c.loop-count.register.store) (g.R.Read.remaining c.args.reader.now) at.0
-    (g.W.Write.contents c.args.writer.now) (g.W.Write.contents c.loop-count.writer) (g.T.Ticks.told c.args.ticks.now) (g.T.Ticks.told c.loop-count.ticks) c.loop-count.count at.2
-    (g.S.Store.failed c.respond-end.new.register.store) (g.S.Store.content c.respond-end.new.register.store) (input_left c.next_of.new.held (g.R.Read.remaining c.next_of.new.reader)) (g.W.Write.contents c.send_all.new.writer) (g.T.Ticks.told c.respond-end.new.ticks) c.in-Ok-Some.next c.in-Some.end c.next_of.new.body.items (string_bytes c.respond-end.new.room.text)
-    (sym c.respond-end.ensures.end ∙ c.in-Some.is) (rw c.in-Ok-Some.field-0-is at (c.in-Ok-Some.ensures.cut at.0 at.1))
+    finished _ _ _ _ _ _ _ _ _ _ _ _ at.2 _ _ c.next_of.new.held (g.R.Read.remaining c.next_of.new.reader) c.in-Ok-Some.ensures.size _ _ _ _ c.in-Ok-Some.next c.in-Some.end
+    (sym c.respond-end.ensures.end ∙ c.in-Some.is) (rw c.in-Ok-Some.field-0-is at (c.in-Ok-Some.ensures.cut at.0 at.1)) (rw c.in-Ok-Some.field-0-is at (c.in-Ok-Some.ensures.read at.0 at.1))
     (subst (λ (b : List ℕ). Responds c.args.options.now.clock_route (g.T.Ticks.told c.loop-count.ticks) (g.T.Ticks.told c.respond-end.new.ticks) (g.S.Store.failed c.loop-count.register.store) (g.S.Store.failed c.respond-end.new.register.store) c.in-Ok-Some.next b (string_bytes c.respond-end.new.room.text) (g.S.Store.content c.loop-count.register.store) (g.S.Store.content c.respond-end.new.register.store)) c.deref.ensures.value (c.respond-end.ensures.responds usable))
     (subst (Appends (g.W.Write.contents c.loop-count.writer) (g.W.Write.contents c.send_all.new.writer)) c.as_bytes.ensures.value c.in-Ok.ensures.ok)
 
 pub returns-in-Some-clause-state : goal.returns-in-Some-clause-state
 returns-in-Some-clause-state g c = λ usable.
     let at = c.loop-count.invariant.4 (c.respond-end.ensures.usable usable) in
-    state_then c.args.options.now.clock_route (g.S.Store.failed c.args.register.now.store) (g.S.Store.failed c.loop-count.register.store) (g.S.Store.content c.args.register.now.store) (g.S.Store.content c.loop-count.register.store) (g.R.Read.remaining c.args.reader.now) at.0
-    (g.W.Write.contents c.args.writer.now) (g.W.Write.contents c.loop-count.writer) (g.T.Ticks.told c.args.ticks.now) (g.T.Ticks.told c.loop-count.ticks) c.loop-count.count at.2
-    (g.S.Store.failed c.respond-end.new.register.store) (g.S.Store.content c.respond-end.new.register.store) (g.T.Ticks.told c.respond-end.new.ticks) c.in-Ok-Some.next c.deref.result.now _ (c.respond-end.ensures.responds usable)
+    state_then _ _ _ _ _ _ _ _ _ _ _ _ at.2 _ _ c.next_of.new.held (g.R.Read.remaining c.next_of.new.reader) c.in-Ok-Some.ensures.size _ _ _ c.in-Ok-Some.next (c.respond-end.ensures.responds usable)
 
 pub loop-count-preserved : goal.loop-count-preserved
 loop-count-preserved g c = (
@@ -79,19 +71,17 @@ loop-count-preserved g c = (
       let at = c.loop-count.invariant.4 (c.respond-end.ensures.usable usable) in (
         input_left c.next_of.new.held (g.R.Read.remaining c.next_of.new.reader),
         c.next_held-at_hand.ensures.cut (g.R.Read.remaining c.next_of.new.reader),
-        went_on c.args.options.now.clock_route (g.S.Store.failed c.args.register.now.store) (g.S.Store.failed c.loop-count.register.store) (g.S.Store.content c.args.register.now.store) (g.S.Store.content c.loop-count.register.store) (g.R.Read.remaining c.args.reader.now) at.0
-            (g.W.Write.contents c.args.writer.now) (g.W.Write.contents c.loop-count.writer) (g.T.Ticks.told c.args.ticks.now) (g.T.Ticks.told c.loop-count.ticks) c.loop-count.count at.2
-            (g.S.Store.failed c.respond-end.new.register.store) (g.S.Store.content c.respond-end.new.register.store) (input_left c.next_of.new.held (g.R.Read.remaining c.next_of.new.reader)) (g.W.Write.contents c.send_all.new.writer) (g.T.Ticks.told c.respond-end.new.ticks) c.in-Ok-Some.next c.next_of.new.body.items (string_bytes c.respond-end.new.room.text)
+        went_on _ _ _ _ _ _ _ _ _ _ _ _ at.2 _ _ c.next_of.new.held (g.R.Read.remaining c.next_of.new.reader) c.in-Ok-Some.ensures.size _ _ _ _ c.in-Ok-Some.next
             (sym c.respond-end.ensures.end ∙ c.in_default.is) (rw c.in-Ok-Some.field-0-is at (c.in-Ok-Some.ensures.cut at.0 at.1))
             (subst (λ (b : List ℕ). Responds c.args.options.now.clock_route (g.T.Ticks.told c.loop-count.ticks) (g.T.Ticks.told c.respond-end.new.ticks) (g.S.Store.failed c.loop-count.register.store) (g.S.Store.failed c.respond-end.new.register.store) c.in-Ok-Some.next b (string_bytes c.respond-end.new.room.text) (g.S.Store.content c.loop-count.register.store) (g.S.Store.content c.respond-end.new.register.store)) c.deref.ensures.value (c.respond-end.ensures.responds usable))
             (subst (Appends (g.W.Write.contents c.loop-count.writer) (g.W.Write.contents c.send_all.new.writer)) c.as_bytes.ensures.value c.in-Ok.ensures.ok),
       ),
 )
 
-pub returns-clause-fault : goal.returns-clause-fault
-returns-clause-fault g c = λ usable st s.
+pub returns-clause-serves : goal.returns-clause-serves
+returns-clause-serves g c = λ usable.
     let at = c.loop-count.invariant.4 usable in
     let last : c.loop-count.count ≡ 18446744073709551615 = omega (arith, c.loop-count-test.false, c.loop-count.auto.count-end) in
-    subst (λ k. Known (g.R.Read.remaining c.args.reader.now) (g.T.Ticks.told c.args.ticks.now) (λ input minutes. AfterWhole c.args.options.now.clock_route (g.S.Store.failed c.args.register.now.store) (g.S.Store.failed c.loop-count.register.store) st (g.S.Store.content c.loop-count.register.store) input minutes (g.W.Write.contents c.args.writer.now) (g.W.Write.contents c.loop-count.writer) k)) last
-    (whole_of c.args.options.now.clock_route (g.S.Store.failed c.args.register.now.store) (g.S.Store.failed c.loop-count.register.store) (g.S.Store.content c.args.register.now.store) (g.S.Store.content c.loop-count.register.store) (g.R.Read.remaining c.args.reader.now) at.0
-    (g.W.Write.contents c.args.writer.now) (g.W.Write.contents c.loop-count.writer) (g.T.Ticks.told c.args.ticks.now) (g.T.Ticks.told c.loop-count.ticks) c.loop-count.count at.2 st s)
+    subst (λ (k : ℕ). (st : State) → Stands (g.S.Store.content c.args.register.now.store) st → IfSome (g.R.Read.remaining c.args.reader.now) (λ input. FailsAt (Memory k) c.args.options.now.clock_route (g.S.Store.failed c.args.register.now.store) (g.S.Store.failed c.loop-count.register.store) st (g.S.Store.content c.loop-count.register.store)
+    (record { input = input; unread = g.R.Read.remaining c.loop-count.reader; before = g.T.Ticks.told c.args.ticks.now; behind = g.T.Ticks.told c.loop-count.ticks; had = g.W.Write.contents c.args.writer.now; has = g.W.Write.contents c.loop-count.writer }))) last
+    (full _ _ _ _ _ _ _ _ _ _ _ _ at.2 (g.R.Read.remaining c.loop-count.reader) last)

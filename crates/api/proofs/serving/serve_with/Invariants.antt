@@ -12,4 +12,4 @@ invariant-loop-count g l =
     × (g.S.Store.failed l.fn.register.store ≤ g.S.Store.failed l.register.store)
     × (g.S.Store.IsUsable l.register.store → (left : Option (List ℕ)) × IsTaken left l.at_hand l.body.items (input_left l.held (g.R.Read.remaining l.reader))
     × Progress l.fn.options.clock_route (g.S.Store.failed l.fn.register.store) (g.S.Store.failed l.register.store) (g.S.Store.content l.fn.register.store) (g.S.Store.content l.register.store)
-    (g.R.Read.remaining l.fn.reader) (g.T.Ticks.told l.fn.ticks) left (g.W.Write.contents l.fn.writer) (g.W.Write.contents l.writer) (g.T.Ticks.told l.ticks) l.count)
+    (g.R.Read.remaining l.fn.reader) left (g.W.Write.contents l.fn.writer) (g.W.Write.contents l.writer) (g.T.Ticks.told l.fn.ticks) (g.T.Ticks.told l.ticks) l.count)

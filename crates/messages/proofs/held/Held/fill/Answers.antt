@@ -1,18 +1,25 @@
-use Rattle.std.proofs.Common.{◌≡◌, ◌+◌, ◌-◌, ◌≤◌, List, ℕ, length, take, drop, ◌∙◌, ap, arith, rules}
+use Rattle.std.proofs.Common.{Result, Ok, Err, OnErr, ◌≡◌, ◌+◌, ◌-◌, ◌≤◌, List, ℕ, length, take, drop, ◌∙◌, ap, arith, rules}
 use Rattle.std.proofs.lemmas.List.{with_items_is}
 use Rattle.std.specs.Vec.{with_items}
 use Rattle.messages.specs.Held.{held_bytes}
-use Rattle.messages.proofs.HeldLemmas.{more_held, none_more, Keeps-read, held_kept, Keeps-same}
+use Rattle.messages.proofs.HeldLemmas.{more_held, none_more, Keeps-read, same_held, Keeps-same}
 use Rattle.messages.proofs.held.Held.fill.Goals as goal
+
+on_err : {A E : Type 0} (r : Result A E) (P : Type 0) → P → OnErr r P
+on_err (Ok a) P p = tt
+on_err (Err e) P p = p
+
+pub returns-in_err-n-clause-same : goal.returns-in_err-n-clause-same
+returns-in_err-n-clause-same g c =
+    let room = c.make_room.new.self in
+    on_err c.from_residual.result _
+    (same_held room c.read_at.new.buf c.deref_mut.result.now (held_bytes c.args.self.now) (with_items_is room.bytes c.read_at.new.buf (search rules)) c.deref_mut.ensures.value c.in_err-n.ensures.err c.make_room.ensures.held)
 
 pub returns-in_err-n-clause-left : goal.returns-in_err-n-clause-left
 returns-in_err-n-clause-left g c =
     let room = c.make_room.new.self in
-    let buf : List ℕ = c.read_at.new.buf in
-    let written : (with_items room.bytes buf).items ≡ buf = with_items_is room.bytes buf (search rules) in
     Keeps-same (held_bytes c.args.self.now) _ _ _
-    (ap (λ (t : List ℕ). take (room.filled - room.start) (drop room.start t)) written
-    ∙ held_kept room.bytes.items c.deref_mut.result.now buf room.start room.filled c.deref_mut.ensures.value room.begins c.in_err-n.ensures.err ∙ c.make_room.ensures.held)
+    (same_held room c.read_at.new.buf c.deref_mut.result.now (held_bytes c.args.self.now) (with_items_is room.bytes c.read_at.new.buf (search rules)) c.deref_mut.ensures.value c.in_err-n.ensures.err c.make_room.ensures.held)
     c.in_err-n.ensures.kept
 
 pub returns-clause-left : goal.returns-clause-left

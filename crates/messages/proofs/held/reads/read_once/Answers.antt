@@ -1,6 +1,6 @@
 use Rattle.std.proofs.Common.{◌≡◌, ℕ, ◌-◌, List, length, take, sym, arith, rules}
 use Rattle.messages.proofs.HeldLemmas.{taken_more}
-use Rattle.messages.proofs.held.reads.read_at.Goals as goal
+use Rattle.messages.proofs.held.reads.read_once.Goals as goal
 
 pub returns-clause-ok : goal.returns-clause-ok
 returns-clause-ok g c =
