@@ -1,0 +1,204 @@
+-- A version that is stored reads as it was.
+use Rattle.std.proofs.Common.{◌≡◌, ℕ, pos, ◌∷◌, Option, Some, None, Bool, true, false, cond, nat_lt, nat_le, ◌<◌, ◌≤◌, ◌/◌, ◌%◌, ◌*◌, ◌+◌, refl, ap, arith, IsTrue, IfSome}
+use Rattle.std.specs.Prelude.{option_map, ◌&&◌}
+use Rattle.sqlite.specs.declared.types.Value.{Value}
+use Rattle.sqlite.specs.declared.types.Value.TheVariants.{Int, Text}
+use Rattle.sqlite.specs.Values.{or_null}
+use Rattle.numbers.specs.Digits.{IsTn, IsBlock}
+use Rattle.numbers.specs.Spids.{IsSpid, is_spid_character}
+use Rattle.numbers.specs.Views.{subject_of, routing_of, minute_of}
+use Rattle.numbers.specs.declared.ported.Subject.{Subject as SubjectCode}
+use Rattle.numbers.specs.declared.ported.Subject.TheVariants.{Number as NumberCode, Block as BlockCode}
+use Rattle.numbers.specs.declared.ported.Routing.{Routing as RoutingCode}
+use Rattle.numbers.specs.declared.minute.Minute.{Minute}
+use Rattle.numbers.specs.declared.spid.Spid.{Spid}
+use Rattle.numbers.specs.declared.cic.Cic.{Cic}
+use Rattle.meaning.specs.declared.words.Status.{Status as StatusCode}
+use Rattle.meaning.specs.declared.words.Status.TheVariants as code
+use Rattle.meaning.specs.declared.words.Action.TheVariants.{Create, Delete}
+use Rattle.meaning.specs.declared.words.Side.TheVariants.{OldProvider, NewProvider}
+use Rattle.meaning.specs.Views.{status_of}
+use Rattle.meaning.specs.Content.{subject_if}
+use Rattle.settle.specs.Views.{version_row_of, block_row_of, clock_row_of, broadcast_row_of, broadcast_key_of, wait_key_of}
+use Rattle.settle.specs.declared.rows.BlockRow.{BlockRow as BlockRowCode}
+use Rattle.settle.specs.declared.rows.ClockRow.{ClockRow as ClockCode}
+use Rattle.settle.specs.declared.rows.BroadcastKey.{BroadcastKey as KeyCode}
+use Rattle.settle.specs.declared.rows.WaitKey.{WaitKey as WaitCode}
+use Rattle.delivery.specs.declared.broadcast.Broadcast.{Broadcast as BroadcastCode}
+use Rattle.windows.specs.declared.window.Window.{Window}
+use Rattle.meaning.specs.declared.words.Action.{Action}
+use Rattle.sql_rows.specs.Content.{carrier_entry, owner_entry, block_entry, broadcast_entry, wait_entry, clock_entry, carrier_params, owner_params, block_params, broadcast_params, wait_params, clock_params, stored}
+use Rattle.settle.specs.declared.rows.VersionRow.TheInside.{Inside}
+use Rattle.sql_rows.specs.Values.{number_in, minute_in, lrn_in, cic_in, bool_in, subject_in, spid_in, or_null_in, status_in, routing_in, number_value, spid_value, bool_value, subject_value, lrn_value, cic_value, status_word, sends_word, release_value, by_value, found_in, found_value, subject_number, window_in, action_in, action_word}
+use Rattle.std.specs.Prelude.{◌==◌}
+use Rattle.std.proofs.lemmas.Bool.Decides.{nat_tests}
+use Rattle.sql_rows.specs.Versions.{version_entry, version_row}
+
+is_less : (n m : ℕ) → n < m → nat_lt n m ≡ true
+is_less n m h = grind arith
+
+is_at_most : (n m : ℕ) → n ≤ m → nat_le n m ≡ true
+is_at_most n m h = grind arith
+
+pub number_back : (n : ℕ) → n < 9223372036854775808 → number_in (Int (pos n)) ≡ Some n
+number_back n h = rw (is_less n 9223372036854775808 h) refl
+
+pub minute_back : (m : Minute) → minute_in (Int (pos m.number)) ≡ Some m.number
+minute_back m = let small : m.number < 1099511627776 = m.valid in rw (is_less m.number 9223372036854775808 (omega arith)) (rw (is_less m.number 1099511627776 small) refl)
+
+pub minutes_back : (o : Option Minute) → or_null_in minute_in (or_null number_value (option_map minute_of o)) ≡ Some (option_map minute_of o)
+minutes_back None = refl
+minutes_back (Some m) = ap (option_map Some) (minute_back m)
+
+pub subject_back : (s : SubjectCode) → subject_in (subject_value (subject_of s)) ≡ Some (subject_of s)
+subject_back (NumberCode tn) =
+    let n = tn.number in
+    let v : IsTn n = tn.valid in
+    let low : nat_lt n 10000000 ≡ false = grind (arith, v.1) in
+    rw (is_less n 9223372036854775808 (omega (arith, v.0))) (rw low (rw (is_less n 10000000000 v.0, is_at_most 2 (n / 1000000000) v.1, is_at_most 2 (n / 1000000 % 10) v.2) refl))
+subject_back (BlockCode block) =
+    let n = block.number in
+    let v : IsBlock n = block.valid in
+    rw (is_less n 9223372036854775808 (omega (arith, v.0))) (rw (is_less n 10000000 v.0, is_at_most 2 (n / 1000000) v.1, is_at_most 2 (n / 1000 % 10) v.2) refl)
+
+pub found_back : (s : SubjectCode) (b : Bool) → found_in (subject_of s) (found_value (subject_if b (subject_of s))) ≡ Some b
+found_back s false = refl
+found_back s true = go s
+  where
+    small : (s : SubjectCode) → subject_number (subject_of s) < 9223372036854775808
+    small (NumberCode tn) = let v : IsTn tn.number = tn.valid in omega (arith, v.0)
+    small (BlockCode block) = let v : IsBlock block.number = block.valid in omega (arith, v.0)
+
+    itself : (n : ℕ) → (n == n) ≡ true
+    itself n = grind (arith, nat_tests)
+
+    go : (s : SubjectCode) → found_in (subject_of s) (subject_value (subject_of s)) ≡ Some true
+    go s = rw (is_less _ 9223372036854775808 (small s)) (rw (itself (subject_number (subject_of s))) refl)
+
+pub spid_back : (s : Spid) → spid_in (spid_value s.number) ≡ Some s.number
+spid_back s =
+    let n = s.number in
+    let v : IsSpid n = s.valid in
+    go n (is_spid_character (n / 16777216)) (is_spid_character (n / 65536 % 256)) (is_spid_character (n / 256 % 256)) (is_spid_character (n % 256)) v
+  where
+    go : (n : ℕ) (a b c d : Bool) → IsTrue (a && (b && (c && (d && true))))
+        → cond (a && (b && (c && d))) (Some (n / 16777216 * 16777216 + n / 65536 % 256 * 65536 + n / 256 % 256 * 256 + n % 256)) None ≡ Some n
+    go n true true true true h = ap Some (omega arith)
+    go n true true true false h = absurd cc
+    go n true true false d h = absurd cc
+    go n true false c d h = absurd cc
+    go n false b c d h = absurd cc
+
+pub bool_back : (b : Bool) → bool_in (bool_value b) ≡ Some b
+bool_back true = refl
+bool_back false = refl
+
+pub routing_back : (o : Option RoutingCode) → routing_in (lrn_value (option_map routing_of o)) (cic_value (option_map routing_of o)) ≡ Some (option_map routing_of o)
+routing_back None = refl
+routing_back (Some r) = go r.cic
+  where
+    lrn_back : lrn_in (Int (pos r.lrn.number)) ≡ Some r.lrn.number
+    lrn_back = let small : r.lrn.number < 10000000000 = r.lrn.valid in rw (is_less r.lrn.number 9223372036854775808 (omega arith)) (rw (is_less r.lrn.number 10000000000 small) refl)
+
+    cic_back : (c : Cic) → cic_in (Int (pos c.number)) ≡ Some c.number
+    cic_back c = let small : c.number < 10000 = c.valid in rw (is_less c.number 9223372036854775808 (omega arith)) (rw (is_less c.number 10000 small) refl)
+
+    go : (o : Option Cic) → routing_in (lrn_value (Some (record { lrn = r.lrn.number; cic = option_map (λ (c : Cic). c.number) o }))) (cic_value (Some (record { lrn = r.lrn.number; cic = option_map (λ (c : Cic). c.number) o })))
+        ≡ Some (Some (record { lrn = r.lrn.number; cic = option_map (λ (c : Cic). c.number) o }))
+    go None = rw lrn_back refl
+    go (Some c) = rw (lrn_back, cic_back c) refl
+
+pub status_back : (s : StatusCode) → status_in (Text (status_word (status_of s))) (Text (sends_word (status_of s))) (release_value (status_of s)) (by_value (status_of s)) ≡ Some (status_of s)
+status_back code.Pending = refl
+status_back code.Conflict = refl
+status_back (code.CancelPending OldProvider) = refl
+status_back (code.CancelPending NewProvider) = refl
+status_back (code.Sending Create) = refl
+status_back (code.Sending Delete) = refl
+status_back code.Active = refl
+status_back code.PartialFailure = refl
+status_back code.Failed = refl
+status_back (code.DisconnectPending m) = rw (minute_back m) refl
+status_back code.Old = refl
+status_back code.Canceled = refl
+
+pub reads_back : (id : ℕ) (v : Inside) → id < 9223372036854775808 → v.version.attempt < 9223372036854775808 → version_entry (version_row id (version_row_of v)) ≡ Some (id, version_row_of v)
+reads_back id v low few =
+    rw (
+      number_back id low,
+      subject_back v.version.subject,
+      spid_back v.version.old_provider,
+      spid_back v.version.new_provider,
+      minute_back v.version.due,
+      routing_back v.version.routing,
+      minutes_back v.version.old_at,
+      minutes_back v.version.new_at,
+      status_back v.version.status,
+      minute_back v.version.since,
+      number_back v.version.attempt few,
+      bool_back v.version.is_conflict_spent,
+      bool_back v.version.is_protective,
+      minutes_back v.deadline,
+      found_back v.version.subject v.is_in_force,
+      found_back v.version.subject v.is_open,
+    ) refl
+
+-- ---- the rows of the other tables
+
+pub carrier_back : (id : Value) (c : Spid) → carrier_entry (id ∷ carrier_params c.number) ≡ Some (c.number, tt)
+carrier_back id c = rw (spid_back c) refl
+
+pub owner_back : (n : ℕ) (c : Spid) → n < 9223372036854775808 → owner_entry (stored (owner_params n c.number)) ≡ Some (n, c.number)
+owner_back n c low = rw (number_back n low, spid_back c) refl
+
+last_back : (o : Option ℕ) → IfSome o (λ n. n < 9223372036854775808) → or_null_in number_in (or_null number_value o) ≡ Some o
+last_back None low = refl
+last_back (Some n) low = ap (option_map Some) (number_back n low)
+
+pub block_back : (n : ℕ) (b : BlockRowCode) → n < 9223372036854775808 → IfSome b.last (λ id. id < 9223372036854775808) → block_entry (stored (block_params n (block_row_of b))) ≡ Some (n, block_row_of b)
+block_back n b low last = rw (number_back n low, spid_back b.donor, last_back b.last last) refl
+
+action_back : (a : Action) → action_in (Text (action_word a)) ≡ Some a
+action_back Create = refl
+action_back Delete = refl
+
+pub broadcast_back : (rowid : Value) (k : KeyCode) (b : BroadcastCode) → k.id < 9223372036854775808 → k.attempt < 9223372036854775808
+    → broadcast_entry (rowid ∷ broadcast_params (broadcast_key_of k) (broadcast_row_of b)) ≡ Some (broadcast_key_of k, broadcast_row_of b)
+broadcast_back rowid k b low few =
+    rw (
+      number_back k.id low,
+      number_back k.attempt few,
+      minute_back b.minute,
+      subject_back b.subject,
+      action_back b.action,
+      routing_back b.routing,
+      bool_back b.is_open,
+      bool_back b.is_acknowledged,
+    ) refl
+
+pub wait_back : (rowid : Value) (k : WaitCode) (s : SubjectCode) → k.id < 9223372036854775808 → k.attempt < 9223372036854775808
+    → wait_entry (rowid ∷ wait_params (wait_key_of k) (subject_of s)) ≡ Some (wait_key_of k, subject_of s)
+wait_back rowid k s low few = rw (spid_back k.carrier, minute_back k.minute, number_back k.id low, number_back k.attempt few, subject_back s) refl
+
+window_back : (w : Window) → window_in (Int (pos w.minutes)) ≡ Some w.minutes
+window_back w =
+    let least : 0 < w.minutes = w.in_range.0 in
+    let most : w.minutes ≤ 525600 = w.in_range.1 in
+    rw (is_less w.minutes 9223372036854775808 (omega arith)) (rw (is_less 0 w.minutes least, is_at_most w.minutes 525600 most) refl)
+
+pub clock_back : (n : ℕ) (c : ClockCode) → n < 9223372036854775808 → c.next_id < 9223372036854775808 → clock_entry (stored (clock_params n (clock_row_of c))) ≡ Some (n, clock_row_of c)
+clock_back n c low few =
+    rw (
+      number_back n low,
+      minute_back c.minute,
+      number_back c.next_id few,
+      window_back c.windows.initial_concurrence,
+      window_back c.windows.final_concurrence,
+      window_back c.windows.conflict_restriction,
+      window_back c.windows.conflict_resolution,
+      window_back c.windows.conflict_expiration,
+      window_back c.windows.cancellation_initial,
+      window_back c.windows.cancellation_final,
+      window_back c.windows.pending_retention,
+      window_back c.windows.broadcast,
+    ) refl

@@ -1,0 +1,17 @@
+pub mod StatementLemmas
+pub mod RowLemmas
+pub mod DeleteLemmas
+pub mod QueryLemmas
+pub mod SpidLemmas
+pub mod Inversions
+pub mod Backs
+pub mod Lookups
+pub mod Orders
+pub mod KeyTests
+pub mod WriteLemmas
+pub mod Casts
+pub mod BoundLemmas
+pub mod TableLemmas
+pub mod FoundLemmas
+pub mod DueLemmas
+pub mod PutLemmas

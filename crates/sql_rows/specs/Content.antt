@@ -1,0 +1,168 @@
+-- The tables as finite maps: each row that reads as a key and a value is an entry, and at a key that stands twice the first row counts.
+use Rattle.std.specs.Prelude.{ℕ, List, [], ◌∷◌, Option, option_map, option_and_then}
+use Rattle.std.specs.declared.cmp.Ordering.{Ordering}
+use Rattle.std.specs.Ordering.{nat_cmp}
+use Rattle.std.specs.List.{filter_map}
+use Rattle.std.specs.FinMap.{FinMap, from_entries, get}
+use Rattle.sqlite.specs.Order.{Row, column}
+use Rattle.sqlite.specs.Tree.{Trees}
+use Rattle.meaning.specs.Content.{Content, BlockRow, VersionRow, BroadcastRow, BroadcastKey, WaitKey, ClockRow, broadcast_cmp, wait_cmp}
+use Rattle.meaning.specs.Windows.{Windows}
+use Rattle.numbers.specs.Subjects.{Subject}
+use Rattle.sqlite.specs.declared.types.Value.TheVariants.{Null, Text}
+use Rattle.sqlite.specs.Values.{or_null}
+use Rattle.sql_rows.specs.Values.{number_in, minute_in, spid_in, subject_in, action_in, routing_in, bool_in, or_null_in, window_in, number_value, spid_value, subject_value, bool_value, lrn_value, cic_value, action_word}
+use Rattle.sql_rows.specs.Versions.{version_entry}
+
+abbrev pub content_of : {K V : Type 0} (R : K → K → Ordering) → (Row → Option (K × V)) → List Row → FinMap R V
+content_of R read rows = from_entries (filter_map read rows)
+
+abbrev pub pair : {K V : Type 0} → K → V → K × V
+pair k v = (k, v)
+
+-- ---- what a query shows of a row, and the stored row as it shows it
+
+abbrev pub carrier_in : Row → Option (ℕ × Unit {0})
+carrier_in r = option_map (λ k. pair k tt) (spid_in (column r 0))
+
+abbrev pub carrier_shown : Row → Row
+carrier_shown r = column r 1 ∷ []
+
+abbrev pub carrier_entry : Row → Option (ℕ × Unit {0})
+carrier_entry r = carrier_in (carrier_shown r)
+
+-- a number, and whose it is: of the tables of routing numbers and of codes
+abbrev pub owner_in : Row → Option (ℕ × ℕ)
+owner_in r = option_and_then (λ k. option_map (pair k) (spid_in (column r 1))) (number_in (column r 0))
+
+abbrev pub owner_shown : Row → Row
+owner_shown r = column r 0 ∷ column r 2 ∷ []
+
+abbrev pub owner_entry : Row → Option (ℕ × ℕ)
+owner_entry r = owner_in (owner_shown r)
+
+abbrev pub block_row : ℕ → Option ℕ → BlockRow
+block_row donor last = record { donor = donor; last = last }
+
+abbrev pub block_in : Row → Option (ℕ × BlockRow)
+block_in r = option_and_then (λ k. option_and_then (λ donor. option_map (λ last. pair k (block_row donor last)) (or_null_in number_in (column r 2))) (spid_in (column r 1))) (number_in (column r 0))
+
+abbrev pub block_shown : Row → Row
+block_shown r = column r 0 ∷ column r 2 ∷ column r 3 ∷ []
+
+abbrev pub block_entry : Row → Option (ℕ × BlockRow)
+block_entry r = block_in (block_shown r)
+
+abbrev pub broadcast_key : ℕ → ℕ → BroadcastKey
+broadcast_key id attempt = record { id = id; attempt = attempt }
+
+abbrev pub broadcast_in : Row → Option (BroadcastKey × BroadcastRow)
+broadcast_in r =
+    option_and_then (λ id. option_and_then (λ attempt. option_and_then (λ minute. option_and_then (λ subject. option_and_then (λ action. option_and_then (λ routing. option_and_then (λ is_open. option_map (λ any.
+    pair (broadcast_key id attempt) (record { minute = minute; subject = subject; action = action; routing = routing; is_open = is_open; any = any }))
+    (bool_in (column r 8))) (bool_in (column r 7))) (routing_in (column r 5) (column r 6))) (action_in (column r 4))) (subject_in (column r 3))) (minute_in (column r 2))) (number_in (column r 1))) (number_in (column r 0))
+
+abbrev pub broadcast_shown : Row → Row
+broadcast_shown r = column r 1 ∷ column r 2 ∷ column r 3 ∷ column r 4 ∷ column r 5 ∷ column r 6 ∷ column r 7 ∷ column r 8 ∷ column r 9 ∷ []
+
+abbrev pub broadcast_entry : Row → Option (BroadcastKey × BroadcastRow)
+broadcast_entry r = broadcast_in (broadcast_shown r)
+
+abbrev pub wait_key : ℕ → ℕ → ℕ → ℕ → WaitKey
+wait_key carrier minute id attempt = record { carrier = carrier; minute = minute; id = id; attempt = attempt }
+
+abbrev pub wait_in : Row → Option (WaitKey × Subject)
+wait_in r =
+    option_and_then (λ carrier. option_and_then (λ minute. option_and_then (λ id. option_and_then (λ attempt. option_map (pair (wait_key carrier minute id attempt))
+    (subject_in (column r 4))) (number_in (column r 3))) (number_in (column r 2))) (minute_in (column r 1))) (spid_in (column r 0))
+
+abbrev pub wait_shown : Row → Row
+wait_shown r = column r 1 ∷ column r 2 ∷ column r 3 ∷ column r 4 ∷ column r 5 ∷ []
+
+abbrev pub wait_entry : Row → Option (WaitKey × Subject)
+wait_entry r = wait_in (wait_shown r)
+
+abbrev pub windows_in : Row → Option Windows
+windows_in r =
+    option_and_then (λ a. option_and_then (λ b. option_and_then (λ c. option_and_then (λ d. option_and_then (λ e. option_and_then (λ f. option_and_then (λ g. option_and_then (λ h. option_map (λ i. record {
+      initial_concurrence = a;
+      final_concurrence = b;
+      conflict_restriction = c;
+      conflict_resolution = d;
+      conflict_expiration = e;
+      cancellation_initial = f;
+      cancellation_final = g;
+      pending_retention = h;
+      broadcast = i;
+    }) (window_in (column r 11))) (window_in (column r 10))) (window_in (column r 9)))
+    (window_in (column r 8))) (window_in (column r 7))) (window_in (column r 6))) (window_in (column r 5))) (window_in (column r 4))) (window_in (column r 3))
+
+abbrev pub clock_row : ℕ → ℕ → Windows → ClockRow
+clock_row minute next_id windows = record { minute = minute; next_id = next_id; windows = windows }
+
+abbrev pub clock_in : Row → Option (ℕ × ClockRow)
+clock_in r =
+    option_and_then (λ k. option_and_then (λ minute. option_and_then (λ next_id. option_map (λ w. pair k (clock_row minute next_id w)) (windows_in r)) (number_in (column r 2))) (minute_in (column r 1))) (number_in (column r 0))
+
+abbrev pub clock_shown : Row → Row
+clock_shown r =
+    column r 0 ∷ column r 2 ∷ column r 3 ∷ column r 4 ∷ column r 5 ∷ column r 6 ∷ column r 7 ∷ column r 8 ∷ column r 9 ∷ column r 10 ∷ column r 11 ∷ column r 12 ∷ []
+
+abbrev pub clock_entry : Row → Option (ℕ × ClockRow)
+clock_entry r = clock_in (clock_shown r)
+
+-- ---- the maps
+
+abbrev pub versions_in : List Row → FinMap nat_cmp VersionRow
+versions_in rows = content_of nat_cmp version_entry rows
+
+-- what a file's trees are to the register
+abbrev pub content_in : Trees → Content
+content_in db = record {
+  carriers = content_of nat_cmp carrier_entry (db 0);
+  lrns = content_of nat_cmp owner_entry (db 2);
+  codes = content_of nat_cmp owner_entry (db 3);
+  blocks = content_of nat_cmp block_entry (db 4);
+  versions = versions_in (db 5);
+  broadcasts = content_of broadcast_cmp broadcast_entry (db 8);
+  waits = content_of wait_cmp wait_entry (db 10);
+  clock = get (content_of nat_cmp clock_entry (db 12)) 0;
+}
+
+-- ---- the parameters of the statements that put rows in
+
+abbrev pub carrier_params : ℕ → Row
+carrier_params carrier = spid_value carrier ∷ []
+
+abbrev pub owner_params : ℕ → ℕ → Row
+owner_params number owner = number_value number ∷ spid_value owner ∷ []
+
+abbrev pub block_params : ℕ → BlockRow → Row
+block_params block row = number_value block ∷ spid_value row.donor ∷ or_null number_value row.last ∷ []
+
+abbrev pub broadcast_params : BroadcastKey → BroadcastRow → Row
+broadcast_params k b =
+    number_value k.id ∷ number_value k.attempt ∷ number_value b.minute ∷ subject_value b.subject ∷ Text (action_word b.action) ∷ lrn_value b.routing ∷ cic_value b.routing
+    ∷ bool_value b.is_open ∷ bool_value b.any ∷ []
+
+abbrev pub wait_params : WaitKey → Subject → Row
+wait_params k s = spid_value k.carrier ∷ number_value k.minute ∷ number_value k.id ∷ number_value k.attempt ∷ subject_value s ∷ []
+
+-- the columns of its key
+abbrev pub wait_key_params : WaitKey → Row
+wait_key_params k = spid_value k.carrier ∷ number_value k.minute ∷ number_value k.id ∷ number_value k.attempt ∷ []
+
+abbrev pub broadcast_key_params : BroadcastKey → Row
+broadcast_key_params k = number_value k.id ∷ number_value k.attempt ∷ []
+
+abbrev pub clock_params : ℕ → ClockRow → Row
+clock_params number c =
+    number_value number ∷ number_value c.minute ∷ number_value c.next_id ∷ number_value c.windows.initial_concurrence ∷ number_value c.windows.final_concurrence
+    ∷ number_value c.windows.conflict_restriction ∷ number_value c.windows.conflict_resolution ∷ number_value c.windows.conflict_expiration ∷ number_value c.windows.cancellation_initial
+    ∷ number_value c.windows.cancellation_final ∷ number_value c.windows.pending_retention ∷ number_value c.windows.broadcast ∷ []
+
+-- ---- the rows as they are stored: a rowid that the statement gives is the first column, and its own place is NULL
+
+abbrev pub stored : Row → Row
+stored [] = []
+stored (id ∷ values) = id ∷ Null ∷ values

@@ -1,0 +1,172 @@
+-- Stored values as values of the rows. A value that is none of its column's is no value.
+use Rattle.std.specs.Prelude.{ℕ, ◌+◌, ◌*◌, ◌/◌, ◌%◌, pos, nat_lt, nat_le, ◌==◌, Bool, true, false, ◌&&◌, if◌then◌else◌, List, [], ◌∷◌, codes, bytes_eq, Option, Some, None, option_map, option_and_then}
+use Rattle.sqlite.specs.declared.types.Value.{Value}
+use Rattle.sqlite.specs.declared.types.Value.TheVariants.{Null, Int, Text}
+use Rattle.numbers.specs.Spids.{is_spid_character}
+use Rattle.numbers.specs.Texts.{spid_text}
+use Rattle.numbers.specs.Subjects.{Subject, Number, Block}
+use Rattle.numbers.specs.Routings.{Routing}
+use Rattle.meaning.specs.declared.words.Action.{Action}
+use Rattle.meaning.specs.declared.words.Action.TheVariants.{Create, Delete}
+use Rattle.meaning.specs.declared.words.Side.{Side}
+use Rattle.meaning.specs.declared.words.Side.TheVariants.{OldProvider, NewProvider}
+use Rattle.meaning.specs.Statuses.{Status, Pending, Conflict, CancelPending, Sending, Active, PartialFailure, Failed, DisconnectPending, Old, Canceled}
+
+-- a whole number that a column holds
+abbrev pub number_in : Value → Option ℕ
+number_in (Int (pos n)) = if nat_lt n 9223372036854775808 then Some n else None
+number_in _ = None
+
+abbrev pub below : ℕ → ℕ → Option ℕ
+below limit n = if nat_lt n limit then Some n else None
+
+abbrev pub minute_in : Value → Option ℕ
+minute_in v = option_and_then (below 1099511627776) (number_in v)
+
+abbrev pub lrn_in : Value → Option ℕ
+lrn_in v = option_and_then (below 10000000000) (number_in v)
+
+abbrev pub cic_in : Value → Option ℕ
+cic_in v = option_and_then (below 10000) (number_in v)
+
+-- a window of a minute to a year
+abbrev pub window_from : ℕ → Option ℕ
+window_from n = if nat_lt 0 n && nat_le n 525600 then Some n else None
+
+abbrev pub window_in : Value → Option ℕ
+window_in v = option_and_then window_from (number_in v)
+
+abbrev pub bool_from : ℕ → Option Bool
+bool_from n = if nat_lt n 1 then Some false else (if nat_lt n 2 then Some true else None)
+
+abbrev pub bool_in : Value → Option Bool
+bool_in v = option_and_then bool_from (number_in v)
+
+-- seven digits are a block, ten a number
+abbrev pub subject_from : ℕ → Option Subject
+subject_from n =
+    if nat_lt n 10000000
+    then (if nat_le 2 (n / 1000000) && nat_le 2 (n / 1000 % 10) then Some (Block n) else None)
+    else (if nat_lt n 10000000000 && (nat_le 2 (n / 1000000000) && nat_le 2 (n / 1000000 % 10)) then Some (Number n) else None)
+
+abbrev pub subject_in : Value → Option Subject
+subject_in v = option_and_then subject_from (number_in v)
+
+abbrev pub spid_from : List ℕ → Option ℕ
+spid_from (a ∷ b ∷ c ∷ d ∷ []) =
+    if is_spid_character a && (is_spid_character b && (is_spid_character c && is_spid_character d)) then Some (a * 16777216 + b * 65536 + c * 256 + d) else None
+spid_from _ = None
+
+abbrev pub spid_in : Value → Option ℕ
+spid_in (Text t) = spid_from t
+spid_in _ = None
+
+-- NULL, or a value
+abbrev pub or_null_in : {X : Type 0} → (Value → Option X) → Value → Option (Option X)
+or_null_in read Null = Some None
+or_null_in read v = option_map Some (read v)
+
+abbrev pub is_word : List ℕ → Value → Bool
+is_word w (Text t) = bytes_eq t w
+is_word w _ = false
+
+abbrev pub action_in : Value → Option Action
+action_in v = if is_word (codes "create") v then Some Create else (if is_word (codes "delete") v then Some Delete else None)
+
+abbrev pub side_in : Value → Option Side
+side_in v = if is_word (codes "old") v then Some OldProvider else (if is_word (codes "new") v then Some NewProvider else None)
+
+abbrev pub subject_number : Subject → ℕ
+subject_number (Number n) = n
+subject_number (Block n) = n
+
+-- NULL, or the subject itself: a column by which the subject's row is found, and whether it is
+abbrev pub found_in : Subject → Value → Option Bool
+found_in s Null = Some false
+found_in s v = option_and_then (λ n. if n == subject_number s then Some true else None) (number_in v)
+
+-- a status by its name, and by what it sends, when it is released, or who cancelled
+abbrev pub status_in : (status sends release by : Value) → Option Status
+status_in status sends release by =
+    if is_word (codes "pending") status then Some Pending else (
+    if is_word (codes "conflict") status then Some Conflict else (
+    if is_word (codes "cancel-pending") status then option_map CancelPending (side_in by) else (
+    if is_word (codes "sending") status then option_map Sending (action_in sends) else (
+    if is_word (codes "active") status then Some Active else (
+    if is_word (codes "partial-failure") status then Some PartialFailure else (
+    if is_word (codes "failed") status then Some Failed else (
+    if is_word (codes "disconnect-pending") status then option_map DisconnectPending (minute_in release) else (
+    if is_word (codes "old") status then Some Old else (
+    if is_word (codes "canceled") status then Some Canceled else None)))))))))
+
+abbrev pub routed : ℕ → Option ℕ → Routing
+routed l c = record { lrn = l; cic = c }
+
+-- where it is routed, if it has a routing number
+abbrev pub routing_in : (lrn cic : Value) → Option (Option Routing)
+routing_in Null cic = Some None
+routing_in lrn cic = option_and_then (λ l. option_map (λ c. Some (routed l c)) (or_null_in cic_in cic)) (lrn_in lrn)
+
+-- ---- values as they are stored
+
+abbrev pub number_value : ℕ → Value
+number_value n = Int (pos n)
+
+abbrev pub spid_value : ℕ → Value
+spid_value n = Text (spid_text n)
+
+abbrev pub bool_value : Bool → Value
+bool_value false = Int (pos 0)
+bool_value true = Int (pos 1)
+
+abbrev pub subject_value : Subject → Value
+subject_value s = Int (pos (subject_number s))
+
+abbrev pub lrn_value : Option Routing → Value
+lrn_value None = Null
+lrn_value (Some r) = Int (pos r.lrn)
+
+abbrev pub cic_of : Option ℕ → Value
+cic_of None = Null
+cic_of (Some n) = Int (pos n)
+
+abbrev pub cic_value : Option Routing → Value
+cic_value None = Null
+cic_value (Some r) = cic_of r.cic
+
+abbrev pub status_word : Status → List ℕ
+status_word Pending = codes "pending"
+status_word Conflict = codes "conflict"
+status_word (CancelPending by) = codes "cancel-pending"
+status_word (Sending action) = codes "sending"
+status_word Active = codes "active"
+status_word PartialFailure = codes "partial-failure"
+status_word Failed = codes "failed"
+status_word (DisconnectPending release) = codes "disconnect-pending"
+status_word Old = codes "old"
+status_word Canceled = codes "canceled"
+
+abbrev pub action_word : Action → List ℕ
+action_word Create = codes "create"
+action_word Delete = codes "delete"
+
+abbrev pub sends_word : Status → List ℕ
+sends_word (Sending action) = action_word action
+sends_word _ = codes "none"
+
+abbrev pub release_value : Status → Value
+release_value (DisconnectPending release) = Int (pos release)
+release_value _ = Null
+
+abbrev pub side_word : Side → List ℕ
+side_word OldProvider = codes "old"
+side_word NewProvider = codes "new"
+
+abbrev pub by_value : Status → Value
+by_value (CancelPending side) = Text (side_word side)
+by_value _ = Null
+
+-- the subject in a column by which its row is found, or NULL
+abbrev pub found_value : Option Subject → Value
+found_value None = Null
+found_value (Some s) = subject_value s

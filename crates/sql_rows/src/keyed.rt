@@ -1,0 +1,204 @@
+//! Rows with their keys, as a query shows them.
+ghost use Rattle.std.specs.Prelude.{◌≡◌, option_map};
+ghost use Rattle.sqlite.specs.Order.{column};
+ghost use Rattle.version.specs.Views.{windows_of};
+ghost use Rattle.sql_rows.specs.Content.{windows_in};
+
+use crate::reading::{
+    action_at, bool_at, minute_at, number_at, number_or_null_at, routing_at, spid_at, subject_at,
+    window_at,
+};
+use crate::stored::Stored;
+use delivery::Broadcast;
+use numbers::{Spid, Subject};
+use settle::{BlockRow, BroadcastKey, ClockRow, WaitKey};
+use sqlite::Row;
+use windows::Windows;
+
+impl Stored for Spid {
+    ghost use Rattle.std.specs.Prelude.{ℕ};
+    ghost use Rattle.settle.specs.Views.{spid_of};
+    ghost use Rattle.sql_rows.specs.Content.{carrier_in};
+
+    ghost Seen = { ℕ × Unit {0} };
+
+    ghost seen = { λ c. (spid_of c, tt) };
+
+    ghost seen_in = { carrier_in };
+
+    fn read(row: &Row) -> Option<Spid> {
+        spid_at(row, 0)
+    }
+}
+
+/// A number, and the provider whose it is: a routing number or a code.
+#[derive(Clone, Copy, Debug, PartialEq, Eq)]
+pub struct KeyedOwner {
+    pub number: u64,
+    pub owner: Spid,
+}
+
+impl Stored for KeyedOwner {
+    ghost use Rattle.std.specs.Prelude.{ℕ};
+    ghost use Rattle.settle.specs.Views.{spid_of};
+    ghost use Rattle.sql_rows.specs.Content.{owner_in};
+
+    ghost Seen = { ℕ × ℕ };
+
+    ghost seen = { λ o. (o.number, spid_of o.owner) };
+
+    ghost seen_in = { owner_in };
+
+    fn read(row: &Row) -> Option<KeyedOwner> {
+        Some(KeyedOwner {
+            number: number_at(row, 0)?,
+            owner: spid_at(row, 1)?,
+        })
+    }
+}
+
+/// A donated block's row with the block.
+#[derive(Clone, Copy, Debug, PartialEq, Eq)]
+pub struct KeyedBlock {
+    pub number: u64,
+    pub row: BlockRow,
+}
+
+impl Stored for KeyedBlock {
+    ghost use Rattle.std.specs.Prelude.{ℕ};
+    ghost use Rattle.meaning.specs.Content.{BlockRow as BlockSeen};
+    ghost use Rattle.settle.specs.Views.{block_row_of};
+    ghost use Rattle.sql_rows.specs.Content.{block_in};
+
+    ghost Seen = { ℕ × BlockSeen };
+
+    ghost seen = { λ b. (b.number, block_row_of b.row) };
+
+    ghost seen_in = { block_in };
+
+    fn read(row: &Row) -> Option<KeyedBlock> {
+        Some(KeyedBlock {
+            number: number_at(row, 0)?,
+            row: BlockRow {
+                donor: spid_at(row, 1)?,
+                last: number_or_null_at(row, 2)?,
+            },
+        })
+    }
+}
+
+/// A broadcast with its key.
+#[derive(Clone, Copy, Debug, PartialEq, Eq)]
+pub struct KeyedBroadcast {
+    pub key: BroadcastKey,
+    pub broadcast: Broadcast,
+}
+
+impl Stored for KeyedBroadcast {
+    ghost use Rattle.meaning.specs.Content.{BroadcastKey as KeySeen, BroadcastRow as BroadcastSeen};
+    ghost use Rattle.settle.specs.Views.{broadcast_key_of, broadcast_row_of};
+    ghost use Rattle.sql_rows.specs.Content.{broadcast_in};
+
+    ghost Seen = { KeySeen × BroadcastSeen };
+
+    ghost seen = { λ b. (broadcast_key_of b.key, broadcast_row_of b.broadcast) };
+
+    ghost seen_in = { broadcast_in };
+
+    fn read(row: &Row) -> Option<KeyedBroadcast> {
+        Some(KeyedBroadcast {
+            key: BroadcastKey {
+                id: number_at(row, 0)?,
+                attempt: number_at(row, 1)?,
+            },
+            broadcast: Broadcast {
+                minute: minute_at(row, 2)?,
+                subject: subject_at(row, 3)?,
+                action: action_at(row, 4)?,
+                routing: routing_at(row, 5, 6)?,
+                is_open: bool_at(row, 7)?,
+                is_acknowledged: bool_at(row, 8)?,
+            },
+        })
+    }
+}
+
+/// A download that waits, with its subject.
+#[derive(Clone, Copy, Debug, PartialEq, Eq)]
+pub struct KeyedWait {
+    pub key: WaitKey,
+    pub subject: Subject,
+}
+
+impl Stored for KeyedWait {
+    ghost use Rattle.meaning.specs.Content.{WaitKey as KeySeen};
+    ghost use Rattle.numbers.specs.Subjects.{Subject as SubjectSeen};
+    ghost use Rattle.numbers.specs.Views.{subject_of};
+    ghost use Rattle.settle.specs.Views.{wait_key_of};
+    ghost use Rattle.sql_rows.specs.Content.{wait_in};
+
+    ghost Seen = { KeySeen × SubjectSeen };
+
+    ghost seen = { λ w. (wait_key_of w.key, subject_of w.subject) };
+
+    ghost seen_in = { wait_in };
+
+    fn read(row: &Row) -> Option<KeyedWait> {
+        Some(KeyedWait {
+            key: WaitKey {
+                carrier: spid_at(row, 0)?,
+                minute: minute_at(row, 1)?,
+                id: number_at(row, 2)?,
+                attempt: number_at(row, 3)?,
+            },
+            subject: subject_at(row, 4)?,
+        })
+    }
+}
+
+/// The clock's row, with the number under which it stands.
+#[derive(Clone, Copy, Debug, PartialEq, Eq)]
+pub struct KeyedClock {
+    pub number: u64,
+    pub row: ClockRow,
+}
+
+impl Stored for KeyedClock {
+    ghost use Rattle.std.specs.Prelude.{ℕ};
+    ghost use Rattle.meaning.specs.Content.{ClockRow as ClockSeen};
+    ghost use Rattle.settle.specs.Views.{clock_row_of};
+    ghost use Rattle.sql_rows.specs.Content.{clock_in};
+
+    ghost Seen = { ℕ × ClockSeen };
+
+    ghost seen = { λ c. (c.number, clock_row_of c.row) };
+
+    ghost seen_in = { clock_in };
+
+    fn read(row: &Row) -> Option<KeyedClock> {
+        Some(KeyedClock {
+            number: number_at(row, 0)?,
+            row: ClockRow {
+                minute: minute_at(row, 1)?,
+                next_id: number_at(row, 2)?,
+                windows: windows_at(row)?,
+            },
+        })
+    }
+}
+
+fn windows_at(row: &Row) -> Option<Windows>
+    ensures { option_map windows_of result ≡ windows_in row.now }
+{
+    Some(Windows {
+        initial_concurrence: window_at(row, 3)?,
+        final_concurrence: window_at(row, 4)?,
+        conflict_restriction: window_at(row, 5)?,
+        conflict_resolution: window_at(row, 6)?,
+        conflict_expiration: window_at(row, 7)?,
+        cancellation_initial: window_at(row, 8)?,
+        cancellation_final: window_at(row, 9)?,
+        pending_retention: window_at(row, 10)?,
+        broadcast: window_at(row, 11)?,
+    })
+}

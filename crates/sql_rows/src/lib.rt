@@ -1,0 +1,22 @@
+//! The rows of a register as a database of SQL keeps them: its schema, the texts of all statements,
+//! and the values of the rows on their way in and out.
+#![tactic(auto)]
+
+mod fault;
+mod keyed;
+mod params;
+mod reading;
+mod statement;
+mod stored;
+mod values;
+mod version_row;
+
+pub use fault::Fault;
+pub use keyed::{KeyedBlock, KeyedBroadcast, KeyedClock, KeyedOwner, KeyedWait};
+pub use params::{
+    block_params, broadcast_key, broadcast_params, clock_params, fits_block, wait_key, wait_params,
+};
+pub use statement::{Query, Table};
+pub use stored::{Stored, sole};
+pub use values::{minute, number, spid_bytes, subject, text, truth};
+pub use version_row::{fits, version_params};

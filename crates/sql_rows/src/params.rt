@@ -1,0 +1,119 @@
+//! What the statements take that put rows in. A provider's text is `spid_bytes` of its number.
+ghost use Rattle.std.specs.Prelude.{◌≡◌, ◌<◌, map, IfSome, IsTrue};
+ghost use Rattle.sqlite.specs.Value.{owned};
+ghost use Rattle.numbers.specs.Texts.{spid_text};
+ghost use Rattle.numbers.specs.Views.{subject_of};
+ghost use Rattle.settle.specs.Views.{block_row_of, clock_row_of, broadcast_key_of, broadcast_row_of, wait_key_of};
+ghost use Rattle.sql_rows.specs.Content.{owner_params, block_params, broadcast_params, wait_params, clock_params, wait_key_params, broadcast_key_params};
+
+use crate::values::{action, cic, lrn, minute, number, number_or_null, subject, truth, window};
+use delivery::Broadcast;
+use numbers::{Spid, Subject};
+use settle::{BlockRow, BroadcastKey, ClockRow, WaitKey};
+use sqlite::types::ValueRef;
+
+/// A donated block's columns.
+pub fn block_params<'a>(block: u64, row: &BlockRow, donor: &'a [u8; 4]) -> [ValueRef<'a>; 3]
+    requires small { block < 9223372036854775808 }
+    requires last { IfSome row.now.last (λ id. id < 9223372036854775808) }
+    requires donor { donor.now ≡ spid_text row.now.donor.number }
+    ensures { map owned result ≡ block_params block (block_row_of row.now) }
+{
+    [
+        number(block),
+        ValueRef::Text(donor),
+        number_or_null(row.last),
+    ]
+}
+
+/// Whether a column holds the block's last id.
+pub fn fits_block(row: &BlockRow) -> bool
+    ensures { IsTrue result → IfSome row.now.last (λ id. id < 9223372036854775808) }
+{
+    match row.last {
+        Some(id) => id < 9_223_372_036_854_775_808,
+        None => true,
+    }
+}
+
+/// The columns of a broadcast's key.
+pub fn broadcast_key(key: BroadcastKey) -> [ValueRef<'static>; 2]
+    requires small { key.id < 9223372036854775808 }
+    requires few { key.attempt < 9223372036854775808 }
+    ensures { map owned result ≡ broadcast_key_params (broadcast_key_of key) }
+{
+    [number(key.id), number(key.attempt)]
+}
+
+/// The columns of a download's key.
+pub fn wait_key<'a>(key: WaitKey, carrier: &'a [u8; 4]) -> [ValueRef<'a>; 4]
+    requires small { key.id < 9223372036854775808 }
+    requires few { key.attempt < 9223372036854775808 }
+    requires carrier { carrier.now ≡ spid_text key.carrier.number }
+    ensures { map owned result ≡ wait_key_params (wait_key_of key) }
+{
+    [
+        ValueRef::Text(carrier),
+        minute(key.minute),
+        number(key.id),
+        number(key.attempt),
+    ]
+}
+
+/// A broadcast's columns.
+pub fn broadcast_params(key: BroadcastKey, broadcast: &Broadcast) -> [ValueRef<'static>; 9]
+    requires small { key.id < 9223372036854775808 }
+    requires few { key.attempt < 9223372036854775808 }
+    ensures { map owned result
+        ≡ broadcast_params (broadcast_key_of key) (broadcast_row_of broadcast.now) }
+{
+    [
+        number(key.id),
+        number(key.attempt),
+        minute(broadcast.minute),
+        subject(broadcast.subject),
+        action(broadcast.action),
+        lrn(broadcast.routing),
+        cic(broadcast.routing),
+        truth(broadcast.is_open),
+        truth(broadcast.is_acknowledged),
+    ]
+}
+
+/// The columns of a download that waits.
+pub fn wait_params<'a>(key: WaitKey, of: Subject, carrier: &'a [u8; 4]) -> [ValueRef<'a>; 5]
+    requires small { key.id < 9223372036854775808 }
+    requires few { key.attempt < 9223372036854775808 }
+    requires carrier { carrier.now ≡ spid_text key.carrier.number }
+    ensures { map owned result ≡ wait_params (wait_key_of key) (subject_of of) }
+{
+    [
+        ValueRef::Text(carrier),
+        minute(key.minute),
+        number(key.id),
+        number(key.attempt),
+        subject(of),
+    ]
+}
+
+/// The clock's columns.
+pub fn clock_params(row: &ClockRow) -> [ValueRef<'static>; 12]
+    requires few { row.now.next_id < 9223372036854775808 }
+    ensures { map owned result ≡ clock_params 0 (clock_row_of row.now) }
+{
+    let windows = &row.windows;
+    [
+        number(0),
+        minute(row.minute),
+        number(row.next_id),
+        window(windows.initial_concurrence),
+        window(windows.final_concurrence),
+        window(windows.conflict_restriction),
+        window(windows.conflict_resolution),
+        window(windows.conflict_expiration),
+        window(windows.cancellation_initial),
+        window(windows.cancellation_final),
+        window(windows.pending_retention),
+        window(windows.broadcast),
+    ]
+}

@@ -1,0 +1,179 @@
+//! The texts of all statements. A connection keeps the last 64 of them as it understood them.
+ghost use Rattle.std.specs.Prelude.{◌≡◌};
+ghost use Rattle.sql_rows.specs.Statements.{delete_text, insert_text, query_text};
+
+/// The tables of a register's file.
+#[derive(Clone, Copy, Debug, PartialEq, Eq)]
+pub enum Table {
+    Carrier,
+    Lrn,
+    Code,
+    Block,
+    Version,
+    Broadcast,
+    Wait,
+    Clock,
+}
+
+impl Table {
+    /// Takes the row with a key away. The parameters are the columns of the key.
+    pub fn delete_text(self) -> &'static str
+        ensures { result.now ≡ delete_text self }
+    {
+        match self {
+            Table::Carrier => "DELETE FROM carrier WHERE spid = ?1",
+            Table::Lrn => "DELETE FROM lrn WHERE lrn = ?1",
+            Table::Code => "DELETE FROM code WHERE code = ?1",
+            Table::Block => "DELETE FROM block WHERE block = ?1",
+            Table::Version => "DELETE FROM version WHERE id = ?1",
+            Table::Broadcast => "DELETE FROM broadcast WHERE id = ?1 AND attempt = ?2",
+            Table::Wait => {
+                "DELETE FROM wait WHERE spid = ?1 AND minute = ?2 AND id = ?3 AND attempt = \
+                 ?4"
+            }
+            Table::Clock => "DELETE FROM clock WHERE one = ?1",
+        }
+    }
+
+    /// Puts a row in. The parameters are its columns.
+    pub fn insert_text(self) -> &'static str
+        ensures { result.now ≡ insert_text self }
+    {
+        match self {
+            Table::Carrier => "INSERT INTO carrier (spid) VALUES (?1)",
+            Table::Lrn => "INSERT INTO lrn (lrn, spid) VALUES (?1, ?2)",
+            Table::Code => "INSERT INTO code (code, spid) VALUES (?1, ?2)",
+            Table::Block => "INSERT INTO block (block, donor, last) VALUES (?1, ?2, ?3)",
+            Table::Version => {
+                "INSERT INTO version (id, subject, old, new, due, lrn, cic, old_at, new_at, \
+                 status, sends, since, attempt, release, spent, protective, cancelled_by, \
+                 deadline, holds, opens) VALUES (?1, ?2, ?3, ?4, ?5, ?6, ?7, ?8, ?9, ?10, \
+                 ?11, ?12, ?13, ?14, ?15, ?16, ?17, ?18, ?19, ?20)"
+            }
+            Table::Broadcast => {
+                "INSERT INTO broadcast (id, attempt, minute, subject, action, lrn, cic, open, \
+                 any) VALUES (?1, ?2, ?3, ?4, ?5, ?6, ?7, ?8, ?9)"
+            }
+            Table::Wait => {
+                "INSERT INTO wait (spid, minute, id, attempt, subject) VALUES (?1, ?2, ?3, \
+                 ?4, ?5)"
+            }
+            Table::Clock => {
+                "INSERT INTO clock (one, now, next_id, initial_concurrence, \
+                 final_concurrence, conflict_restriction, conflict_resolution, \
+                 conflict_expiration, cancellation_initial, cancellation_final, \
+                 pending_retention, broadcast) VALUES (?1, ?2, ?3, ?4, ?5, ?6, ?7, ?8, ?9, \
+                 ?10, ?11, ?12)"
+            }
+        }
+    }
+}
+
+/// What is asked of a file.
+#[derive(Clone, Copy, Debug, PartialEq, Eq)]
+pub enum Query {
+    /// The carrier with a SPID.
+    CarrierNamed,
+    /// The routing number.
+    LrnNumbered,
+    /// The code.
+    CodeNumbered,
+    /// The donated block.
+    BlockNumbered,
+    /// The clock's row, which has the number 0.
+    ClockNumbered,
+    /// The version with an id.
+    VersionNumbered,
+    /// A subject's version in force.
+    VersionInForce,
+    /// A subject's open version.
+    VersionOpen,
+    /// The version whose deadline is least, where that has come.
+    VersionDue,
+    /// The broadcast of a version by its attempt.
+    BroadcastKeyed,
+    /// Every carrier.
+    AllCarriers,
+    /// The broadcasts that are open, or not.
+    BroadcastsByOpen,
+    /// A subject's downloads that wait for a carrier.
+    WaitsAbout,
+    /// All that waits for a carrier.
+    WaitsFor,
+    /// All that waits of a broadcast.
+    WaitsOf,
+    /// The versions in force of the numbers from one to another.
+    InForceAmong,
+    /// The open versions of the numbers from one to another.
+    OpenAmong,
+}
+
+impl Query {
+    /// The columns are those of the table, in their order.
+    pub fn text(self) -> &'static str
+        ensures { result.now ≡ query_text self }
+    {
+        match self {
+            Query::CarrierNamed => "SELECT spid FROM carrier WHERE spid = ?1",
+            Query::LrnNumbered => "SELECT lrn, spid FROM lrn WHERE lrn = ?1",
+            Query::CodeNumbered => "SELECT code, spid FROM code WHERE code = ?1",
+            Query::BlockNumbered => "SELECT block, donor, last FROM block WHERE block = ?1",
+            Query::ClockNumbered => {
+                "SELECT one, now, next_id, initial_concurrence, final_concurrence, \
+                 conflict_restriction, conflict_resolution, conflict_expiration, \
+                 cancellation_initial, cancellation_final, pending_retention, broadcast FROM \
+                 clock WHERE one = ?1"
+            }
+            Query::VersionNumbered => {
+                "SELECT id, subject, old, new, due, lrn, cic, old_at, new_at, status, sends, \
+                 since, attempt, release, spent, protective, cancelled_by, deadline, holds, \
+                 opens FROM version WHERE id = ?1"
+            }
+            Query::VersionInForce => {
+                "SELECT id, subject, old, new, due, lrn, cic, old_at, new_at, status, sends, \
+                 since, attempt, release, spent, protective, cancelled_by, deadline, holds, \
+                 opens FROM version WHERE holds = ?1"
+            }
+            Query::VersionOpen => {
+                "SELECT id, subject, old, new, due, lrn, cic, old_at, new_at, status, sends, \
+                 since, attempt, release, spent, protective, cancelled_by, deadline, holds, \
+                 opens FROM version WHERE opens = ?1"
+            }
+            Query::VersionDue => {
+                "SELECT id, subject, old, new, due, lrn, cic, old_at, new_at, status, sends, \
+                 since, attempt, release, spent, protective, cancelled_by, deadline, holds, \
+                 opens FROM version WHERE deadline <= ?1 ORDER BY deadline LIMIT 1"
+            }
+            Query::BroadcastKeyed => {
+                "SELECT id, attempt, minute, subject, action, lrn, cic, open, any FROM \
+                 broadcast WHERE id = ?1 AND attempt = ?2"
+            }
+            Query::AllCarriers => "SELECT spid FROM carrier",
+            Query::BroadcastsByOpen => {
+                "SELECT id, attempt, minute, subject, action, lrn, cic, open, any FROM \
+                 broadcast WHERE open = ?1"
+            }
+            Query::WaitsAbout => {
+                "SELECT spid, minute, id, attempt, subject FROM wait WHERE subject = ?1 AND \
+                 spid = ?2"
+            }
+            Query::WaitsFor => {
+                "SELECT spid, minute, id, attempt, subject FROM wait WHERE spid = ?1"
+            }
+            Query::WaitsOf => {
+                "SELECT spid, minute, id, attempt, subject FROM wait WHERE id = ?1 AND \
+                 attempt = ?2"
+            }
+            Query::InForceAmong => {
+                "SELECT id, subject, old, new, due, lrn, cic, old_at, new_at, status, sends, \
+                 since, attempt, release, spent, protective, cancelled_by, deadline, holds, \
+                 opens FROM version WHERE holds >= ?1 AND holds <= ?2"
+            }
+            Query::OpenAmong => {
+                "SELECT id, subject, old, new, due, lrn, cic, old_at, new_at, status, sends, \
+                 since, attempt, release, spent, protective, cancelled_by, deadline, holds, \
+                 opens FROM version WHERE opens >= ?1 AND opens <= ?2"
+            }
+        }
+    }
+}

@@ -1,0 +1,105 @@
+//! A version's row as a query shows it, and as a statement takes it.
+ghost use Rattle.std.specs.Prelude.{◌≡◌, ◌<◌, map, option_map, Some, IsTrue, List};
+ghost use Rattle.sqlite.specs.Value.{owned};
+ghost use Rattle.numbers.specs.Texts.{spid_text};
+ghost use Rattle.sql_rows.specs.Versions.{version_in, version_entry, version_row, version_params};
+
+use crate::reading::{
+    bool_at, found_at, minute_at, minute_or_null_at, number_at, routing_at, spid_at, status_at,
+    subject_at,
+};
+use crate::stored::Stored;
+use crate::values::{
+    cancelled_by, cic, lrn, minute, minute_or_null, number, release, sends, status, subject,
+    subject_or_null, truth,
+};
+use settle::{NumberedRow, VersionRow};
+use sqlite::Row;
+use sqlite::types::ValueRef;
+use version::Version;
+
+impl Stored for NumberedRow {
+    ghost use Rattle.std.specs.Prelude.{ℕ};
+    ghost use Rattle.meaning.specs.Content.{VersionRow as Seen};
+    ghost use Rattle.sql_rows.specs.Versions.{version_in};
+
+    ghost Seen = { ℕ × Seen };
+
+    ghost seen = { λ v. (v.id, v.row) };
+
+    ghost seen_in = { version_in };
+
+    fn read(row: &Row) -> Option<NumberedRow> {
+        let id = number_at(row, 0)?;
+        let subject = subject_at(row, 1)?;
+        Some(NumberedRow {
+            id,
+            row: VersionRow {
+                version: Version {
+                    subject,
+                    old_provider: spid_at(row, 2)?,
+                    new_provider: spid_at(row, 3)?,
+                    due: minute_at(row, 4)?,
+                    routing: routing_at(row, 5, 6)?,
+                    old_at: minute_or_null_at(row, 7)?,
+                    new_at: minute_or_null_at(row, 8)?,
+                    status: status_at(row, 9, 10, 13, 16)?,
+                    since: minute_at(row, 11)?,
+                    attempt: number_at(row, 12)?,
+                    is_conflict_spent: bool_at(row, 14)?,
+                    is_protective: bool_at(row, 15)?,
+                },
+                deadline: minute_or_null_at(row, 17)?,
+                is_in_force: found_at(row, 18, subject)?,
+                is_open: found_at(row, 19, subject)?,
+            },
+        })
+    }
+}
+
+/// Whether a column holds the id and the attempt. Each other value fits its column.
+pub fn fits(id: u64, row: &VersionRow) -> bool
+    ensures small { IsTrue result → id < 9223372036854775808 }
+    ensures few { IsTrue result → row.now.attempt < 9223372036854775808 }
+    ensures back { IsTrue result → version_entry (version_row id row.now) ≡ Some (id, row.now) }
+{
+    id < 9_223_372_036_854_775_808 && row.version.attempt < 9_223_372_036_854_775_808
+}
+
+/// What the statement takes that puts it in. `old` and `new` are the providers' texts.
+pub fn version_params<'a>(
+    id: u64,
+    row: &VersionRow,
+    old: &'a [u8; 4],
+    new: &'a [u8; 4],
+) -> [ValueRef<'a>; 20]
+    requires small { id < 9223372036854775808 }
+    requires few { row.now.attempt < 9223372036854775808 }
+    requires old { old.now ≡ spid_text row.now.old_provider }
+    requires new { new.now ≡ spid_text row.now.new_provider }
+    ensures { map owned result ≡ version_params id row.now }
+{
+    let version = &row.version;
+    [
+        number(id),
+        subject(version.subject),
+        ValueRef::Text(old),
+        ValueRef::Text(new),
+        minute(version.due),
+        lrn(version.routing),
+        cic(version.routing),
+        minute_or_null(version.old_at),
+        minute_or_null(version.new_at),
+        status(version.status),
+        sends(version.status),
+        minute(version.since),
+        number(version.attempt),
+        release(version.status),
+        truth(version.is_conflict_spent),
+        truth(version.is_protective),
+        cancelled_by(version.status),
+        minute_or_null(row.deadline),
+        subject_or_null(row.holds()),
+        subject_or_null(row.opens()),
+    ]
+}

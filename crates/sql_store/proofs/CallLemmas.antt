@@ -1,0 +1,339 @@
+-- What calls leave of the connection, whatever they answer.
+use Rattle.std.proofs.Common.{◌≡◌, ◌⊎◌, inl, inr, ℕ, List, [], Bool, true, false, Option, Some, None, refl, sym, ap, subst, ◌∙◌, IsTrue, true≢false, Result, Ok, Err, arith}
+pub use Rattle.sql_store.specs.Store.{clean_if_open}
+use Rattle.meaning.specs.Content.{Content}
+use Rattle.sqlite.specs.Effect.{Database}
+use Rattle.sqlite.specs.Steps.{FailsToCommit}
+use Rattle.sqlite.specs.Order.{Row}
+use Rattle.sqlite.specs.Tree.{Trees}
+use Rattle.sqlite.specs.declared.error.Error.{Error}
+use Rattle.sqlite.specs.Listing.{understood}
+use Rattle.sqlite.specs.Clock.{timed}
+use Rattle.sqlite.specs.Store.{Ghosts}
+use Rattle.sqlite.specs.Held.{Held, state}
+use Rattle.sqlite.specs.State.{State, HasCleanDisk, IsUnchanged, IsRolledBack, Survives, Shown, ShowsRows, FailsToQuery, FailsToShow, IsNotRun, CommitsShowing, ExecutesInside, Executes, Shows}
+use Rattle.sqlite.proofs.Callers.{IsPlain, never_commits, survives_begin, reads_as}
+use Rattle.sqlite.proofs.StateLemmas.{survives_then, survives_weaker}
+use Rattle.sqlite.specs.Query.{IsAnswer}
+use Rattle.sqlite.specs.declared.types.Value.TheVariants.{Null}
+use Rattle.sqlite.specs.Program.{overlay}
+use Rattle.sql_rows.specs.Tables.{the_schema}
+use Rattle.sql_rows.specs.Shaped.{AreShaped}
+use Rattle.sql_rows.specs.Content.{content_in}
+use Rattle.sql_rows.specs.Statements.{query_text, query_of}
+use Rattle.sql_rows.specs.declared.statement.Query.{Query}
+use Rattle.sql_rows.specs.Written.{Removed, AddedBy, Replaced}
+use Rattle.sql_rows.specs.declared.statement.Table.{Table}
+use Rattle.sql_rows.proofs.TableLemmas.{removed_shaped}
+use Rattle.sql_rows.proofs.StatementLemmas.{query_is, query_plain, query_unlisted}
+use Rattle.sql_store.specs.Store.{settled, content_at, IsOurs, IsSame, Looked, Turned, IsInside, Stepped, Kept, Makes, Goes, Writes}
+
+module _ (sql : List ℕ) (params : Row) (old new : State) where
+  shown_open : (rows : List Row) → Shown sql params old new rows → IsTrue old.is_open
+  unfolding Shown
+  shown_open rows h = go h.0.returning h.2
+    where
+      go : (o : Option _) → ShowsRows old new sql h.0 (timed params h.0.formats h.1.now) rows o → IsTrue old.is_open
+      go None it = it.3.0.was_open
+      go (Some what) it = it.1.shown.was_open
+
+  pub shown_same : (rows : List Row) → IsPlain (understood old.now.schema sql) → Shown sql params old new rows → IsUnchanged old new
+  unfolding Shown
+  shown_same rows plain h = (subst (ShowsRows old new sql h.0 (timed params h.0.formats h.1.now) rows) (subst IsPlain h.1.is plain).0 h.2).3
+
+  fails_open : (e : Error) → IsTrue new.is_open → FailsToQuery sql params old new e → IsTrue old.is_open
+  unfolding FailsToQuery IsNotRun
+  fails_open e is_open (inl (inl unrun)) = unrun.1.0.was_open
+  fails_open e is_open (inl (inr fails)) = fails.3.was_open is_open
+  fails_open e is_open (inr h) = go h.0.returning h.2
+    where
+      go : (o : Option _) → FailsToShow old new sql h.0 (timed params h.0.formats h.1.now) e o → IsTrue old.is_open
+      go None it = it.3.0.was_open
+      go (Some what) (inl it) = it.1.0.was_open
+      go (Some what) (inr it) = it.3.was_open is_open
+
+  fails_same : (e : Error) → IsPlain (understood old.now.schema sql) → FailsToQuery sql params old new e → IsUnchanged old new ⊎ IsRolledBack old new
+  unfolding FailsToQuery IsNotRun
+  fails_same e plain (inl (inl unrun)) = inl unrun.1
+  fails_same e plain (inl (inr fails)) = inr fails.3
+  fails_same e plain (inr h) = inl (subst (FailsToShow old new sql h.0 (timed params h.0.formats h.1.now) e) (subst IsPlain h.1.is plain).0 h.2).3
+
+  same_of : IsTrue new.is_open → IsOurs old → IsUnchanged old new ⊎ IsRolledBack old new → IsSame old new
+  same_of is_open ours (inl it) = record { was_open = it.0.was_open; now = it.0.now_is; committed = it.0.committed_is }
+  same_of is_open ours (inr it) = record { was_open = it.was_open is_open; now = (it.undone is_open).0 ∙ sym (settled old ours); committed = (it.undone is_open).1 }
+
+  module _ (ours : IsTrue old.is_open → IsOurs old) (plain : IsTrue old.is_open → IsPlain (understood old.now.schema sql)) where
+    -- a query leaves the store as it was, if it is open afterwards
+    pub query_leaves : (rows : List Row) → IsTrue new.is_open → Shown sql params old new rows → IsSame old new
+    query_leaves rows is_open h = let was = shown_open rows h in same_of is_open (ours was) (inl (shown_same rows (plain was) h))
+
+    pub query_err_leaves : (e : Error) → IsTrue new.is_open → FailsToQuery sql params old new e → IsSame old new
+    query_err_leaves e is_open h = let was = fails_open e is_open h in same_of is_open (ours was) (fails_same e (plain was) h)
+
+  pub query_commits_nothing : IsPlain (understood old.now.schema sql) → Survives old new (CommitsShowing sql params old) → Survives old new (λ _. ⊥)
+  query_commits_nothing plain = survives_weaker old new _ _ (λ _ db. never_commits sql params old db plain)
+
+-- ---- queries
+
+module _ (query : Query) (params : Row) (old new : State) (ours : IsTrue old.is_open → IsOurs old) where
+  plain : IsTrue old.is_open → IsPlain (understood old.now.schema (query_text query))
+  plain was = subst (λ k. IsPlain (understood k (query_text query))) (sym (ours was).schema) (query_plain query)
+
+  pub looked_ok : (rows : List Row) → (IsTrue new.is_open → HasCleanDisk new) → (HasCleanDisk new → Shown (query_text query) params old new rows) → Survives old new (CommitsShowing (query_text query) params old) → Looked old new true
+  looked_ok rows clean shown survives = record {
+    same = λ up. query_leaves (query_text query) params old new ours plain rows up (shown (clean up));
+    stays = λ ok was done. (shown_same (query_text query) params old new rows (plain was) (shown done)).0.is_open;
+    survives = λ was. query_commits_nothing (query_text query) params old new (plain was) survives;
+  }
+
+  pub looked_err : (e : Error) → (IsTrue new.is_open → HasCleanDisk new) → (HasCleanDisk new → FailsToQuery (query_text query) params old new e) → Survives old new (CommitsShowing (query_text query) params old) → Looked old new false
+  looked_err e clean fails survives = record {
+    same = λ up. query_err_leaves (query_text query) params old new ours plain e up (fails (clean up));
+    stays = λ no was done. absurd (true≢false (sym no));
+    survives = λ was. query_commits_nothing (query_text query) params old new (plain was) survives;
+  }
+
+  pub answers : (rows : List Row) → IsTrue old.is_open → Shown (query_text query) params old new rows → IsAnswer (query_of query) (overlay old.now.trees []) params rows
+  answers rows was shown = (reads_as (query_text query) params old new the_schema (ours was).schema _ (query_is query) (query_plain query) (query_unlisted query) rows shown).answer Null
+
+-- a call in a transaction that was made was made in one that had not ended
+pub not_ended : {X : Type 0} (inside : Bool) (r : Result ℕ Error) (n : ℕ) (e : Error) → r ≡ Ok n → (inside ≡ false → (r ≡ Err e) × X) → IsTrue inside
+not_ended true r n e was ended = refl
+not_ended false r n e was ended = absurd (let h = (ended refl).0 in cc)
+
+-- ---- calls in a transaction
+
+-- an execution in a transaction keeps the last commit
+inside_keeps : (sql : List ℕ) (params : Row) (old new : State) (r : Result ℕ Error) → IsTrue new.is_open → ExecutesInside 0 sql params old new r → Kept old new
+inside_keeps sql params old new (Ok n) up h = record { was_open = h.1.was_open; committed = h.1.committed_is }
+inside_keeps sql params old new (Err e) up (inl (ran, inl it)) = record { was_open = it.0.was_open; committed = it.0.committed_is }
+inside_keeps sql params old new (Err e) up (inl (ran, inr it)) = record { was_open = it.was_open up; committed = (it.undone up).1 }
+inside_keeps sql params old new (Err e) up (inr it) = record { was_open = it.2.0.was_open; committed = it.2.0.committed_is }
+
+same_keeps : {S : Type 0} (g : Ghosts S) (old new : Held S) → new ≡ old → IsTrue (state g new).is_open → Kept (state g old) (state g new)
+same_keeps g old new e up = subst (λ h. IsTrue (state g h).is_open → Kept (state g old) (state g h)) (sym e) (λ u. record { was_open = u; committed = refl }) up
+
+pub call_keeps : {S A : Type 0} (g : Ghosts S) (old new : Held S) (sql : List ℕ) (params : Row) (r : Result ℕ Error) → IsTrue (state g new).is_open → ((state g old).in_transaction ≡ false → A × (new ≡ old))
+    → (IsTrue (state g old).in_transaction → ExecutesInside 0 sql params (state g old) (state g new) r) → Kept (state g old) (state g new)
+call_keeps {A = A} g old new sql params r up ended runs = go (state g old).in_transaction ended runs
+  where
+    go : (b : Bool) → (b ≡ false → A × (new ≡ old)) → (IsTrue b → ExecutesInside 0 sql params (state g old) (state g new) r) → Kept (state g old) (state g new)
+    go true ended runs = inside_keeps sql params (state g old) (state g new) r up (runs refl)
+    go false ended runs = same_keeps g old new (ended refl).1 up
+
+-- a statement in a transaction
+pub statement_writes : {S A : Type 0} (g : Ghosts S) (old new : Held S) (sql : List ℕ) (params : Row) (r : Result ℕ Error) (done : Bool) (Did : Database → Database → Type 0) → (IsTrue (state g new).is_open → HasCleanDisk (state g new))
+    → ((state g old).in_transaction ≡ false → A × (new ≡ old)) → (HasCleanDisk (state g new) → IsTrue (state g old).in_transaction → ExecutesInside 0 sql params (state g old) (state g new) r)
+    → Survives (state g old) (state g new) (λ _. ⊥) → (IsTrue done → (count : ℕ) × (r ≡ Ok count)) → ((count : ℕ) → IsInside (state g old) → Executes sql params (state g old) (state g new) (Ok count) → Did (state g old).now (state g new).now)
+    → Writes (state g old) (state g new) done Did
+statement_writes g old new sql params r done Did clean_of ended runs survives counts means = record {
+  wrote = λ ok clean inside.
+      let n = counts ok in
+      let h = subst (ExecutesInside 0 sql params (state g old) (state g new)) n.1 (runs clean inside.inside) in
+      record { is_open = h.1.is_open; inside = h.1.mode; committed = h.1.committed_is; did = means n.0 inside h.0 };
+  kept = λ up. call_keeps g old new sql params r up ended (runs (clean_of up));
+  survives = survives;
+}
+
+-- ---- changes in turn
+
+module _ (a b c : State) where
+  kept_then : (IsTrue b.is_open → Kept a b) → (IsTrue c.is_open → Kept b c) → IsTrue c.is_open → Kept a c
+  kept_then first two up = let k = two up in let j = first k.was_open in record { was_open = j.was_open; committed = k.committed ∙ j.committed }
+
+  both_survive : Survives a b (λ _. ⊥) → Survives b c (λ _. ⊥) → Survives a c (λ _. ⊥)
+  both_survive first two = survives_then a b c _ _ _ (λ clean db bad. bad) (λ clean db bad. bad) first two
+
+  earlier : Survives b c (λ _. ⊥) → HasCleanDisk c → HasCleanDisk b
+  earlier two clean = omega (arith, clean, two.clean)
+
+  pub makes_then : (done : Bool) (f g : Content → Content) → Makes a b true f → Makes b c done g → Makes a c done (λ m. g (f m))
+  makes_then done f g first two = record {
+    made = λ ok clean inside.
+        let one = first.made refl (earlier two.survives clean) inside in
+        let more = two.made ok clean one.inside in
+        record { inside = more.inside; committed = more.committed ∙ one.committed; is = more.is ∙ ap g one.is };
+    kept = kept_then first.kept two.kept;
+    survives = both_survive first.survives two.survives;
+  }
+
+  pub stops_then : (f g h : Content → Content) → Makes a b true f → Makes b c false g → Makes a c false h
+  stops_then f g h first two = record {
+    made = λ no. absurd (true≢false (sym no));
+    kept = kept_then first.kept two.kept;
+    survives = both_survive first.survives two.survives;
+  }
+
+  -- one more of many
+  pub goes_then : (f left next whole : Content → Content) → Goes a b left whole → Makes b c true f → ((m : Content) → next (f m) ≡ left m) → Goes a c next whole
+  goes_then f left next whole first two same = record {
+    inside = λ clean inside. (two.made refl clean (first.inside (earlier two.survives clean) inside)).inside;
+    committed = λ clean inside. (two.made refl clean (first.inside (earlier two.survives clean) inside)).committed ∙ first.committed (earlier two.survives clean) inside;
+    is = λ clean inside.
+        ap next (two.made refl clean (first.inside (earlier two.survives clean) inside)).is ∙ same (content_at b) ∙ first.is (earlier two.survives clean) inside;
+    kept = kept_then first.kept two.kept;
+    survives = both_survive first.survives two.survives;
+  }
+
+  pub goes_stop : (f left whole h : Content → Content) → Goes a b left whole → Makes b c false f → Makes a c false h
+  goes_stop f left whole h first two = record {
+    made = λ no. absurd (true≢false (sym no));
+    kept = kept_then first.kept two.kept;
+    survives = both_survive first.survives two.survives;
+  }
+
+module _ (a b c : State) (t : Table) (key params : Row) where
+  -- a row put in the place of another
+  pub replaces : (done : Bool) → Writes a b true (Removed t key) → Writes b c done (AddedBy t params) → Writes a c done (Replaced t key params)
+  replaces done first two = record {
+    wrote = λ ok clean inside.
+        let one = first.wrote refl (earlier a b c two.survives clean) inside in
+        let then = two.wrote ok clean (record { is_open = one.is_open; inside = one.inside; schema = one.did.schema; shaped = removed_shaped t key a.now b.now inside.shaped one.did }) in
+        record { is_open = then.is_open; inside = then.inside; committed = then.committed ∙ one.committed; did = record { mid = b.now; removed = one.did; added = then.did } };
+    kept = kept_then a b c first.kept two.kept;
+    survives = both_survive a b c first.survives two.survives;
+  }
+
+module _ (a b : State) where
+  -- what failed made nothing
+  pub writes_nothing : (Did Would : Database → Database → Type 0) → Writes a b false Did → Writes a b false Would
+  writes_nothing Did Would it = record { wrote = λ bad. absurd (true≢false (sym bad)); kept = it.kept; survives = it.survives }
+
+  -- what was made of the tables, as a change of the content
+  pub makes : (done : Bool) (Did : Database → Database → Type 0) (change : Content → Content) → Writes a b done Did
+      → (IsInside a → Did a.now b.now → (b.now.schema ≡ the_schema) × AreShaped b.now.trees × (content_in b.now.trees ≡ change (content_in a.now.trees))) → Makes a b done change
+  makes done Did change it means = record {
+    made = λ ok clean inside.
+        let w = it.wrote ok clean inside in
+        let m = means inside w.did in
+        record { inside = record { is_open = w.is_open; inside = w.inside; schema = m.0; shaped = m.1 }; committed = w.committed; is = m.2 };
+    kept = it.kept;
+    survives = it.survives;
+  }
+
+  pub stops : (f g : Content → Content) → Makes a b false f → Makes a b false g
+  stops f g it = record { made = λ no. absurd (true≢false (sym no)); kept = it.kept; survives = it.survives }
+
+  pub gone : (left whole change : Content → Content) → Goes a b left whole → ((m : Content) → left m ≡ m) → ((m : Content) → whole m ≡ change m) → Makes a b true change
+  gone left whole change it none same = record {
+    made = λ ok clean inside. record { inside = it.inside clean inside; committed = it.committed clean inside; is = sym (none (content_at b)) ∙ it.is clean inside ∙ same (content_at a) };
+    kept = it.kept;
+    survives = it.survives;
+  }
+
+  pub alike : (done : Bool) (f g : Content → Content) → ((m : Content) → f m ≡ g m) → Makes a b done f → Makes a b done g
+  alike done f g same it = record {
+    made = λ ok clean inside. let s = it.made ok clean inside in record { inside = s.inside; committed = s.committed; is = s.is ∙ same (content_at a) };
+    kept = it.kept;
+    survives = it.survives;
+  }
+
+idle_survives : (a : State) → Survives a a (λ _. ⊥)
+idle_survives a = record { clean = omega arith; shield = λ s. s; counts = omega arith; limit = refl; closes = λ clean up. inl up; crash = λ clean db may. inl may }
+
+-- nothing is done yet
+pub goes_first : (a : State) (left whole : Content → Content) → ((m : Content) → left m ≡ whole m) → Goes a a left whole
+goes_first a left whole same = record {
+  inside = λ clean it. it;
+  committed = λ clean it. refl;
+  is = λ clean it. same (content_at a);
+  kept = λ up. record { was_open = up; committed = refl };
+  survives = idle_survives a;
+}
+
+-- nothing was to be done, or nothing was
+pub makes_nothing : (a : State) → Makes a a true (λ m. m)
+makes_nothing a = record { made = λ ok clean it. record { inside = it; committed = refl; is = refl }; kept = λ up. record { was_open = up; committed = refl }; survives = idle_survives a }
+
+pub stops_first : (a : State) (f : Content → Content) → Makes a a false f
+stops_first a f = record { made = λ no. absurd (true≢false (sym no)); kept = λ up. record { was_open = up; committed = refl }; survives = idle_survives a }
+
+-- ---- a transaction, from its beginning to its end
+
+-- what a transaction made of the tables since it began
+pub record Begun (old new : State) (done : Bool) (change : Content → Content) : Type 0 where
+  pub made : IsTrue done → HasCleanDisk new → IsTrue old.is_open → Stepped old new (change (content_at old))
+  pub kept : IsTrue new.is_open → Kept old new
+  pub survives : Survives old new (λ _. ⊥)
+
+-- `transaction` does nothing to the store
+pub begun : {S : Type 0} (g : Ghosts S) (old mid : Held S) (new : State) (done : Bool) (change : Content → Content) → mid ≡ record old { in_transaction = true } → Makes (state g mid) new done change
+    → (IsTrue (state g old).is_open → IsOurs (state g old)) → Begun (state g old) new done change
+begun g old mid new done change e makes ours = subst (λ h. Makes (state g h) new done change → Begun (state g old) new done change) (sym e) (λ m. record {
+  made = λ ok clean was.
+      let our = ours was in
+      let s = m.made ok clean (record { is_open = was; inside = refl; schema = our.schema; shaped = our.shaped }) in
+      record { inside = s.inside; committed = s.committed; is = s.is };
+  kept = λ up. let k = m.kept up in record { was_open = k.was_open; committed = k.committed };
+  survives = survives_begin g old new (λ _. ⊥) m.survives;
+}) makes
+
+module _ (old mid new : State) (change : Content → Content) (Becomes : Content → Content → Type 0) (ours : IsTrue old.is_open → IsOurs old) (clean_of : IsTrue new.is_open → HasCleanDisk new) where
+  undone : (done : Bool) → Begun old mid done change → IsRolledBack mid new → IsTrue new.is_open → IsSame old new
+  undone done b r up =
+      let k = b.kept (r.was_open up) in
+      record { was_open = k.was_open; now = (r.undone up).0 ∙ k.committed ∙ sym (settled old (ours k.was_open)); committed = (r.undone up).1 ∙ k.committed }
+
+  ours_again : IsSame old new → IsOurs new
+  ours_again same =
+      let our = ours same.was_open in
+      record {
+        schema = ap (λ (d : Database). d.schema) same.now ∙ our.schema;
+        shaped = subst (λ (d : Database). AreShaped d.trees) (sym same.now) our.shaped;
+        same_schema = ap (λ (d : Database). d.schema) (same.now ∙ settled old our ∙ sym same.committed);
+        same_trees = ap (λ (d : Database). d.trees) (same.now ∙ settled old our ∙ sym same.committed);
+      }
+
+  unturned : (done : Bool) (P : Trees → Type 0) → done ≡ false → (IsTrue new.is_open → IsSame old new) → Survives old new P → (HasCleanDisk new → (db : Trees) → P db → IsTrue old.is_open → Becomes (content_at old) (content_in db)) → Turned old new done Becomes
+  unturned done P fails same survives after = record {
+    becomes = λ ok. absurd (true≢false (sym ok ∙ fails));
+    same = λ _. same;
+    was_open = λ up. (same up).was_open;
+    stays = λ ok. absurd (true≢false (sym ok ∙ fails));
+    ours = λ up. ours_again (same up);
+    crash = survives_weaker old new P _ after survives;
+  }
+
+  -- it was given up
+  pub rolled_back : Begun old mid false change → (HasCleanDisk new → IsRolledBack mid new) → Survives mid new (λ _. ⊥) → Turned old new false Becomes
+  rolled_back b r survives =
+      unturned false (λ _. ⊥) refl (λ up. undone false b (r (clean_of up)) up) (survives_then old mid new _ _ _ (λ clean db bad. bad) (λ clean db bad. bad) b.survives survives) (λ clean db none. absurd none)
+
+  module _ (means : IsTrue old.is_open → Becomes (content_at old) (change (content_at old))) (b : Begun old mid true change) (survives : Survives mid new (λ db. db ≡ mid.now.trees)) where
+    early : HasCleanDisk new → HasCleanDisk mid
+    early clean = omega (arith, clean, survives.clean)
+
+    after : HasCleanDisk new → (db : Trees) → db ≡ mid.now.trees → IsTrue old.is_open → Becomes (content_at old) (content_in db)
+    after clean db is was = subst (Becomes (content_at old)) (sym (ap content_in is ∙ (b.made refl (early clean) was).is)) (means was)
+
+    all_survives : Survives old new (λ db. IsTrue old.is_open → Becomes (content_at old) (content_in db))
+    all_survives = survives_then old mid new _ _ _ (λ clean db none. absurd none) after b.survives survives
+
+    -- it did not commit
+    pub uncommitted : (e : Error) → (HasCleanDisk new → FailsToCommit mid new e) → Turned old new false Becomes
+    uncommitted e fails = unturned false _ refl (λ up. go up (fails (clean_of up))) all_survives (λ clean db h. h)
+      where
+        go : IsTrue new.is_open → FailsToCommit mid new e → IsSame old new
+        go up (inl it) = undone true b it.3 up
+        go up (inr it) =
+            let k = b.kept it.2.0.was_open in
+            absurd (true≢false (let inside : mid.in_transaction ≡ true = (b.made refl (early (clean_of up)) k.was_open).inside.inside in sym inside ∙ it.1))
+
+    -- it committed
+    pub committed : (HasCleanDisk new → Shows mid new mid.now mid.now false) → Turned old new true Becomes
+    committed ok = record {
+      becomes = λ _ up. let s = ok (clean_of up) in after (clean_of up) new.now.trees (ap (λ (d : Database). d.trees) s.now_is) (b.kept s.was_open).was_open;
+      same = λ no. absurd (true≢false (sym no));
+      was_open = λ up. (b.kept (ok (clean_of up)).was_open).was_open;
+      stays = λ _ was clean. (ok clean).is_open;
+      ours = λ up.
+          let s = ok (clean_of up) in
+          let i = (b.made refl (early (clean_of up)) (b.kept s.was_open).was_open).inside in
+          record {
+            schema = ap (λ (d : Database). d.schema) s.now_is ∙ i.schema;
+            shaped = subst (λ (d : Database). AreShaped d.trees) (sym s.now_is) i.shaped;
+            same_schema = ap (λ (d : Database). d.schema) (s.now_is ∙ sym s.committed_is);
+            same_trees = ap (λ (d : Database). d.trees) (s.now_is ∙ sym s.committed_is);
+          };
+      crash = all_survives;
+    }

@@ -1,0 +1,5 @@
+pub mod CallLemmas
+pub mod LookupLemmas
+pub mod MadeLemmas
+pub mod Changed
+pub mod OpeningLemmas

@@ -1,0 +1,38 @@
+-- What an open says of the store's tables.
+use Rattle.std.proofs.Common.{◌≡◌, sym, ap, subst}
+use Rattle.sqlite.specs.View.{View, IsShaped}
+use Rattle.sqlite.specs.Effect.{Database, IsDatabase}
+use Rattle.sqlite.specs.State.{State, Opens}
+use Rattle.sqlite_trees.specs.View.{IsOrdered}
+use Rattle.sqlite_trees.specs.Objects.{catalog_tree, IsListed}
+use Rattle.sqlite_catalog.specs.Listing.{IsSound}
+use Rattle.sqlite_catalog.proofs.LayoutLemmas.{laid_out, objects_rise}
+use Rattle.sql_rows.specs.Tables.{the_schema}
+use Rattle.sql_rows.specs.Shaped.{AreShaped}
+use Rattle.sql_rows.specs.declared.statement.Table.TheVariants.{Carrier, Lrn, Code, Block, Version, Broadcast, Wait, Clock}
+use Rattle.sql_store.specs.Store.{IsOurs}
+
+-- the laws of a store that is not broken give the shape of each table
+pub shaped_by_laws : (v : View) → IsListed (v.trees catalog_tree) v.shape v.reals → IsOrdered v.shape v.trees → IsSound the_schema v.trees → AreShaped v.trees
+shaped_by_laws v listed ordered sound = shaped
+  where
+    shaped : AreShaped v.trees
+    shaped Carrier = subst (λ s. IsShaped s (v.trees 0)) (laid_out listed (objects_rise v listed ordered) sound.lists.listed).tables.0 (ordered 0)
+    shaped Lrn = subst (λ s. IsShaped s (v.trees 2)) (laid_out listed (objects_rise v listed ordered) sound.lists.listed).tables.1.0 (ordered 2)
+    shaped Code = subst (λ s. IsShaped s (v.trees 3)) (laid_out listed (objects_rise v listed ordered) sound.lists.listed).tables.1.1.0 (ordered 3)
+    shaped Block = subst (λ s. IsShaped s (v.trees 4)) (laid_out listed (objects_rise v listed ordered) sound.lists.listed).tables.1.1.1.0 (ordered 4)
+    shaped Version = subst (λ s. IsShaped s (v.trees 5)) (laid_out listed (objects_rise v listed ordered) sound.lists.listed).tables.1.1.1.1.0 (ordered 5)
+    shaped Broadcast = subst (λ s. IsShaped s (v.trees 8)) (laid_out listed (objects_rise v listed ordered) sound.lists.listed).tables.1.1.1.1.1.0 (ordered 8)
+    shaped Wait = subst (λ s. IsShaped s (v.trees 10)) (laid_out listed (objects_rise v listed ordered) sound.lists.listed).tables.1.1.1.1.1.1.0 (ordered 10)
+    shaped Clock = subst (λ s. IsShaped s (v.trees 12)) (laid_out listed (objects_rise v listed ordered) sound.lists.listed).tables.1.1.1.1.1.1.1.0 (ordered 12)
+
+-- what was opened over a store with our tables is ours
+pub opened_ours : (v : View) (s : State) → IsListed (v.trees catalog_tree) v.shape v.reals → IsOrdered v.shape v.trees → s.now.trees ≡ v.trees → s.now.schema ≡ the_schema → Opens s → IsDatabase s.now → IsOurs s
+opened_ours v s listed ordered same has opens sound =
+    let ours : IsSound the_schema v.trees = subst (λ t. IsSound the_schema t) same (subst (λ k. IsSound k s.now.trees) has sound) in
+    record {
+      schema = has;
+      shaped = subst AreShaped (sym same) (shaped_by_laws v listed ordered ours);
+      same_schema = ap (λ (d : Database). d.schema) opens.clean;
+      same_trees = ap (λ (d : Database). d.trees) opens.clean;
+    }

@@ -1,0 +1,25 @@
+use Rattle.std.proofs.Common.{pos, arith, ap, ◌∙◌, refl, ◌<◌, ◌∷◌, [], IsTrue, rules}
+use Rattle.sqlite.specs.declared.types.Value.TheVariants.{Int}
+use Rattle.sqlite.specs.Held.{state}
+use Rattle.sql_rows.specs.declared.statement.Table.TheVariants.{Block}
+use Rattle.sql_rows.specs.Content.{block_params}
+use Rattle.sql_rows.proofs.PutLemmas.{put_block}
+use Rattle.sql_store.specs.Changes.{with_block}
+use Rattle.sql_rows.proofs.Backs.{block_back}
+use Rattle.sql_rows.proofs.BoundLemmas.{bound_block}
+use Rattle.settle.specs.Views.{block_row_of}
+use Rattle.sql_store.proofs.LookupLemmas.{one_bound}
+use Rattle.sql_store.proofs.MadeLemmas.{put_made}
+use Rattle.sql_store.proofs.rows.put_block.Goals as goal
+
+pub returns-clause-makes : goal.returns-clause-makes
+returns-clause-makes g c =
+    let old = state g.S.Store c.args.tx.now.conn.now in
+    let new = state g.S.Store c.replace.new.tx.conn.now in
+    let n = c.args.block.number in
+    let row = c.args.row.now in
+    let low : n < 9223372036854775808 = let v = c.args.block.valid in omega (arith, v) in
+    let fit : IsTrue c.fits_block.result = search rules in
+    put_made old new Block (Int (pos n) ∷ []) _ (block_params n (block_row_of row)) _ (with_block n (block_row_of row)) (one_bound c.number.result (Int (pos n)) refl (c.number.ensures ∙ ap (λ k. Int (pos k)) c.from-key.ensures))
+    (bound_block _ n (block_row_of row) (c.block_params-params.ensures ∙ ap (λ k. block_params k (block_row_of row)) c.from-key.ensures)) c.in_ok-replace.ensures.writes
+    (λ shaped did. put_block old.now new.now shaped n (block_row_of row) (block_back n row low (c.fits_block.ensures fit)) did)

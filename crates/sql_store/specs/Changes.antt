@@ -1,0 +1,72 @@
+-- A content with rows put and taken away.
+use Rattle.std.specs.Prelude.{ℕ, List, [], ◌∷◌, Option, Some, None}
+use Rattle.std.specs.FinMap.{insert, remove}
+use Rattle.numbers.specs.Subjects.{Subject}
+use Rattle.meaning.specs.Content.{Content, BlockRow, VersionRow, BroadcastRow, ClockRow, BroadcastKey, WaitKey}
+use Rattle.numbers.specs.Views.{subject_of}
+use Rattle.settle.specs.declared.changes.Changes.{Changes}
+use Rattle.settle.specs.Lists.{items_of}
+use Rattle.settle.specs.Views.{spid_of, lrn_of, code_of, block_of, block_row_of, clock_row_of, broadcast_row_of, broadcast_key_of, wait_key_of}
+
+abbrev pub with_carrier : ℕ → Content → Content
+with_carrier k c = record c { carriers = insert c.carriers k tt }
+
+abbrev pub with_lrn : ℕ → ℕ → Content → Content
+with_lrn k v c = record c { lrns = insert c.lrns k v }
+
+abbrev pub with_code : ℕ → ℕ → Content → Content
+with_code k v c = record c { codes = insert c.codes k v }
+
+abbrev pub with_block : ℕ → BlockRow → Content → Content
+with_block k v c = record c { blocks = insert c.blocks k v }
+
+abbrev pub with_clock : ClockRow → Content → Content
+with_clock v c = record c { clock = Some v }
+
+abbrev pub with_version : ℕ → VersionRow → Content → Content
+with_version k v c = record c { versions = insert c.versions k v }
+
+abbrev pub without_version : ℕ → Content → Content
+without_version k c = record c { versions = remove c.versions k }
+
+abbrev pub with_broadcast : BroadcastKey → BroadcastRow → Content → Content
+with_broadcast k v c = record c { broadcasts = insert c.broadcasts k v }
+
+abbrev pub without_broadcast : BroadcastKey → Content → Content
+without_broadcast k c = record c { broadcasts = remove c.broadcasts k }
+
+abbrev pub with_wait : WaitKey → Subject → Content → Content
+with_wait k v c = record c { waits = insert c.waits k v }
+
+abbrev pub without_wait : WaitKey → Content → Content
+without_wait k c = record c { waits = remove c.waits k }
+
+-- ---- many, the first of them first
+
+abbrev pub all_made : {X : Type 0} → (X → Content → Content) → List X → Content → Content
+all_made change [] c = c
+all_made change (x ∷ xs) c = all_made change xs (change x c)
+
+-- one, if it is there
+abbrev pub if_some : {X : Type 0} → (X → Content → Content) → Option X → Content → Content
+if_some change None c = c
+if_some change (Some x) c = change x c
+
+-- the versions' rows are taken away before any is put, so that none stands in the way of another
+abbrev pub replaced : List (ℕ × VersionRow) → Content → Content
+replaced ps c = all_made (λ p. with_version p.0 p.1) ps (all_made (λ p. without_version p.0) ps c)
+
+-- the rows of which there is at most one
+abbrev pub singles : Changes → Content → Content
+singles ch c =
+    if_some (λ r. with_clock (clock_row_of r)) ch.clock (if_some (λ e. with_block (block_of e.0) (block_row_of e.1)) ch.block (if_some (λ e. with_code (code_of e.0) (spid_of e.1)) ch.code
+    (if_some (λ e. with_lrn (lrn_of e.0) (spid_of e.1)) ch.lrn (if_some (λ k. with_carrier (spid_of k)) ch.carrier c))))
+
+-- all others: rows are put, and then rows are taken away
+abbrev pub lists : Changes → Content → Content
+lists ch c =
+    all_made (λ k. without_wait (wait_key_of k)) (items_of ch.taken_waits) (all_made (λ k. without_broadcast (broadcast_key_of k)) (items_of ch.taken_broadcasts)
+    (all_made (λ e. with_wait (wait_key_of e.0) (subject_of e.1)) ch.waits.items (all_made (λ e. with_broadcast (broadcast_key_of e.0) (broadcast_row_of e.1)) (items_of ch.broadcasts) (replaced (items_of ch.versions) c))))
+
+abbrev pub made : Changes → Content → Content
+made ch c = lists ch (singles ch c)

@@ -1,0 +1,4 @@
+pub mod Store
+pub mod Changes
+pub mod Refusal
+pub mod Wanted

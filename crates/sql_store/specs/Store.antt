@@ -1,0 +1,137 @@
+-- What the store's connection keeps, and what its calls leave.
+use Rattle.std.specs.Prelude.{◌≡◌, false, true, Bool, IsTrue, refl, not}
+use Rattle.std.proofs.Common.{sym, ap, ◌∙◌, true≢false}
+use Rattle.sqlite.specs.Store.{Ghosts}
+use Rattle.sqlite.specs.Schema.{Schema}
+use Rattle.sqlite_schema.specs.contracts.schema.Schema.{the_row}
+use Rattle.sqlite_trees.specs.Props.{Trees-set, IsShaped-prop}
+use Rattle.sqlite_trees.proofs.Doubt.{no_doubt}
+use base.Stored.{Coded-set}
+use mathlib.Core.HLevel.{Π_prop}
+use Rattle.sqlite.specs.View.{doubt}
+use Rattle.sqlite.specs.Effect.{Database}
+use Rattle.sqlite.specs.Tree.{Trees}
+use Rattle.sqlite_trees.specs.declared.store.Shape.TheVariants.{Table as AsTable}
+use Rattle.sqlite.specs.State.{State, HasCleanDisk, Survives}
+use Rattle.sqlite.specs.Held.{Held, state}
+use Rattle.meaning.specs.Content.{Content}
+use Rattle.sql_rows.specs.Tables.{the_schema}
+use Rattle.sql_rows.specs.Shaped.{AreShaped}
+use Rattle.sql_rows.specs.Content.{content_in}
+
+-- ---- between calls
+
+-- the tables are ours, and nothing is pending
+pub record IsOurs (s : State) : Type 0 where
+  pub schema : s.now.schema ≡ the_schema
+  pub shaped : AreShaped s.now.trees
+  pub same_schema : s.now.schema ≡ s.committed.schema
+  pub same_trees : s.now.trees ≡ s.committed.trees
+
+pub settled : (s : State) → IsOurs s → s.now ≡ s.committed
+settled s ours i = record { schema = ours.same_schema i; trees = ours.same_trees i }
+
+Schema-set : IsSet Schema
+Schema-set = Coded-set the_row.coded
+
+AreShaped-prop : (db : Trees) → IsProp (AreShaped db)
+AreShaped-prop db = Π_prop (λ t. IsShaped-prop AsTable _)
+
+IsOurs-prop : (s : State) → IsProp (IsOurs s)
+IsOurs-prop s a b i = record {
+  schema = Schema-set _ _ a.schema b.schema i;
+  shaped = AreShaped-prop s.now.trees a.shaped b.shaped i;
+  same_schema = Schema-set _ _ a.same_schema b.same_schema i;
+  same_trees = Trees-set _ _ a.same_trees b.same_trees i;
+}
+
+-- a ghost field wants a proposition
+pub ours_if_open : (s : State) → IsProp (IsTrue s.is_open → IsOurs s)
+ours_if_open s = Π_prop (λ _. IsOurs-prop s)
+
+-- the content of the tables
+abbrev pub content_at : State → Content
+content_at s = content_in s.now.trees
+
+-- the store is as it was
+pub record IsSame (old new : State) : Type 0 where
+  pub was_open : IsTrue old.is_open
+  pub now : new.now ≡ old.now
+  pub committed : new.committed ≡ old.committed
+
+-- a call read, and answered or not
+pub record Looked (old new : State) (answered : Bool) : Type 0 where
+  pub same : IsTrue new.is_open → IsSame old new
+  pub stays : IsTrue answered → IsTrue old.is_open → HasCleanDisk new → IsTrue new.is_open
+  pub survives : IsTrue old.is_open → Survives old new (λ _. ⊥)
+
+-- a call committed this, or nothing
+pub record Turned (old new : State) (done : Bool) (Becomes : Content → Content → Type 0) : Type 0 where
+  pub becomes : IsTrue done → IsTrue new.is_open → Becomes (content_at old) (content_at new)
+  pub same : IsTrue (not done) → IsTrue new.is_open → IsSame old new
+  pub was_open : IsTrue new.is_open → IsTrue old.is_open
+  pub stays : IsTrue done → IsTrue old.is_open → HasCleanDisk new → IsTrue new.is_open
+  pub ours : IsTrue new.is_open → IsOurs new
+  pub crash : Survives old new (λ db. IsTrue old.is_open → Becomes (content_at old) (content_in db))
+
+-- ---- in a transaction
+
+-- the tables are ours while a transaction writes them
+pub record IsInside (s : State) : Type 0 where
+  pub is_open : IsTrue s.is_open
+  pub inside : IsTrue s.in_transaction
+  pub schema : s.now.schema ≡ the_schema
+  pub shaped : AreShaped s.now.trees
+
+-- statements were made, and the tables are this content now
+pub record Stepped (old new : State) (content : Content) : Type 0 where
+  pub inside : IsInside new
+  pub committed : new.committed ≡ old.committed
+  pub is : content_at new ≡ content
+
+-- nothing was committed, however it went
+pub record Kept (old new : State) : Type 0 where
+  pub was_open : IsTrue old.is_open
+  pub committed : new.committed ≡ old.committed
+
+-- a statement made this of the tables
+pub record Wrote (old new : State) (Did : Database → Database → Type 0) : Type 0 where
+  pub is_open : IsTrue new.is_open
+  pub inside : IsTrue new.in_transaction
+  pub committed : new.committed ≡ old.committed
+  pub did : Did old.now new.now
+
+-- a call in a transaction makes this of the tables, where it does not fail
+pub record Writes (old new : State) (done : Bool) (Did : Database → Database → Type 0) : Type 0 where
+  pub wrote : IsTrue done → HasCleanDisk new → IsInside old → Wrote old new Did
+  pub kept : IsTrue new.is_open → Kept old new
+  pub survives : Survives old new (λ _. ⊥)
+
+-- a call in a transaction makes this change of the content, where it does not fail
+pub record Makes (old new : State) (done : Bool) (change : Content → Content) : Type 0 where
+  pub made : IsTrue done → HasCleanDisk new → IsInside old → Stepped old new (change (content_at old))
+  pub kept : IsTrue new.is_open → Kept old new
+  pub survives : Survives old new (λ _. ⊥)
+
+-- calls so far, and those that are left, make together this change
+pub record Goes (old new : State) (left whole : Content → Content) : Type 0 where
+  pub inside : HasCleanDisk new → IsInside old → IsInside new
+  pub committed : HasCleanDisk new → IsInside old → new.committed ≡ old.committed
+  pub is : HasCleanDisk new → IsInside old → left (content_at new) ≡ whole (content_at old)
+  pub kept : IsTrue new.is_open → Kept old new
+  pub survives : Survives old new (λ _. ⊥)
+
+-- ---- a crash
+
+-- the contents that stand in what a crash may leave of a database
+abbrev pub left_by : {S : Type 0} → Ghosts S → Held S → Content → Type 0
+left_by g h m = (db : Trees) × (state g h).may_leave db × (m ≡ content_in db)
+
+-- what is open is clean
+pub clean_if_open : (clean is_open : Bool) → (clean ≡ false → is_open ≡ false) → IsTrue is_open → doubt clean ≡ 0
+clean_if_open true is_open law h = no_doubt true refl
+clean_if_open false is_open law h = absurd (let e = law refl in let f : is_open ≡ true = h in true≢false (sym f ∙ e))
+
+-- where a crash leaves one database, it leaves one content
+pub left_one : (m : Content) (db committed now : Trees) → m ≡ content_in db → db ≡ committed → now ≡ committed → m ≡ content_in now
+left_one m db committed now is left same = is ∙ ap content_in (left ∙ sym same)

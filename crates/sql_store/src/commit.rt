@@ -1,0 +1,219 @@
+//! A commit.
+ghost use Rattle.std.specs.Prelude.{◌≡◌, false, IsTrue, is_ok, map, option_map};
+ghost use Rattle.sqlite.specs.Held.{state};
+ghost use Rattle.numbers.specs.Views.{subject_of};
+ghost use Rattle.settle.specs.Views.{spid_of, lrn_of, code_of, block_of, block_row_of, clock_row_of, broadcast_row_of, broadcast_key_of, wait_key_of};
+ghost use Rattle.settle.specs.Changes.{changes_of, IsChanged};
+ghost use Rattle.sql_store.specs.Store.{IsOurs, Makes, Turned};
+ghost use Rattle.sql_store.specs.Changes.{singles, lists, made, all_made, if_some, with_carrier, with_lrn, with_code, with_block, with_clock, with_version, without_version, with_broadcast, without_broadcast, with_wait, without_wait};
+
+use crate::rows::{
+    put_block, put_broadcast, put_carrier, put_clock, put_code, put_lrn, put_version, put_wait,
+    take_broadcast, take_version, take_wait,
+};
+use delivery::Broadcast;
+use numbers::{BlockId, CodeId, Lrn, Spid, Subject};
+use settle::{BlockRow, BroadcastKey, Changes, ClockRow, VersionRow, WaitKey};
+use sql_rows::Fault;
+use sqlite::{Alter, Connection, Transaction};
+
+// No row of these ids is left, so that none stands in the way of another.
+fn clear_versions<S: Alter>(
+    tx: &mut Transaction<'_, S>,
+    rows: &[(u64, VersionRow)],
+) -> Result<(), Fault>
+    ensures same_reference { tx.new.conn.ghost_name ≡ tx.old.conn.ghost_name }
+    ensures makes { Makes (state S.Store tx.old.conn.now) (state S.Store tx.new.conn.now)
+        (is_ok result) (all_made (λ p. without_version p.0) rows.now) }
+{
+    for row in rows {
+        take_version(tx, row.0)?;
+    }
+    Ok(())
+}
+
+fn put_versions<S: Alter>(
+    tx: &mut Transaction<'_, S>,
+    rows: &[(u64, VersionRow)],
+) -> Result<(), Fault>
+    ensures same_reference { tx.new.conn.ghost_name ≡ tx.old.conn.ghost_name }
+    ensures makes { Makes (state S.Store tx.old.conn.now) (state S.Store tx.new.conn.now)
+        (is_ok result) (all_made (λ p. with_version p.0 p.1) rows.now) }
+{
+    for row in rows {
+        put_version(tx, row.0, &row.1)?;
+    }
+    Ok(())
+}
+
+fn put_broadcasts<S: Alter>(
+    tx: &mut Transaction<'_, S>,
+    rows: &[(BroadcastKey, Broadcast)],
+) -> Result<(), Fault>
+    ensures same_reference { tx.new.conn.ghost_name ≡ tx.old.conn.ghost_name }
+    ensures makes { Makes (state S.Store tx.old.conn.now) (state S.Store tx.new.conn.now)
+        (is_ok result)
+        (all_made (λ p. with_broadcast (broadcast_key_of p.0) (broadcast_row_of p.1)) rows.now) }
+{
+    for row in rows {
+        put_broadcast(tx, row.0, &row.1)?;
+    }
+    Ok(())
+}
+
+fn put_waits<S: Alter>(
+    tx: &mut Transaction<'_, S>,
+    rows: &[(WaitKey, Subject)],
+) -> Result<(), Fault>
+    ensures same_reference { tx.new.conn.ghost_name ≡ tx.old.conn.ghost_name }
+    ensures makes { Makes (state S.Store tx.old.conn.now) (state S.Store tx.new.conn.now)
+        (is_ok result) (all_made (λ p. with_wait (wait_key_of p.0) (subject_of p.1)) rows.now) }
+{
+    for row in rows {
+        put_wait(tx, row.0, row.1)?;
+    }
+    Ok(())
+}
+
+fn take_broadcasts<S: Alter>(
+    tx: &mut Transaction<'_, S>,
+    keys: &[BroadcastKey],
+) -> Result<(), Fault>
+    ensures same_reference { tx.new.conn.ghost_name ≡ tx.old.conn.ghost_name }
+    ensures makes { Makes (state S.Store tx.old.conn.now) (state S.Store tx.new.conn.now)
+        (is_ok result) (all_made (λ k. without_broadcast (broadcast_key_of k)) keys.now) }
+{
+    for key in keys {
+        take_broadcast(tx, *key)?;
+    }
+    Ok(())
+}
+
+fn take_waits<S: Alter>(tx: &mut Transaction<'_, S>, keys: &[WaitKey]) -> Result<(), Fault>
+    ensures same_reference { tx.new.conn.ghost_name ≡ tx.old.conn.ghost_name }
+    ensures makes { Makes (state S.Store tx.old.conn.now) (state S.Store tx.new.conn.now)
+        (is_ok result) (all_made (λ k. without_wait (wait_key_of k)) keys.now) }
+{
+    for key in keys {
+        take_wait(tx, *key)?;
+    }
+    Ok(())
+}
+
+fn register<S: Alter>(tx: &mut Transaction<'_, S>, carrier: Option<Spid>) -> Result<(), Fault>
+    ensures same_reference { tx.new.conn.ghost_name ≡ tx.old.conn.ghost_name }
+    ensures makes { Makes (state S.Store tx.old.conn.now) (state S.Store tx.new.conn.now)
+        (is_ok result) (if_some (λ k. with_carrier (spid_of k)) carrier) }
+{
+    match carrier {
+        Some(spid) => put_carrier(tx, spid),
+        None => Ok(()),
+    }
+}
+
+fn assign_lrn<S: Alter>(
+    tx: &mut Transaction<'_, S>,
+    owned: Option<(Lrn, Spid)>,
+) -> Result<(), Fault>
+    ensures same_reference { tx.new.conn.ghost_name ≡ tx.old.conn.ghost_name }
+    ensures makes { Makes (state S.Store tx.old.conn.now) (state S.Store tx.new.conn.now)
+        (is_ok result) (if_some (λ e. with_lrn (lrn_of e.0) (spid_of e.1)) owned) }
+{
+    match owned {
+        Some((lrn, owner)) => put_lrn(tx, lrn, owner),
+        None => Ok(()),
+    }
+}
+
+fn open_code<S: Alter>(
+    tx: &mut Transaction<'_, S>,
+    opened: Option<(CodeId, Spid)>,
+) -> Result<(), Fault>
+    ensures same_reference { tx.new.conn.ghost_name ≡ tx.old.conn.ghost_name }
+    ensures makes { Makes (state S.Store tx.old.conn.now) (state S.Store tx.new.conn.now)
+        (is_ok result) (if_some (λ e. with_code (code_of e.0) (spid_of e.1)) opened) }
+{
+    match opened {
+        Some((code, owner)) => put_code(tx, code, owner),
+        None => Ok(()),
+    }
+}
+
+fn donate<S: Alter>(
+    tx: &mut Transaction<'_, S>,
+    donated: Option<(BlockId, BlockRow)>,
+) -> Result<(), Fault>
+    ensures same_reference { tx.new.conn.ghost_name ≡ tx.old.conn.ghost_name }
+    ensures makes { Makes (state S.Store tx.old.conn.now) (state S.Store tx.new.conn.now)
+        (is_ok result) (if_some (λ e. with_block (block_of e.0) (block_row_of e.1)) donated) }
+{
+    match donated {
+        Some((block, row)) => put_block(tx, block, &row),
+        None => Ok(()),
+    }
+}
+
+fn set_clock<S: Alter>(tx: &mut Transaction<'_, S>, clock: Option<ClockRow>) -> Result<(), Fault>
+    ensures same_reference { tx.new.conn.ghost_name ≡ tx.old.conn.ghost_name }
+    ensures makes { Makes (state S.Store tx.old.conn.now) (state S.Store tx.new.conn.now)
+        (is_ok result) (if_some (λ r. with_clock (clock_row_of r)) clock) }
+{
+    match clock {
+        Some(row) => put_clock(tx, &row),
+        None => Ok(()),
+    }
+}
+
+// The rows of which there is at most one.
+fn write_singles<S: Alter>(tx: &mut Transaction<'_, S>, changes: &Changes) -> Result<(), Fault>
+    ensures same_reference { tx.new.conn.ghost_name ≡ tx.old.conn.ghost_name }
+    ensures makes { Makes (state S.Store tx.old.conn.now) (state S.Store tx.new.conn.now)
+        (is_ok result) (singles changes.now) }
+{
+    register(tx, changes.carrier)?;
+    assign_lrn(tx, changes.lrn)?;
+    open_code(tx, changes.code)?;
+    donate(tx, changes.block)?;
+    set_clock(tx, changes.clock)?;
+    Ok(())
+}
+
+// All others. What is taken away is taken last.
+fn write_lists<S: Alter>(tx: &mut Transaction<'_, S>, changes: &Changes) -> Result<(), Fault>
+    ensures same_reference { tx.new.conn.ghost_name ≡ tx.old.conn.ghost_name }
+    ensures makes { Makes (state S.Store tx.old.conn.now) (state S.Store tx.new.conn.now)
+        (is_ok result) (lists changes.now) }
+{
+    clear_versions(tx, changes.versions.as_slice())?;
+    put_versions(tx, changes.versions.as_slice())?;
+    put_broadcasts(tx, changes.broadcasts.as_slice())?;
+    put_waits(tx, changes.waits.as_slice())?;
+    take_broadcasts(tx, changes.taken_broadcasts.as_slice())?;
+    take_waits(tx, changes.taken_waits.as_slice())?;
+    Ok(())
+}
+
+// All rows.
+fn write<S: Alter>(tx: &mut Transaction<'_, S>, changes: &Changes) -> Result<(), Fault>
+    ensures same_reference { tx.new.conn.ghost_name ≡ tx.old.conn.ghost_name }
+    ensures makes { Makes (state S.Store tx.old.conn.now) (state S.Store tx.new.conn.now)
+        (is_ok result) (made changes.now) }
+{
+    write_singles(tx, changes)?;
+    write_lists(tx, changes)?;
+    Ok(())
+}
+
+/// Makes all changes in one transaction, or none.
+pub(crate) fn commit<S: Alter>(conn: &mut Connection<S>, changes: &Changes) -> Result<(), Fault>
+    requires ours { IsTrue (state S.Store conn.old).is_open → IsOurs (state S.Store conn.old) }
+    requires idle { conn.old.in_transaction ≡ false }
+    ensures turned { Turned (state S.Store conn.old) (state S.Store conn.new) (is_ok result)
+        (IsChanged (changes_of changes.now)) }
+    ensures idle { conn.new.in_transaction ≡ false }
+{
+    let mut tx = conn.transaction();
+    write(&mut tx, changes)?;
+    tx.commit()?;
+    Ok(())
+}

@@ -1,0 +1,14 @@
+//! The store over SQL: the rows of a register in the tables of a file, or of a database in memory.
+#![tactic(auto)]
+
+mod change;
+mod commit;
+mod lookups;
+mod opening;
+mod rows;
+mod schema;
+mod select;
+mod store;
+
+pub use opening::Refused;
+pub use store::SqlStore;

@@ -1,0 +1,195 @@
+//! A row of each table put or taken away.
+ghost use Rattle.std.specs.Prelude.{◌≡◌, is_ok};
+ghost use Rattle.sqlite.specs.Held.{state};
+ghost use Rattle.numbers.specs.Views.{subject_of};
+ghost use Rattle.settle.specs.Views.{spid_of, lrn_of, code_of, block_of, block_row_of, clock_row_of, broadcast_row_of, broadcast_key_of, wait_key_of};
+ghost use Rattle.sql_store.specs.Store.{Makes};
+ghost use Rattle.sql_store.specs.Changes.{with_carrier, with_lrn, with_code, with_block, with_clock, with_version, without_version, with_broadcast, without_broadcast, with_wait, without_wait};
+
+use crate::change::{replace, take};
+use delivery::Broadcast;
+use numbers::{BlockId, CodeId, Lrn, Spid, Subject};
+use settle::{BlockRow, BroadcastKey, ClockRow, VersionRow, WaitKey};
+use sql_rows::{
+    Fault, Table, block_params, broadcast_key, broadcast_params, clock_params, fits, fits_block,
+    number, spid_bytes, text, version_params, wait_key, wait_params,
+};
+use sqlite::{Alter, Transaction};
+
+/// Registers a carrier.
+pub(crate) fn put_carrier<S: Alter>(tx: &mut Transaction<'_, S>, spid: Spid) -> Result<(), Fault>
+    ensures same_reference { tx.new.conn.ghost_name ≡ tx.old.conn.ghost_name }
+    ensures makes { Makes (state S.Store tx.old.conn.now) (state S.Store tx.new.conn.now)
+        (is_ok result) (with_carrier (spid_of spid)) }
+{
+    let bytes = spid_bytes(spid.number);
+    replace(tx, Table::Carrier, &[text(&bytes)], &[text(&bytes)])?;
+    Ok(())
+}
+
+/// Puts whose a routing number is.
+pub(crate) fn put_lrn<S: Alter>(
+    tx: &mut Transaction<'_, S>,
+    lrn: Lrn,
+    owner: Spid,
+) -> Result<(), Fault>
+    ensures same_reference { tx.new.conn.ghost_name ≡ tx.old.conn.ghost_name }
+    ensures makes { Makes (state S.Store tx.old.conn.now) (state S.Store tx.new.conn.now)
+        (is_ok result) (with_lrn (lrn_of lrn) (spid_of owner)) }
+{
+    let bytes = spid_bytes(owner.number);
+    let key = number(lrn.number);
+    replace(tx, Table::Lrn, &[key], &[key, text(&bytes)])?;
+    Ok(())
+}
+
+/// Puts whose a code is.
+pub(crate) fn put_code<S: Alter>(
+    tx: &mut Transaction<'_, S>,
+    code: CodeId,
+    owner: Spid,
+) -> Result<(), Fault>
+    ensures same_reference { tx.new.conn.ghost_name ≡ tx.old.conn.ghost_name }
+    ensures makes { Makes (state S.Store tx.old.conn.now) (state S.Store tx.new.conn.now)
+        (is_ok result) (with_code (code_of code) (spid_of owner)) }
+{
+    let bytes = spid_bytes(owner.number);
+    let key = number(u64::from(code.number));
+    replace(tx, Table::Code, &[key], &[key, text(&bytes)])?;
+    Ok(())
+}
+
+/// Puts a donated block's row.
+pub(crate) fn put_block<S: Alter>(
+    tx: &mut Transaction<'_, S>,
+    block: BlockId,
+    row: &BlockRow,
+) -> Result<(), Fault>
+    ensures same_reference { tx.new.conn.ghost_name ≡ tx.old.conn.ghost_name }
+    ensures makes { Makes (state S.Store tx.old.conn.now) (state S.Store tx.new.conn.now)
+        (is_ok result) (with_block (block_of block) (block_row_of row.now)) }
+{
+    if !fits_block(row) {
+        return Err(Fault::Device);
+    }
+    let bytes = spid_bytes(row.donor.number);
+    let key = u64::from(block.number);
+    let params = block_params(key, row, &bytes);
+    replace(tx, Table::Block, &[number(key)], &params)?;
+    Ok(())
+}
+
+/// Puts the clock's row.
+pub(crate) fn put_clock<S: Alter>(tx: &mut Transaction<'_, S>, row: &ClockRow) -> Result<(), Fault>
+    ensures same_reference { tx.new.conn.ghost_name ≡ tx.old.conn.ghost_name }
+    ensures makes { Makes (state S.Store tx.old.conn.now) (state S.Store tx.new.conn.now)
+        (is_ok result) (with_clock (clock_row_of row.now)) }
+{
+    if row.next_id >= 9_223_372_036_854_775_808 {
+        return Err(Fault::Device);
+    }
+    replace(tx, Table::Clock, &[number(0)], &clock_params(row))?;
+    Ok(())
+}
+
+/// Puts a version's row.
+pub(crate) fn put_version<S: Alter>(
+    tx: &mut Transaction<'_, S>,
+    id: u64,
+    row: &VersionRow,
+) -> Result<(), Fault>
+    ensures same_reference { tx.new.conn.ghost_name ≡ tx.old.conn.ghost_name }
+    ensures makes { Makes (state S.Store tx.old.conn.now) (state S.Store tx.new.conn.now)
+        (is_ok result) (with_version id row.now) }
+{
+    if !fits(id, row) {
+        return Err(Fault::Device);
+    }
+    let old = spid_bytes(row.version.old_provider.number);
+    let new = spid_bytes(row.version.new_provider.number);
+    let params = version_params(id, row, &old, &new);
+    replace(tx, Table::Version, &[number(id)], &params)?;
+    Ok(())
+}
+
+/// Takes a version's row away.
+pub(crate) fn take_version<S: Alter>(tx: &mut Transaction<'_, S>, id: u64) -> Result<(), Fault>
+    ensures same_reference { tx.new.conn.ghost_name ≡ tx.old.conn.ghost_name }
+    ensures makes { Makes (state S.Store tx.old.conn.now) (state S.Store tx.new.conn.now)
+        (is_ok result) (without_version id) }
+{
+    if id >= 9_223_372_036_854_775_808 {
+        return Err(Fault::Device);
+    }
+    take(tx, Table::Version, &[number(id)])?;
+    Ok(())
+}
+
+/// Puts a broadcast's row.
+pub(crate) fn put_broadcast<S: Alter>(
+    tx: &mut Transaction<'_, S>,
+    key: BroadcastKey,
+    broadcast: &Broadcast,
+) -> Result<(), Fault>
+    ensures same_reference { tx.new.conn.ghost_name ≡ tx.old.conn.ghost_name }
+    ensures makes { Makes (state S.Store tx.old.conn.now) (state S.Store tx.new.conn.now)
+        (is_ok result) (with_broadcast (broadcast_key_of key) (broadcast_row_of broadcast.now)) }
+{
+    if key.id >= 9_223_372_036_854_775_808 || key.attempt >= 9_223_372_036_854_775_808 {
+        return Err(Fault::Device);
+    }
+    let columns = broadcast_key(key);
+    let params = broadcast_params(key, broadcast);
+    replace(tx, Table::Broadcast, &columns, &params)?;
+    Ok(())
+}
+
+/// Takes a broadcast's row away.
+pub(crate) fn take_broadcast<S: Alter>(
+    tx: &mut Transaction<'_, S>,
+    key: BroadcastKey,
+) -> Result<(), Fault>
+    ensures same_reference { tx.new.conn.ghost_name ≡ tx.old.conn.ghost_name }
+    ensures makes { Makes (state S.Store tx.old.conn.now) (state S.Store tx.new.conn.now)
+        (is_ok result) (without_broadcast (broadcast_key_of key)) }
+{
+    if key.id >= 9_223_372_036_854_775_808 || key.attempt >= 9_223_372_036_854_775_808 {
+        return Err(Fault::Device);
+    }
+    take(tx, Table::Broadcast, &broadcast_key(key))?;
+    Ok(())
+}
+
+/// Puts a download that waits.
+pub(crate) fn put_wait<S: Alter>(
+    tx: &mut Transaction<'_, S>,
+    key: WaitKey,
+    of: Subject,
+) -> Result<(), Fault>
+    ensures same_reference { tx.new.conn.ghost_name ≡ tx.old.conn.ghost_name }
+    ensures makes { Makes (state S.Store tx.old.conn.now) (state S.Store tx.new.conn.now)
+        (is_ok result) (with_wait (wait_key_of key) (subject_of of)) }
+{
+    if key.id >= 9_223_372_036_854_775_808 || key.attempt >= 9_223_372_036_854_775_808 {
+        return Err(Fault::Device);
+    }
+    let bytes = spid_bytes(key.carrier.number);
+    let columns = wait_key(key, &bytes);
+    let params = wait_params(key, of, &bytes);
+    replace(tx, Table::Wait, &columns, &params)?;
+    Ok(())
+}
+
+/// Takes a download away that waited.
+pub(crate) fn take_wait<S: Alter>(tx: &mut Transaction<'_, S>, key: WaitKey) -> Result<(), Fault>
+    ensures same_reference { tx.new.conn.ghost_name ≡ tx.old.conn.ghost_name }
+    ensures makes { Makes (state S.Store tx.old.conn.now) (state S.Store tx.new.conn.now)
+        (is_ok result) (without_wait (wait_key_of key)) }
+{
+    if key.id >= 9_223_372_036_854_775_808 || key.attempt >= 9_223_372_036_854_775_808 {
+        return Err(Fault::Device);
+    }
+    let bytes = spid_bytes(key.carrier.number);
+    take(tx, Table::Wait, &wait_key(key, &bytes))?;
+    Ok(())
+}

@@ -1,0 +1,53 @@
+//! Queries.
+ghost use Rattle.std.specs.Prelude.{◌≡◌, false, [], IsTrue, IfOk, is_ok, option_map};
+ghost use Rattle.sqlite.specs.Held.{state};
+ghost use Rattle.sqlite.specs.Order.{Row as RowSeen};
+ghost use Rattle.sqlite.specs.Values.{bound};
+ghost use Rattle.sqlite.specs.Query.{IsAnswer};
+ghost use Rattle.sqlite.specs.Program.{overlay};
+ghost use Rattle.sql_rows.specs.Statements.{query_of};
+ghost use Rattle.sql_store.specs.Store.{IsOurs, Looked};
+ghost use Rattle.sql_rows.specs.Found.{IsSoleAnswer};
+
+use sql_rows::{Fault, Query, Stored, sole};
+use sqlite::types::ValueRef;
+use sqlite::{Alter, Connection, Row};
+
+/// The rows that answer a query.
+pub(crate) fn select<S: Alter>(
+    conn: &mut Connection<S>,
+    query: Query,
+    params: &[ValueRef<'_>],
+) -> Result<Vec<Row>, Fault>
+    requires ours { IsTrue (state S.Store conn.old).is_open → IsOurs (state S.Store conn.old) }
+    requires idle { conn.old.in_transaction ≡ false }
+    ensures value { IsTrue (state S.Store conn.new).is_open
+        → IfOk result (λ rows.
+        IsAnswer (query_of query) (overlay (state S.Store conn.old).now.trees []) (bound params.now)
+        rows.items) }
+    ensures looked { Looked (state S.Store conn.old) (state S.Store conn.new) (is_ok result) }
+    ensures idle { conn.new.in_transaction ≡ false }
+{
+    let rows = conn.query_all(query.text(), params)?;
+    Ok(rows)
+}
+
+/// The only row that answers a query, if there is one.
+pub(crate) fn find<T: Stored, S: Alter>(
+    conn: &mut Connection<S>,
+    query: Query,
+    params: &[ValueRef<'_>],
+) -> Result<Option<T>, Fault>
+    requires ours { IsTrue (state S.Store conn.old).is_open → IsOurs (state S.Store conn.old) }
+    requires idle { conn.old.in_transaction ≡ false }
+    ensures value { IsTrue (state S.Store conn.new).is_open
+        → IfOk result (λ o.
+        IsSoleAnswer query T.seen_in (state S.Store conn.old).now.trees (bound params.now)
+        (option_map T.seen o)) }
+    ensures looked { Looked (state S.Store conn.old) (state S.Store conn.new) (is_ok result) }
+    ensures idle { conn.new.in_transaction ≡ false }
+{
+    let rows = select(conn, query, params)?;
+    let found = sole(rows.as_slice())?;
+    Ok(found)
+}

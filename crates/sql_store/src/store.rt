@@ -1,0 +1,223 @@
+//! The store over a database of SQL.
+ghost use Rattle.std.specs.Prelude.{◌≡◌, false, IsTrue};
+ghost use Rattle.sqlite.specs.Held.{state};
+ghost use Rattle.sql_store.specs.Store.{IsOurs, ours_if_open};
+
+use crate::{commit, lookups};
+use delivery::{Broadcast, Download, DownloadKey, RoutedRow};
+use numbers::{BlockId, CodeId, Lrn, Minute, Spid, Subject};
+use settle::{
+    BlockRow, BroadcastKey, Changes, ClockRow, NumberedRow, Store, StoreFault, VersionRow, WaitKey,
+};
+use sql_rows::Fault;
+use sqlite::{Alter, Connection};
+use version::NumberInUse;
+
+/// The rows of a register in the tables of a database. `S` is where the database stands: a file, or
+/// memory.
+///
+/// The count of failures rises by one with each answer of the database that is neither success nor
+/// want of memory, and with each stored value that is none of its column's type.
+pub struct SqlStore<S: Alter> {
+    pub(crate) conn: Connection<S>,
+    pub(crate) failures: u64,
+    ghost ours: { IsTrue (state S.Store conn).is_open → IsOurs (state S.Store conn) } by { ours_if_open _ },
+    ghost idle: { conn.in_transaction ≡ false },
+}
+
+impl<S: Alter> Store for SqlStore<S> {
+    ghost use Rattle.sqlite.specs.State.{HasCleanDisk};
+    ghost use Rattle.sql_store.specs.Store.{left_by, left_one, clean_if_open};
+    ghost use Rattle.sql_rows.specs.Content.{content_in};
+    ghost use Rattle.sqlite.specs.Held.{state};
+    ghost use Rattle.std.specs.Prelude.{IsTrue};
+
+    ghost content = { λ s. content_in (state S.Store s.conn).now.trees };
+
+    ghost IsUsable = { λ s. IsTrue (state S.Store s.conn).is_open };
+
+    ghost IsHonest = { λ s. HasCleanDisk (state S.Store s.conn) };
+
+    ghost MayLeave = { λ s. left_by S.Store s.conn };
+
+    ghost failed = { λ s. s.failures };
+
+    fn clock(&mut self) -> Result<Option<ClockRow>, StoreFault> {
+        match lookups::clock(&mut self.conn) {
+            Ok(found) => Ok(found),
+            Err(Fault::Memory) => Err(StoreFault::NoMemory),
+            Err(Fault::Device) => {
+                self.failures = self.failures.saturating_add(1);
+                Err(StoreFault::Storage)
+            }
+        }
+    }
+
+    fn carrier(&mut self, spid: Spid) -> Result<bool, StoreFault> {
+        match lookups::carrier(&mut self.conn, spid) {
+            Ok(found) => Ok(found),
+            Err(Fault::Memory) => Err(StoreFault::NoMemory),
+            Err(Fault::Device) => {
+                self.failures = self.failures.saturating_add(1);
+                Err(StoreFault::Storage)
+            }
+        }
+    }
+
+    fn lrn(&mut self, lrn: Lrn) -> Result<Option<Spid>, StoreFault> {
+        match lookups::lrn(&mut self.conn, lrn) {
+            Ok(found) => Ok(found),
+            Err(Fault::Memory) => Err(StoreFault::NoMemory),
+            Err(Fault::Device) => {
+                self.failures = self.failures.saturating_add(1);
+                Err(StoreFault::Storage)
+            }
+        }
+    }
+
+    fn code(&mut self, code: CodeId) -> Result<Option<Spid>, StoreFault> {
+        match lookups::code(&mut self.conn, code) {
+            Ok(found) => Ok(found),
+            Err(Fault::Memory) => Err(StoreFault::NoMemory),
+            Err(Fault::Device) => {
+                self.failures = self.failures.saturating_add(1);
+                Err(StoreFault::Storage)
+            }
+        }
+    }
+
+    fn block(&mut self, block: BlockId) -> Result<Option<BlockRow>, StoreFault> {
+        match lookups::block(&mut self.conn, block) {
+            Ok(found) => Ok(found),
+            Err(Fault::Memory) => Err(StoreFault::NoMemory),
+            Err(Fault::Device) => {
+                self.failures = self.failures.saturating_add(1);
+                Err(StoreFault::Storage)
+            }
+        }
+    }
+
+    fn version(&mut self, id: u64) -> Result<Option<VersionRow>, StoreFault> {
+        match lookups::version(&mut self.conn, id) {
+            Ok(found) => Ok(found),
+            Err(Fault::Memory) => Err(StoreFault::NoMemory),
+            Err(Fault::Device) => {
+                self.failures = self.failures.saturating_add(1);
+                Err(StoreFault::Storage)
+            }
+        }
+    }
+
+    fn version_in_force(&mut self, subject: Subject) -> Result<Option<NumberedRow>, StoreFault> {
+        match lookups::version_in_force(&mut self.conn, subject) {
+            Ok(found) => Ok(found),
+            Err(Fault::Memory) => Err(StoreFault::NoMemory),
+            Err(Fault::Device) => {
+                self.failures = self.failures.saturating_add(1);
+                Err(StoreFault::Storage)
+            }
+        }
+    }
+
+    fn open_version(&mut self, subject: Subject) -> Result<Option<NumberedRow>, StoreFault> {
+        match lookups::open_version(&mut self.conn, subject) {
+            Ok(found) => Ok(found),
+            Err(Fault::Memory) => Err(StoreFault::NoMemory),
+            Err(Fault::Device) => {
+                self.failures = self.failures.saturating_add(1);
+                Err(StoreFault::Storage)
+            }
+        }
+    }
+
+    fn least_due(&mut self, now: Minute) -> Result<Option<NumberedRow>, StoreFault> {
+        match lookups::least_due(&mut self.conn, now) {
+            Ok(found) => Ok(found),
+            Err(Fault::Memory) => Err(StoreFault::NoMemory),
+            Err(Fault::Device) => {
+                self.failures = self.failures.saturating_add(1);
+                Err(StoreFault::Storage)
+            }
+        }
+    }
+
+    fn broadcast(&mut self, key: BroadcastKey) -> Result<Option<Broadcast>, StoreFault> {
+        match lookups::broadcast(&mut self.conn, key) {
+            Ok(found) => Ok(found),
+            Err(Fault::Memory) => Err(StoreFault::NoMemory),
+            Err(Fault::Device) => {
+                self.failures = self.failures.saturating_add(1);
+                Err(StoreFault::Storage)
+            }
+        }
+    }
+
+    fn waits_about(
+        &mut self,
+        _spid: Spid,
+        _subject: Subject,
+    ) -> Result<Vec<DownloadKey>, StoreFault> {
+        self.failures = self.failures.saturating_add(1);
+        Err(StoreFault::Storage)
+    }
+
+    fn waits(&mut self, _spid: Spid) -> Result<Vec<Subject>, StoreFault> {
+        self.failures = self.failures.saturating_add(1);
+        Err(StoreFault::Storage)
+    }
+
+    fn front(&mut self, _spid: Spid, _many: usize) -> Result<Vec<Download>, StoreFault> {
+        self.failures = self.failures.saturating_add(1);
+        Err(StoreFault::Storage)
+    }
+
+    fn waiters(&mut self, _minute: Minute, _key: BroadcastKey) -> Result<Vec<Spid>, StoreFault> {
+        self.failures = self.failures.saturating_add(1);
+        Err(StoreFault::Storage)
+    }
+
+    fn is_last_wait(&mut self, _wait: WaitKey) -> Result<bool, StoreFault> {
+        self.failures = self.failures.saturating_add(1);
+        Err(StoreFault::Storage)
+    }
+
+    fn carriers(&mut self) -> Result<Vec<Spid>, StoreFault> {
+        self.failures = self.failures.saturating_add(1);
+        Err(StoreFault::Storage)
+    }
+
+    fn open_broadcasts(&mut self) -> Result<Vec<(BroadcastKey, Broadcast)>, StoreFault> {
+        self.failures = self.failures.saturating_add(1);
+        Err(StoreFault::Storage)
+    }
+
+    fn in_force(&mut self) -> Result<Vec<RoutedRow>, StoreFault> {
+        self.failures = self.failures.saturating_add(1);
+        Err(StoreFault::Storage)
+    }
+
+    fn in_block(&mut self, _block: BlockId) -> Result<Vec<NumberInUse>, StoreFault> {
+        self.failures = self.failures.saturating_add(1);
+        Err(StoreFault::Storage)
+    }
+
+    fn commit(&mut self, changes: &Changes) -> Result<(), StoreFault> {
+        match commit::commit(&mut self.conn, changes) {
+            Ok(()) => Ok(()),
+            Err(Fault::Memory) => Err(StoreFault::NoMemory),
+            Err(Fault::Device) => {
+                self.failures = self.failures.saturating_add(1);
+                Err(StoreFault::Storage)
+            }
+        }
+    }
+
+    fn failures(&self) -> u64 {
+        self.failures
+    }
+
+    ghost leaves_content = { λ s m up left. left_one m left.0 _ _ left.2 (S.settled s.conn.store
+        left.0 up left.1) (s.ours up).same_trees };
+
+    ghost usable_is_honest = { λ s up. clean_if_open _ _ (S.shut_if_dirty s.conn.store) up };
+}
