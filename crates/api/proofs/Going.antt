@@ -41,11 +41,11 @@ pub record Going (offered : Bool) (from to : ℕ) (st : State) (new : Content) (
 abbrev pub Progress : (offered : Bool) → (from to : ℕ) → Content → Content → (all left had has : Option (List ℕ)) → (before behind : Option (List (Option ℕ))) → ℕ → Type 0
 Progress offered from to old new all left had has before behind k = (st : State) → Stands old st → Follows st new × IfSome all (λ input. Going offered from to st new input left had has before behind k)
 
-known : (all : Option (List ℕ)) (P Q : List ℕ → Type 0) → ((input : List ℕ) → P input → Q input) → IfSome all P → IfSome all Q
+pub known : (all : Option (List ℕ)) (P Q : List ℕ → Type 0) → ((input : List ℕ) → P input → Q input) → IfSome all P → IfSome all Q
 known None P Q f p = tt
 known (Some input) P Q f p = f input p
 
-at_rest : (left : Option (List ℕ)) (rest : List ℕ) (P : List ℕ → Type 0) → left ≡ Some rest → IfSome left P → P rest
+pub at_rest : (left : Option (List ℕ)) (rest : List ℕ) (P : List ℕ → Type 0) → left ≡ Some rest → IfSome left P → P rest
 at_rest left rest P e p = subst (λ l. IfSome l P) e p
 
 -- what is held is no more than the buffer has room for

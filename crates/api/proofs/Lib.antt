@@ -7,3 +7,4 @@ mod StepLemmas
 mod StorageLemmas
 mod StorageRuns
 mod UriLemmas
+mod Withheld

@@ -80,7 +80,8 @@ never_refused st k e = cc
 abbrev pub BlamesRightly : (from to : ℕ) → (old : Content) → Refusal → Type 0
 BlamesRightly from to old r = (st : State) → Stands old st → r ≡ Storage → HasRisen from to
 
-pub blamed : {Before After Says : Type 0} {from to : ℕ} {old : Content} → Owes Before After from to (SaysStorage After old Says) → After → (st : State) → Stands old st → Says → HasRisen from to
+pub blamed : {S Answers Says : Type 0} {IsUsable IsHonest : S → Type 0} {failed : S → ℕ} {before after : S} {old : Content} → Owes IsUsable IsHonest failed before after Answers (SaysStorage (IsUsable after) old Says) → IsUsable after
+    → (st : State) → Stands old st → Says → HasRisen (failed before) (failed after)
 blamed owed usable st stands says =
     owed.storage (record { usable = usable; st = st; represents = stands.represents; written = stands.written; says = says })
 

@@ -11,11 +11,12 @@ use Rattle.messages.specs.Cuts.{Cuts, Done, Refuses, Whole}
 use Rattle.messages.specs.Reading.{HasNoWhole, IsReadAhead, IsReadTo}
 use Rattle.bodies.specs.Failures.{failure_text}
 use Rattle.api.specs.Run.{Exchange, Run, answers, ticks_of}
-use Rattle.api.specs.Step.{Step}
+use Rattle.api.specs.Step.{IsWithheld, Step}
 use Rattle.api.specs.Ticks.{HandsIn, HandsInAll}
 use Rattle.bodies.specs.declared.fault.Failure.TheVariants as Failure
 use Rattle.messages.specs.declared.fault.MessageFault.{MessageFault}
 use Rattle.messages.specs.declared.message.Next.{Next}
+use Rattle.messages.specs.declared.message.Request.{Request}
 use Rattle.api.specs.declared.serving.End.{End}
 use Rattle.api.specs.declared.serving.End.TheVariants.{Input, Closed, Refused}
 use Rattle.api.specs.declared.serving.Served.{Served}
@@ -121,6 +122,35 @@ FailsAt (Write k) offered from to st new told = AfterPart offered from to st new
 abbrev pub Serves : Result Served Fault → (offered : Bool) → (from to : ℕ) → State → Content → Told → Type 0
 Serves (Ok served) offered from to st new told = EndsAt served.end offered from to st new told served.count
 Serves (Err fault) offered from to st new told = FailsAt fault offered from to st new told
+
+-- from the state st on the messages at the front of the input were carried out and answered so, each beside a minute that was handed in, and the next
+-- one was answered that storage or memory fails
+pub record UntilWithheld (offered : Bool) (from : ℕ) (st : State) (input : List ℕ) (before : Option (List (Option ℕ))) : Type 0 where
+  pub exchanges : List Exchange
+  pub between : ℕ
+  pub mid : State
+  pub rest : List ℕ
+  pub run : Run offered from between st input exchanges mid rest
+  pub untold : Option (List (Option ℕ))
+  pub handed : HandsInAll before (ticks_of exchanges) untold
+  pub request : Request
+  pub body : List ℕ
+  pub left : List ℕ
+  pub cuts : Cuts rest (Whole request body left)
+  pub answer : List ℕ
+  pub withheld : IsWithheld answer
+
+-- that was written, or of its last answer a front; and behind the whole of it something of which nothing is said
+abbrev pub WritesUntil : (offered : Bool) → (from : ℕ) → State → (input : List ℕ) → (before : Option (List (Option ℕ))) → (had has : Option (List ℕ)) → Type 0
+WritesUntil offered from st input before had has =
+    (until : UntilWithheld offered from st input before)
+    × (((part : ℕ) × Appends had has (answers until.exchanges ++ take part until.answer))
+    ⊎ ((more : List ℕ) × Appends had has ((answers until.exchanges ++ until.answer) ++ more)))
+
+-- it is a message, and the text answers that storage or memory fails
+abbrev pub IsWithheldFrom : Next → List ℕ → Type 0
+IsWithheldFrom (Next.Message request) text = IsWithheld text
+IsWithheldFrom (Next.Refused fault) text = ⊥
 
 -- the content stands for a state that some list of the machine's inputs leads to from st
 abbrev pub Follows : State → Content → Type 0

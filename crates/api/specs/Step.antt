@@ -1,5 +1,5 @@
 -- One message, and what it makes of a state.
-use Rattle.std.specs.Prelude.{◌≡◌, ◌⊎◌, ℕ, ◌==◌, ◌<◌, ◌≤◌, List, [], length, codes, Bool, true, false, if◌then◌else◌, Option, Some, None, IsSomeAnd, Result, Ok, Err}
+use Rattle.std.specs.Prelude.{◌≡◌, ◌≢◌, ◌⊎◌, ⊤, ℕ, ◌==◌, ◌<◌, ◌≤◌, List, [], length, codes, Bool, true, false, if◌then◌else◌, Option, Some, None, IsSomeAnd, Result, Ok, Err}
 use Rattle.numbers.specs.Digits.{IsTn}
 use Rattle.numbers.specs.declared.spid.Spid.{Spid}
 use Rattle.meaning.specs.declared.refusal.Refusal.{Refusal}
@@ -19,7 +19,7 @@ use Rattle.telnp.specs.Grammar.{has_name}
 use Rattle.telnp.specs.Numbers.{HasTn}
 use Rattle.telnp.specs.Uri.{IsTelUri}
 use Rattle.bodies.specs.declared.fault.Failure.{Failure}
-use Rattle.bodies.specs.declared.fault.Failure.TheVariants.{Uri, Message}
+use Rattle.bodies.specs.declared.fault.Failure.TheVariants.{Refused as Turned, Uri, Message}
 use Rattle.messages.specs.declared.fault.MessageFault.{MessageFault}
 use Rattle.messages.specs.declared.fault.MessageFault.TheVariants.{BadRequest, NoPath, BadMethod}
 use Rattle.messages.specs.declared.message.Request.{Request}
@@ -77,6 +77,13 @@ routed_text uri (Found in_force opened) = []
 abbrev pub told : {A : Type 0} → Result A Failure → (body : List ℕ) → List ℕ
 told (Ok done) body = success body
 told (Err failure) body = failure_text failure
+
+-- a message got a reply, if only why it was not carried out; that storage or memory fails is none
+abbrev pub IsReplied : {A : Type 0} → Result A Failure → Type 0
+IsReplied (Ok done) = ⊤
+IsReplied (Err (Turned refusal)) = (refusal ≢ Storage) × (refusal ≢ NoMemory)
+IsReplied (Err (Uri fault)) = ⊤
+IsReplied (Err (Message fault)) = ⊤
 
 -- a call is refused for want of memory; or for want of the device, where the count of its failures rose
 abbrev pub IsShort : (from to : ℕ) → Refusal → Type 0

@@ -1,5 +1,5 @@
 //! Carrying out a message.
-ghost use Rattle.std.specs.Prelude.{◌≡◌, ℕ, ◌+◌, ◌*◌, ◌≤◌, List, Some, option_map, true, length, string_bytes, IfOk, IfErr, OnOk};
+ghost use Rattle.std.specs.Prelude.{◌≡◌, ℕ, ◌+◌, ◌*◌, ◌≤◌, List, Some, option_map, true, length, string_bytes, IfOk, IfErr, OnOk, ◌⊎◌};
 ghost use Rattle.meaning.specs.Reading.{State, all_in_force};
 ghost use Rattle.register.specs.Answers.{Stands};
 ghost use Rattle.calls.specs.Calls.{called_of};
@@ -8,7 +8,8 @@ ghost use Rattle.bodies.specs.Failures.{failure_text};
 ghost use Rattle.bodies.specs.Forms.{Asked as AskedSeen, Calling, asked_of as asked_seen};
 ghost use Rattle.bodies.specs.Rooms.{HasRoom, IsEmpty, IsWritten};
 ghost use Rattle.api.specs.Counting.{HasRoomFor, IsCounted};
-ghost use Rattle.api.specs.Step.{Step, Meets, Calls, Admits, TurnsAway, BodyAsks, IdAsks, NumberAsks, CountAsks, PathAsks, Carries, Carried, IsShort, told};
+ghost use Rattle.settle.specs.Owing.{IsAnswered, Owes};
+ghost use Rattle.api.specs.Step.{Step, Meets, Calls, Admits, TurnsAway, BodyAsks, IdAsks, NumberAsks, CountAsks, PathAsks, Carries, Carried, IsShort, told, IsReplied, IsWithheld};
 
 use crate::query::query;
 use crate::reply::{Counted, put_refused, put_reply, put_success, take_counted};
@@ -47,8 +48,8 @@ fn judged(request: &Request, clock: bool) -> Result<(Route, Spid), MessageFault>
 fn count_rows<S: Store>(register: &mut Register<S>) -> Result<usize, Refusal>
     ensures kept { S.IsUsable register.new.store → (st : State)
         → Stands (S.content register.old.store) st → Stands (S.content register.new.store) st }
-    ensures usable { S.IsUsable register.new.store → S.IsUsable register.old.store }
-    ensures rises { S.failed register.old.store ≤ S.failed register.new.store }
+    ensures owes { Owes S.IsUsable S.IsHonest S.failed register.old.store register.new.store
+        (IsAnswered result) ⊥ }
     ensures count { IfOk result (λ count. S.IsUsable register.new.store → (st : State)
         → Stands (S.content register.old.store) st → length (all_in_force st) ≡ count) }
     ensures short { IfErr result (λ refusal. S.IsUsable register.new.store → (st : State)
@@ -66,8 +67,8 @@ fn count_rows<S: Store>(register: &mut Register<S>) -> Result<usize, Refusal>
 fn admit<S: Store>(register: &mut Register<S>, caller: Spid, call: &Call) -> Result<(), Refusal>
     ensures kept { S.IsUsable register.new.store → (st : State)
         → Stands (S.content register.old.store) st → Stands (S.content register.new.store) st }
-    ensures usable { S.IsUsable register.new.store → S.IsUsable register.old.store }
-    ensures rises { S.failed register.old.store ≤ S.failed register.new.store }
+    ensures owes { Owes S.IsUsable S.IsHonest S.failed register.old.store register.new.store
+        (IsAnswered result) ⊥ }
     ensures ok { OnOk result (S.IsUsable register.new.store → (st : State)
         → Stands (S.content register.old.store) st
         → Admits st caller.number (called_of call.now)) }
@@ -91,8 +92,8 @@ const MOST_IDS: usize = 100;
 fn count<S: Store>(register: &mut Register<S>, call: &Call) -> Result<Counted, Refusal>
     ensures kept { S.IsUsable register.new.store → (st : State)
         → Stands (S.content register.old.store) st → Stands (S.content register.new.store) st }
-    ensures usable { S.IsUsable register.new.store → S.IsUsable register.old.store }
-    ensures rises { S.failed register.old.store ≤ S.failed register.new.store }
+    ensures owes { Owes S.IsUsable S.IsHonest S.failed register.old.store register.new.store
+        (IsAnswered result) ⊥ }
     ensures counted { IfOk result (λ counted. S.IsUsable register.new.store → (st : State)
         → Stands (S.content register.old.store) st → IsCounted st (called_of call.now) counted) }
     ensures short { IfErr result (λ refusal. S.IsUsable register.new.store → (st : State)
@@ -133,8 +134,8 @@ fn take_room<S: Store>(
     ensures taken { IfOk result (λ counted. HasRoomFor counted room.new) }
     ensures kept { S.IsUsable register.new.store → (st : State)
         → Stands (S.content register.old.store) st → Stands (S.content register.new.store) st }
-    ensures usable { S.IsUsable register.new.store → S.IsUsable register.old.store }
-    ensures rises { S.failed register.old.store ≤ S.failed register.new.store }
+    ensures owes { Owes S.IsUsable S.IsHonest S.failed register.old.store register.new.store
+        (IsAnswered result) ⊥ }
     ensures counted { IfOk result (λ counted. S.IsUsable register.new.store → (st : State)
         → Stands (S.content register.old.store) st → IsCounted st (called_of call.now) counted) }
     ensures short { IfErr result (λ refusal. S.IsUsable register.new.store → (st : State)
@@ -157,8 +158,8 @@ fn make<S: Store>(
     requires room { HasRoom 512 room.old }
     ensures ok { OnOk result (IsWritten room.new) }
     ensures room { HasRoom 512 room.new }
-    ensures usable { S.IsUsable register.new.store → S.IsUsable register.old.store }
-    ensures rises { S.failed register.old.store ≤ S.failed register.new.store }
+    ensures owes { Owes S.IsUsable S.IsHonest S.failed register.old.store register.new.store
+        (IsReplied result) ⊥ }
     ensures carries { S.IsUsable register.new.store → (st : State)
         → Stands (S.content register.old.store) st
         → Admits st caller.number (called_of call.now)
@@ -182,8 +183,8 @@ fn answer<S: Store>(
     requires room { HasRoom 512 room.old }
     ensures ok { OnOk result (IsWritten room.new) }
     ensures room { HasRoom 512 room.new }
-    ensures usable { S.IsUsable register.new.store → S.IsUsable register.old.store }
-    ensures rises { S.failed register.old.store ≤ S.failed register.new.store }
+    ensures owes { Owes S.IsUsable S.IsHonest S.failed register.old.store register.new.store
+        (IsReplied result) ⊥ }
     ensures carries { S.IsUsable register.new.store
         → Carries (S.failed register.old.store) (S.failed register.new.store)
         (S.content register.old.store) (S.content register.new.store) caller.number
@@ -207,8 +208,8 @@ fn carry_out_body<S: Store>(
     requires room { HasRoom 512 room.old }
     ensures ok { OnOk result (IsWritten room.new) }
     ensures room { HasRoom 512 room.new }
-    ensures usable { S.IsUsable register.new.store → S.IsUsable register.old.store }
-    ensures rises { S.failed register.old.store ≤ S.failed register.new.store }
+    ensures owes { Owes S.IsUsable S.IsHonest S.failed register.old.store register.new.store
+        (IsReplied result) ⊥ }
     ensures calls { S.IsUsable register.new.store → (st : State)
         → Stands (S.content register.old.store) st
         → (after : State)
@@ -291,8 +292,8 @@ fn carry_out<S: Store>(
     requires room { HasRoom 512 room.old }
     ensures ok { OnOk result (IsWritten room.new) }
     ensures room { HasRoom 512 room.new }
-    ensures usable { S.IsUsable register.new.store → S.IsUsable register.old.store }
-    ensures rises { S.failed register.old.store ≤ S.failed register.new.store }
+    ensures owes { Owes S.IsUsable S.IsHonest S.failed register.old.store register.new.store
+        (IsReplied result) ⊥ }
     ensures calls { S.IsUsable register.new.store → (st : State)
         → Stands (S.content register.old.store) st
         → (after : State)
@@ -322,8 +323,8 @@ fn reply<S: Store>(
     requires room { HasRoom 512 room.old }
     ensures ok { OnOk result (IsWritten room.new) }
     ensures room { HasRoom 512 room.new }
-    ensures usable { S.IsUsable register.new.store → S.IsUsable register.old.store }
-    ensures rises { S.failed register.old.store ≤ S.failed register.new.store }
+    ensures owes { Owes S.IsUsable S.IsHonest S.failed register.old.store register.new.store
+        (IsReplied result) ⊥ }
     ensures step { S.IsUsable register.new.store → (st : State)
         → Stands (S.content register.old.store) st
         → (after : State)
@@ -353,6 +354,9 @@ pub fn put_answer<S: Store>(
     ensures room { HasRoom 512 room.new }
     ensures usable { S.IsUsable register.new.store → S.IsUsable register.old.store }
     ensures rises { S.failed register.old.store ≤ S.failed register.new.store }
+    ensures honest { S.IsHonest register.new.store → S.IsHonest register.old.store }
+    ensures stays { S.IsUsable register.old.store → S.IsHonest register.new.store
+        → IsWithheld (string_bytes room.new.text) ⊎ S.IsUsable register.new.store }
     ensures step { S.IsUsable register.new.store → (st : State)
         → Stands (S.content register.old.store) st
         → (after : State)

@@ -5,7 +5,8 @@ ghost use Rattle.telnp.specs.Views.{uri_of};
 ghost use Rattle.bodies.specs.Forms.{Seeking};
 ghost use Rattle.bodies.specs.Rooms.{HasRoom, IsEmpty, IsWritten};
 ghost use Rattle.bodies.specs.Texts.{looked_up, uri_text};
-ghost use Rattle.api.specs.Step.{Carries, AsksFor, ComesBack, told};
+ghost use Rattle.settle.specs.Owing.{Owes};
+ghost use Rattle.api.specs.Step.{Carries, AsksFor, ComesBack, told, IsReplied};
 
 use bodies::{Failure, Room, URI_ROOM, put_uri};
 use calls::Answer;
@@ -80,8 +81,8 @@ pub fn query<S: Store>(
     requires room { HasRoom 512 room.old }
     ensures ok { OnOk result (IsWritten room.new) }
     ensures room { HasRoom 512 room.new }
-    ensures usable { S.IsUsable register.new.store → S.IsUsable register.old.store }
-    ensures rises { S.failed register.old.store ≤ S.failed register.new.store }
+    ensures owes { Owes S.IsUsable S.IsHonest S.failed register.old.store register.new.store
+        (IsReplied result) ⊥ }
     ensures carries { S.IsUsable register.new.store
         → Carries (S.failed register.old.store) (S.failed register.new.store)
         (S.content register.old.store) (S.content register.new.store) caller.number

@@ -1,5 +1,5 @@
 //! Serving the messages of a reader to a writer.
-ghost use Rattle.std.specs.Prelude.{◌≡◌, ◌≤◌, ℕ, List, [], length, Option, Some, None, option_map, string_bytes, vec_len, IfOk, IfErr, IfSome};
+ghost use Rattle.std.specs.Prelude.{◌≡◌, ◌≤◌, ℕ, List, [], length, Option, Some, None, option_map, string_bytes, vec_len, IfOk, IfErr, IfSome, ◌⊎◌};
 ghost use Rattle.numbers.specs.declared.minute.Minute.{Minute as MinuteSeen};
 ghost use Rattle.meaning.specs.Reading.{State};
 ghost use Rattle.register.specs.Answers.{Stands};
@@ -7,8 +7,9 @@ ghost use Rattle.messages.specs.Cuts.{IsNext, IsTaken};
 ghost use Rattle.messages.specs.Held.{held_bytes, input_left};
 ghost use Rattle.bodies.specs.Rooms.{HasRoom};
 ghost use Rattle.messages.specs.Reading.{IsRead};
-ghost use Rattle.api.specs.Serving.{Follows, Responds, Serves, end_of};
+ghost use Rattle.api.specs.Serving.{IsWithheldFrom, Follows, Responds, Serves, end_of, WritesUntil};
 ghost use Rattle.messages.specs.Table.{table};
+ghost use Rattle.api.specs.Step.{IsWithheld};
 ghost use Rattle.api.specs.Ticks.{HandsIn};
 
 use crate::call::put_answer;
@@ -101,6 +102,9 @@ fn tick_and_answer<S: Store, T: Ticks>(
     ensures room { HasRoom 512 room.new }
     ensures usable { S.IsUsable register.new.store → S.IsUsable register.old.store }
     ensures rises { S.failed register.old.store ≤ S.failed register.new.store }
+    ensures honest { S.IsHonest register.new.store → S.IsHonest register.old.store }
+    ensures stays { S.IsUsable register.old.store → S.IsHonest register.new.store
+        → IsWithheld (string_bytes room.new.text) ⊎ S.IsUsable register.new.store }
     ensures responds { S.IsUsable register.new.store
         → Responds clock (T.told ticks.old) (T.told ticks.new) (S.failed register.old.store)
         (S.failed register.new.store) (Next.Message request.now) body.now
@@ -130,6 +134,9 @@ fn respond<S: Store, T: Ticks>(
     ensures end { result ≡ end_of next }
     ensures usable { S.IsUsable register.new.store → S.IsUsable register.old.store }
     ensures rises { S.failed register.old.store ≤ S.failed register.new.store }
+    ensures honest { S.IsHonest register.new.store → S.IsHonest register.old.store }
+    ensures stays { S.IsUsable register.old.store → S.IsHonest register.new.store
+        → IsWithheldFrom next (string_bytes room.new.text) ⊎ S.IsUsable register.new.store }
     ensures responds { S.IsUsable register.new.store
         → Responds clock (T.told ticks.old) (T.told ticks.new) (S.failed register.old.store)
         (S.failed register.new.store) next body.now (string_bytes room.new.text)
@@ -221,11 +228,18 @@ fn serve_with<S: Store, T: Ticks, R: Read, W: Write>(
           had = W.contents writer.old;
           has = W.contents writer.new;
         })) }
+    ensures until { S.IsUsable register.old.store → S.IsHonest register.new.store
+        → S.IsUsable register.new.store
+        ⊎ ((st : State) → Stands (S.content register.old.store) st
+        → IfSome (R.remaining reader.old)
+        (λ input. WritesUntil options.now.clock_route (S.failed register.old.store) st input
+        (T.told ticks.old) (W.contents writer.old) (W.contents writer.new))) }
     ensures state { S.IsUsable register.new.store → (st : State)
         → Stands (S.content register.old.store) st
         → Follows st (S.content register.new.store) }
     ensures usable { S.IsUsable register.new.store → S.IsUsable register.old.store }
     ensures rises { S.failed register.old.store ≤ S.failed register.new.store }
+    ensures honest { S.IsHonest register.new.store → S.IsHonest register.old.store }
 {
     let mut body = Vec::new(alloc);
     let mut scratch = Scratch::new(alloc);
@@ -305,11 +319,18 @@ pub fn serve<S: Store, T: Ticks, R: Read, W: Write>(
           had = W.contents writer.old;
           has = W.contents writer.new;
         })) }
+    ensures until { S.IsUsable register.old.store → S.IsHonest register.new.store
+        → S.IsUsable register.new.store
+        ⊎ ((st : State) → Stands (S.content register.old.store) st
+        → IfSome (R.remaining reader.old)
+        (λ input. WritesUntil options.now.clock_route (S.failed register.old.store) st input
+        (T.told ticks.old) (W.contents writer.old) (W.contents writer.new))) }
     ensures state { S.IsUsable register.new.store → (st : State)
         → Stands (S.content register.old.store) st
         → Follows st (S.content register.new.store) }
     ensures usable { S.IsUsable register.new.store → S.IsUsable register.old.store }
     ensures rises { S.failed register.old.store ≤ S.failed register.new.store }
+    ensures honest { S.IsHonest register.new.store → S.IsHonest register.old.store }
 {
     let Some((mut held, mut room, router)) = buffers(alloc) else {
         return Err(Fault::Memory(0));

@@ -4,6 +4,7 @@ ghost use Rattle.numbers.specs.declared.minute.Minute.{Minute as MinuteSeen};
 ghost use Rattle.meaning.specs.Reading.{State};
 ghost use Rattle.register.specs.Answers.{Stands};
 ghost use Rattle.bodies.specs.Failures.{failure_text};
+ghost use Rattle.settle.specs.Owing.{IsAnswered, Owes};
 ghost use Rattle.api.specs.Step.{WithholdsTick, ticked};
 
 use bodies::Failure;
@@ -15,8 +16,8 @@ use settle::Store;
 /// Moves the clock to the minute that is handed in, if there is one. One below the present minute
 /// is dropped.
 pub fn take_tick<S: Store>(register: &mut Register<S>, tick: Option<Minute>) -> Result<(), Refusal>
-    ensures usable { S.IsUsable register.new.store → S.IsUsable register.old.store }
-    ensures rises { S.failed register.old.store ≤ S.failed register.new.store }
+    ensures owes { Owes S.IsUsable S.IsHonest S.failed register.old.store register.new.store
+        (IsAnswered result) ⊥ }
     ensures moved { OnOk result (S.IsUsable register.new.store → (st : State)
         → Stands (S.content register.old.store) st
         → Stands (S.content register.new.store)

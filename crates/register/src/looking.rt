@@ -1,5 +1,5 @@
 //! The version that a caller names.
-ghost use Rattle.settle.specs.Owing.{Reads};
+ghost use Rattle.settle.specs.Owing.{IsAnswer, IsAnswered, Reads};
 ghost use Rattle.std.specs.Prelude.{◌≡◌, Err, true, is_some, IfOk, IfErr};
 ghost use Rattle.std.specs.FinMap.{get};
 ghost use Rattle.meaning.specs.Conditions.{is_the};
@@ -28,9 +28,8 @@ pub fn look_up<S: Store>(store: &mut S, is_known: bool, id: u64) -> Result<Looke
         found.row) }
     ensures refused { S.IsUsable store.new
         → IfErr result (IsLookedUpInVain (S.content store.old) is_known id) }
-    ensures reads { Reads (S.IsUsable store.old) (S.IsUsable store.new)
-        (S.content store.old) (S.content store.new) (S.failed store.old) (S.failed store.new)
-        (S.IsUsable store.new × (is_some (S.content store.old).clock ≡ true)
+    ensures reads { Reads S.IsUsable S.IsHonest S.content S.failed store.old store.new
+        (IsAnswered result) (S.IsUsable store.new × (is_some (S.content store.old).clock ≡ true)
         × (result ≡ Err Refusal.Storage)) }
 {
     if !is_known {
@@ -50,9 +49,8 @@ pub fn is_lrn_of<S: Store>(store: &mut S, lrn: Lrn, carrier: Spid) -> Result<boo
     ensures value { S.IsUsable store.new
         → IfOk result (λ good. good
         ≡ is_the carrier.number (get (S.content store.old).lrns lrn.number)) }
-    ensures reads { Reads (S.IsUsable store.old) (S.IsUsable store.new)
-        (S.content store.old) (S.content store.new) (S.failed store.old) (S.failed store.new)
-        (result ≡ Err StoreFault.Storage) }
+    ensures reads { Reads S.IsUsable S.IsHonest S.content S.failed store.old store.new
+        (IsAnswer result) (result ≡ Err StoreFault.Storage) }
 {
     match store.lrn(lrn)? {
         None => Ok(false),

@@ -1,5 +1,5 @@
 //! Commands on blocks.
-ghost use Rattle.settle.specs.Owing.{Owes, Reads};
+ghost use Rattle.settle.specs.Owing.{IsAnswer, IsAnswered, Owes, Reads};
 ghost use Rattle.std.specs.Prelude.{◌≡◌, ◌+◌, ◌≤◌, ◌==◌, ◌||◌, ℕ, Err, Some, IfOk, OnOk, OnErr, map, length, is_some, vec_len};
 ghost use Rattle.std.specs.FinMap.{get, keys};
 ghost use Rattle.meaning.specs.declared.words.Action.TheVariants.{Create};
@@ -60,8 +60,8 @@ fn commit_made<S: Store>(
         (record (clock_row_of clock.now) { next_id = clock.now.next_id + length made.now }))
         (S.content store.old) (S.content store.new)) }
     ensures back { OnErr result (S.IsUsable store.new → S.content store.new ≡ S.content store.old) }
-    ensures owes { Owes (S.IsUsable store.old) (S.IsUsable store.new)
-        (S.failed store.old) (S.failed store.new) (result ≡ Err StoreFault.Storage) }
+    ensures owes { Owes S.IsUsable S.IsHonest S.failed store.old store.new
+        (IsAnswer result) (result ≡ Err StoreFault.Storage) }
 {
     let everyone = store.carriers()?;
     let minute = clock.minute;
@@ -91,9 +91,8 @@ fn ids_of(alloc: Global, made: &[(u64, Version)]) -> Result<Vec<u64>, AllocError
 fn may_release<S: Store>(store: &mut S, caller: Spid) -> Result<bool, StoreFault>
     ensures value { S.IsUsable store.new → IfOk result (λ known. known
         ≡ ((caller.number == npac) || is_some (get (S.content store.old).carriers caller.number))) }
-    ensures reads { Reads (S.IsUsable store.old) (S.IsUsable store.new)
-        (S.content store.old) (S.content store.new) (S.failed store.old) (S.failed store.new)
-        (result ≡ Err StoreFault.Storage) }
+    ensures reads { Reads S.IsUsable S.IsHonest S.content S.failed store.old store.new
+        (IsAnswer result) (result ≡ Err StoreFault.Storage) }
 {
     if caller.number == Spid::NPAC.number {
         return Ok(true);
@@ -113,9 +112,8 @@ pub fn donate<S: Store>(
         → AnswersSettled (S.content store.old) (S.content store.new)
         (Requests caller.number (Commands (donation_of donation.now)))
         (replied (λ ids. Donated donation.now.block.number ids.items) result) }
-    ensures owes { Owes (S.IsUsable store.old) (S.IsUsable store.new)
-        (S.failed store.old) (S.failed store.new)
-        (SaysOnceSettled (S.IsUsable store.new) (S.content store.old)
+    ensures owes { Owes S.IsUsable S.IsHonest S.failed store.old store.new
+        (IsAnswered result) (SaysOnceSettled (S.IsUsable store.new) (S.content store.old)
         (Requests caller.number (Commands (donation_of donation.now)))
         (result ≡ Err Refusal.Storage)) }
 {
@@ -146,9 +144,8 @@ pub fn assign<S: Store>(
         → AnswersSettled (S.content store.old) (S.content store.new)
         (Requests caller.number (Commands (assignment_of assignment.now)))
         (replied (λ view. Shown (Some (view_of view))) result) }
-    ensures owes { Owes (S.IsUsable store.old) (S.IsUsable store.new)
-        (S.failed store.old) (S.failed store.new)
-        (SaysOnceSettled (S.IsUsable store.new) (S.content store.old)
+    ensures owes { Owes S.IsUsable S.IsHonest S.failed store.old store.new
+        (IsAnswered result) (SaysOnceSettled (S.IsUsable store.new) (S.content store.old)
         (Requests caller.number (Commands (assignment_of assignment.now)))
         (result ≡ Err Refusal.Storage)) }
 {
@@ -185,9 +182,8 @@ pub fn release<S: Store>(
         → AnswersSettled (S.content store.old) (S.content store.new)
         (Requests caller.number (Commands (Release block.number)))
         (replied (λ view. Shown (Some (view_of view))) result) }
-    ensures owes { Owes (S.IsUsable store.old) (S.IsUsable store.new)
-        (S.failed store.old) (S.failed store.new)
-        (SaysOnceSettled (S.IsUsable store.new) (S.content store.old)
+    ensures owes { Owes S.IsUsable S.IsHonest S.failed store.old store.new
+        (IsAnswered result) (SaysOnceSettled (S.IsUsable store.new) (S.content store.old)
         (Requests caller.number (Commands (Release block.number)))
         (result ≡ Err Refusal.Storage)) }
 {

@@ -82,6 +82,7 @@ module _ (query : Query) (params : Row) (old new : State) (ours : IsTrue old.is_
   pub looked_ok : (rows : List Row) → (IsTrue new.is_open → HasCleanDisk new) → (HasCleanDisk new → Shown (query_text query) params old new rows) → Survives old new (CommitsShowing (query_text query) params old) → Looked old new true
   looked_ok rows clean shown survives = record {
     same = λ up. query_leaves (query_text query) params old new ours plain rows up (shown (clean up));
+    clean = λ done. omega (arith, done, survives.clean);
     stays = λ ok was done. (shown_same (query_text query) params old new rows (plain was) (shown done)).0.is_open;
     survives = λ was. query_commits_nothing (query_text query) params old new (plain was) survives;
   }
@@ -89,6 +90,7 @@ module _ (query : Query) (params : Row) (old new : State) (ours : IsTrue old.is_
   pub looked_err : (e : Error) → (IsTrue new.is_open → HasCleanDisk new) → (HasCleanDisk new → FailsToQuery (query_text query) params old new e) → Survives old new (CommitsShowing (query_text query) params old) → Looked old new false
   looked_err e clean fails survives = record {
     same = λ up. query_err_leaves (query_text query) params old new ours plain e up (fails (clean up));
+    clean = λ done. omega (arith, done, survives.clean);
     stays = λ no was done. absurd (true≢false (sym no));
     survives = λ was. query_commits_nothing (query_text query) params old new (plain was) survives;
   }
@@ -289,6 +291,7 @@ module _ (old mid new : State) (change : Content → Content) (Becomes : Content
     becomes = λ ok. absurd (true≢false (sym ok ∙ fails));
     same = λ _. same;
     was_open = λ up. (same up).was_open;
+    clean = λ done. omega (arith, done, survives.clean);
     stays = λ ok. absurd (true≢false (sym ok ∙ fails));
     ours = λ up. ours_again (same up);
     crash = survives_weaker old new P _ after survives;
@@ -325,6 +328,7 @@ module _ (old mid new : State) (change : Content → Content) (Becomes : Content
       becomes = λ _ up. let s = ok (clean_of up) in after (clean_of up) new.now.trees (ap (λ (d : Database). d.trees) s.now_is) (b.kept s.was_open).was_open;
       same = λ no. absurd (true≢false (sym no));
       was_open = λ up. (b.kept (ok (clean_of up)).was_open).was_open;
+      clean = λ done. omega (arith, done, all_survives.clean);
       stays = λ _ was clean. (ok clean).is_open;
       ours = λ up.
           let s = ok (clean_of up) in

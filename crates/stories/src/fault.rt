@@ -1,5 +1,6 @@
 //! Why the stories were not played to their end.
 use register::OpenFault;
+use std::alloc::AllocError;
 use std::io;
 use windows::WindowFault;
 
@@ -7,13 +8,21 @@ use windows::WindowFault;
 #[derive(Debug, Drop)]
 pub enum Fault {
     Io(io::Error),
+    Memory,
     Open(OpenFault),
     Windows(WindowFault),
+    Serving(api::Fault),
 }
 
 impl From<io::Error> for Fault {
     fn from(error: io::Error) -> Fault {
         Fault::Io(error)
+    }
+}
+
+impl From<AllocError> for Fault {
+    fn from(_refused: AllocError) -> Fault {
+        Fault::Memory
     }
 }
 
@@ -26,5 +35,11 @@ impl From<OpenFault> for Fault {
 impl From<WindowFault> for Fault {
     fn from(fault: WindowFault) -> Fault {
         Fault::Windows(fault)
+    }
+}
+
+impl From<api::Fault> for Fault {
+    fn from(fault: api::Fault) -> Fault {
+        Fault::Serving(fault)
     }
 }

@@ -5,9 +5,11 @@
 //! them. The windows are those of `w.toml`.
 #![tactic(auto)]
 
+mod failing;
 mod fault;
 mod story;
 
+use failing::{Played, play_failing};
 use fault::Fault;
 use std::io::Write;
 use std::rt::{Env, Files};
@@ -36,6 +38,11 @@ fn tell<T: Files + AllocGlobal + Print>(
     if again != heard {
         writeln!(out, "story {name}, byte by byte")?;
         out.write_all(&again)?;
+    }
+    match play_failing(rt.alloc(), windows, &story)? {
+        Played::Same(0) => writeln!(out, "story {name}, no call of the store")?,
+        Played::Otherwise(before) => writeln!(out, "story {name}, a failure after {before}")?,
+        Played::Same(_) | Played::TooLong => {}
     }
     Ok(())
 }

@@ -9,13 +9,13 @@ use store::MemoryStore;
 use windows::Windows;
 
 /// What stands between the connections of a story.
-const BREAK: u8 = 30;
+pub const BREAK: u8 = 30;
 
-// Hands out bytes in pieces of at most this size.
+/// Hands out bytes in pieces of at most this size.
 #[derive(Drop)]
-struct Pieces<'a> {
-    rest: &'a [u8],
-    size: usize,
+pub struct Pieces<'a> {
+    pub rest: &'a [u8],
+    pub size: usize,
 }
 
 impl Read for Pieces<'_> {

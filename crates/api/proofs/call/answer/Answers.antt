@@ -12,6 +12,6 @@ returns-in_err-admit-clause-carries g c = λ u st s.
 
 pub returns-clause-carries : goal.returns-clause-carries
 returns-clause-carries g c = λ u st s.
-    let middle = c.make.ensures.usable u in
+    let middle = c.make.ensures.owes.usable u in
     carried_since (g.S.Store.failed c.args.register.now.store) (g.S.Store.failed c.admit.new.register.store) (g.S.Store.failed c.make.new.register.store) (g.S.Store.content c.make.new.register.store) st c.args.caller.number (Calling (called_of c.args.call.now)) _
-    c.in_ok-admit.ensures.rises c.make.ensures.rises (c.make.ensures.carries u st (c.in_ok-admit.ensures.kept middle st s) (c.in_ok-admit.ensures.ok middle st s))
+    c.in_ok-admit.ensures.owes.rises c.make.ensures.owes.rises (c.make.ensures.carries u st (c.in_ok-admit.ensures.kept middle st s) (c.in_ok-admit.ensures.ok middle st s))

@@ -19,7 +19,7 @@ returns-in_err-reply-clause-carries g c = λ u st s admits.
     let refusal = c.in_err-reply.field-0.0 in
     refused_as from to new st c.args.caller.number (Calling (called_of c.args.call.now)) c.from_residual-in_err-reply.result _ refusal (search rules)
     (refused_carried from to new st c.args.caller.number (called_of c.args.call.now) admits refusal mid (c.in_err-reply.ensures.answers u)
-    (blames_since from (g.S.Store.failed c.take_room.new.register.store) to mid mid refusal c.in_ok-counted.ensures.rises c.in_err-reply.ensures.owes.rises (λ x y. y) (λ st s e. blamed c.in_err-reply.ensures.owes u st s (ap Err e)))
+    (blames_since from (g.S.Store.failed c.take_room.new.register.store) to mid mid refusal c.in_ok-counted.ensures.owes.rises c.in_err-reply.ensures.owes.rises (λ x y. y) (λ st s e. blamed c.in_err-reply.ensures.owes u st s (ap Err e)))
     (c.in_ok-counted.ensures.kept (c.answer.ensures.owes.usable u) st s))
 
 pub returns-clause-carries : goal.returns-clause-carries

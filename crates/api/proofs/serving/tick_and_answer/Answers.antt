@@ -1,6 +1,8 @@
-use Rattle.std.proofs.Common.{ℕ, Option, option_map}
+use Rattle.std.proofs.Common.{◌⊎◌, ℕ, List, Option, option_map, sym, subst}
 use Rattle.numbers.specs.declared.minute.Minute.{Minute}
+use Rattle.api.specs.Step.{IsWithheld}
 use Rattle.api.proofs.StepLemmas.{tick_then, tick_withheld}
+use Rattle.api.proofs.Withheld.{refused_or}
 use Rattle.api.proofs.serving.tick_and_answer.Goals as goal
 
 -- the minute that was handed in
@@ -12,7 +14,7 @@ returns-in-Ok-clause-responds g c = λ u. (
   minute_of c.next-tick.result,
   c.next-tick.ensures,
   tick_then c.args.clock (minute_of c.next-tick.result) (g.S.Store.failed c.args.register.now.store) (g.S.Store.failed c.take_tick.new.register.store) (g.S.Store.failed c.put_answer.new.register.store) (g.S.Store.content c.args.register.now.store) (g.S.Store.content c.take_tick.new.register.store) (g.S.Store.content c.put_answer.new.register.store) c.args.request.now c.args.body.now _
-      c.in-Ok.ensures.rises (c.in-Ok.ensures.moved (c.put_answer.ensures.usable u)) (c.put_answer.ensures.step u),
+      c.in-Ok.ensures.owes.rises (c.in-Ok.ensures.moved (c.put_answer.ensures.usable u)) (c.put_answer.ensures.step u),
 )
 
 pub returns-in-Err-clause-responds : goal.returns-in-Err-clause-responds
@@ -20,5 +22,9 @@ returns-in-Err-clause-responds g c = λ u. (
   minute_of c.next-tick.result,
   c.next-tick.ensures,
   tick_withheld c.args.clock (minute_of c.next-tick.result) (g.S.Store.failed c.args.register.now.store) (g.S.Store.failed c.take_tick.new.register.store) (g.S.Store.content c.args.register.now.store) (g.S.Store.content c.take_tick.new.register.store) c.args.request.now c.args.body.now _ _
-      c.in-Err.ensures.rises c.put_refused.ensures.text (c.in-Err.ensures.short u),
+      c.in-Err.ensures.owes.rises c.put_refused.ensures.text (c.in-Err.ensures.short u),
 )
+
+pub returns-in-Err-clause-stays : goal.returns-in-Err-clause-stays
+returns-in-Err-clause-stays g c = λ usable honest.
+    subst (λ (t : List ℕ). IsWithheld t ⊎ g.S.Store.IsUsable c.take_tick.new.register.store) (sym c.put_refused.ensures.text) (refused_or c.in-Err.refusal (λ answered. c.in-Err.ensures.owes.stays answered usable honest))

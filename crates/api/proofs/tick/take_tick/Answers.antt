@@ -1,11 +1,16 @@
-use Rattle.std.proofs.Common.{ap, Err}
+use Rattle.std.proofs.Common.{rules, ap, Err}
 use Rattle.api.proofs.StepLemmas.{blamed, move_withheld}
 use Rattle.api.proofs.tick.take_tick.Goals as goal
 
 pub returns-in_default-refusal : goal.returns-in_default-refusal
 returns-in_default-refusal g c = record {
-  usable = c.in-Err.ensures.owes.usable;
-  rises = c.in-Err.ensures.owes.rises;
+  owes = record {
+    usable = c.in-Err.ensures.owes.usable;
+    honest = c.in-Err.ensures.owes.honest;
+    stays = search rules;
+    rises = c.in-Err.ensures.owes.rises;
+    storage = λ never. absurd never;
+  };
   moved = tt;
   short = rw c.in-Some.is (λ u. move_withheld c.in-Err.refusal (g.S.Store.failed c.args.register.now.store) (g.S.Store.failed c.clock.new.self.store) (g.S.Store.content c.args.register.now.store) (g.S.Store.content c.clock.new.self.store) c.in-Some.minute.number c.in_default-refusal.not-ClockBack
       (c.in-Err.ensures.answers u) (λ st s e. blamed c.in-Err.ensures.owes u st s (ap Err e)));

@@ -14,6 +14,8 @@ returns-in_err-last-clause-reads g c = record {
       let at_code = c.block.ensures.reads.same at_row.0 in
       let first = c.code-2.ensures.reads.same at_code.0 in
       (first.0, at_row.1 ∙ at_code.1 ∙ first.1);
+  honest = search rules;
+  stays = search rules;
   rises = let a = c.code-2.ensures.reads.rises in let b = c.block.ensures.reads.rises in let d = c.last_made.ensures.reads.rises in omega arith;
   storage = λ says.
       let at_row = c.last_made.ensures.reads.same says.usable in

@@ -69,6 +69,8 @@ returns-in_err-version-clause-owes g c =
     let is : c.from_residual-in_err-version.result ≡ Err c.in_err-version.field-0.0 = search rules in
     record {
       usable = search rules;
+      honest = search rules;
+      stays = search rules;
       rises = omega arith;
       storage = λ says. absurd (assignment_never c.args.caller.number c.facts-facts.result c.in_err-version.field-0.0 c.in_err-version.ensures.refusal
           (same_refusal c.in_err-version.field-0.0 c.from_residual-in_err-version.result is says.says));
@@ -87,6 +89,8 @@ pub returns-in_err-commit_made-clause-owes : goal.returns-in_err-commit_made-cla
 returns-in_err-commit_made-clause-owes g c =
     record {
       usable = search rules;
+      honest = search rules;
+      stays = search rules;
       rises = omega arith;
       storage = λ says. risen-since (g.S.Store.failed c.args.store.now) (g.S.Store.failed c.is_lrn_of.new.store) (g.S.Store.failed c.commit_made.new.store) (omega arith) c.commit_made.ensures.owes.rises
           (c.in_err-commit_made.ensures.owes.storage (ap Err (storage_by c.from_residual-in_err-commit_made.result c.in_err-commit_made.field-0.0 (search rules) says.says)));

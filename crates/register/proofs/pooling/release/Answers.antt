@@ -52,6 +52,8 @@ returns-in_err-step-clause-owes g c =
     let is : c.from_residual-in_err-step.result ≡ Err c.in_err-step.field-0.0 = search rules in
     record {
       usable = search rules;
+      honest = search rules;
+      stays = search rules;
       rises = omega arith;
       storage = λ says. absurd (release_never c.args.caller.number c.facts-facts.result c.in_err-step.field-0.0 c.in_err-step.ensures.refusal
           (same_refusal c.in_err-step.field-0.0 c.from_residual-in_err-step.result is says.says));
@@ -69,6 +71,8 @@ pub returns-in_err-commit_step-clause-owes : goal.returns-in_err-commit_step-cla
 returns-in_err-commit_step-clause-owes g c =
     record {
       usable = search rules;
+      honest = search rules;
+      stays = search rules;
       rises = omega arith;
       storage = λ says. risen-since (g.S.Store.failed c.args.store.now) (g.S.Store.failed c.find_block.new.store) (g.S.Store.failed c.commit_step.new.store) (omega arith) c.commit_step.ensures.owes.rises
           (c.in_err-commit_step.ensures.owes.storage (ap Err (storage_by c.from_residual-in_err-commit_step.result c.in_err-commit_step.field-0.0 (search rules) says.says)));

@@ -6,4 +6,6 @@ abbrev pub invariant-loop-number : goal.invariant-loop-number
 invariant-loop-number g l =
     (g.S.Store.IsUsable l.store → g.S.Store.IsUsable l.fn.store)
     × (g.S.Store.failed l.fn.store ≤ g.S.Store.failed l.store)
+    × (g.S.Store.IsHonest l.store → g.S.Store.IsHonest l.fn.store)
+    × (g.S.Store.IsUsable l.fn.store → g.S.Store.IsHonest l.store → g.S.Store.IsUsable l.store)
     × (g.S.Store.IsUsable l.store → SettlesUpTo l.numbers (drop l.number-index l.numbers) (g.S.Store.content l.fn.store) (g.S.Store.content l.store))

@@ -1,3 +1,4 @@
+use Rattle.std.proofs.Common.{rules}
 use Rattle.meaning.specs.Machine.{Found}
 use Rattle.meaning.specs.Refusals.{Asks, Ids}
 use Rattle.calls.specs.Calls.{replied}
@@ -15,3 +16,12 @@ returns-clause-elsewhere g c = λ usable caller.
     let middle = c.ids.ensures.owes.usable usable in
     leaves_after (g.S.Store.content c.args.self.now.store) (g.S.Store.content c.settle_number.new.store) (g.S.Store.content c.ids.new.store) (Asks caller (Ids c.args.tn.number))
     (c.in_ok-settle_number.ensures.kept middle) (c.in_ok-settle_number.ensures.settled middle) (replied (λ found. Found found.in_force found.opened) c.ids.result) (c.ids.ensures.answers usable caller)
+
+pub returns-in_err-settle_number-clause-owes : goal.returns-in_err-settle_number-clause-owes
+returns-in_err-settle_number-clause-owes g c = record {
+  usable = search rules;
+  honest = search rules;
+  stays = search rules;
+  rises = search rules;
+  storage = search rules;
+}

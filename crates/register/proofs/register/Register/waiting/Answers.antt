@@ -16,9 +16,9 @@ returns-in_err-settle_all-clause-answers g c = λ usable.
 
 pub returns-clause-owes : goal.returns-clause-owes
 returns-clause-owes g c =
-    owes_after (g.S.Store.content c.args.self.now.store) (g.S.Store.content c.settle_all.new.store) (Asks c.args.caller.number Waiting)
-    (g.S.Store.failed c.args.self.now.store) (g.S.Store.failed c.settle_all.new.store) (g.S.Store.failed c.waiting.new.store)
-    c.settle_all.ensures.owes
+    owes_after g.S.Store.IsUsable g.S.Store.IsHonest g.S.Store.failed c.args.self.now.store c.settle_all.new.store c.waiting.new.store
+    (g.S.Store.content c.args.self.now.store) (g.S.Store.content c.settle_all.new.store) (Asks c.args.caller.number Waiting)
+    tt c.in_ok-settle_all.ensures.owes
     (λ middle. all_kept (g.S.Store.content c.args.self.now.store) (g.S.Store.content c.settle_all.new.store) (c.in_ok-settle_all.ensures.kept middle))
     (λ middle. all_settled (g.S.Store.content c.args.self.now.store) (g.S.Store.content c.settle_all.new.store) (c.in_ok-settle_all.ensures.settled middle))
     c.waiting.ensures.owes

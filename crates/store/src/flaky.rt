@@ -1,0 +1,229 @@
+//! A store whose device fails when it is told to.
+ghost use Rattle.std.specs.Prelude.{◌≡◌, ◌≤◌, ℕ, Err, Some, OnOk, OnErr};
+ghost use Rattle.meaning.specs.Content.{Content};
+ghost use Rattle.settle.specs.Reads.{HasRisen};
+
+use delivery::{Broadcast, Download, DownloadKey, RoutedRow};
+use numbers::{BlockId, CodeId, Lrn, Minute, Spid, Subject};
+use settle::{
+    BlockRow, BroadcastKey, Changes, ClockRow, NumberedRow, Store, StoreFault, VersionRow, WaitKey,
+};
+use version::NumberInUse;
+
+/// How often a device fails.
+#[derive(Clone, Copy, Debug, PartialEq, Eq)]
+pub enum Failing {
+    /// One call fails, and none after it.
+    Once,
+    /// All calls fail from then on.
+    Always,
+}
+
+/// A store over another one, of which a call fails as if the device had: nothing is asked of the
+/// store below, and the count of failures rises by one. It is for tests of what stands above.
+#[derive(Drop)]
+pub struct Flaky<S: Store> {
+    store: S,
+    // How many calls there are before the one that fails, if one does.
+    before: Option<u64>,
+    failing: Failing,
+    failures: u64,
+}
+
+impl<S: Store> Flaky<S> {
+    /// A store whose first so many calls are those of the store below, and the next one fails.
+    pub fn new(store: S, before: u64, failing: Failing) -> Flaky<S>
+        ensures store { result.store ≡ store }
+        ensures before { result.before ≡ Some before }
+        ensures none { result.failures ≡ 0 }
+    {
+        Flaky {
+            store,
+            before: Some(before),
+            failing,
+            failures: 0,
+        }
+    }
+
+    /// The store below, as it is.
+    pub fn into_store(self) -> S
+        ensures { result ≡ self.store }
+    {
+        let Flaky { store, .. } = self;
+        store
+    }
+
+    // Counts a failure.
+    fn fail(&mut self) -> StoreFault
+        ensures fault { result ≡ StoreFault.Storage }
+        ensures same { self.new.store ≡ self.old.store }
+        ensures rises { self.old.failures ≤ self.new.failures }
+        ensures risen { HasRisen self.old.failures self.new.failures }
+    {
+        self.failures = self.failures.saturating_add(1);
+        StoreFault::Storage
+    }
+
+    // Comes before each call. Where it is the one that fails, nothing is asked of the store below.
+    fn meet(&mut self) -> Result<(), StoreFault>
+        ensures same { self.new.store ≡ self.old.store }
+        ensures rises { self.old.failures ≤ self.new.failures }
+        ensures fault { OnErr result (result ≡ Err StoreFault.Storage) }
+        ensures risen { OnErr result (HasRisen self.old.failures self.new.failures) }
+        ensures calm { OnOk result (self.new.failures ≡ self.old.failures) }
+    {
+        match self.before {
+            None => Ok(()),
+            Some(0) => {
+                self.before = match self.failing {
+                    Failing::Once => None,
+                    Failing::Always => Some(0),
+                };
+                Err(self.fail())
+            }
+            Some(before) => {
+                self.before = Some(before - 1);
+                Ok(())
+            }
+        }
+    }
+}
+
+// What the store below answered. Its failures are counted too.
+fn counted<A>(failures: &mut u64, answer: Result<A, StoreFault>) -> Result<A, StoreFault>
+    ensures same { result ≡ answer }
+    ensures rises { failures.old ≤ failures.new }
+    ensures risen { answer ≡ Err StoreFault.Storage → HasRisen failures.old failures.new }
+{
+    match answer {
+        Err(StoreFault::Storage) => {
+            *failures = failures.saturating_add(1);
+            Err(StoreFault::Storage)
+        }
+        answer => answer,
+    }
+}
+
+impl<S: Store> Store for Flaky<S> {
+    ghost content = { λ s. S.content s.store };
+
+    ghost IsUsable = { λ s. S.IsUsable s.store };
+
+    ghost IsHonest = { λ s. S.IsHonest s.store };
+
+    ghost MayLeave = { λ s. S.MayLeave s.store };
+
+    ghost failed = { λ s. s.failures };
+
+    ghost leaves_content = { λ s. S.leaves_content s.store };
+
+    ghost usable_is_honest = { λ s. S.usable_is_honest s.store };
+
+    fn clock(&mut self) -> Result<Option<ClockRow>, StoreFault> {
+        self.meet()?;
+        counted(&mut self.failures, self.store.clock())
+    }
+
+    fn carrier(&mut self, spid: Spid) -> Result<bool, StoreFault> {
+        self.meet()?;
+        counted(&mut self.failures, self.store.carrier(spid))
+    }
+
+    fn lrn(&mut self, lrn: Lrn) -> Result<Option<Spid>, StoreFault> {
+        self.meet()?;
+        counted(&mut self.failures, self.store.lrn(lrn))
+    }
+
+    fn code(&mut self, code: CodeId) -> Result<Option<Spid>, StoreFault> {
+        self.meet()?;
+        counted(&mut self.failures, self.store.code(code))
+    }
+
+    fn block(&mut self, block: BlockId) -> Result<Option<BlockRow>, StoreFault> {
+        self.meet()?;
+        counted(&mut self.failures, self.store.block(block))
+    }
+
+    fn version(&mut self, id: u64) -> Result<Option<VersionRow>, StoreFault> {
+        self.meet()?;
+        counted(&mut self.failures, self.store.version(id))
+    }
+
+    fn version_in_force(&mut self, subject: Subject) -> Result<Option<NumberedRow>, StoreFault> {
+        self.meet()?;
+        counted(&mut self.failures, self.store.version_in_force(subject))
+    }
+
+    fn open_version(&mut self, subject: Subject) -> Result<Option<NumberedRow>, StoreFault> {
+        self.meet()?;
+        counted(&mut self.failures, self.store.open_version(subject))
+    }
+
+    fn least_due(&mut self, now: Minute) -> Result<Option<NumberedRow>, StoreFault> {
+        self.meet()?;
+        counted(&mut self.failures, self.store.least_due(now))
+    }
+
+    fn broadcast(&mut self, key: BroadcastKey) -> Result<Option<Broadcast>, StoreFault> {
+        self.meet()?;
+        counted(&mut self.failures, self.store.broadcast(key))
+    }
+
+    fn waits_about(
+        &mut self,
+        spid: Spid,
+        subject: Subject,
+    ) -> Result<Vec<DownloadKey>, StoreFault> {
+        self.meet()?;
+        counted(&mut self.failures, self.store.waits_about(spid, subject))
+    }
+
+    fn waits(&mut self, spid: Spid) -> Result<Vec<Subject>, StoreFault> {
+        self.meet()?;
+        counted(&mut self.failures, self.store.waits(spid))
+    }
+
+    fn front(&mut self, spid: Spid, many: usize) -> Result<Vec<Download>, StoreFault> {
+        self.meet()?;
+        counted(&mut self.failures, self.store.front(spid, many))
+    }
+
+    fn waiters(&mut self, minute: Minute, key: BroadcastKey) -> Result<Vec<Spid>, StoreFault> {
+        self.meet()?;
+        counted(&mut self.failures, self.store.waiters(minute, key))
+    }
+
+    fn is_last_wait(&mut self, wait: WaitKey) -> Result<bool, StoreFault> {
+        self.meet()?;
+        counted(&mut self.failures, self.store.is_last_wait(wait))
+    }
+
+    fn carriers(&mut self) -> Result<Vec<Spid>, StoreFault> {
+        self.meet()?;
+        counted(&mut self.failures, self.store.carriers())
+    }
+
+    fn open_broadcasts(&mut self) -> Result<Vec<(BroadcastKey, Broadcast)>, StoreFault> {
+        self.meet()?;
+        counted(&mut self.failures, self.store.open_broadcasts())
+    }
+
+    fn in_force(&mut self) -> Result<Vec<RoutedRow>, StoreFault> {
+        self.meet()?;
+        counted(&mut self.failures, self.store.in_force())
+    }
+
+    fn in_block(&mut self, block: BlockId) -> Result<Vec<NumberInUse>, StoreFault> {
+        self.meet()?;
+        counted(&mut self.failures, self.store.in_block(block))
+    }
+
+    fn commit(&mut self, changes: &Changes) -> Result<(), StoreFault> {
+        self.meet()?;
+        counted(&mut self.failures, self.store.commit(changes))
+    }
+
+    fn failures(&self) -> u64 {
+        self.failures
+    }
+}
