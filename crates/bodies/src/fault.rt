@@ -137,7 +137,7 @@ fn status_of_message(fault: MessageFault) -> u16
 
 impl Failure {
     /// The name on the wire.
-    pub(crate) fn name(self) -> &'static str
+    pub fn name(self) -> &'static str
         ensures text { result.now ≡ failure_name self }
         ensures short { length result.now ≤ 16 }
     {

@@ -21,3 +21,4 @@ pub use reply::{
     DOWNLOAD_ROOM, ID_ROOM, ROW_ROOM, URI_ROOM, put_donated, put_downloads, put_failure, put_ids,
     put_now, put_opened_code, put_registered, put_routing_number, put_uri, put_version,
 };
+pub use room::{put, put_cic, put_lrn, put_number, put_subject};

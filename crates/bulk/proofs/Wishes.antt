@@ -1,0 +1,47 @@
+-- What a wish's action says of it.
+use Rattle.std.proofs.Common.{◌≡◌, ◌≢◌, ℕ, List, ◌∷◌}
+use Rattle.version.specs.declared.create.Creator.{Creator}
+use Rattle.version.specs.declared.create.Creator.TheVariants as creator
+use Rattle.version.specs.declared.command.VersionCommand.{VersionCommand}
+use Rattle.version.specs.declared.command.VersionCommand.TheVariants as command
+use Rattle.numbers.specs.Spids.{IsSpid}
+use Rattle.numbers.specs.Texts.{spid_text}
+use Rattle.bulk.specs.Rows.{Row}
+use Rattle.bulk.specs.Orders.{Says, action_name, action_of, command_action, create_action, wish_fields}
+use Rattle.bulk.specs.declared.order.ActionName.{ActionName}
+use Rattle.bulk.specs.declared.order.Order.{Order}
+use Rattle.bulk.specs.declared.order.Wish.{Wish}
+use Rattle.bulk.specs.declared.order.Wish.TheVariants as wish
+use Rattle.bulk.proofs.Names.{one_name}
+
+-- no create is a command on a version
+pub no_command : (c : VersionCommand) (by : Creator) → command_action c ≢ create_action by
+no_command command.Activate (creator.OldProvider a) = λ e. cc
+no_command command.Activate (creator.NewProvider r) = λ e. cc
+no_command command.PutInConflict (creator.OldProvider a) = λ e. cc
+no_command command.PutInConflict (creator.NewProvider r) = λ e. cc
+no_command command.RemoveFromConflict (creator.OldProvider a) = λ e. cc
+no_command command.RemoveFromConflict (creator.NewProvider r) = λ e. cc
+no_command command.Cancel (creator.OldProvider a) = λ e. cc
+no_command command.Cancel (creator.NewProvider r) = λ e. cc
+no_command command.OldProviderCancellationAcknowledge (creator.OldProvider a) = λ e. cc
+no_command command.OldProviderCancellationAcknowledge (creator.NewProvider r) = λ e. cc
+no_command command.NewProviderCancellationAcknowledge (creator.OldProvider a) = λ e. cc
+no_command command.NewProviderCancellationAcknowledge (creator.NewProvider r) = λ e. cc
+no_command (command.Disconnect release) (creator.OldProvider a) = λ e. cc
+no_command (command.Disconnect release) (creator.NewProvider r) = λ e. cc
+
+-- a create's fields name its new provider
+pub no_new_provider :
+    (old new due : List ℕ) (last : Row) (by : Creator) → ((n : ℕ) → IsSpid n → new ≢ spid_text n) →
+    (w : Wish) → action_of w ≡ create_action by → old ∷ new ∷ due ∷ last ≢ wish_fields w
+no_new_provider old new due last by none (wish.Create o n d creator) e = λ same. none n.number n.valid cc
+no_new_provider old new due last by none (wish.OnVersion c) e = λ same. no_command c by e
+
+-- no wish of this action has these fields, so no order has the row
+pub no_order :
+    (row : Row) (caller name subject : List ℕ) (six : Row) (a : ActionName) → row ≡ caller ∷ name ∷ subject ∷ six → name ≡ action_name a →
+    ((w : Wish) → action_of w ≡ a → six ≢ wish_fields w) → (o : Order) → ¬ (Says row o)
+no_order row caller name subject six a e named none o says =
+    let same : action_name (action_of o.wish) ≡ action_name a = cc in
+    none o.wish (one_name (action_of o.wish) a same) cc

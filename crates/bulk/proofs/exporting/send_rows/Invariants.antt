@@ -1,0 +1,11 @@
+use Rattle.std.proofs.Common.{◌≡◌, map, take}
+use Rattle.calls.specs.Calls.{in_force_of}
+use Rattle.bulk.specs.Exports.{in_force_line}
+use Rattle.bulk.specs.Files.{AreSent}
+use Rattle.bulk.proofs.exporting.send_rows.Given as goal
+
+abbrev pub invariant-loop-row : goal.invariant-loop-row
+invariant-loop-row g l = record {
+  counted : l.count ≡ l.row-index;
+  sent : AreSent (g.W.Write.contents l.fn.writer) (g.W.Write.contents l.writer) (take l.row-index (map in_force_line (map in_force_of l.rows)));
+}

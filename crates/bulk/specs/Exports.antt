@@ -1,0 +1,45 @@
+-- An export: everything in force, by subject.
+use Rattle.std.specs.Prelude.{◌≡◌, ℕ, List, [], ◌∷◌, ◌++◌, length, map, codes, Option, Some, None}
+use Rattle.std.specs.Prelude.{Result, Ok, Err}
+use Rattle.std.specs.Io.KnownBytes.{Appends}
+use Rattle.numbers.specs.Routings.{Routing}
+use Rattle.numbers.specs.Texts.{subject_text, lrn_text, cic_text}
+use Rattle.meaning.specs.Reading.{State, InForce, all_in_force}
+use Rattle.bulk.specs.Files.{file_text, EndsWithin}
+use Rattle.bulk.specs.declared.fault.BulkFault.{BulkFault}
+use Rattle.bulk.specs.declared.fault.FaultKind.{FaultKind}
+use Rattle.bulk.specs.declared.fault.FaultKind.TheVariants.{BadHeader, BadFile, UnknownCarrier, Storage, NoMemory, Read, Write}
+
+unfoldable pub export_header : List ℕ
+export_header = codes "subject,lrn,cic\n"
+
+-- empty where there is none
+abbrev pub cic_field : Option ℕ → List ℕ
+cic_field None = []
+cic_field (Some cic) = cic_text cic
+
+abbrev pub routing_fields : Option Routing → List ℕ
+routing_fields None = 44 ∷ []
+routing_fields (Some routing) = lrn_text routing.lrn ++ 44 ∷ cic_field routing.cic
+
+-- a subject in force, and where it is routed
+abbrev pub in_force_line : InForce → List ℕ
+in_force_line row = subject_text row.subject ++ 44 ∷ (routing_fields row.routing ++ 10 ∷ [])
+
+abbrev pub export_lines : State → List (List ℕ)
+export_lines st = map in_force_line (all_in_force st)
+
+-- what a writer that had this then has of an export whose rows were flushed whole, or that ended early. Nothing is written where the
+-- device or memory failed
+abbrev pub FailsTo : FaultKind → (rows : ℕ) → State → (had has : Option (List ℕ)) → Type 0
+FailsTo Write rows st had has = EndsWithin had has export_header (export_lines st) rows
+FailsTo Storage rows st had has = (rows ≡ 0) × Appends had has []
+FailsTo NoMemory rows st had has = (rows ≡ 0) × Appends had has []
+FailsTo BadHeader rows st had has = ⊥
+FailsTo BadFile rows st had has = ⊥
+FailsTo UnknownCarrier rows st had has = ⊥
+FailsTo Read rows st had has = ⊥
+
+abbrev pub Exports : Result ℕ BulkFault → State → (had has : Option (List ℕ)) → Type 0
+Exports (Ok rows) st had has = (rows ≡ length (all_in_force st)) × Appends had has (file_text export_header (export_lines st))
+Exports (Err fault) st had has = FailsTo fault.kind fault.rows st had has

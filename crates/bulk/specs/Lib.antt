@@ -1,0 +1,10 @@
+pub mod Rows
+pub mod Numbers
+pub mod Orders
+pub mod Fields
+pub mod Faults
+pub mod Files
+pub mod Exports
+pub mod Report
+pub mod Making
+pub mod Running

@@ -1,0 +1,131 @@
+-- A bulk file as the list of its commands, and its report: the machine's answers in their order.
+use Rattle.std.specs.Prelude.{◌≡◌, ℕ, zero, suc, ◌+◌, ◌-◌, List, [], ◌∷◌, ◌++◌, map, codes, decimal, Option, Some, None, option_map}
+use Rattle.numbers.specs.Subjects.{Number}
+use Rattle.numbers.specs.Texts.{tn_text}
+use Rattle.meaning.specs.Commands.{Command, OnVersion}
+use Rattle.meaning.specs.History.{Commands}
+use Rattle.meaning.specs.Machine.{Reply, Refused, Shown, out, next}
+use Rattle.meaning.specs.Reading.{State, View, record_now}
+use Rattle.meaning.specs.Refusals.{Input, Requests}
+use Rattle.meaning.specs.Versions.{Version, version_in_force, open_version}
+use Rattle.meaning.specs.declared.refusal.Refusal.{Refusal}
+use Rattle.bodies.specs.Failures.{refusal_name}
+use Rattle.bodies.specs.RefusalTexts.{refusal_of}
+use Rattle.version.specs.Commands.{asked_of}
+use Rattle.version.specs.Creates.{command_by}
+use Rattle.version.specs.declared.command.VersionCommand.{VersionCommand}
+use Rattle.version.specs.declared.command.VersionCommand.TheVariants as command
+use Rattle.bulk.specs.Orders.{Reads}
+use Rattle.bulk.specs.Rows.{Row}
+use Rattle.bulk.specs.declared.order.Order.{Order}
+use Rattle.bulk.specs.declared.order.Wish.{Wish}
+use Rattle.bulk.specs.declared.order.Wish.TheVariants as wish
+use Rattle.bulk.specs.declared.range.Numbers.{Numbers}
+
+-- ---- commands
+
+-- the first of these, or 0, which no version has
+abbrev pub id_or_none : Option ℕ → ℕ
+id_or_none None = 0
+id_or_none (Some id) = id
+
+abbrev pub first_id : Option ℕ → Option ℕ → ℕ
+first_id (Some id) other = id
+first_id None other = id_or_none other
+
+-- a command takes a number's open version, else its version in force, else none; a disconnect takes the one in force, else none
+abbrev pub id_taken : VersionCommand → (in_force opened : Option ℕ) → ℕ
+id_taken (command.Disconnect release) in_force opened = id_or_none in_force
+id_taken command.Activate in_force opened = first_id opened in_force
+id_taken command.PutInConflict in_force opened = first_id opened in_force
+id_taken command.RemoveFromConflict in_force opened = first_id opened in_force
+id_taken command.Cancel in_force opened = first_id opened in_force
+id_taken command.OldProviderCancellationAcknowledge in_force opened = first_id opened in_force
+id_taken command.NewProviderCancellationAcknowledge in_force opened = first_id opened in_force
+
+abbrev pub in_force_id : State → (tn : ℕ) → Option ℕ
+in_force_id st tn = option_map (λ (v : Version). v.id) (version_in_force (record_now st (Number tn)))
+
+abbrev pub open_id : State → (tn : ℕ) → Option ℕ
+open_id st tn = option_map (λ (v : Version). v.id) (open_version (Number tn) (record_now st (Number tn)))
+
+-- what is wanted of a number, as a command
+abbrev pub command_for : State → (tn : ℕ) → Wish → Command
+command_for st tn (wish.Create old_provider new_provider due by) = command_by by tn old_provider.number new_provider.number due.number
+command_for st tn (wish.OnVersion command) = OnVersion (id_taken command (in_force_id st tn) (open_id st tn)) (asked_of command)
+
+-- ---- what stands in a file
+
+-- a bad row, or what a caller wants of one number, each with the row's number
+pub data Task : Type 0 where
+  Bad : (row : ℕ) → Task
+  Wants : (row caller tn : ℕ) (wish : Wish) → Task
+
+-- so many numbers from the first on
+abbrev pub rising : (first many : ℕ) → List ℕ
+rising first zero = []
+rising first (suc many) = first ∷ rising (first + 1) many
+
+abbrev pub numbers_of : Numbers → List ℕ
+numbers_of numbers = rising numbers.first.number (numbers.last.number + 1 - numbers.first.number)
+
+-- the row of this number: one command for each number, by rising number
+abbrev pub tasks_of : (row : ℕ) → Option Order → List Task
+tasks_of row None = Bad row ∷ []
+tasks_of row (Some order) = map (λ tn. Wants row order.caller.number tn order.wish) (numbers_of order.numbers)
+
+-- the rows from this number on
+abbrev pub tasks_from : (row : ℕ) → List (Option Order) → List Task
+tasks_from row [] = []
+tasks_from row (o ∷ os) = tasks_of row o ++ tasks_from (row + 1) os
+
+-- each row says its order, or none
+abbrev pub AreRead : List Row → List (Option Order) → Type 0
+AreRead [] [] = Unit {0}
+AreRead (row ∷ rows) (o ∷ os) = Reads row o × AreRead rows os
+AreRead [] (o ∷ os) = ⊥
+AreRead (row ∷ rows) [] = ⊥
+
+-- ---- the report
+
+unfoldable pub report_header : List ℕ
+report_header = codes "row,subject,result,id\n"
+
+-- row, subject, result and id
+abbrev pub report_line : (row : ℕ) → (subject result id : List ℕ) → List ℕ
+report_line row subject result id = decimal row ++ 44 ∷ (subject ++ 44 ∷ (result ++ 44 ∷ (id ++ 10 ∷ [])))
+
+abbrev pub name_of : Option Refusal → List ℕ
+name_of None = []
+name_of (Some refusal) = refusal_name refusal
+
+abbrev pub shown_line : (row tn : ℕ) → Option View → List ℕ
+shown_line row tn None = []
+shown_line row tn (Some view) = report_line row (tn_text tn) (codes "ok") (decimal view.id)
+
+-- what the machine answers to a create or a command on a version: a refusal or a version
+abbrev pub reply_line : (row tn : ℕ) → Reply → List ℕ
+reply_line row tn (Refused number) = report_line row (tn_text tn) (name_of (refusal_of number)) []
+reply_line row tn (Shown view) = shown_line row tn view
+reply_line row tn _ = []
+
+abbrev pub input_for : State → (caller tn : ℕ) → Wish → Input
+input_for st caller tn wish = Requests caller (Commands (command_for st tn wish))
+
+-- the line of a task, and the state behind it
+abbrev pub line_of : State → Task → List ℕ
+line_of st (Bad row) = report_line row [] (codes "bad_row") []
+line_of st (Wants row caller tn wish) = reply_line row tn (out st (input_for st caller tn wish))
+
+abbrev pub state_behind : State → Task → State
+state_behind st (Bad row) = st
+state_behind st (Wants row caller tn wish) = next st (input_for st caller tn wish)
+
+-- the same of tasks, one after the other
+abbrev pub lines_of : State → List Task → List (List ℕ)
+lines_of st [] = []
+lines_of st (task ∷ tasks) = line_of st task ∷ lines_of (state_behind st task) tasks
+
+abbrev pub state_after : State → List Task → State
+state_after st [] = st
+state_after st (task ∷ tasks) = state_after (state_behind st task) tasks

@@ -1,0 +1,121 @@
+//! What is asked of a register.
+ghost use Rattle.std.specs.Prelude.{◌≡◌, IfOk, IfErr, Err, map};
+ghost use Rattle.delivery.specs.Mirrors.{in_force_of};
+ghost use Rattle.meaning.specs.declared.refusal.Refusal.TheVariants.{Storage};
+ghost use Rattle.meaning.specs.Reading.{State, all_in_force};
+ghost use Rattle.register.specs.Answers.{Stands};
+ghost use Rattle.settle.specs.Owing.{Owes, SaysStorage};
+ghost use Rattle.calls.specs.Calls.{command_of};
+ghost use Rattle.bulk.specs.Faults.{IsShort};
+ghost use Rattle.bulk.specs.Report.{command_for, id_taken, in_force_id, open_id};
+
+use crate::fault::FaultKind;
+use crate::order::Wish;
+use calls::{Command, Ids};
+use delivery::RoutedRow;
+use meaning::Refusal;
+use numbers::Tn;
+use register::Register;
+use settle::Store;
+use version::{Create, VersionCommand};
+
+/// What no version has as its id.
+const NO_ID: u64 = 0;
+
+// What failed, where a call that the machine never refuses was not answered.
+fn kind_of(refusal: Refusal) -> FaultKind
+    ensures storage { result ≡ FaultKind.Storage → refusal ≡ Storage }
+    ensures short { IsShort result }
+{
+    match refusal {
+        Refusal::Storage => FaultKind::Storage,
+        _ => FaultKind::NoMemory,
+    }
+}
+
+/// Everything in force, by subject.
+pub fn rows_in_force<S: Store>(register: &mut Register<S>) -> Result<Vec<RoutedRow>, FaultKind>
+    ensures rows { IfOk result (λ rows. S.IsUsable register.new.store → (st : State)
+        → Stands (S.content register.old.store) st
+        → map in_force_of rows.items ≡ all_in_force st) }
+    ensures kept { S.IsUsable register.new.store → (st : State)
+        → Stands (S.content register.old.store) st → Stands (S.content register.new.store) st }
+    ensures short { IfErr result IsShort }
+    ensures owes { Owes S.IsUsable S.IsHonest S.failed register.old.store register.new.store
+        ⊥ (SaysStorage (S.IsUsable register.new.store) (S.content register.old.store)
+        (result ≡ Err FaultKind.Storage)) }
+{
+    match register.in_force() {
+        Ok(rows) => Ok(rows),
+        Err(refusal) => Err(kind_of(refusal)),
+    }
+}
+
+// The ids of a number's versions.
+fn ids_of<S: Store>(register: &mut Register<S>, tn: Tn) -> Result<Ids, FaultKind>
+    ensures ids { IfOk result (λ ids. S.IsUsable register.new.store → (st : State)
+        → Stands (S.content register.old.store) st
+        → (ids.in_force ≡ in_force_id st tn.number) × (ids.opened ≡ open_id st tn.number)) }
+    ensures kept { S.IsUsable register.new.store → (st : State)
+        → Stands (S.content register.old.store) st → Stands (S.content register.new.store) st }
+    ensures short { IfErr result IsShort }
+    ensures owes { Owes S.IsUsable S.IsHonest S.failed register.old.store register.new.store
+        ⊥ (SaysStorage (S.IsUsable register.new.store) (S.content register.old.store)
+        (result ≡ Err FaultKind.Storage)) }
+{
+    match register.ids(tn) {
+        Ok(ids) => Ok(ids),
+        Err(refusal) => Err(kind_of(refusal)),
+    }
+}
+
+// The id that a command takes of those of its number's versions.
+fn id_taken(command: VersionCommand, ids: &Ids) -> u64
+    ensures { result ≡ id_taken command ids.now.in_force ids.now.opened }
+{
+    let taken = match command {
+        VersionCommand::Disconnect { .. } => ids.in_force,
+        _ => ids.opened.or(ids.in_force),
+    };
+    taken.unwrap_or(NO_ID)
+}
+
+/// What is wanted of a number, as a command. One on a version takes the number's open version, else
+/// its version in force; a disconnect takes the one in force.
+pub fn command_for<S: Store>(
+    register: &mut Register<S>,
+    tn: Tn,
+    wish: &Wish,
+) -> Result<Command, FaultKind>
+    ensures command { IfOk result (λ command. S.IsUsable register.new.store → (st : State)
+        → Stands (S.content register.old.store) st
+        → command_of command ≡ command_for st tn.number wish.now) }
+    ensures kept { S.IsUsable register.new.store → (st : State)
+        → Stands (S.content register.old.store) st → Stands (S.content register.new.store) st }
+    ensures short { IfErr result IsShort }
+    ensures owes { Owes S.IsUsable S.IsHonest S.failed register.old.store register.new.store
+        ⊥ (SaysStorage (S.IsUsable register.new.store) (S.content register.old.store)
+        (result ≡ Err FaultKind.Storage)) }
+{
+    match wish {
+        Wish::Create {
+            old_provider,
+            new_provider,
+            due,
+            creator,
+        } => Ok(Command::Create(Create {
+            tn,
+            old_provider: *old_provider,
+            new_provider: *new_provider,
+            due: *due,
+            creator: *creator,
+        })),
+        Wish::OnVersion(command) => {
+            let ids = ids_of(register, tn)?;
+            Ok(Command::OnVersion {
+                id: id_taken(*command, &ids),
+                command: *command,
+            })
+        }
+    }
+}

@@ -1,0 +1,340 @@
+//! What the fields of a row say.
+ghost use Rattle.std.specs.Prelude.{◌≡◌, ◌≢◌, IsUtf8, ℕ, List, IfSome, IfNone, ◌∷◌, [], length};
+ghost use Rattle.std.specs.Prelude.{Bool, Option, find, IsTrue, ◌↔◌};
+ghost use Rattle.std.specs.Prelude.{◌++◌, ℕ};
+ghost use Rattle.csv.specs.Records.{fields_of};
+ghost use Rattle.version.specs.declared.create.Creator.{Creator as CreatorSeen};
+ghost use Rattle.version.specs.declared.command.VersionCommand.{VersionCommand as VersionCommandSeen};
+ghost use Rattle.numbers.specs.declared.cic.Cic.{Cic as CicSeen};
+ghost use Rattle.numbers.specs.declared.minute.Minute.{Minute as MinuteSeen};
+ghost use Rattle.bulk.specs.Orders.{action_name, command_action, create_action, action_of, Names, flag_text, optional_cic, optional_minute, create_fields, release_field, wish_fields, Says, Reads};
+ghost use Rattle.bulk.specs.declared.order.ActionName.TheVariants.{OldProviderCreate, NewProviderCreate};
+ghost use Rattle.bulk.specs.Fields.{is_action, actions, all_fields, last_fields, six_fields};
+ghost use Rattle.bulk.specs.declared.range.Numbers.{Numbers as NumbersSeen};
+ghost use Rattle.bulk.specs.declared.order.Wish.TheVariants.{OnVersion};
+ghost use Rattle.bulk.specs.declared.order.Wish.{Wish as WishSeen};
+ghost use Rattle.bulk.specs.declared.order.ActionName.{ActionName as ActionNameSeen};
+ghost use Rattle.numbers.specs.Digits.{IsTn, IsLrn, IsCic, IsMinute};
+ghost use Rattle.numbers.specs.Spids.{IsSpid};
+ghost use Rattle.numbers.specs.Texts.{spid_text, tn_text, lrn_text, cic_text, minute_text};
+
+use crate::order::{ActionName, Order, Wish};
+use crate::range::Numbers;
+use csv::ByteRecord;
+use numbers::{Cic, Lrn, Minute, Routing, Spid, Tn};
+use version::{Creator, VersionCommand};
+
+/// How many fields a row has.
+const FIELD_COUNT: usize = 9;
+
+/// The nine fields of a row.
+#[derive(Clone, Copy, Debug)]
+pub struct Fields<'a> {
+    pub caller: &'a [u8],
+    pub action: &'a [u8],
+    pub subject: &'a [u8],
+    pub old_provider: &'a [u8],
+    pub new_provider: &'a [u8],
+    pub due: &'a [u8],
+    pub lrn: &'a [u8],
+    pub cic: &'a [u8],
+    pub flag: &'a [u8],
+}
+
+fn has_field_count(row: &ByteRecord) -> bool
+    ensures { IsTrue result ↔ (length (fields_of row.now) ≡ 9) }
+{
+    row.len() == FIELD_COUNT
+}
+
+impl Fields<'_> {
+    // The fields of a row that has nine.
+    #[tactic(auto, using(crate::proofs::FieldLemmas::missing_field))]
+    fn of(row: &ByteRecord) -> Option<Fields<'_>>
+        ensures some { IfSome result (λ fields. fields_of row.now ≡ all_fields fields) }
+        ensures none { IfNone result (length (fields_of row.now) ≢ 9) }
+    {
+        if !has_field_count(row) {
+            return None;
+        }
+        Some(Fields {
+            caller: row.get(0)?,
+            action: row.get(1)?,
+            subject: row.get(2)?,
+            old_provider: row.get(3)?,
+            new_provider: row.get(4)?,
+            due: row.get(5)?,
+            lrn: row.get(6)?,
+            cic: row.get(7)?,
+            flag: row.get(8)?,
+        })
+    }
+}
+
+// The field as a text.
+fn text_in(field: &[u8]) -> Option<&str>
+    ensures some { IfSome result (λ text. text.now ≡ field.now) }
+    ensures none { IfNone result (¬ (IsUtf8 field.now)) }
+{
+    str::from_utf8(field).ok()
+}
+
+fn spid_in(field: &[u8]) -> Option<Spid>
+    ensures some { IfSome result (λ spid. field.now ≡ spid_text spid.number) }
+    ensures none { IfNone result ((n : ℕ) → IsSpid n → field.now ≢ spid_text n) }
+{
+    Spid::read(text_in(field)?)
+}
+
+fn tn_in(field: &[u8]) -> Option<Tn>
+    ensures some { IfSome result (λ tn. field.now ≡ tn_text tn.number) }
+    ensures none { IfNone result ((n : ℕ) → IsTn n → field.now ≢ tn_text n) }
+{
+    Tn::read(text_in(field)?)
+}
+
+fn lrn_in(field: &[u8]) -> Option<Lrn>
+    ensures some { IfSome result (λ lrn. field.now ≡ lrn_text lrn.number) }
+    ensures none { IfNone result ((n : ℕ) → IsLrn n → field.now ≢ lrn_text n) }
+{
+    Lrn::read(text_in(field)?)
+}
+
+fn cic_in(field: &[u8]) -> Option<Cic>
+    ensures some { IfSome result (λ cic. field.now ≡ cic_text cic.number) }
+    ensures none { IfNone result ((n : ℕ) → IsCic n → field.now ≢ cic_text n) }
+{
+    Cic::read(text_in(field)?)
+}
+
+fn minute_in(field: &[u8]) -> Option<Minute>
+    ensures some { IfSome result (λ minute. field.now ≡ minute_text minute.number) }
+    ensures none { IfNone result ((n : ℕ) → IsMinute n → field.now ≢ minute_text n) }
+{
+    Minute::read(text_in(field)?)
+}
+
+fn is_named(field: &[u8], action: ActionName) -> bool
+    ensures { result ≡ is_action field.now action }
+{
+    field == action.name().as_bytes()
+}
+
+fn first_named(field: &[u8]) -> Option<ActionName>
+    ensures { result ≡ find (is_action field.now) actions }
+{
+    ActionName::ALL
+        .iter()
+        .copied()
+        .find(|action| is_named(field, *action))
+}
+
+fn action_in(field: &[u8]) -> Option<ActionName>
+    ensures some { IfSome result (λ action. field.now ≡ action_name action) }
+    ensures none { IfNone result ((action : ActionNameSeen) → field.now ≢ action_name action) }
+{
+    first_named(field)
+}
+
+// The parts of a range: what stands before a hyphen behind ten characters, and what behind it.
+fn cut(field: &[u8]) -> Option<(&[u8], &[u8])>
+    ensures some { IfSome result (λ parts. (length parts.0.now ≡ 10)
+        × (field.now ≡ parts.0.now ++ 45 ∷ parts.1.now)) }
+    ensures none { IfNone result ((before behind : List ℕ) → length before ≡ 10
+        → field.now ≢ before ++ 45 ∷ behind) }
+{
+    if field.len() > 10 && field[10] == b'-' {
+        Some((&field[..10], &field[11..]))
+    } else {
+        None
+    }
+}
+
+fn range_in(field: &[u8]) -> Option<Numbers>
+    ensures some { IfSome result (λ numbers.
+        field.now ≡ tn_text numbers.first.number ++ 45 ∷ tn_text numbers.last.number) }
+    ensures none { IfNone result ((numbers : NumbersSeen)
+        → field.now ≢ tn_text numbers.first.number ++ 45 ∷ tn_text numbers.last.number) }
+{
+    let (first, last) = cut(field)?;
+    Numbers::new(tn_in(first)?, tn_in(last)?)
+}
+
+fn numbers_in(field: &[u8]) -> Option<Numbers>
+    ensures some { IfSome result (Names field.now) }
+    ensures none { IfNone result ((numbers : NumbersSeen) → ¬ (Names field.now numbers)) }
+{
+    match tn_in(field) {
+        Some(tn) => Numbers::new(tn, tn),
+        None => range_in(field),
+    }
+}
+
+fn flag_in(field: &[u8]) -> Option<bool>
+    ensures some { IfSome result (λ flag. field.now ≡ flag_text flag) }
+    ensures none { IfNone result ((flag : Bool) → field.now ≢ flag_text flag) }
+{
+    if field == "yes".as_bytes() {
+        Some(true)
+    } else if field == "no".as_bytes() {
+        Some(false)
+    } else {
+        None
+    }
+}
+
+fn optional_cic_in(field: &[u8]) -> Option<Option<Cic>>
+    ensures some { IfSome result (λ cic. field.now ≡ optional_cic cic) }
+    ensures none { IfNone result ((cic : Option CicSeen) → field.now ≢ optional_cic cic) }
+{
+    if field.is_empty() {
+        return Some(None);
+    }
+    Some(Some(cic_in(field)?))
+}
+
+fn optional_minute_in(field: &[u8]) -> Option<Option<Minute>>
+    ensures some { IfSome result (λ minute. field.now ≡ optional_minute minute) }
+    ensures none { IfNone result ((minute : Option MinuteSeen)
+        → field.now ≢ optional_minute minute) }
+{
+    if field.is_empty() {
+        return Some(None);
+    }
+    Some(Some(minute_in(field)?))
+}
+
+#[tactic(auto, using(crate::proofs::Wishes::no_command))]
+fn version_command_in(action: ActionName, due: &[u8]) -> Option<VersionCommand>
+    ensures some { IfSome result (λ command. (command_action command ≡ action)
+        × (due.now ≡ release_field command)) }
+    ensures none { IfNone result ((command : VersionCommandSeen) → command_action command ≡ action
+        → due.now ≢ release_field command) }
+{
+    if action == ActionName::Disconnect {
+        return Some(VersionCommand::Disconnect {
+            release: optional_minute_in(due)?,
+        });
+    }
+    if !due.is_empty() {
+        return None;
+    }
+    match action {
+        ActionName::Activate => Some(VersionCommand::Activate),
+        ActionName::PutInConflict => Some(VersionCommand::PutInConflict),
+        ActionName::RemoveFromConflict => Some(VersionCommand::RemoveFromConflict),
+        ActionName::Cancel => Some(VersionCommand::Cancel),
+        ActionName::OldProviderCancellationAcknowledge => {
+            Some(VersionCommand::OldProviderCancellationAcknowledge)
+        }
+        ActionName::NewProviderCancellationAcknowledge => {
+            Some(VersionCommand::NewProviderCancellationAcknowledge)
+        }
+        ActionName::OldProviderCreate | ActionName::NewProviderCreate | ActionName::Disconnect => {
+            None
+        }
+    }
+}
+
+// A create by the old provider, of which the fields lrn and cic are empty.
+fn authorization_in(fields: &Fields) -> Option<Creator>
+    ensures some { IfSome result (λ creator. (create_action creator ≡ OldProviderCreate)
+        × (last_fields fields.now ≡ create_fields creator)) }
+    ensures none { IfNone result ((creator : CreatorSeen)
+        → create_action creator ≡ OldProviderCreate
+        → last_fields fields.now ≢ create_fields creator) }
+{
+    if !fields.lrn.is_empty() || !fields.cic.is_empty() {
+        return None;
+    }
+    Some(Creator::OldProvider {
+        authorized: flag_in(fields.flag)?,
+    })
+}
+
+// A create by the new provider, of which the field flag is empty.
+fn routing_in(fields: &Fields) -> Option<Creator>
+    ensures some { IfSome result (λ creator. (create_action creator ≡ NewProviderCreate)
+        × (last_fields fields.now ≡ create_fields creator)) }
+    ensures none { IfNone result ((creator : CreatorSeen)
+        → create_action creator ≡ NewProviderCreate
+        → last_fields fields.now ≢ create_fields creator) }
+{
+    if !fields.flag.is_empty() {
+        return None;
+    }
+    let routing = Routing {
+        lrn: lrn_in(fields.lrn)?,
+        cic: optional_cic_in(fields.cic)?,
+    };
+    Some(Creator::NewProvider { routing })
+}
+
+// A create, by what its last fields said.
+fn create_in(fields: &Fields, creator: Creator) -> Option<Wish>
+    requires { last_fields fields.now ≡ create_fields creator }
+    ensures some { IfSome result (λ wish. (action_of wish ≡ create_action creator)
+        × (six_fields fields.now ≡ wish_fields wish)) }
+    ensures none { IfNone result ((wish : WishSeen) → action_of wish ≡ create_action creator
+        → six_fields fields.now ≢ wish_fields wish) }
+{
+    Some(Wish::Create {
+        old_provider: spid_in(fields.old_provider)?,
+        new_provider: spid_in(fields.new_provider)?,
+        due: minute_in(fields.due)?,
+        creator,
+    })
+}
+
+// Whether all fields behind the subject but the due minute are empty.
+fn has_due_alone(fields: &Fields) -> bool
+    ensures { IsTrue result ↔ (six_fields fields.now ≡ [] ∷ [] ∷ fields.now.due.now ∷ [] ∷ [] ∷ [] ∷ []) }
+{
+    fields.old_provider.is_empty()
+        && fields.new_provider.is_empty()
+        && fields.lrn.is_empty()
+        && fields.cic.is_empty()
+        && fields.flag.is_empty()
+}
+
+fn command_in(fields: &Fields, action: ActionName) -> Option<Wish>
+    ensures some { IfSome result (λ wish. (action_of wish ≡ action)
+        × (six_fields fields.now ≡ wish_fields wish)) }
+    ensures none { IfNone result ((command : VersionCommandSeen) → command_action command ≡ action
+        → six_fields fields.now ≢ wish_fields (OnVersion command)) }
+{
+    let command = version_command_in(action, fields.due)?;
+    if has_due_alone(fields) {
+        Some(Wish::OnVersion(command))
+    } else {
+        None
+    }
+}
+
+fn wish_in(fields: &Fields, action: ActionName) -> Option<Wish>
+    ensures some { IfSome result (λ wish. (action_of wish ≡ action)
+        × (six_fields fields.now ≡ wish_fields wish)) }
+    ensures none { IfNone result ((wish : WishSeen) → action_of wish ≡ action
+        → six_fields fields.now ≢ wish_fields wish) }
+{
+    match action {
+        ActionName::OldProviderCreate => create_in(fields, authorization_in(fields)?),
+        ActionName::NewProviderCreate => create_in(fields, routing_in(fields)?),
+        _ => command_in(fields, action),
+    }
+}
+
+/// The order that a row says, or nothing where it is a bad one: it has another number of fields,
+/// its action is none of the nine, its subject is neither a number nor a range of at most a
+/// thousand of one code, a field that has to be filled is not, or one that has to be empty is.
+pub fn read_order(row: &ByteRecord) -> Option<Order>
+    ensures { Reads (fields_of row.now) result }
+{
+    let fields = Fields::of(row)?;
+    let action = action_in(fields.action)?;
+    Some(Order {
+        caller: spid_in(fields.caller)?,
+        numbers: numbers_in(fields.subject)?,
+        wish: wish_in(&fields, action)?,
+    })
+}

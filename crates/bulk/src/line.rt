@@ -1,0 +1,124 @@
+//! Lines of files, written into room that was taken before.
+ghost use Rattle.std.specs.Prelude.{◌≡◌, ◌+◌, ◌≤◌, ◌++◌, ◌∷◌, [], string_bytes, string_len, string_capacity, IfErr, OnOk, OnErr, Some, length, codes, decimal};
+ghost use Rattle.bulk.specs.Making.{told_line};
+ghost use Rattle.bulk.specs.Report.{report_line};
+ghost use Rattle.std.specs.Io.KnownBytes.{Appends};
+ghost use Rattle.delivery.specs.Mirrors.{in_force_of};
+ghost use Rattle.messages.specs.Sending.{AppendsFront};
+ghost use Rattle.numbers.specs.Views.{routing_of};
+ghost use Rattle.bulk.specs.Exports.{in_force_line, routing_fields};
+
+use crate::fault::FaultKind;
+use crate::told::Told;
+use bodies::{Failure, put, put_cic, put_lrn, put_number, put_subject};
+use delivery::RoutedRow;
+use messages::send_all;
+use numbers::{Routing, Subject, Tn};
+use std::alloc::{AllocError, Global};
+use std::io::Write;
+
+/// The most that a line takes.
+pub const LINE_ROOM: usize = 128;
+
+/// A line under way.
+#[derive(Drop)]
+pub struct Line {
+    pub text: String,
+    pub ghost room: { 128 ≤ string_capacity text },
+}
+
+fn put_routing(out: &mut String, routing: &Routing)
+    requires { string_len out.old + 15 ≤ string_capacity out.old }
+    ensures bytes { string_bytes out.new
+        ≡ string_bytes out.old ++ routing_fields (Some (routing_of routing.now)) }
+    ensures len { string_len out.new ≤ string_len out.old + 15 }
+    ensures capacity { string_capacity out.old ≤ string_capacity out.new }
+{
+    put_lrn(out, routing.lrn);
+    put(out, ",");
+    if let Some(cic) = routing.cic {
+        put_cic(out, cic);
+    }
+}
+
+impl Line {
+    /// Takes the room for each line that there may be, or answers want of memory.
+    pub fn new(alloc: Global) -> Result<Line, AllocError> {
+        Ok(Line {
+            text: String::with_capacity(alloc, LINE_ROOM)?,
+        })
+    }
+
+    /// Writes a first line.
+    pub fn set_first(&mut self, header: &str)
+        requires { length header.now ≤ 127 }
+        ensures { string_bytes self.new.text ≡ header.now ++ 10 ∷ [] }
+    {
+        self.text.clear();
+        put(&mut self.text, header);
+        put(&mut self.text, "\n");
+    }
+
+    /// Writes the row of a subject in force.
+    pub fn set_in_force(&mut self, row: &RoutedRow)
+        ensures { string_bytes self.new.text ≡ in_force_line (in_force_of row.now) }
+    {
+        self.text.clear();
+        put_subject(&mut self.text, row.subject);
+        put(&mut self.text, ",");
+        put_routing(&mut self.text, &row.routing);
+        put(&mut self.text, "\n");
+    }
+
+    // Writes a row's number, a comma and its subject.
+    fn set_row(&mut self, row: u64)
+        ensures bytes { string_bytes self.new.text ≡ decimal row ++ 44 ∷ [] }
+        ensures len { string_len self.new.text ≤ 21 }
+    {
+        self.text.clear();
+        put_number(&mut self.text, row);
+        put(&mut self.text, ",");
+    }
+
+    /// Writes the report's line of a bad row.
+    pub fn set_bad(&mut self, row: u64)
+        ensures { string_bytes self.new.text ≡ report_line row [] (codes "bad_row") [] }
+    {
+        self.set_row(row);
+        put(&mut self.text, ",bad_row,\n");
+    }
+
+    /// Writes the report's line of what was told of a number.
+    pub fn set_told(&mut self, row: u64, tn: Tn, told: Told)
+        ensures { string_bytes self.new.text ≡ told_line row tn.number told }
+    {
+        self.set_row(row);
+        put_subject(&mut self.text, Subject::Number(tn));
+        match told {
+            Told::Version(id) => {
+                put(&mut self.text, ",ok,");
+                put_number(&mut self.text, id);
+            }
+            Told::Refused(refusal) => {
+                put(&mut self.text, ",");
+                put(&mut self.text, Failure::Refused(refusal).name());
+                put(&mut self.text, ",");
+            }
+        }
+        put(&mut self.text, "\n");
+    }
+
+    /// Sends it to a writer, and flushes.
+    pub fn send<W: Write>(&self, writer: &mut W) -> Result<(), FaultKind>
+        ensures ok { OnOk result
+            (Appends (W.contents writer.old) (W.contents writer.new) (string_bytes self.now.text)) }
+        ensures err { OnErr result (AppendsFront (W.contents writer.old) (W.contents writer.new)
+            (string_bytes self.now.text)) }
+        ensures kind { IfErr result (λ kind. kind ≡ FaultKind.Write) }
+    {
+        match send_all(writer, self.text.as_bytes(), true) {
+            Ok(()) => Ok(()),
+            Err(_) => Err(FaultKind::Write),
+        }
+    }
+}

@@ -1,0 +1,123 @@
+//! Running the rows of a bulk file.
+ghost use Rattle.std.specs.Prelude.{◌≡◌, ◌+◌, ◌<◌, ◌≤◌, ◌^◌, ⊤, [], ◌∷◌, Some, Option, IfOk, IfErr, OnErr, string_bytes};
+ghost use Rattle.std.specs.Io.KnownBytes.{Appends};
+ghost use Rattle.csv.specs.Records.{fields_of};
+ghost use Rattle.meaning.specs.Reading.{State};
+ghost use Rattle.messages.specs.Sending.{AppendsFront};
+ghost use Rattle.register.specs.Answers.{Stands};
+ghost use Rattle.settle.specs.Owing.{Owes, SaysStorage};
+ghost use Rattle.bulk.specs.Faults.{FailsWith};
+ghost use Rattle.bulk.specs.Orders.{Reads};
+ghost use Rattle.bulk.specs.Report.{Wants, tasks_of};
+ghost use Rattle.bulk.specs.Running.{RunsTo, SendsOne};
+ghost use Rattle.bulk.specs.declared.order.Order.{Order as OrderSeen};
+
+use crate::fault::{BulkFault, FaultKind};
+use crate::fields::read_order;
+use crate::line::Line;
+use crate::making::make;
+use crate::order::Order;
+use csv::ByteRecord;
+use numbers::Tn;
+use register::Register;
+use settle::Store;
+use std::io::Write;
+
+// Sends a line behind so many, and says how many there are then.
+fn send_line<W: Write>(line: &Line, writer: &mut W, count: u64) -> Result<u64, BulkFault>
+    requires { count + 1 < 2 ^ 64 }
+    ensures { SendsOne (W.contents writer.old) (W.contents writer.new)
+        (string_bytes line.now.text) count result }
+{
+    match line.send(writer) {
+        Ok(()) => Ok(count + 1),
+        Err(kind) => Err(BulkFault { kind, rows: count }),
+    }
+}
+
+// Makes what an order wants of one of its numbers, and sends the line of it.
+fn run_number<S: Store, W: Write>(
+    register: &mut Register<S>,
+    line: &mut Line,
+    writer: &mut W,
+    row: u64,
+    order: &Order,
+    tn: Tn,
+    count: u64,
+) -> Result<u64, BulkFault>
+    requires { count + 1 < 2 ^ 64 }
+    ensures runs { S.IsUsable register.new.store → (st : State)
+        → Stands (S.content register.old.store) st
+        → RunsTo st (Wants row order.now.caller.number tn.number order.now.wish ∷ [])
+        (S.content register.new.store) (W.contents writer.old) (W.contents writer.new)
+        count result }
+    ensures count { IfOk result (λ k. k ≡ count + 1) }
+    ensures owes { Owes S.IsUsable S.IsHonest S.failed register.old.store register.new.store
+        ⊥ (SaysStorage (S.IsUsable register.new.store) (S.content register.old.store)
+        (FailsWith FaultKind.Storage result)) }
+{
+    match make(register, line, row, order.caller, tn, &order.wish) {
+        Ok(()) => send_line(line, writer, count),
+        Err(kind) => Err(BulkFault { kind, rows: count }),
+    }
+}
+
+// Makes what an order wants of each of its numbers, by rising number.
+fn run_order<S: Store, W: Write>(
+    register: &mut Register<S>,
+    line: &mut Line,
+    writer: &mut W,
+    row: u64,
+    order: &Order,
+    count: u64,
+) -> Result<u64, BulkFault>
+    requires { count + 1001 < 2 ^ 64 }
+    ensures runs { S.IsUsable register.new.store → (st : State)
+        → Stands (S.content register.old.store) st
+        → RunsTo st (tasks_of row (Some order.now)) (S.content register.new.store)
+        (W.contents writer.old) (W.contents writer.new) count result }
+    ensures few { IfOk result (λ k. k ≤ count + 1000) }
+    ensures owes { Owes S.IsUsable S.IsHonest S.failed register.old.store register.new.store
+        ⊥ (SaysStorage (S.IsUsable register.new.store) (S.content register.old.store)
+        (FailsWith FaultKind.Storage result)) }
+{
+    let mut written = count;
+    let numbers = order.numbers;
+    for number in numbers.first.number..numbers.last.number + 1 {
+        let tn = numbers.at(number);
+        match run_number(register, line, writer, row, order, tn, written) {
+            Ok(count) => written = count,
+            Err(fault) => return Err(fault),
+        }
+    }
+    Ok(written)
+}
+
+// Runs a row, which is an order's or a bad one.
+fn run_row<S: Store, W: Write>(
+    register: &mut Register<S>,
+    line: &mut Line,
+    writer: &mut W,
+    row: u64,
+    raw: &ByteRecord,
+    count: u64,
+) -> Result<u64, BulkFault>
+    requires { count + 1001 < 2 ^ 64 }
+    ensures runs { (o : Option OrderSeen) × Reads (fields_of raw.now) o
+        × (S.IsUsable register.new.store → (st : State)
+        → Stands (S.content register.old.store) st
+        → RunsTo st (tasks_of row o) (S.content register.new.store)
+        (W.contents writer.old) (W.contents writer.new) count result) }
+    ensures few { IfOk result (λ k. k ≤ count + 1000) }
+    ensures owes { Owes S.IsUsable S.IsHonest S.failed register.old.store register.new.store
+        ⊥ (SaysStorage (S.IsUsable register.new.store) (S.content register.old.store)
+        (FailsWith FaultKind.Storage result)) }
+{
+    match read_order(raw) {
+        Some(order) => run_order(register, line, writer, row, &order, count),
+        None => {
+            line.set_bad(row);
+            send_line(line, writer, count)
+        }
+    }
+}
