@@ -63,7 +63,7 @@ alone false = refl
 le_numbers : (m n : ℕ) → is_le (int_cmp (pos m) (pos n)) ≡ is_le (nat_cmp m n)
 le_numbers m n = grind (arith, ints, nat_tests)
 
-below_numbers : (m n : ℕ) → is_true (binary (Compare Le Binary) (Int (pos m)) (Int (pos n))) ≡ is_le (nat_cmp m n)
+pub below_numbers : (m n : ℕ) → is_true (binary (Compare Le Binary) (Int (pos m)) (Int (pos n))) ≡ is_le (nat_cmp m n)
 unfolding binary
 below_numbers m n = true_of _ ∙ ap is_le (value_cmp-Int (pos m) (pos n)) ∙ le_numbers m n
 
@@ -76,10 +76,10 @@ null_not_due : (n : ℕ) (r : Row) → column r 18 ≡ Null → is_due n r ≡ f
 unfolding binary
 null_not_due n r is = ap (λ v. list_all (λ (b : Bool). b) (is_true (binary (Compare Le Binary) v (Int (pos n))) ∷ [])) is
 
-le_said : (m n : ℕ) → is_le (nat_cmp m n) ≡ true → m ≤ n
+pub le_said : (m n : ℕ) → is_le (nat_cmp m n) ≡ true → m ≤ n
 le_said m n h = grind (arith, nat_tests)
 
-le_told : (m n : ℕ) → m ≤ n → is_le (nat_cmp m n) ≡ true
+pub le_told : (m n : ℕ) → m ≤ n → is_le (nat_cmp m n) ≡ true
 le_told m n h = grind (arith, nat_tests)
 
 not_less : (m n : ℕ) → is_lt (value_cmp (Int (pos n)) (Int (pos m))) ≡ false → m ≤ n
@@ -112,7 +112,7 @@ has_output (x ∷ xs) r (inl same) = inl (ap out same)
 has_output (x ∷ xs) r (inr at) = inr (has_output xs r at)
 
 -- what stands in one list stands in its permutation
-has_permuted : {X : Type 0} (xs ys : List X) (x : X) → IsPermutation xs ys → Has xs x → Has ys x
+pub has_permuted : {X : Type 0} (xs ys : List X) (x : X) → IsPermutation xs ys → Has xs x → Has ys x
 has_permuted xs ys x p at = all_has (λ y. Has ys y) xs x (all-permutation (λ y. Has ys y) ys xs (IsPermutation-sym xs ys p) (all_from (λ y. Has ys y) ys (λ y h. h))) at
 
 -- the first of a sorted list is not above any

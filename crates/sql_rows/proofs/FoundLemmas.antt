@@ -93,7 +93,7 @@ module _ (db : Trees) where
 
   module _ (shaped : AreShaped db) where
     -- rows of one id are one row
-    versions_once : (r s : Row) (k : ℕ) (a b : VersionRow) → Has (db 5) r → Has (db 5) s → version_entry r ≡ Some (k, a) → version_entry s ≡ Some (k, b) → s ≡ r
+    pub versions_once : (r s : Row) (k : ℕ) (a b : VersionRow) → Has (db 5) r → Has (db 5) s → version_entry r ≡ Some (k, a) → version_entry s ≡ Some (k, b) → s ≡ r
     versions_once r s k a b at there is also =
         let one = number_read (column r 0) k (version_key r (k, a) is) in
         let two = number_read (column s 0) k (version_key s (k, b) also) in

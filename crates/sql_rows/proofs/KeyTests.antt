@@ -33,7 +33,7 @@ use Rattle.std.proofs.lemmas.Map.Lookups.{exact_bytes}
 abbrev pub equals : Value → Value → Bool
 equals v w = is_true (binary (Compare Eq Binary) v w)
 
-true_of : (b : Bool) → is_true (from_truth (Some b)) ≡ b
+pub true_of : (b : Bool) → is_true (from_truth (Some b)) ≡ b
 true_of true = refl
 true_of false = refl
 
@@ -78,11 +78,11 @@ equal_spids m s valid = texts _ _ ∙ go (is_eq (nat_cmp m s.number)) refl (is_e
 abbrev pub both : List Bool → Bool
 both = list_all (λ (b : Bool). b)
 
-one_of : (b : Bool) → both (b ∷ []) ≡ b
+pub one_of : (b : Bool) → both (b ∷ []) ≡ b
 one_of true = refl
 one_of false = refl
 
-two_of : (b c : Bool) → both (b ∷ c ∷ []) ≡ (b && c)
+pub two_of : (b c : Bool) → both (b ∷ c ∷ []) ≡ (b && c)
 two_of true c = one_of c
 two_of false c = refl
 

@@ -15,3 +15,9 @@ pub mod TableLemmas
 pub mod FoundLemmas
 pub mod DueLemmas
 pub mod PutLemmas
+pub mod OnceLemmas
+pub mod KeyOnce
+pub mod Listed
+pub mod SortedLists
+pub mod Picked
+pub mod QueriesListed

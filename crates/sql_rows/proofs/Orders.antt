@@ -9,7 +9,7 @@ use Rattle.std.proofs.lemmas.Bool.Decides.{nat_tests}
 use Rattle.std.specs.FinMap.{IsAntisymmetric, nat_cmp-IsAntisymmetric}
 use Rattle.meaning.specs.Content.{BroadcastKey, WaitKey, broadcast_cmp, wait_cmp}
 
-both_Equal : (a b : Ordering) → ordering_then a b ≡ Equal → (a ≡ Equal) × (b ≡ Equal)
+pub both_Equal : (a b : Ordering) → ordering_then a b ≡ Equal → (a ≡ Equal) × (b ≡ Equal)
 both_Equal Equal b e = (refl, e)
 both_Equal Less b e = let no : Less ≡ Equal = e in cc
 both_Equal Greater b e = let no : Greater ≡ Equal = e in cc
@@ -53,7 +53,7 @@ wait_tie a b =
 pub same_number : (m n : ℕ) → eq_by_cmp nat_cmp m n ≡ true → m ≡ n
 same_number m n h = grind (arith, nat_tests)
 
-tie : (o : Ordering) → is_eq o ≡ true → o ≡ Equal
+pub tie : (o : Ordering) → is_eq o ≡ true → o ≡ Equal
 tie Less h = absurd (let no : false ≡ true = h in cc)
 tie Equal h = refl
 tie Greater h = absurd (let no : false ≡ true = h in cc)

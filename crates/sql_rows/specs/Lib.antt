@@ -6,3 +6,4 @@ pub mod Found
 pub mod Statements
 pub mod Shaped
 pub mod Written
+pub mod Once

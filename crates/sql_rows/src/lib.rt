@@ -17,6 +17,6 @@ pub use params::{
     block_params, broadcast_key, broadcast_params, clock_params, fits_block, wait_key, wait_params,
 };
 pub use statement::{Query, Table};
-pub use stored::{Stored, sole};
+pub use stored::{Stored, all, sole};
 pub use values::{minute, number, spid_bytes, subject, text, truth};
 pub use version_row::{fits, version_params};

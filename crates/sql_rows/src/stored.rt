@@ -1,7 +1,7 @@
 //! Values that rows are read as.
 ghost use Rattle.std.specs.Prelude.{◌≡◌, Option, option_map, IfOk, map};
 ghost use Rattle.sqlite.specs.Order.{Row as RowSeen};
-ghost use Rattle.sql_rows.specs.Found.{IsSole, AreRead};
+ghost use Rattle.sql_rows.specs.Found.{AreRead, IsSole};
 
 use crate::fault::Fault;
 use sqlite::Row;
@@ -35,4 +35,18 @@ pub fn sole<T: Stored>(rows: &[Row]) -> Result<Option<T>, Fault>
         },
         _ => Err(Fault::Device),
     }
+}
+
+/// Each row read, in turn: one that does not read is a fault of the device.
+pub fn all<T: Stored + Drop>(alloc: Global, rows: &[Row]) -> Result<Vec<T>, Fault>
+    ensures { IfOk result (λ items. AreRead T.seen_in rows.now (map T.seen items.items)) }
+{
+    let mut items = Vec::with_capacity(alloc, rows.len())?;
+    for row in rows {
+        let Some(item) = T::read(row) else {
+            return Err(Fault::Device);
+        };
+        items.push(item)?;
+    }
+    Ok(items)
 }

@@ -3,3 +3,4 @@ pub mod LookupLemmas
 pub mod MadeLemmas
 pub mod Changed
 pub mod OpeningLemmas
+pub mod ListLemmas

@@ -2,3 +2,4 @@ pub mod Store
 pub mod Changes
 pub mod Refusal
 pub mod Wanted
+pub mod Lists

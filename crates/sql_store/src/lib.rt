@@ -3,8 +3,11 @@
 
 mod change;
 mod commit;
+mod lists;
 mod lookups;
+mod once;
 mod opening;
+mod order;
 mod rows;
 mod schema;
 mod select;

@@ -1,5 +1,5 @@
 //! Queries.
-ghost use Rattle.std.specs.Prelude.{◌≡◌, false, [], IsTrue, IfOk, is_ok, option_map};
+ghost use Rattle.std.specs.Prelude.{◌≡◌, false, [], IsTrue, IfOk, is_ok, map, option_map};
 ghost use Rattle.sqlite.specs.Held.{state};
 ghost use Rattle.sqlite.specs.Order.{Row as RowSeen};
 ghost use Rattle.sqlite.specs.Values.{bound};
@@ -7,9 +7,11 @@ ghost use Rattle.sqlite.specs.Query.{IsAnswer};
 ghost use Rattle.sqlite.specs.Program.{overlay};
 ghost use Rattle.sql_rows.specs.Statements.{query_of};
 ghost use Rattle.sql_store.specs.Store.{IsOurs, Looked};
-ghost use Rattle.sql_rows.specs.Found.{IsSoleAnswer};
+ghost use Rattle.sql_rows.specs.Found.{IsListAnswer, IsSoleAnswer};
+ghost use Rattle.sql_rows.specs.Once.{AreKeysOnce};
 
-use sql_rows::{Fault, Query, Stored, sole};
+use crate::once::keys_once;
+use sql_rows::{Fault, Query, Stored, all, sole};
 use sqlite::types::ValueRef;
 use sqlite::{Alter, Connection, Row};
 
@@ -50,4 +52,27 @@ pub(crate) fn find<T: Stored, S: Alter>(
     let rows = select(conn, query, params)?;
     let found = sole(rows.as_slice())?;
     Ok(found)
+}
+
+/// The rows that answer a query, each read: one that does not read is a fault of the device.
+pub(crate) fn find_all<T: Stored + Drop, S: Alter>(
+    conn: &mut Connection<S>,
+    query: Query,
+    params: &[ValueRef<'_>],
+) -> Result<Vec<T>, Fault>
+    requires ours { IsTrue (state S.Store conn.old).is_open → IsOurs (state S.Store conn.old) }
+    requires idle { conn.old.in_transaction ≡ false }
+    ensures value { IsTrue (state S.Store conn.new).is_open
+        → IfOk result (λ items.
+        IsListAnswer query T.seen_in (state S.Store conn.old).now.trees (bound params.now)
+        (map T.seen items.items)) }
+    ensures once { IsTrue (state S.Store conn.new).is_open
+        → AreKeysOnce (state S.Store conn.old).now.trees }
+    ensures looked { Looked (state S.Store conn.old) (state S.Store conn.new) (is_ok result) }
+    ensures idle { conn.new.in_transaction ≡ false }
+{
+    keys_once(conn);
+    let rows = select(conn, query, params)?;
+    let items = all(*rows.allocator(), rows.as_slice())?;
+    Ok(items)
 }

@@ -1,9 +1,10 @@
 //! The store over a database of SQL.
-ghost use Rattle.std.specs.Prelude.{◌≡◌, false, IsTrue};
+ghost use Rattle.std.specs.Prelude.{◌≡◌, ◌≤◌, false, Err, IfOk, IsTrue, Ok, OnErr, OnOk, is_ok};
 ghost use Rattle.sqlite.specs.Held.{state};
+ghost use Rattle.settle.specs.Reads.{HasRisen};
 ghost use Rattle.sql_store.specs.Store.{IsOurs, ours_if_open};
 
-use crate::{commit, lookups};
+use crate::{commit, lists, lookups};
 use delivery::{Broadcast, Download, DownloadKey, RoutedRow};
 use numbers::{BlockId, CodeId, Lrn, Minute, Spid, Subject};
 use settle::{
@@ -25,6 +26,26 @@ pub struct SqlStore<S: Alter> {
     ghost idle: { conn.in_transaction ≡ false },
 }
 
+// The answer as the store gives it. Each failure of the device is counted.
+fn counted<A>(failures: &mut u64, answer: Result<A, Fault>) -> Result<A, StoreFault>
+    ensures ok { IfOk result (λ a. answer ≡ Ok a) }
+    ensures err { OnErr result (is_ok answer ≡ false) }
+    ensures device { answer ≡ Err Fault.Device → result ≡ Err StoreFault.Storage }
+    ensures memory { answer ≡ Err Fault.Memory → result ≡ Err StoreFault.NoMemory }
+    ensures kept { OnOk result (failures.new ≡ failures.old) }
+    ensures rises { failures.old ≤ failures.new }
+    ensures storage { result ≡ Err StoreFault.Storage → HasRisen failures.old failures.new }
+{
+    match answer {
+        Ok(found) => Ok(found),
+        Err(Fault::Memory) => Err(StoreFault::NoMemory),
+        Err(Fault::Device) => {
+            *failures = failures.saturating_add(1);
+            Err(StoreFault::Storage)
+        }
+    }
+}
+
 impl<S: Alter> Store for SqlStore<S> {
     ghost use Rattle.sqlite.specs.State.{HasCleanDisk};
     ghost use Rattle.sql_store.specs.Store.{left_by, left_one, clean_if_open};
@@ -43,127 +64,64 @@ impl<S: Alter> Store for SqlStore<S> {
     ghost failed = { λ s. s.failures };
 
     fn clock(&mut self) -> Result<Option<ClockRow>, StoreFault> {
-        match lookups::clock(&mut self.conn) {
-            Ok(found) => Ok(found),
-            Err(Fault::Memory) => Err(StoreFault::NoMemory),
-            Err(Fault::Device) => {
-                self.failures = self.failures.saturating_add(1);
-                Err(StoreFault::Storage)
-            }
-        }
+        counted(&mut self.failures, lookups::clock(&mut self.conn))
     }
 
     fn carrier(&mut self, spid: Spid) -> Result<bool, StoreFault> {
-        match lookups::carrier(&mut self.conn, spid) {
-            Ok(found) => Ok(found),
-            Err(Fault::Memory) => Err(StoreFault::NoMemory),
-            Err(Fault::Device) => {
-                self.failures = self.failures.saturating_add(1);
-                Err(StoreFault::Storage)
-            }
-        }
+        counted(&mut self.failures, lookups::carrier(&mut self.conn, spid))
     }
 
     fn lrn(&mut self, lrn: Lrn) -> Result<Option<Spid>, StoreFault> {
-        match lookups::lrn(&mut self.conn, lrn) {
-            Ok(found) => Ok(found),
-            Err(Fault::Memory) => Err(StoreFault::NoMemory),
-            Err(Fault::Device) => {
-                self.failures = self.failures.saturating_add(1);
-                Err(StoreFault::Storage)
-            }
-        }
+        counted(&mut self.failures, lookups::lrn(&mut self.conn, lrn))
     }
 
     fn code(&mut self, code: CodeId) -> Result<Option<Spid>, StoreFault> {
-        match lookups::code(&mut self.conn, code) {
-            Ok(found) => Ok(found),
-            Err(Fault::Memory) => Err(StoreFault::NoMemory),
-            Err(Fault::Device) => {
-                self.failures = self.failures.saturating_add(1);
-                Err(StoreFault::Storage)
-            }
-        }
+        counted(&mut self.failures, lookups::code(&mut self.conn, code))
     }
 
     fn block(&mut self, block: BlockId) -> Result<Option<BlockRow>, StoreFault> {
-        match lookups::block(&mut self.conn, block) {
-            Ok(found) => Ok(found),
-            Err(Fault::Memory) => Err(StoreFault::NoMemory),
-            Err(Fault::Device) => {
-                self.failures = self.failures.saturating_add(1);
-                Err(StoreFault::Storage)
-            }
-        }
+        counted(&mut self.failures, lookups::block(&mut self.conn, block))
     }
 
     fn version(&mut self, id: u64) -> Result<Option<VersionRow>, StoreFault> {
-        match lookups::version(&mut self.conn, id) {
-            Ok(found) => Ok(found),
-            Err(Fault::Memory) => Err(StoreFault::NoMemory),
-            Err(Fault::Device) => {
-                self.failures = self.failures.saturating_add(1);
-                Err(StoreFault::Storage)
-            }
-        }
+        counted(&mut self.failures, lookups::version(&mut self.conn, id))
     }
 
     fn version_in_force(&mut self, subject: Subject) -> Result<Option<NumberedRow>, StoreFault> {
-        match lookups::version_in_force(&mut self.conn, subject) {
-            Ok(found) => Ok(found),
-            Err(Fault::Memory) => Err(StoreFault::NoMemory),
-            Err(Fault::Device) => {
-                self.failures = self.failures.saturating_add(1);
-                Err(StoreFault::Storage)
-            }
-        }
+        counted(
+            &mut self.failures,
+            lookups::version_in_force(&mut self.conn, subject),
+        )
     }
 
     fn open_version(&mut self, subject: Subject) -> Result<Option<NumberedRow>, StoreFault> {
-        match lookups::open_version(&mut self.conn, subject) {
-            Ok(found) => Ok(found),
-            Err(Fault::Memory) => Err(StoreFault::NoMemory),
-            Err(Fault::Device) => {
-                self.failures = self.failures.saturating_add(1);
-                Err(StoreFault::Storage)
-            }
-        }
+        counted(
+            &mut self.failures,
+            lookups::open_version(&mut self.conn, subject),
+        )
     }
 
     fn least_due(&mut self, now: Minute) -> Result<Option<NumberedRow>, StoreFault> {
-        match lookups::least_due(&mut self.conn, now) {
-            Ok(found) => Ok(found),
-            Err(Fault::Memory) => Err(StoreFault::NoMemory),
-            Err(Fault::Device) => {
-                self.failures = self.failures.saturating_add(1);
-                Err(StoreFault::Storage)
-            }
-        }
+        counted(&mut self.failures, lookups::least_due(&mut self.conn, now))
     }
 
     fn broadcast(&mut self, key: BroadcastKey) -> Result<Option<Broadcast>, StoreFault> {
-        match lookups::broadcast(&mut self.conn, key) {
-            Ok(found) => Ok(found),
-            Err(Fault::Memory) => Err(StoreFault::NoMemory),
-            Err(Fault::Device) => {
-                self.failures = self.failures.saturating_add(1);
-                Err(StoreFault::Storage)
-            }
-        }
+        counted(&mut self.failures, lookups::broadcast(&mut self.conn, key))
     }
 
     fn waits_about(
         &mut self,
-        _spid: Spid,
-        _subject: Subject,
+        spid: Spid,
+        subject: Subject,
     ) -> Result<Vec<DownloadKey>, StoreFault> {
-        self.failures = self.failures.saturating_add(1);
-        Err(StoreFault::Storage)
+        counted(
+            &mut self.failures,
+            lists::waits_about(&mut self.conn, spid, subject),
+        )
     }
 
-    fn waits(&mut self, _spid: Spid) -> Result<Vec<Subject>, StoreFault> {
-        self.failures = self.failures.saturating_add(1);
-        Err(StoreFault::Storage)
+    fn waits(&mut self, spid: Spid) -> Result<Vec<Subject>, StoreFault> {
+        counted(&mut self.failures, lists::waits(&mut self.conn, spid))
     }
 
     fn front(&mut self, _spid: Spid, _many: usize) -> Result<Vec<Download>, StoreFault> {
@@ -182,8 +140,7 @@ impl<S: Alter> Store for SqlStore<S> {
     }
 
     fn carriers(&mut self) -> Result<Vec<Spid>, StoreFault> {
-        self.failures = self.failures.saturating_add(1);
-        Err(StoreFault::Storage)
+        counted(&mut self.failures, lists::carriers(&mut self.conn))
     }
 
     fn open_broadcasts(&mut self) -> Result<Vec<(BroadcastKey, Broadcast)>, StoreFault> {
@@ -202,14 +159,7 @@ impl<S: Alter> Store for SqlStore<S> {
     }
 
     fn commit(&mut self, changes: &Changes) -> Result<(), StoreFault> {
-        match commit::commit(&mut self.conn, changes) {
-            Ok(()) => Ok(()),
-            Err(Fault::Memory) => Err(StoreFault::NoMemory),
-            Err(Fault::Device) => {
-                self.failures = self.failures.saturating_add(1);
-                Err(StoreFault::Storage)
-            }
-        }
+        counted(&mut self.failures, commit::commit(&mut self.conn, changes))
     }
 
     fn failures(&self) -> u64 {
