@@ -5,13 +5,15 @@ use Rattle.std.specs.Io.KnownBytes.{Appends}
 use Rattle.std.proofs.KnownBytes.{Appends-nil, Appends-trans}
 use Rattle.std.proofs.lemmas.List.Folds.{concat-append}
 use Rattle.meaning.specs.Content.{Content}
+use Rattle.meaning.specs.Machine.{next, state_after as machine_after}
 use Rattle.meaning.specs.Reading.{State}
+use Rattle.meaning.specs.Refusals.{Input}
 use Rattle.register.specs.Answers.{Stands}
 use Rattle.messages.specs.Sending.{AppendsFront}
 use Rattle.bulk.specs.Files.{AreSent}
-use Rattle.bulk.specs.Report.{Task, line_of, lines_of, state_behind, state_after}
-use Rattle.bulk.specs.Faults.{IsShort}
-use Rattle.bulk.specs.Running.{DoesAll, DoesFirst, BreaksAt, FailsIn, RunsTo, SendsOne}
+use Rattle.bulk.specs.Report.{Task, Bad, Wants, input_for, line_of, lines_of, state_behind, state_after}
+use Rattle.bulk.specs.Faults.{IsShort, IsUnread}
+use Rattle.bulk.specs.Running.{Follows, DoesAll, DoesFirst, BreaksAt, FailsIn, RunsTo, SendsOne}
 use Rattle.bulk.specs.declared.fault.BulkFault.{BulkFault}
 use Rattle.bulk.specs.declared.fault.FaultKind.{FaultKind}
 use Rattle.bulk.specs.declared.fault.FaultKind.TheVariants.{BadHeader, BadFile, UnknownCarrier, Storage, NoMemory, Read, Write}
@@ -139,3 +141,54 @@ short_stop kind st tasks new had from (inl e) s =
     let P : FaultKind → Type 0 = λ w. FailsIn w st tasks new had had from from in subst P (sym e) (none_done st tasks new had from s)
 short_stop kind st tasks new had from (inr e) s =
     let P : FaultKind → Type 0 = λ w. FailsIn w st tasks new had had from from in subst P (sym e) (none_done st tasks new had from s)
+
+-- all the tasks were done, and then no more could be read
+stopped : (st : State) (tasks : List Task) (new : Content) (had has : Option (List ℕ)) (from k : ℕ) → DoesAll st tasks new had has from k → DoesFirst st tasks new had has from k
+stopped st tasks new had has from k h = record { first = tasks; others = []; all = sym (append-nil tasks); done = h }
+
+pub stops_here : (kind : FaultKind) (st : State) (tasks : List Task) (new : Content) (had has : Option (List ℕ)) (from k : ℕ) → IsUnread kind → DoesAll st tasks new had has from k → FailsIn kind st tasks new had has from k
+stops_here kind st tasks new had has from k (inl e) h =
+    let P : FaultKind → Type 0 = λ w. FailsIn w st tasks new had has from k in subst P (sym e) (stopped st tasks new had has from k h)
+stops_here kind st tasks new had has from k (inr e) h =
+    let P : FaultKind → Type 0 = λ w. FailsIn w st tasks new had has from k in subst P (sym e) (stopped st tasks new had has from k h)
+
+-- a run leads on by some of the machine's inputs
+input_behind : (st : State) (task : Task) → (inputs : List Input) × (state_behind st task ≡ machine_after st inputs)
+input_behind st (Bad row) = ([], refl)
+input_behind st (Wants row caller tn w) = (input_for st caller tn w ∷ [], refl)
+
+machine-append : (st : State) (xs ys : List Input) → machine_after st (xs ++ ys) ≡ machine_after (machine_after st xs) ys
+machine-append st [] ys = refl
+machine-append st (x ∷ xs) ys = machine-append (next st x) xs ys
+
+inputs_of : (st : State) (tasks : List Task) → (inputs : List Input) × (state_after st tasks ≡ machine_after st inputs)
+inputs_of st [] = ([], refl)
+inputs_of st (task ∷ tasks) =
+    let (one, e) = input_behind st task in
+    let (more, f) = inputs_of (state_behind st task) tasks in
+    (one ++ more, f ∙ ap (λ (s : State). machine_after s more) e ∙ sym (machine-append st one more))
+
+follows_tasks : (st : State) (tasks : List Task) (new : Content) → Stands new (state_after st tasks) → Follows st new
+follows_tasks st tasks new s = let (inputs, e) = inputs_of st tasks in (inputs, subst (Stands new) e s)
+
+fails_follows : (kind : FaultKind) (st : State) (tasks : List Task) (new : Content) (had has : Option (List ℕ)) (from k : ℕ) → FailsIn kind st tasks new had has from k → Follows st new
+fails_follows Write st tasks new had has from k h =
+    follows_tasks st (h.first ++ h.task ∷ []) new (subst (Stands new) (sym (state_after-append st h.first (h.task ∷ []))) h.stands)
+fails_follows Storage st tasks new had has from k h = follows_tasks st h.first new h.done.stands
+fails_follows NoMemory st tasks new had has from k h = follows_tasks st h.first new h.done.stands
+fails_follows Read st tasks new had has from k h = follows_tasks st h.first new h.done.stands
+fails_follows BadHeader st tasks new had has from k h = absurd h
+fails_follows BadFile st tasks new had has from k h = absurd h
+fails_follows UnknownCarrier st tasks new had has from k h = absurd h
+
+pub run_follows : (st : State) (tasks : List Task) (new : Content) (had has : Option (List ℕ)) (from : ℕ) (r : Result ℕ BulkFault) → RunsTo st tasks new had has from r → Follows st new
+run_follows st tasks new had has from (Ok k) h = follows_tasks st tasks new h.stands
+run_follows st tasks new had has from (Err fault) h = fails_follows fault.kind st tasks new had has from fault.rows h
+
+pub follows_then : (st : State) (mid new : Content) → Follows st mid → ((later : State) → Stands mid later → Follows later new) → Follows st new
+follows_then st mid new before now =
+    let h = now (machine_after st before.0) before.1 in
+    (before.0 ++ h.0, subst (Stands new) (sym (machine-append st before.0 h.0)) h.1)
+
+pub follows_none : (st : State) (c : Content) → Stands c st → Follows st c
+follows_none st c s = ([], s)

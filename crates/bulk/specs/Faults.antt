@@ -2,7 +2,7 @@
 use Rattle.std.specs.Prelude.{◌≡◌, ◌⊎◌, ℕ, Result, Ok, Err}
 use Rattle.bulk.specs.declared.fault.BulkFault.{BulkFault}
 use Rattle.bulk.specs.declared.fault.FaultKind.{FaultKind}
-use Rattle.bulk.specs.declared.fault.FaultKind.TheVariants.{Storage, NoMemory}
+use Rattle.bulk.specs.declared.fault.FaultKind.TheVariants.{Storage, NoMemory, Read}
 
 -- the device failed, or there was no memory
 abbrev pub IsShort : FaultKind → Type 0
@@ -12,3 +12,7 @@ IsShort kind = (kind ≡ Storage) ⊎ (kind ≡ NoMemory)
 abbrev pub FailsWith : FaultKind → Result ℕ BulkFault → Type 0
 FailsWith kind (Ok rows) = ⊥
 FailsWith kind (Err fault) = fault.kind ≡ kind
+
+-- the reader failed, or there was no memory
+abbrev pub IsUnread : FaultKind → Type 0
+IsUnread kind = (kind ≡ Read) ⊎ (kind ≡ NoMemory)

@@ -1,13 +1,19 @@
 -- How a run over tasks ends.
-use Rattle.std.specs.Prelude.{◌≡◌, ℕ, ◌+◌, List, [], ◌∷◌, ◌++◌, length, take, Option, Some, None, Result, Ok, Err}
+use Rattle.std.specs.Prelude.{◌≡◌, ◌≢◌, ◌⊎◌, ℕ, ◌+◌, List, [], ◌∷◌, ◌++◌, length, take, Option, Some, None, Result, Ok, Err}
 use Rattle.std.specs.List.{concat}
 use Rattle.std.specs.Io.KnownBytes.{Appends}
 use Rattle.meaning.specs.Content.{Content}
+use Rattle.meaning.specs.Machine.{state_after as machine_after}
 use Rattle.meaning.specs.Reading.{State}
+use Rattle.meaning.specs.Refusals.{Input}
 use Rattle.messages.specs.Sending.{AppendsFront}
 use Rattle.register.specs.Answers.{Stands}
+use Rattle.bulk.specs.Faults.{IsUnread}
 use Rattle.bulk.specs.Files.{AreSent}
-use Rattle.bulk.specs.Report.{Task, line_of, lines_of, state_behind, state_after}
+use Rattle.bulk.specs.Orders.{header}
+use Rattle.bulk.specs.Report.{AreRead, Task, line_of, lines_of, report_header, state_behind, state_after, tasks_from}
+use Rattle.bulk.specs.Rows.{Row, AreRowsOf}
+use Rattle.bulk.specs.declared.order.Order.{Order}
 use Rattle.bulk.specs.declared.fault.BulkFault.{BulkFault}
 use Rattle.bulk.specs.declared.fault.FaultKind.{FaultKind}
 use Rattle.bulk.specs.declared.fault.FaultKind.TheVariants.{BadHeader, BadFile, UnknownCarrier, Storage, NoMemory, Read, Write}
@@ -54,3 +60,68 @@ FailsIn UnknownCarrier st tasks new had has from k = ⊥
 abbrev pub RunsTo : State → List Task → Content → (had has : Option (List ℕ)) → (from : ℕ) → Result ℕ BulkFault → Type 0
 RunsTo st tasks new had has from (Ok k) = DoesAll st tasks new had has from k
 RunsTo st tasks new had has from (Err fault) = FailsIn fault.kind st tasks new had has from fault.rows
+
+-- ---- the rows of a file
+
+-- all rows were run, from the state st on
+pub record RunsAll (st : State) (rows : List Row) (new : Content) (had has : Option (List ℕ)) (k : ℕ) : Type 0 where
+  pub orders : List (Option Order)
+  pub read : AreRead rows orders
+  pub done : DoesAll st (tasks_from 1 orders) new had has 0 k
+
+-- the first of the rows were run, the last of these not to its end, and no more of the file
+pub record RunsFirst (kind : FaultKind) (st : State) (rows : List Row) (new : Content) (had has : Option (List ℕ)) (k : ℕ) : Type 0 where
+  pub first : List Row
+  pub others : List Row
+  pub all : rows ≡ first ++ others
+  pub orders : List (Option Order)
+  pub read : AreRead first orders
+  pub failed : FailsIn kind st (tasks_from 1 orders) new had has 0 k
+
+abbrev pub RunsRows : State → List Row → Content → (had has : Option (List ℕ)) → Result ℕ BulkFault → Type 0
+RunsRows st rows new had has (Ok k) = RunsAll st rows new had has k
+RunsRows st rows new had has (Err fault) = RunsFirst fault.kind st rows new had has fault.rows
+
+-- the content stands for a state that some of the machine's inputs lead to from st
+abbrev pub Follows : State → Content → Type 0
+Follows st new = (inputs : List Input) × Stands new (machine_after st inputs)
+
+-- ---- a file
+
+-- the report of a file's rows behind its header: the report's own header, and then the lines; or the writer failed in that header
+pub record IsHeaderBroken (st : State) (new : Content) (had has : Option (List ℕ)) (fault : BulkFault) : Type 0 where
+  pub kind : fault.kind ≡ Write
+  pub rows : fault.rows ≡ 0
+  pub stands : Stands new st
+  pub part : ℕ
+  pub sent : Appends had has (take part report_header)
+
+abbrev pub BreaksHeader : State → Content → (had has : Option (List ℕ)) → Result ℕ BulkFault → Type 0
+BreaksHeader st new had has (Ok k) = ⊥
+BreaksHeader st new had has (Err fault) = IsHeaderBroken st new had has fault
+
+abbrev pub Reports : State → List Row → Content → (had has : Option (List ℕ)) → Result ℕ BulkFault → Type 0
+Reports st rows new had has result =
+    ((behind : Option (List ℕ)) × Appends had behind report_header × RunsRows st rows new behind has result)
+    ⊎ BreaksHeader st new had has result
+
+-- these are no rows of a bulk file: there is none, or the first is not the header
+abbrev pub LacksHeader : List Row → Type 0
+LacksHeader rows = (others : List Row) → rows ≢ header ∷ others
+
+-- nothing was run and nothing written: the file has no such header, or its first row could not be read
+pub record RunsNothing (st : State) (bytes : List ℕ) (new : Content) (had has : Option (List ℕ)) (fault : BulkFault) : Type 0 where
+  pub rows : fault.rows ≡ 0
+  pub stands : Stands new st
+  pub sent : Appends had has []
+  pub why : ((fault.kind ≡ BadHeader) × ((rows : List Row) × AreRowsOf bytes rows × LacksHeader rows)) ⊎ IsUnread fault.kind
+
+abbrev pub StopsFirst : State → (bytes : List ℕ) → Content → (had has : Option (List ℕ)) → Result ℕ BulkFault → Type 0
+StopsFirst st bytes new had has (Ok k) = ⊥
+StopsFirst st bytes new had has (Err fault) = RunsNothing st bytes new had has fault
+
+-- the file of these bytes, from the state st on
+abbrev pub RunsFile : State → (bytes : List ℕ) → Content → (had has : Option (List ℕ)) → Result ℕ BulkFault → Type 0
+RunsFile st bytes new had has result =
+    ((rows : List Row) × AreRowsOf bytes (header ∷ rows) × Reports st rows new had has result)
+    ⊎ StopsFirst st bytes new had has result

@@ -81,8 +81,8 @@ pub fn export<S: Store, W: Write>(
 {
     let (mut line, rows) = match (Line::new(alloc), rows_in_force(register)) {
         (Ok(line), Ok(rows)) => (line, rows),
-        (Err(_), _) => return Err(BulkFault::before(FaultKind::NoMemory)),
-        (_, Err(kind)) => return Err(BulkFault::before(kind)),
+        (Err(_), _) => return Err(BulkFault::at_start(FaultKind::NoMemory)),
+        (_, Err(kind)) => return Err(BulkFault::at_start(kind)),
     };
     match send_export(&mut line, &rows, writer) {
         Ok(rows) => Ok(rows),

@@ -29,8 +29,8 @@ pub struct BulkFault {
 }
 
 impl BulkFault {
-    /// A fault before any row.
-    pub fn before(kind: FaultKind) -> BulkFault
+    /// A fault before the first row.
+    pub fn at_start(kind: FaultKind) -> BulkFault
         ensures kind { result.kind ≡ kind }
         ensures rows { result.rows ≡ 0 }
     {

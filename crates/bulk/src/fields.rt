@@ -7,7 +7,7 @@ ghost use Rattle.version.specs.declared.create.Creator.{Creator as CreatorSeen};
 ghost use Rattle.version.specs.declared.command.VersionCommand.{VersionCommand as VersionCommandSeen};
 ghost use Rattle.numbers.specs.declared.cic.Cic.{Cic as CicSeen};
 ghost use Rattle.numbers.specs.declared.minute.Minute.{Minute as MinuteSeen};
-ghost use Rattle.bulk.specs.Orders.{action_name, command_action, create_action, action_of, Names, flag_text, optional_cic, optional_minute, create_fields, release_field, wish_fields, Says, Reads};
+ghost use Rattle.bulk.specs.Orders.{action_name, command_action, create_action, action_of, Names, flag_text, optional_cic, optional_minute, create_fields, release_field, wish_fields, Says, Reads, header};
 ghost use Rattle.bulk.specs.declared.order.ActionName.TheVariants.{OldProviderCreate, NewProviderCreate};
 ghost use Rattle.bulk.specs.Fields.{is_action, actions, all_fields, last_fields, six_fields};
 ghost use Rattle.bulk.specs.declared.range.Numbers.{Numbers as NumbersSeen};
@@ -337,4 +337,35 @@ pub fn read_order(row: &ByteRecord) -> Option<Order>
         numbers: numbers_in(fields.subject)?,
         wish: wish_in(&fields, action)?,
     })
+}
+
+fn is_text(field: &[u8], text: &str) -> bool
+    ensures { IsTrue result ↔ (field.now ≡ text.now) }
+{
+    field == text.as_bytes()
+}
+
+#[tactic(auto, unfolding(crate::specs::Orders::header))]
+fn are_names(fields: &Fields) -> bool
+    ensures { IsTrue result ↔ (all_fields fields.now ≡ header) }
+{
+    is_text(fields.caller, "caller")
+        && is_text(fields.action, "action")
+        && is_text(fields.subject, "subject")
+        && is_text(fields.old_provider, "old")
+        && is_text(fields.new_provider, "new")
+        && is_text(fields.due, "due")
+        && is_text(fields.lrn, "lrn")
+        && is_text(fields.cic, "cic")
+        && is_text(fields.flag, "flag")
+}
+
+/// Whether a row is the header of a bulk file.
+pub fn is_header(row: &ByteRecord) -> bool
+    ensures { IsTrue result ↔ (fields_of row.now ≡ header) }
+{
+    match Fields::of(row) {
+        Some(fields) => are_names(&fields),
+        None => false,
+    }
 }

@@ -1,5 +1,5 @@
 //! Running the rows of a bulk file.
-ghost use Rattle.std.specs.Prelude.{◌≡◌, ◌+◌, ◌<◌, ◌≤◌, ◌^◌, ⊤, [], ◌∷◌, Some, Option, IfOk, IfErr, OnErr, string_bytes};
+ghost use Rattle.std.specs.Prelude.{◌≡◌, List, ◌+◌, ◌<◌, ◌≤◌, ◌^◌, ⊤, [], ◌∷◌, Some, Option, IfOk, IfErr, OnErr, string_bytes};
 ghost use Rattle.std.specs.Io.KnownBytes.{Appends};
 ghost use Rattle.csv.specs.Records.{fields_of};
 ghost use Rattle.meaning.specs.Reading.{State};
@@ -9,7 +9,8 @@ ghost use Rattle.settle.specs.Owing.{Owes, SaysStorage};
 ghost use Rattle.bulk.specs.Faults.{FailsWith};
 ghost use Rattle.bulk.specs.Orders.{Reads};
 ghost use Rattle.bulk.specs.Report.{Wants, tasks_of};
-ghost use Rattle.bulk.specs.Running.{RunsTo, SendsOne};
+ghost use Rattle.bulk.specs.Rows.{Row, HasRows, IsPlain};
+ghost use Rattle.bulk.specs.Running.{Follows, RunsRows, RunsTo, SendsOne};
 ghost use Rattle.bulk.specs.declared.order.Order.{Order as OrderSeen};
 
 use crate::fault::{BulkFault, FaultKind};
@@ -17,11 +18,13 @@ use crate::fields::read_order;
 use crate::line::Line;
 use crate::making::make;
 use crate::order::Order;
-use csv::ByteRecord;
+use crate::rows::next_row;
+use csv::{ByteRecord, Reader};
 use numbers::Tn;
 use register::Register;
 use settle::Store;
-use std::io::Write;
+use std::alloc::Global;
+use std::io::{Read, Write};
 
 // Sends a line behind so many, and says how many there are then.
 fn send_line<W: Write>(line: &Line, writer: &mut W, count: u64) -> Result<u64, BulkFault>
@@ -120,4 +123,45 @@ fn run_row<S: Store, W: Write>(
             send_line(line, writer, count)
         }
     }
+}
+
+// How many rows a file may have: their lines can be counted.
+const MOST_ROWS: u64 = 1 << 50;
+
+/// Runs the rows that a reader has.
+pub fn run_rows<S: Store, R: Read, W: Write>(
+    alloc: Global,
+    register: &mut Register<S>,
+    line: &mut Line,
+    reader: &mut Reader<R>,
+    writer: &mut W,
+) -> Result<u64, BulkFault>
+    requires { IsPlain reader.old }
+    ensures runs { S.IsUsable register.new.store → (st : State)
+        → Stands (S.content register.old.store) st → (rows : List Row)
+        → HasRows R.remaining reader.old rows
+        → RunsRows st rows (S.content register.new.store) (W.contents writer.old)
+        (W.contents writer.new) result }
+    ensures state { S.IsUsable register.new.store → (st : State)
+        → Stands (S.content register.old.store) st → Follows st (S.content register.new.store) }
+    ensures owes { Owes S.IsUsable S.IsHonest S.failed register.old.store register.new.store
+        ⊥ (SaysStorage (S.IsUsable register.new.store) (S.content register.old.store)
+        (FailsWith FaultKind.Storage result)) }
+{
+    let mut raw = ByteRecord::new(alloc);
+    let mut count = 0;
+    for row in 1..MOST_ROWS {
+        match next_row(reader, &mut raw) {
+            Ok(true) => match run_row(register, line, writer, row, &raw, count) {
+                Ok(done) => count = done,
+                Err(fault) => return Err(fault),
+            },
+            Ok(false) => return Ok(count),
+            Err(kind) => return Err(BulkFault { kind, rows: count }),
+        }
+    }
+    Err(BulkFault {
+        kind: FaultKind::NoMemory,
+        rows: count,
+    })
 }
