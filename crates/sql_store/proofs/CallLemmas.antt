@@ -82,21 +82,33 @@ module _ (query : Query) (params : Row) (old new : State) (ours : IsTrue old.is_
   pub looked_ok : (rows : List Row) → (IsTrue new.is_open → HasCleanDisk new) → (HasCleanDisk new → Shown (query_text query) params old new rows) → Survives old new (CommitsShowing (query_text query) params old) → Looked old new true
   looked_ok rows clean shown survives = record {
     same = λ up. query_leaves (query_text query) params old new ours plain rows up (shown (clean up));
-    clean = λ done. omega (arith, done, survives.clean);
     stays = λ ok was done. (shown_same (query_text query) params old new rows (plain was) (shown done)).0.is_open;
-    survives = λ was. query_commits_nothing (query_text query) params old new (plain was) survives;
+    honest = λ done. omega (arith, survives.clean, done);
+    survives = λ was done. query_commits_nothing (query_text query) params old new (plain was) survives;
   }
 
   pub looked_err : (e : Error) → (IsTrue new.is_open → HasCleanDisk new) → (HasCleanDisk new → FailsToQuery (query_text query) params old new e) → Survives old new (CommitsShowing (query_text query) params old) → Looked old new false
   looked_err e clean fails survives = record {
     same = λ up. query_err_leaves (query_text query) params old new ours plain e up (fails (clean up));
-    clean = λ done. omega (arith, done, survives.clean);
     stays = λ no was done. absurd (true≢false (sym no));
-    survives = λ was. query_commits_nothing (query_text query) params old new (plain was) survives;
+    honest = λ done. omega (arith, survives.clean, done);
+    survives = λ was done. query_commits_nothing (query_text query) params old new (plain was) survives;
   }
 
   pub answers : (rows : List Row) → IsTrue old.is_open → Shown (query_text query) params old new rows → IsAnswer (query_of query) (overlay old.now.trees []) params rows
   answers rows was shown = (reads_as (query_text query) params old new the_schema (ours was).schema _ (query_is query) (query_plain query) (query_unlisted query) rows shown).answer Null
+
+-- two reads, one after the other
+pub looked_then : (a b d : State) (answered : Bool) → Looked a b true → Looked b d answered → Looked a d answered
+looked_then a b d answered one two = record {
+  same = λ up.
+      let later = two.same up in
+      let sooner = one.same later.was_open in
+      record { was_open = sooner.was_open; now = later.now ∙ sooner.now; committed = later.committed ∙ sooner.committed };
+  honest = λ done. one.honest (two.honest done);
+  stays = λ ok was done. two.stays ok (one.stays refl was (two.honest done)) done;
+  survives = λ was done. survives_then a b d _ _ _ (λ _ db none. none) (λ _ db none. none) (one.survives was (two.honest done)) (two.survives (one.stays refl was (two.honest done)) done);
+}
 
 -- a call in a transaction that was made was made in one that had not ended
 pub not_ended : {X : Type 0} (inside : Bool) (r : Result ℕ Error) (n : ℕ) (e : Error) → r ≡ Ok n → (inside ≡ false → (r ≡ Err e) × X) → IsTrue inside
@@ -291,7 +303,7 @@ module _ (old mid new : State) (change : Content → Content) (Becomes : Content
     becomes = λ ok. absurd (true≢false (sym ok ∙ fails));
     same = λ _. same;
     was_open = λ up. (same up).was_open;
-    clean = λ done. omega (arith, done, survives.clean);
+    honest = λ done. omega (arith, done, survives.clean);
     stays = λ ok. absurd (true≢false (sym ok ∙ fails));
     ours = λ up. ours_again (same up);
     crash = survives_weaker old new P _ after survives;
@@ -328,7 +340,7 @@ module _ (old mid new : State) (change : Content → Content) (Becomes : Content
       becomes = λ _ up. let s = ok (clean_of up) in after (clean_of up) new.now.trees (ap (λ (d : Database). d.trees) s.now_is) (b.kept s.was_open).was_open;
       same = λ no. absurd (true≢false (sym no));
       was_open = λ up. (b.kept (ok (clean_of up)).was_open).was_open;
-      clean = λ done. omega (arith, done, all_survives.clean);
+      honest = λ done. omega (arith, done, all_survives.clean);
       stays = λ _ was clean. (ok clean).is_open;
       ours = λ up.
           let s = ok (clean_of up) in

@@ -4,3 +4,4 @@ pub mod MadeLemmas
 pub mod Changed
 pub mod OpeningLemmas
 pub mod ListLemmas
+pub mod WaiterLemmas

@@ -62,16 +62,16 @@ pub record IsSame (old new : State) : Type 0 where
 -- a call read, and answered or not
 pub record Looked (old new : State) (answered : Bool) : Type 0 where
   pub same : IsTrue new.is_open → IsSame old new
-  pub clean : HasCleanDisk new → HasCleanDisk old
+  pub honest : HasCleanDisk new → HasCleanDisk old
   pub stays : IsTrue answered → IsTrue old.is_open → HasCleanDisk new → IsTrue new.is_open
-  pub survives : IsTrue old.is_open → Survives old new (λ _. ⊥)
+  pub survives : IsTrue old.is_open → HasCleanDisk new → Survives old new (λ _. ⊥)
 
 -- a call committed this, or nothing
 pub record Turned (old new : State) (done : Bool) (Becomes : Content → Content → Type 0) : Type 0 where
   pub becomes : IsTrue done → IsTrue new.is_open → Becomes (content_at old) (content_at new)
   pub same : IsTrue (not done) → IsTrue new.is_open → IsSame old new
   pub was_open : IsTrue new.is_open → IsTrue old.is_open
-  pub clean : HasCleanDisk new → HasCleanDisk old
+  pub honest : HasCleanDisk new → HasCleanDisk old
   pub stays : IsTrue done → IsTrue old.is_open → HasCleanDisk new → IsTrue new.is_open
   pub ours : IsTrue new.is_open → IsOurs new
   pub crash : Survives old new (λ db. IsTrue old.is_open → Becomes (content_at old) (content_in db))

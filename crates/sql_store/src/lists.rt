@@ -1,17 +1,19 @@
 //! Lists of what stands in the tables, put in order in code.
-ghost use Rattle.std.specs.Prelude.{◌≡◌, false, IsTrue, IfOk, is_ok, map};
+ghost use Rattle.std.specs.Prelude.{◌≡◌, ◌==◌, false, IsTrue, IfOk, filter, is_ok, map};
+ghost use Rattle.std.specs.List.{list_all};
 ghost use Rattle.sqlite.specs.Held.{state};
 ghost use Rattle.numbers.specs.Views.{subject_of};
-ghost use Rattle.settle.specs.Views.{spid_of};
-ghost use Rattle.settle.specs.Reads.{AreAwaited, AreCarriers, AreWaitsAbout};
-ghost use Rattle.sql_store.specs.Lists.{download_of};
+ghost use Rattle.settle.specs.Views.{spid_of, wait_key_of};
+ghost use Rattle.settle.specs.Reads.{AreAwaited, AreCarriers, AreWaiters, AreWaitsAbout, is_last_wait};
+ghost use Rattle.sql_store.specs.Lists.{download_of, is_waiting};
 ghost use Rattle.sql_store.specs.Store.{IsOurs, Looked, content_at};
 
 use crate::order::put_in_order;
 use crate::select::find_all;
 use delivery::DownloadKey;
-use numbers::{Spid, Subject};
-use sql_rows::{Fault, KeyedWait, Query, spid_bytes, subject, text};
+use numbers::{Minute, Spid, Subject};
+use settle::{BroadcastKey, WaitKey};
+use sql_rows::{Fault, KeyedWait, Query, broadcast_key, spid_bytes, subject, text};
 use sqlite::{Alter, Connection};
 use std::alloc::Global;
 
@@ -91,4 +93,76 @@ pub(crate) fn waits<S: Alter>(conn: &mut Connection<S>, spid: Spid) -> Result<Ve
     let mut subjects = subjects_of(*waits.allocator(), waits.as_slice())?;
     put_in_order(&mut subjects);
     Ok(subjects)
+}
+
+fn is_waiting(waits: &[KeyedWait], minute: Minute, carrier: Spid) -> bool
+    ensures { result ≡ is_waiting waits.now minute.number carrier }
+{
+    waits.iter().any(|wait| wait.key.minute == minute && wait.key.carrier == carrier)
+}
+
+fn waiting_among(
+    carriers: &[Spid],
+    waits: &[KeyedWait],
+    minute: Minute,
+    alloc: Global,
+) -> Result<Vec<Spid>, Fault>
+    ensures { IfOk result (λ waiters.
+        waiters.items ≡ filter (is_waiting waits.now minute.number) carriers.now) }
+{
+    let mut waiters = Vec::new(alloc);
+    for carrier in carriers {
+        if is_waiting(waits, minute, *carrier) {
+            waiters.push(*carrier)?;
+        }
+    }
+    Ok(waiters)
+}
+
+/// The registered carriers for which a broadcast of that minute waits, rising.
+pub(crate) fn waiters<S: Alter>(
+    conn: &mut Connection<S>,
+    minute: Minute,
+    key: BroadcastKey,
+) -> Result<Vec<Spid>, Fault>
+    requires ours { IsTrue (state S.Store conn.old).is_open → IsOurs (state S.Store conn.old) }
+    requires idle { conn.old.in_transaction ≡ false }
+    ensures value { IsTrue (state S.Store conn.new).is_open
+        → IfOk result (λ carriers. AreWaiters (content_at (state S.Store conn.old)) minute.number
+        key.id key.attempt carriers.items) }
+    ensures looked { Looked (state S.Store conn.old) (state S.Store conn.new) (is_ok result) }
+    ensures idle { conn.new.in_transaction ≡ false }
+{
+    let carriers = carriers(conn)?;
+    let alloc = *carriers.allocator();
+    if key.id >= 9_223_372_036_854_775_808 || key.attempt >= 9_223_372_036_854_775_808 {
+        return Ok(Vec::new(alloc));
+    }
+    let waits: Vec<KeyedWait> = find_all(conn, Query::WaitsOf, &broadcast_key(key))?;
+    let waiters = waiting_among(carriers.as_slice(), waits.as_slice(), minute, alloc)?;
+    Ok(waiters)
+}
+
+fn are_all(carriers: &[Spid], carrier: Spid) -> bool
+    ensures { result ≡ list_all (λ c. c.number == carrier.number) carriers.now }
+{
+    carriers.iter().all(|other| *other == carrier)
+}
+
+/// Whether the download is the last of its broadcast: no other registered carrier waits for that.
+pub(crate) fn is_last_wait<S: Alter>(conn: &mut Connection<S>, wait: WaitKey) -> Result<bool, Fault>
+    requires ours { IsTrue (state S.Store conn.old).is_open → IsOurs (state S.Store conn.old) }
+    requires idle { conn.old.in_transaction ≡ false }
+    ensures value { IsTrue (state S.Store conn.new).is_open
+        → IfOk result (λ last. last ≡ is_last_wait (content_at (state S.Store conn.old))
+        (wait_key_of wait)) }
+    ensures looked { Looked (state S.Store conn.old) (state S.Store conn.new) (is_ok result) }
+    ensures idle { conn.new.in_transaction ≡ false }
+{
+    let key = BroadcastKey {
+        id: wait.id,
+        attempt: wait.attempt,
+    };
+    let waiters = waiters(conn, wait.minute, key)?;
+    Ok(are_all(waiters.as_slice(), wait.carrier))
 }

@@ -129,14 +129,18 @@ impl<S: Alter> Store for SqlStore<S> {
         Err(StoreFault::Storage)
     }
 
-    fn waiters(&mut self, _minute: Minute, _key: BroadcastKey) -> Result<Vec<Spid>, StoreFault> {
-        self.failures = self.failures.saturating_add(1);
-        Err(StoreFault::Storage)
+    fn waiters(&mut self, minute: Minute, key: BroadcastKey) -> Result<Vec<Spid>, StoreFault> {
+        counted(
+            &mut self.failures,
+            lists::waiters(&mut self.conn, minute, key),
+        )
     }
 
-    fn is_last_wait(&mut self, _wait: WaitKey) -> Result<bool, StoreFault> {
-        self.failures = self.failures.saturating_add(1);
-        Err(StoreFault::Storage)
+    fn is_last_wait(&mut self, wait: WaitKey) -> Result<bool, StoreFault> {
+        counted(
+            &mut self.failures,
+            lists::is_last_wait(&mut self.conn, wait),
+        )
     }
 
     fn carriers(&mut self) -> Result<Vec<Spid>, StoreFault> {

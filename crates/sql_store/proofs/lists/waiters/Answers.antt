@@ -1,0 +1,49 @@
+use Rattle.std.proofs.Common.{◌≡◌, nat_lt, ◌&&◌, Bool, true, false, filter, map, refl, sym, ap, subst, ◌∙◌, arith}
+use Rattle.sqlite.specs.Held.{state}
+use Rattle.sqlite.specs.Effect.{Database}
+use Rattle.settle.specs.Reads.{AreCarriers, AreWaiters}
+use Rattle.sql_rows.specs.Content.{content_in, wait_in}
+use Rattle.sql_rows.specs.Found.{IsListAnswer}
+use Rattle.sql_rows.specs.declared.statement.Query.TheVariants.{WaitsOf}
+use Rattle.settle.specs.Views.{broadcast_key_of}
+use Rattle.sql_rows.proofs.BoundLemmas.{bound_broadcast_key}
+use Rattle.sql_rows.proofs.QueriesListed.{wait_seen, waits_of_picked}
+use Rattle.sql_store.specs.Lists.{is_waiting}
+use Rattle.sql_store.specs.Store.{content_at}
+use Rattle.sql_store.proofs.WaiterLemmas.{key_at, no_great_wait, no_waiters, waiters_are}
+use Rattle.sql_store.proofs.lists.waiters.Goals as goal
+use Rattle.sql_store.proofs.lists.waiters.Goals.{then-key-ge9223372036854775808-via-then-key-ge9223372036854775808, then-key-ge9223372036854775808-via-else-key-ge9223372036854775808+then-key-ge9223372036854775808-2}
+
+one_great : (a b : Bool) → a ≡ false → (a && b) ≡ false
+one_great false b h = refl
+one_great true b h = absurd (let no : true ≡ false = h in cc)
+
+other_great : (a b : Bool) → b ≡ false → (a && b) ≡ false
+other_great true b h = h
+other_great false b h = refl
+
+pub returns-then-key-ge9223372036854775808-clause-value : goal.returns-then-key-ge9223372036854775808-clause-value
+returns-then-key-ge9223372036854775808-clause-value g c up =
+    let great : (nat_lt c.args.key.id 9223372036854775808 && nat_lt c.args.key.attempt 9223372036854775808) ≡ false = elim c.then-key-ge9223372036854775808.branch [
+      | then-key-ge9223372036854775808-via-then-key-ge9223372036854775808 w ↦ one_great (nat_lt c.args.key.id 9223372036854775808) (nat_lt c.args.key.attempt 9223372036854775808) (grind (arith, w.if-key-ge9223372036854775808))
+      | then-key-ge9223372036854775808-via-else-key-ge9223372036854775808+then-key-ge9223372036854775808-2 w ↦ other_great (nat_lt c.args.key.id 9223372036854775808) (nat_lt c.args.key.attempt 9223372036854775808) (grind (arith, w.if-key-ge9223372036854775808-2))
+    ] in
+    let old = state g.S.Store c.args.conn.now in
+    subst (AreWaiters (content_at old) c.args.minute.number c.args.key.id c.args.key.attempt) (sym c.new.ensures.items)
+    (no_waiters (content_at old) c.args.minute.number c.args.key.id c.args.key.attempt (λ k. no_great_wait old.now.trees (key_at k c.args.minute.number c.args.key.id c.args.key.attempt) great))
+
+pub returns-clause-value : goal.returns-clause-value
+returns-clause-value g c up =
+    let old = state g.S.Store c.args.conn.now in
+    let mid = state g.S.Store c.carriers.new.conn in
+    let key = c.args.key in
+    let waits = c.in_ok-waits.waits.items in
+    let carriers = c.in_ok-carriers.carriers.items in
+    let open_mid = (c.in_ok-waits.ensures.looked.same up).was_open in
+    let same = (c.in_ok-carriers.ensures.looked.same open_mid).now in
+    let answer = subst (λ p. IsListAnswer WaitsOf wait_in mid.now.trees p (map wait_seen waits)) (bound_broadcast_key _ (broadcast_key_of key) c.broadcast_key.ensures) (c.in_ok-waits.ensures.value up) in
+    let are = subst (λ (d : Database). AreCarriers (content_in d.trees) carriers) (sym same) (c.in_ok-carriers.ensures.value open_mid) in
+    let result = waiters_are (content_at mid) c.args.minute.number key.id key.attempt waits (waits_of_picked mid.now.trees (c.in_ok-waits.ensures.once up) key.id key.attempt waits answer) carriers are in
+    let there = c.in_ok-waiters.ensures ∙ ap (λ w. filter (is_waiting w c.args.minute.number) c.as_slice.result.now) c.as_slice-2.ensures.value ∙ ap (filter (is_waiting waits c.args.minute.number)) c.as_slice.ensures.value in
+    subst (AreWaiters (content_at old) c.args.minute.number key.id key.attempt) (sym there)
+    (subst (λ (d : Database). AreWaiters (content_in d.trees) c.args.minute.number key.id key.attempt (filter (is_waiting waits c.args.minute.number) carriers)) same result)
