@@ -5,3 +5,4 @@ pub mod Changed
 pub mod OpeningLemmas
 pub mod ListLemmas
 pub mod WaiterLemmas
+pub mod BroadcastLemmas

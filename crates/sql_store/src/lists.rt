@@ -3,17 +3,21 @@ ghost use Rattle.std.specs.Prelude.{◌≡◌, ◌==◌, false, IsTrue, IfOk, fi
 ghost use Rattle.std.specs.List.{list_all};
 ghost use Rattle.sqlite.specs.Held.{state};
 ghost use Rattle.numbers.specs.Views.{subject_of};
-ghost use Rattle.settle.specs.Views.{spid_of, wait_key_of};
-ghost use Rattle.settle.specs.Reads.{AreAwaited, AreCarriers, AreWaiters, AreWaitsAbout, is_last_wait};
-ghost use Rattle.sql_store.specs.Lists.{download_of, is_waiting};
+ghost use Rattle.settle.specs.Views.{broadcast_key_of, spid_of, wait_key_of};
+ghost use Rattle.std.specs.List.Sorted.{IsPermutation, IsStrictlySortedBy};
+ghost use Rattle.meaning.specs.Content.{broadcast_cmp};
+ghost use Rattle.settle.specs.Reads.{AreAwaited, AreCarriers, AreOpenBroadcasts, AreWaiters, AreWaitsAbout, is_last_wait};
+ghost use Rattle.sql_store.specs.Lists.{download_of, is_waiting, pair_of};
 ghost use Rattle.sql_store.specs.Store.{IsOurs, Looked, content_at};
 
 use crate::order::put_in_order;
 use crate::select::find_all;
-use delivery::DownloadKey;
+use delivery::{Broadcast, DownloadKey};
 use numbers::{Minute, Spid, Subject};
 use settle::{BroadcastKey, WaitKey};
-use sql_rows::{Fault, KeyedWait, Query, broadcast_key, spid_bytes, subject, text};
+use sql_rows::{
+    Fault, KeyedBroadcast, KeyedWait, Query, broadcast_key, spid_bytes, subject, text, truth,
+};
 use sqlite::{Alter, Connection};
 use std::alloc::Global;
 
@@ -165,4 +169,58 @@ pub(crate) fn is_last_wait<S: Alter>(conn: &mut Connection<S>, wait: WaitKey) ->
     };
     let waiters = waiters(conn, wait.minute, key)?;
     Ok(are_all(waiters.as_slice(), wait.carrier))
+}
+
+fn pairs_of(
+    alloc: Global,
+    broadcasts: &[KeyedBroadcast],
+) -> Result<Vec<(BroadcastKey, Broadcast)>, Fault>
+    ensures { IfOk result (λ pairs. pairs.items ≡ map pair_of broadcasts.now) }
+{
+    let mut pairs = Vec::with_capacity(alloc, broadcasts.len())?;
+    for broadcast in broadcasts {
+        pairs.push((broadcast.key, broadcast.broadcast))?;
+    }
+    Ok(pairs)
+}
+
+fn rise(broadcasts: &[(BroadcastKey, Broadcast)]) -> bool
+    ensures { IsTrue result → IsStrictlySortedBy (λ a b. broadcast_cmp (broadcast_key_of a.0)
+        (broadcast_key_of b.0)) broadcasts.now }
+{
+    let mut at = 1;
+    while at < broadcasts.len() {
+        if broadcasts[at - 1].0 >= broadcasts[at].0 {
+            return false;
+        }
+        at += 1;
+    }
+    true
+}
+
+fn put_in_order_by_key(broadcasts: &mut Vec<(BroadcastKey, Broadcast)>)
+    ensures { IsPermutation broadcasts.old.items broadcasts.new.items }
+{
+    broadcasts.sort_unstable_by_key(|broadcast| broadcast.0);
+}
+
+/// All open broadcasts, by key.
+pub(crate) fn open_broadcasts<S: Alter>(
+    conn: &mut Connection<S>,
+) -> Result<Vec<(BroadcastKey, Broadcast)>, Fault>
+    requires ours { IsTrue (state S.Store conn.old).is_open → IsOurs (state S.Store conn.old) }
+    requires idle { conn.old.in_transaction ≡ false }
+    ensures value { IsTrue (state S.Store conn.new).is_open
+        → IfOk result (λ broadcasts. AreOpenBroadcasts (content_at (state S.Store conn.old))
+        broadcasts.items) }
+    ensures looked { Looked (state S.Store conn.old) (state S.Store conn.new) (is_ok result) }
+    ensures idle { conn.new.in_transaction ≡ false }
+{
+    let found: Vec<KeyedBroadcast> = find_all(conn, Query::BroadcastsByOpen, &[truth(true)])?;
+    let mut broadcasts = pairs_of(*found.allocator(), found.as_slice())?;
+    put_in_order_by_key(&mut broadcasts);
+    if !rise(broadcasts.as_slice()) {
+        return Err(Fault::Device);
+    }
+    Ok(broadcasts)
 }

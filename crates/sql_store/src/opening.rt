@@ -120,7 +120,7 @@ impl<S: Alter + Drop> SqlStore<S> {
     }
 
     /// Makes the tables in one transaction, and takes the connection. With a fault its database is
-    /// handed back. A crash, or an open after it, finds all tables or none.
+    /// handed back.
     ///
     /// # Errors
     ///

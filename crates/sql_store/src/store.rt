@@ -148,8 +148,7 @@ impl<S: Alter> Store for SqlStore<S> {
     }
 
     fn open_broadcasts(&mut self) -> Result<Vec<(BroadcastKey, Broadcast)>, StoreFault> {
-        self.failures = self.failures.saturating_add(1);
-        Err(StoreFault::Storage)
+        counted(&mut self.failures, lists::open_broadcasts(&mut self.conn))
     }
 
     fn in_force(&mut self) -> Result<Vec<RoutedRow>, StoreFault> {

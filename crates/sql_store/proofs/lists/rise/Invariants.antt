@@ -1,0 +1,13 @@
+use Rattle.std.proofs.Common.{◌≡◌, ℕ, ◌+◌, ◌<◌, ◌-◌, length, slice_index_or, Less}
+use Rattle.delivery.specs.declared.broadcast.Broadcast.{Broadcast}
+use Rattle.meaning.specs.Content.{broadcast_cmp}
+use Rattle.settle.specs.Views.{broadcast_key_of}
+use Rattle.settle.specs.declared.rows.BroadcastKey.{BroadcastKey}
+use Rattle.sql_store.proofs.lists.rise.Given as goal
+
+-- up to here each is below the next
+abbrev pub invariant-loop-at : goal.invariant-loop-at
+invariant-loop-at l = (0 < l.at) × ((k : ℕ) (d : BroadcastKey × Broadcast) → k + 1 < l.at → broadcast_cmp (broadcast_key_of (slice_index_or l.broadcasts k d).0) (broadcast_key_of (slice_index_or l.broadcasts (k + 1) d).0) ≡ Less)
+
+abbrev pub decreases-loop-at : goal.decreases-loop-at
+decreases-loop-at l = length l.broadcasts - l.at
