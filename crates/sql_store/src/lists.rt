@@ -106,10 +106,10 @@ fn is_waiting(waits: &[KeyedWait], minute: Minute, carrier: Spid) -> bool
 }
 
 fn waiting_among(
+    alloc: Global,
     carriers: &[Spid],
     waits: &[KeyedWait],
     minute: Minute,
-    alloc: Global,
 ) -> Result<Vec<Spid>, Fault>
     ensures { IfOk result (λ waiters.
         waiters.items ≡ filter (is_waiting waits.now minute.number) carriers.now) }
@@ -143,7 +143,7 @@ pub(crate) fn waiters<S: Alter>(
         return Ok(Vec::new(alloc));
     }
     let waits: Vec<KeyedWait> = find_all(conn, Query::WaitsOf, &broadcast_key(key))?;
-    let waiters = waiting_among(carriers.as_slice(), waits.as_slice(), minute, alloc)?;
+    let waiters = waiting_among(alloc, carriers.as_slice(), waits.as_slice(), minute)?;
     Ok(waiters)
 }
 
