@@ -8,3 +8,4 @@ pub mod Exports
 pub mod Report
 pub mod Making
 pub mod Running
+pub mod Examples

@@ -1,0 +1,172 @@
+//! Bulk files and exports over memory: worked files with their reports, each kind of bad row, and
+//! what is in force afterwards.
+use bulk::{BulkFault, FaultKind, export, run_file};
+use calls::Command;
+use numbers::{CodeId, Lrn, Spid};
+use register::Register;
+use std::alloc::Global;
+use std::process::Abort;
+use store::MemoryStore;
+use windows::Windows;
+
+// The windows of the tests, in minutes.
+const WINDOWS: &str =
+    "initial_concurrence = 60\nfinal_concurrence = 60\nconflict_restriction = 30\nconflict_resolution = 120\nconflict_expiration = 1000\ncancellation_initial = 60\ncancellation_final = 60\npending_retention = 500\nbroadcast = 15\n";
+
+fn new_register(alloc: Global) -> Option<Register<MemoryStore>> {
+    let windows = Windows::from_toml(alloc, WINDOWS).ok()?;
+    Register::open(alloc, MemoryStore::new(alloc), &windows).ok()
+}
+
+// Three carriers, each with a routing number, and a code that BBBB holds.
+fn started(alloc: Global) -> Option<Register<MemoryStore>> {
+    let mut register = new_register(alloc)?;
+    for (name, lrn) in [
+        ("AAAA", "2025440000"),
+        ("BBBB", "2025330000"),
+        ("CCCC", "2025550000"),
+    ] {
+        let spid = Spid::read(name)?;
+        let lrn = Lrn::read(lrn)?;
+        register
+            .do_it(Spid::NPAC, &Command::RegisterCarrier { spid })
+            .ok()?;
+        register
+            .do_it(spid, &Command::RegisterRoutingNumber { lrn })
+            .ok()?;
+    }
+    let code = CodeId::read("202533")?;
+    let spid = Spid::read("BBBB")?;
+    register
+        .do_it(Spid::NPAC, &Command::OpenCode { code, spid })
+        .ok()?;
+    Some(register)
+}
+
+/// A file, its report, and what the run answers.
+type Row<'a> = (&'a str, &'a str, Result<u64, BulkFault>);
+
+const NO_HEADER: Result<u64, BulkFault> = Err(BulkFault {
+    kind: FaultKind::BadHeader,
+    rows: 0,
+});
+
+static ROWS: [Row<'static>; 12] = [
+    (
+        "caller,action,subject,old,new,due,lrn,cic,flag\nAAAA,subscriptionVersionNewSP-Create,2025331234,BBBB,AAAA,100,2025440000,,\nCCCC,subscriptionVersionNewSP-Create,2025331234,BBBB,CCCC,100,2025550000,,\nBBBB,subscriptionVersionOldSP-Create,2025331234,BBBB,AAAA,100,,,yes\n",
+        "row,subject,result,id\n1,2025331234,ok,1\n2,2025331234,busy,\n3,2025331234,ok,1\n",
+        Ok(3),
+    ),
+    (
+        "caller,action,subject,old,new,due,lrn,cic,flag\n",
+        "row,subject,result,id\n",
+        Ok(0),
+    ),
+    ("", "", NO_HEADER),
+    ("caller,action,subject,old,new,due,lrn,cic\n", "", NO_HEADER),
+    (
+        "\u{feff}caller,action,subject,old,new,due,lrn,cic,flag\r\nAAAA,subscriptionVersionActivate,2025331234,,,,,,\r\n",
+        "row,subject,result,id\n1,2025331234,not_found,\n",
+        Ok(1),
+    ),
+    (
+        "caller,action,subject,old,new,due,lrn,cic,flag\nAAAA,subscriptionVersionCancel,2025331234-2025331233,,,,,,\nAAAA,subscriptionVersionCancel,2025331000-2025332000,,,,,,\nAAAA,subscriptionVersionCancel,2025339999-2025340000,,,,,,\n",
+        "row,subject,result,id\n1,,bad_row,\n2,,bad_row,\n3,,bad_row,\n",
+        Ok(3),
+    ),
+    (
+        "caller,action,subject,old,new,due,lrn,cic,flag\nAA\"AA,subscriptionVersionCancel,2025331234,,,,,,\nDDDD,subscriptionVersionCancel,2025331234,,,,,,\n",
+        "row,subject,result,id\n1,,bad_row,\n2,2025331234,unknown_carrier,\n",
+        Ok(2),
+    ),
+    (
+        "caller,action,subject,old,new,due,lrn,cic,flag\n\"AAAA,subscriptionVersionCancel,2025331234,,,,,,\nDDDD,subscriptionVersionCancel,2025331234,,,,,,\n",
+        "row,subject,result,id\n1,,bad_row,\n",
+        Ok(1),
+    ),
+    (
+        "caller,action,subject,old,new,due,lrn,cic,flag\nAAAA,subscriptionVersionCancel,2025331234,,,,,\n\nNPAC,subscriptionVersionCancel,2025331234,,,,,,\n",
+        "row,subject,result,id\n1,,bad_row,\n2,2025331234,unknown_carrier,\n",
+        Ok(2),
+    ),
+    (
+        "caller,action,subject,old,new,due,lrn,cic,flag\nAAAA,subscriptionVersionActivate,2025331234,,,5,,,\nAAAA,subscriptionVersionDisconnect,2025331234,,,5,,,\nBBBB,subscriptionVersionOldSP-Create,2025331234,BBBB,AAAA,0,,,maybe\n",
+        "row,subject,result,id\n1,,bad_row,\n2,2025331234,not_found,\n3,,bad_row,\n",
+        Ok(3),
+    ),
+    (
+        "caller,action,subject,old,new,due,lrn,cic,flag\nAAAA,subscriptionVersionNewSP-Create,2025331234-2025331235,BBBB,AAAA,100,2025440000,0288,\nAAAA,subscriptionVersionCancel,2025331234-2025331235,,,,,,\n",
+        "row,subject,result,id\n1,2025331234,ok,1\n1,2025331235,ok,2\n2,2025331234,ok,1\n2,2025331235,ok,2\n",
+        Ok(4),
+    ),
+    (
+        "caller,action,subject,old,new,due,lrn,cic,flag\nBBBB,subscriptionVersionOldSP-Create,2025331234,BBBB,AAAA,0,,,no\nBBBB,subscriptionVersionOldSP-Create,2025331234,BBBB,AAAA,0,,,yes\nBBBB,subscriptionVersionModify,2025331234,,,,,,\n",
+        "row,subject,result,id\n1,2025331234,too_late,\n2,2025331234,ok,1\n3,,bad_row,\n",
+        Ok(3),
+    ),
+];
+
+// A new register runs the file so.
+fn is_run(alloc: Global, row: &Row<'_>) -> Option<bool> {
+    let (file, report, result) = *row;
+    let mut register = started(alloc)?;
+    let mut written = Vec::new(alloc);
+    let answered = run_file(alloc, &mut register, file.as_bytes(), &mut written);
+    Some(answered == result && written.as_slice() == report.as_bytes())
+}
+
+#[test]
+fn files_are_run_and_reported(rt: HostRuntime) {
+    for row in &ROWS {
+        assert!(rt; is_run(rt.alloc(), row) == Some(true));
+    }
+}
+
+const RANGE: &str =
+    "caller,action,subject,old,new,due,lrn,cic,flag\nAAAA,subscriptionVersionNewSP-Create,2025331000-2025331999,BBBB,AAAA,100,2025440000,,\n";
+
+fn is_range_run(alloc: Global) -> Option<bool> {
+    let mut register = started(alloc)?;
+    let mut written = Vec::new(alloc);
+    let answered = run_file(alloc, &mut register, RANGE.as_bytes(), &mut written);
+    let text = str::from_utf8(written.as_slice()).ok()?;
+    Some(
+        answered == Ok(1000)
+            && text.starts_with("row,subject,result,id\n1,2025331000,ok,1\n1,2025331001,ok,2\n")
+            && text.ends_with("1,2025331998,ok,999\n1,2025331999,ok,1000\n"),
+    )
+}
+
+#[test]
+fn a_thousand_numbers_are_one_row(rt: HostRuntime) {
+    assert!(rt; is_range_run(rt.alloc()) == Some(true));
+}
+
+const PORT: &str =
+    "caller,action,subject,old,new,due,lrn,cic,flag\nAAAA,subscriptionVersionNewSP-Create,2025331234,BBBB,AAAA,0,2025440000,0288,\nBBBB,subscriptionVersionOldSP-Create,2025331234,BBBB,AAAA,0,,,yes\nAAAA,subscriptionVersionActivate,2025331234,,,,,,\n";
+
+// What is in force before a port and after it, when each carrier has acknowledged.
+fn is_exported(alloc: Global) -> Option<bool> {
+    let mut register = started(alloc)?;
+    let mut before = Vec::new(alloc);
+    let none = export(alloc, &mut register, &mut before);
+    let mut report = Vec::new(alloc);
+    let ran = run_file(alloc, &mut register, PORT.as_bytes(), &mut report);
+    for name in ["AAAA", "BBBB", "CCCC"] {
+        register.acknowledge(Spid::read(name)?, 1, 1).ok()?;
+    }
+    let mut after = Vec::new(alloc);
+    let one = export(alloc, &mut register, &mut after);
+    Some(
+        none == Ok(0)
+            && before.as_slice() == b"subject,lrn,cic\n".as_slice()
+            && ran == Ok(3)
+            && one == Ok(1)
+            && after.as_slice() == b"subject,lrn,cic\n2025331234,2025440000,0288\n".as_slice(),
+    )
+}
+
+#[test]
+fn what_is_in_force_is_exported(rt: HostRuntime) {
+    assert!(rt; is_exported(rt.alloc()) == Some(true));
+}
