@@ -1,5 +1,5 @@
 -- A file, its header and its report.
-use Rattle.std.proofs.Common.{◌≡◌, ℕ, List, [], ◌∷◌, Option, Some, None, IfSome, Result, Ok, Err, OnErr, inl, inr, refl, ap, sym, subst, ◌∙◌}
+use Rattle.std.proofs.Common.{◌≡◌, ℕ, List, [], ◌∷◌, Option, Some, None, IfSome, Result, Err, inl, inr, refl, sym, subst, ◌∙◌}
 use Rattle.std.specs.Prelude.{◌⊎◌}
 use Rattle.std.proofs.KnownBytes.{Appends-nil}
 use Rattle.meaning.specs.Content.{Content}
@@ -10,7 +10,7 @@ use Rattle.bulk.specs.Faults.{IsUnread}
 use Rattle.bulk.specs.Orders.{header}
 use Rattle.bulk.specs.Report.{report_header}
 use Rattle.bulk.specs.Rows.{Row, AreRowsOf}
-use Rattle.bulk.specs.Running.{LacksHeader, Reports, RunsFile, RunsNothing, IsHeaderBroken}
+use Rattle.bulk.specs.Running.{LacksHeader, Reports, RunsFile}
 use Rattle.bulk.specs.declared.fault.BulkFault.{BulkFault}
 use Rattle.bulk.specs.declared.fault.FaultKind.{FaultKind}
 use Rattle.bulk.specs.declared.fault.FaultKind.TheVariants.{BadHeader, Write}

@@ -1,7 +1,6 @@
 -- The names of actions: which one a field is, and that no two are alike.
 use Rattle.std.proofs.Common.{◌≡◌, ◌≢◌, ℕ, Bool, true, false, cond, List, [], ◌∷◌, Option, Some, None, IfSome, IfNone, refl, sym, ap, ◌∙◌, find}
 use Rattle.std.specs.Prelude.{⊤}
-use Rattle.std.specs.Str.{bytes_eq}
 use Rattle.std.specs.Cmp.Lexicographic.{same_text, other_text}
 use Rattle.bulk.specs.Orders.{action_name}
 use Rattle.bulk.specs.Fields.{is_action, actions}

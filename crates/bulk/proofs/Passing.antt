@@ -1,5 +1,5 @@
 -- How far a run over the rows of a file has come.
-use Rattle.std.proofs.Common.{◌≡◌, ℕ, ◌+◌, ◌<◌, true, false, List, [], ◌∷◌, ◌++◌, length, Option, Result, Ok, Err, inl, inr, refl, ap, sym, subst, ◌∙◌, arith, append_assoc, append-nil, length-append, add-zero}
+use Rattle.std.proofs.Common.{◌≡◌, ℕ, ◌+◌, true, false, List, [], ◌∷◌, ◌++◌, length, Option, Ok, Err, refl, ap, sym, subst, ◌∙◌, arith, append_assoc, append-nil, length-append, add-zero}
 use Rattle.csv.specs.declared.reader.Reader.{Reader}
 use Rattle.meaning.specs.Content.{Content}
 use Rattle.meaning.specs.Reading.{State}
@@ -8,7 +8,7 @@ use Rattle.bulk.specs.Faults.{IsUnread}
 use Rattle.bulk.specs.Orders.{Reads}
 use Rattle.bulk.specs.Report.{AreRead, Task, state_after, tasks_from, tasks_of}
 use Rattle.bulk.specs.Rows.{Row, HasRows, Takes}
-use Rattle.bulk.specs.Running.{DoesAll, FailsIn, RunsAll, RunsFirst, RunsRows, RunsTo}
+use Rattle.bulk.specs.Running.{DoesAll, FailsIn, RunsAll, RunsFirst, RunsTo}
 use Rattle.bulk.specs.declared.fault.BulkFault.{BulkFault}
 use Rattle.bulk.specs.declared.fault.FaultKind.{FaultKind}
 use Rattle.bulk.specs.declared.order.Order.{Order}

@@ -1,5 +1,5 @@
 -- Runs over tasks, one after the other.
-use Rattle.std.proofs.Common.{◌≡◌, ℕ, ◌+◌, List, [], ◌∷◌, ◌++◌, length, take, Option, Result, Ok, Err, inl, inr, refl, ap, sym, subst, ◌∙◌, arith, append_assoc, append-nil, length-append}
+use Rattle.std.proofs.Common.{◌≡◌, ℕ, ◌+◌, List, [], ◌∷◌, ◌++◌, take, Option, Result, Ok, Err, inl, inr, refl, ap, sym, subst, ◌∙◌, arith, append_assoc, append-nil, length-append}
 use Rattle.std.specs.List.{concat}
 use Rattle.std.specs.Io.KnownBytes.{Appends}
 use Rattle.std.proofs.KnownBytes.{Appends-nil, Appends-trans}
@@ -10,7 +10,6 @@ use Rattle.meaning.specs.Reading.{State}
 use Rattle.meaning.specs.Refusals.{Input}
 use Rattle.register.specs.Answers.{Stands}
 use Rattle.messages.specs.Sending.{AppendsFront}
-use Rattle.bulk.specs.Files.{AreSent}
 use Rattle.bulk.specs.Report.{Task, Bad, Wants, input_for, line_of, lines_of, state_behind, state_after}
 use Rattle.bulk.specs.Faults.{IsShort, IsUnread}
 use Rattle.bulk.specs.Running.{Follows, DoesAll, DoesFirst, BreaksAt, FailsIn, RunsTo, SendsOne}

@@ -1,5 +1,5 @@
 -- Worked examples, computed from the definitions.
-use Rattle.std.specs.Prelude.{◌≡◌, ℕ, true, [], ◌∷◌, codes, decimal, Some, None, refl}
+use Rattle.std.specs.Prelude.{◌≡◌, true, [], ◌∷◌, codes, decimal, Some, None, refl}
 use Rattle.std.proofs.Common.{inl, lit<, lit≤}
 use Rattle.meaning.specs.History.{meaning, after, effect}
 use Rattle.meaning.specs.Judge.{judge, judged_for, judged_version}
@@ -12,13 +12,10 @@ use Rattle.numbers.specs.declared.spid.Spid.{Spid}
 use Rattle.numbers.specs.declared.tn.Tn.{Tn}
 use Rattle.numbers.specs.declared.lrn.Lrn.{Lrn}
 use Rattle.numbers.specs.declared.minute.Minute.{Minute}
-use Rattle.version.specs.declared.create.Creator.{Creator}
 use Rattle.version.specs.declared.create.Creator.TheVariants as creator
 use Rattle.bulk.specs.Orders.{Says, action_name}
 use Rattle.bulk.specs.Report.{lines_of, report_line, tasks_from}
-use Rattle.bulk.specs.Rows.{Row}
 use Rattle.bulk.specs.declared.order.Order.{Order}
-use Rattle.bulk.specs.declared.order.Wish.{Wish}
 use Rattle.bulk.specs.declared.order.Wish.TheVariants as wish
 use Rattle.bulk.specs.declared.range.Numbers.{Numbers}
 

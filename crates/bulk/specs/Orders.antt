@@ -1,5 +1,5 @@
 -- What a row of a bulk file says: the fields of each order.
-use Rattle.std.specs.Prelude.{◌≡◌, ◌⊎◌, ℕ, ◌+◌, ◌<◌, ◌≤◌, Bool, List, [], ◌∷◌, ◌++◌, Option, Some, None, codes, if◌then◌else◌}
+use Rattle.std.specs.Prelude.{◌≡◌, ◌⊎◌, ℕ, Bool, List, [], ◌∷◌, ◌++◌, Option, Some, None, codes, if◌then◌else◌}
 use Rattle.numbers.specs.Texts.{spid_text, tn_text, lrn_text, cic_text, minute_text}
 use Rattle.numbers.specs.declared.cic.Cic.{Cic}
 use Rattle.numbers.specs.declared.minute.Minute.{Minute}

@@ -1,5 +1,5 @@
 -- A bulk file as the list of its commands, and its report: the machine's answers in their order.
-use Rattle.std.specs.Prelude.{◌≡◌, ℕ, zero, suc, ◌+◌, ◌-◌, List, [], ◌∷◌, ◌++◌, map, codes, decimal, Option, Some, None, option_map}
+use Rattle.std.specs.Prelude.{ℕ, zero, suc, ◌+◌, ◌-◌, List, [], ◌∷◌, ◌++◌, map, codes, decimal, Option, Some, None, option_map}
 use Rattle.numbers.specs.Subjects.{Number}
 use Rattle.numbers.specs.Texts.{tn_text}
 use Rattle.meaning.specs.Commands.{Command, OnVersion}

@@ -1,4 +1,4 @@
-use Rattle.std.proofs.Common.{List, length, map, subst}
+use Rattle.std.proofs.Common.{length, map, subst}
 use Rattle.std.specs.Io.KnownBytes.{Appends}
 use Rattle.calls.specs.Calls.{in_force_of}
 use Rattle.messages.specs.Sending.{AppendsFront}

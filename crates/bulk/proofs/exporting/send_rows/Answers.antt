@@ -1,11 +1,10 @@
-use Rattle.std.proofs.Common.{◌≡◌, ◌∙◌, ◌≤◌, refl, List, map, length, take, sym, ap, subst, arith, ℕ}
-use Rattle.std.proofs.lemmas.List.{length-map}
+use Rattle.std.proofs.Common.{refl, List, map, sym, subst, arith, ℕ}
 use Rattle.std.proofs.KnownBytes.{Appends-nil}
 use Rattle.std.specs.Io.KnownBytes.{Appends}
 use Rattle.calls.specs.Calls.{in_force_of}
 use Rattle.messages.specs.Sending.{AppendsFront}
 use Rattle.bulk.specs.Exports.{in_force_line}
-use Rattle.bulk.specs.Files.{AreSent, IsSentPart}
+use Rattle.bulk.specs.Files.{IsSentPart}
 use Rattle.bulk.proofs.Sending.{all_sent, sent_next, sent_part, line_at}
 use Rattle.bulk.proofs.exporting.send_rows.Goals as goal
 

@@ -1,7 +1,5 @@
-use Rattle.std.proofs.Common.{◌≡◌, subst, sym}
 use Rattle.numbers.specs.Texts.{tn_text}
 use Rattle.numbers.proofs.DigitLemmas.{length-digits_of}
-use Rattle.bulk.specs.Numbers.{AreNumbers}
 use Rattle.bulk.proofs.FieldLemmas.{if_none, if_none_of, same_range, same_tn, are_numbers}
 use Rattle.bulk.proofs.fields.range_in.Goals as goal
 

@@ -1,5 +1,4 @@
 use Rattle.csv.specs.Records.{fields_of}
-use Rattle.bulk.specs.Fields.{six_fields}
 use Rattle.bulk.proofs.Wishes.{no_order}
 use Rattle.bulk.proofs.fields.read_order.Goals as goal
 

@@ -1,4 +1,4 @@
-use Rattle.std.proofs.Common.{◌≡◌, ◌∷◌, inl, refl, ap, sym, ◌∙◌, subst}
+use Rattle.std.proofs.Common.{◌≡◌, ◌∷◌, inl, refl, ap, ◌∙◌}
 use Rattle.csv.specs.Records.{fields_of}
 use Rattle.bulk.specs.Orders.{header}
 use Rattle.bulk.proofs.Filed.{other_first, no_first}

@@ -2,7 +2,7 @@ use Rattle.std.proofs.Common.{◌≡◌, ◌+◌, ◌-◌, ◌≤◌, ℕ, map}
 use Rattle.meaning.specs.Reading.{State}
 use Rattle.register.specs.Answers.{Stands}
 use Rattle.settle.specs.Owing.{Owes}
-use Rattle.bulk.specs.Report.{Task, Wants, rising}
+use Rattle.bulk.specs.Report.{Wants, rising}
 use Rattle.bulk.specs.Running.{DoesAll}
 use Rattle.bulk.proofs.running.run_order.Given as goal
 

@@ -1,4 +1,4 @@
-use Rattle.std.proofs.Common.{Some, None, [], ◌∷◌, string_bytes}
+use Rattle.std.proofs.Common.{Some, None, string_bytes}
 use Rattle.bulk.specs.Report.{Bad}
 use Rattle.bulk.proofs.Runs.{one_sent}
 use Rattle.bulk.proofs.running.run_row.Goals as goal

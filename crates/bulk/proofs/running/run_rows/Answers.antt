@@ -1,4 +1,4 @@
-use Rattle.std.proofs.Common.{◌+◌, ◌*◌, ◌≤◌, Ok, Err, inr, refl, arith}
+use Rattle.std.proofs.Common.{Ok, Err, inr, refl, arith}
 use Rattle.std.proofs.Math.Nat.{le_trans}
 use Rattle.csv.specs.Records.{fields_of}
 use Rattle.bulk.specs.Report.{state_after, tasks_from, tasks_of}
