@@ -288,7 +288,8 @@ fn create_in(fields: &Fields, creator: Creator) -> Option<Wish>
 
 // Whether all fields behind the subject but the due minute are empty.
 fn has_due_alone(fields: &Fields) -> bool
-    ensures { IsTrue result ↔ (six_fields fields.now ≡ [] ∷ [] ∷ fields.now.due.now ∷ [] ∷ [] ∷ [] ∷ []) }
+    ensures { IsTrue result
+        ↔ (six_fields fields.now ≡ [] ∷ [] ∷ fields.now.due.now ∷ [] ∷ [] ∷ [] ∷ []) }
 {
     fields.old_provider.is_empty()
         && fields.new_provider.is_empty()

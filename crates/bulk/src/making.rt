@@ -42,7 +42,8 @@ fn told_by(refusal: Refusal) -> Result<Told, FaultKind>
     ensures told { IfOk result (λ told. (nat_lt (number_of refusal) 29 ≡ true)
         × Tells told (Refused (number_of refusal))) }
     ensures other { OnErr result (nat_lt (number_of refusal) 29 ≡ false) }
-    ensures kind { IfErr result (λ kind. IsShort kind × (kind ≡ Storage → refusal ≡ StorageRefusal)) }
+    ensures kind { IfErr result
+        (λ kind. IsShort kind × (kind ≡ Storage → refusal ≡ StorageRefusal)) }
 {
     match refusal {
         Refusal::Storage => Err(FaultKind::Storage),
