@@ -65,3 +65,31 @@ NPAC /carriers {"spid":1,"spid":true,"spid":null,"spid":"x","spid":{},"spid":[],
      200 rows=[] spid=IIII
 NPAC /carriers {"spid":"JJJJ"}x
      400 bad_request 41
+
+# Blanks may stand between the marks, as programs write them, and marks have to.
+NPAC /carriers raw "{\n  \"spid\": \"KKKK\"\n}"
+     200 rows=[] spid=KKKK
+NPAC /codes raw "{\"code\": \"202533\", \"spid\": \"KKKK\"}"
+     200 code=202533 spid=KKKK
+NPAC /carriers raw "{\t\"spid\":\r\n\"LLLL\"}\n"
+     200 rows=[] spid=LLLL
+NPAC /carriers raw "{\"spid\":\"MM\u00c9M\"}"
+     400 bad_request 41
+NPAC /carriers raw "{\"spid\":\"MMMM}"
+     400 bad_request 41
+NPAC /carriers raw "{\"spid\":\"MMMM\",}"
+     400 bad_request 41
+NPAC /carriers raw "{,\"spid\":\"MMMM\"}"
+     400 bad_request 41
+NPAC /carriers raw "{\"spid\" \"MMMM\"}"
+     400 bad_request 41
+NPAC /carriers raw "{\"spid\":\"MMMM\" \"x\":1}"
+     400 bad_request 41
+NPAC /carriers raw "{\"spid\":\"MMMM\""
+     400 bad_request 41
+NPAC /carriers raw "{\"spid\":\"MM\nMM\"}"
+     400 bad_request 41
+NPAC /subscriptionVersionActivate raw "{\"id\":01}"
+     400 bad_request 41
+NPAC /subscriptionVersionActivate raw "{\"id\":}"
+     400 bad_request 41

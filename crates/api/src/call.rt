@@ -15,7 +15,6 @@ use crate::query::query;
 use crate::reply::{Counted, put_refused, put_reply, put_success, take_counted};
 use bodies::{Asked, Failure, Room, asked_of, json};
 use calls::{Call, Command};
-use json::Scratch;
 use meaning::Refusal;
 use messages::{MessageFault, Request, Route, offered, takes};
 use numbers::{Spid, Tn};
@@ -201,7 +200,6 @@ fn carry_out_body<S: Store>(
     route: Route,
     caller: Spid,
     body: &[u8],
-    scratch: &mut Scratch,
     room: &mut Room,
 ) -> Result<(), Failure>
     requires empty { IsEmpty room.old }
@@ -218,7 +216,7 @@ fn carry_out_body<S: Store>(
         (told result (string_bytes room.new.body)) after
         × Stands (S.content register.new.store) after }
 {
-    let value = match json(alloc, body, scratch) {
+    let value = match json(alloc, body) {
         Ok(Some(value)) => value,
         Ok(None) => return Err(Failure::Message(MessageFault::BadRequest)),
         Err(_) => return Err(Failure::Refused(Refusal::NoMemory)),
@@ -285,7 +283,6 @@ fn carry_out<S: Store>(
     route: Route,
     caller: Spid,
     body: &[u8],
-    scratch: &mut Scratch,
     room: &mut Room,
 ) -> Result<(), Failure>
     requires empty { IsEmpty room.old }
@@ -306,7 +303,7 @@ fn carry_out<S: Store>(
         Route::Version(id) => answer(register, caller, &version_asked(id, body)?, room),
         Route::Number(number) => answer(register, caller, &number_asked(number, body)?, room),
         Route::Downloads(count) => answer(register, caller, &downloads_asked(count, body)?, room),
-        _ => carry_out_body(alloc, register, route, caller, body, scratch, room),
+        _ => carry_out_body(alloc, register, route, caller, body, room),
     }
 }
 
@@ -316,7 +313,6 @@ fn reply<S: Store>(
     clock: bool,
     request: &Request,
     body: &[u8],
-    scratch: &mut Scratch,
     room: &mut Room,
 ) -> Result<(), Failure>
     requires empty { IsEmpty room.old }
@@ -333,7 +329,7 @@ fn reply<S: Store>(
         × Stands (S.content register.new.store) after }
 {
     match judged(request, clock) {
-        Ok((route, caller)) => { carry_out(alloc, register, route, caller, body, scratch, room) }
+        Ok((route, caller)) => { carry_out(alloc, register, route, caller, body, room) }
         Err(fault) => Err(Failure::Message(fault)),
     }
 }
@@ -347,7 +343,6 @@ pub fn put_answer<S: Store>(
     clock: bool,
     request: &Request,
     body: &[u8],
-    scratch: &mut Scratch,
     room: &mut Room,
 )
     requires room { HasRoom 512 room.old }
@@ -365,7 +360,7 @@ pub fn put_answer<S: Store>(
         × Stands (S.content register.new.store) after }
 {
     room.clear();
-    match reply(alloc, register, clock, request, body, scratch, room) {
+    match reply(alloc, register, clock, request, body, room) {
         Ok(()) => put_success(room),
         Err(failure) => put_refused(room, failure),
     }

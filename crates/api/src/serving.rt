@@ -17,7 +17,6 @@ use crate::reply::put_refused;
 use crate::tick::take_tick;
 use bodies::{Failure, Room};
 use httparse::spans::{EMPTY_HEADER_SPAN, HeaderSpan};
-use json::Scratch;
 use matchit::Router;
 use messages::{
     Held, MessageFault, Next, NextFault, Request, Route, next_held, next_message, router, send_all,
@@ -95,7 +94,6 @@ fn tick_and_answer<S: Store, T: Ticks>(
     ticks: &mut T,
     request: &Request,
     body: &[u8],
-    scratch: &mut Scratch,
     room: &mut Room,
 )
     requires { HasRoom 512 room.old }
@@ -113,7 +111,7 @@ fn tick_and_answer<S: Store, T: Ticks>(
 {
     let tick = ticks.next();
     match take_tick(register, tick) {
-        Ok(()) => put_answer(alloc, register, clock, request, body, scratch, room),
+        Ok(()) => put_answer(alloc, register, clock, request, body, room),
         Err(refusal) => put_refused(room, Failure::Refused(refusal)),
     }
 }
@@ -126,7 +124,6 @@ fn respond<S: Store, T: Ticks>(
     ticks: &mut T,
     next: Next,
     body: &[u8],
-    scratch: &mut Scratch,
     room: &mut Room,
 ) -> Option<End>
     requires { HasRoom 512 room.old }
@@ -144,7 +141,7 @@ fn respond<S: Store, T: Ticks>(
 {
     match next {
         Next::Message(request) => {
-            tick_and_answer(alloc, register, clock, ticks, &request, body, scratch, room);
+            tick_and_answer(alloc, register, clock, ticks, &request, body, room);
             if request.closes {
                 Some(End::Closed)
             } else {
@@ -242,7 +239,6 @@ fn serve_with<S: Store, T: Ticks, R: Read, W: Write>(
     ensures honest { S.IsHonest register.new.store → S.IsHonest register.old.store }
 {
     let mut body = Vec::new(alloc);
-    let mut scratch = Scratch::new(alloc);
     let mut headers = [EMPTY_HEADER_SPAN; FIELD_LIMIT];
     let mut at_hand = None;
     for count in 0..u64::MAX {
@@ -264,7 +260,6 @@ fn serve_with<S: Store, T: Ticks, R: Read, W: Write>(
             ticks,
             next,
             &body,
-            &mut scratch,
             room,
         );
         at_hand = next_held(held, &mut headers, router, &mut body);

@@ -8,5 +8,6 @@ mod ListLemmas
 mod Members
 mod Phrases
 pub mod RefusalLemmas
+mod ScanLemmas
 mod TelNames
 pub mod WholeRefusals

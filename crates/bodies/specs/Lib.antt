@@ -5,4 +5,5 @@ pub mod Forms
 pub mod Held
 pub mod RefusalTexts
 pub mod Rooms
+pub mod Scanned
 pub mod Texts

@@ -6,8 +6,8 @@ ghost use Rattle.bodies.specs.Forms.{json_of};
 ghost use Rattle.bodies.specs.Held.{body_data};
 
 use crate::fields::Fields;
-use crate::flat::{Flat, read_flat};
-use json::Scratch;
+use crate::flat::Flat;
+use crate::scan::read_flat;
 use serde_json::{Category, Value};
 use std::alloc::{AllocError, Global};
 
@@ -79,21 +79,17 @@ fn tree(alloc: Global, text: &str) -> Result<Option<Value>, AllocError>
 
 /// The JSON value of a body, or `None` where it is no JSON. `Err` is want of memory.
 ///
-/// An object of plain values, which is what every body of a form is but a donation's, takes no
-/// memory of its own: its texts are the body's, or where they have escapes the scratch's.
-pub fn json<'a>(
-    alloc: Global,
-    body: &'a [u8],
-    scratch: &'a mut Scratch,
-) -> Result<Option<Body<'a>>, AllocError>
+/// An object of plain values with no escapes, which is what every body of a form is but a
+/// donation's, takes no memory: its texts are the body's.
+pub fn json(alloc: Global, body: &[u8]) -> Result<Option<Body<'_>>, AllocError>
     ensures { IfOk result (λ read. option_map body_data read ≡ json_of body.now) }
 {
+    if let Some(flat) = read_flat(body) {
+        return Ok(Some(Body::Flat(flat)));
+    }
     let Ok(text) = str::from_utf8(body) else {
         return Ok(None);
     };
-    if let Some(flat) = read_flat(text, scratch)? {
-        return Ok(Some(Body::Flat(flat)));
-    }
     match tree(alloc, text)? {
         Some(value) => Ok(Some(Body::Tree(value))),
         None => Ok(None),

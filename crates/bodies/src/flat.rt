@@ -1,4 +1,4 @@
-//! Objects in which no array and no object stands, read without a tree.
+//! Objects in which no array and no object stands, held without a tree.
 ghost use Rattle.std.specs.Prelude.{◌≡◌, ◌++◌, ◌∷◌, [], Some, option_map, map, IfOk, IfSome, OnOk};
 ghost use Rattle.json.specs.Reads.{token_of};
 ghost use Rattle.serde_json.specs.Find.{get as get_in};
@@ -11,10 +11,7 @@ ghost use Rattle.bodies.specs.Flat.{scalar_data, flat_data, members_upon, read_o
 
 use crate::fields::{Fields, is_one_of};
 use arrayvec::ArrayVec;
-use json::{Reader, Scratch, Token};
-use messages::read_number;
 use serde_json::Value;
-use std::alloc::AllocError;
 
 /// What stands under a key.
 #[derive(Clone, Copy, Debug)]
@@ -49,7 +46,7 @@ const MOST_MEMBERS: usize = 6;
 /// The members of an object, in the order in which they stand.
 #[derive(Drop)]
 pub struct Flat<'a> {
-    members: ArrayVec<Member<'a>, MOST_MEMBERS>,
+    pub(crate) members: ArrayVec<Member<'a>, MOST_MEMBERS>,
 }
 
 impl<'a> Flat<'a> {
@@ -68,57 +65,6 @@ impl<'a> Flat<'a> {
         }
         None
     }
-}
-
-// The text, the whole number, the flag or the null that a token is.
-fn scalar_of<'a>(token: Token<'a>) -> Option<Scalar<'a>>
-    ensures { IfSome result (IsScalar (token_of token.entry)) }
-{
-    match token {
-        Token::String(text) => Some(Scalar::Text(text)),
-        Token::Number(text) => Some(Scalar::Whole(read_number(text.as_bytes())?)),
-        Token::Bool(flag) => Some(Scalar::Flag(flag)),
-        Token::Null => Some(Scalar::Null),
-        _ => None,
-    }
-}
-
-// The members up to the end of an object that has begun.
-fn read_members<'a>(reader: &mut Reader<'a>) -> Option<Flat<'a>>
-    ensures { IfSome result (λ flat. read_object reader.old
-        ≡ Some (members_upon no_members flat.members.items, reader.new)) }
-{
-    let mut members = ArrayVec::new();
-    'members: while let Some(key) = reader.next_key().ok()? {
-        let value = scalar_of(reader.next()?)?;
-        let Ok(()) = members.try_push(Member { key, value }) else {
-            return None;
-        };
-    }
-    Some(Flat { members })
-}
-
-/// The object that a text is. `None` where it is no object, an array or an object stands in it, it
-/// has more members than any body, or a number has a sign, a point, an exponent or more than 19
-/// digits. `Err` is want of memory.
-pub fn read_flat<'a>(
-    text: &'a str,
-    scratch: &'a mut Scratch,
-) -> Result<Option<Flat<'a>>, AllocError>
-    ensures { IfOk result (λ o. IfSome o
-        (λ flat. read_text text.now ≡ Some (flat_data flat.members.items))) }
-{
-    let mut reader = Reader::new(text, scratch)?;
-    let Some(Token::BeginObject) = reader.next() else {
-        return Ok(None);
-    };
-    let Some(flat) = read_members(&mut reader) else {
-        return Ok(None);
-    };
-    if reader.next().is_some() {
-        return Ok(None);
-    }
-    Ok(Some(flat))
 }
 
 // Whether each of the members has one of these keys.

@@ -10,6 +10,7 @@ mod forms;
 mod list;
 mod reply;
 mod room;
+mod scan;
 mod used;
 
 pub use answer::Room;

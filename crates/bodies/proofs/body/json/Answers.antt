@@ -1,10 +1,9 @@
-use Rattle.std.proofs.Common.{rules, ◌≡◌, ◌∙◌, List, ℕ, Bool, true, false, Some, None, Option, refl, ap, sym, cond}
+use Rattle.std.proofs.Common.{rules, ◌≡◌, ◌∙◌, List, ℕ, Bool, true, false, Some, None, Option, refl, ap, cond}
 use Rattle.std.proofs.lemmas.Str.{IsUtf8-from_is_utf8, is_utf8-from_IsUtf8}
 use Rattle.std.specs.Str.{is_utf8, IsUtf8}
 use Rattle.serde_json.specs.Data.{Data}
 use Rattle.serde_json.specs.Read.{read}
 use Rattle.serde_json.specs.View.{view}
-use Rattle.bodies.specs.Flat.{flat_data}
 use Rattle.bodies.proofs.body.json.Goals as goal
 
 none_of : (body : List ℕ) (d : Option Data) (b : Bool) → is_utf8 body ≡ b → (IsUtf8 body → ⊥) → None ≡ cond b d None
@@ -14,17 +13,10 @@ none_of body d false e never = refl
 some_of : (body text : List ℕ) (d : Option Data) → IsUtf8 body → text ≡ body → d ≡ read text → d ≡ cond (is_utf8 body) (read body) None
 some_of body text d utf8 same is = rw (is_utf8-from_IsUtf8 body utf8) (is ∙ ap read same)
 
-pub returns-in_default : goal.returns-in_default
-returns-in_default c =
+pub returns-in_default-from_utf8 : goal.returns-in_default-from_utf8
+returns-in_default-from_utf8 c =
     let never : IsUtf8 c.args.body.now → ⊥ = search rules in
     none_of c.args.body.now _ _ refl never
-
-pub returns-in-Some : goal.returns-in-Some
-returns-in-Some c =
-    let utf8 : IsUtf8 c.args.body.now = search rules in
-    let same : c.in-Ok.text.now ≡ c.args.body.now = search rules in
-    let found : read c.in-Ok.text.now ≡ Some (flat_data c.in-Some.flat.members.items) = search rules in
-    some_of c.args.body.now c.in-Ok.text.now (Some (flat_data c.in-Some.flat.members.items)) utf8 same (sym found)
 
 pub returns-in-Some-2 : goal.returns-in-Some-2
 returns-in-Some-2 c =
