@@ -36,7 +36,7 @@ pub(crate) fn carriers<S: Alter>(conn: &mut Connection<S>) -> Result<Vec<Spid>, 
     Ok(carriers)
 }
 
-fn downloads_of(alloc: Global, waits: &[KeyedWait]) -> Result<Vec<DownloadKey>, Fault>
+pub(crate) fn downloads_of(alloc: Global, waits: &[KeyedWait]) -> Result<Vec<DownloadKey>, Fault>
     ensures { IfOk result (λ downloads. downloads.items ≡ map download_of waits.now) }
 {
     let mut downloads = Vec::with_capacity(alloc, waits.len())?;
