@@ -10,3 +10,4 @@ pub mod QueueLemmas
 pub mod MappedLemmas
 pub mod RoutedLemmas
 pub mod BlockLemmas
+pub mod WholeLemmas

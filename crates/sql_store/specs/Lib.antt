@@ -6,3 +6,4 @@ pub mod Lists
 pub mod Queues
 pub mod Routed
 pub mod Blocks
+pub mod Whole

@@ -15,6 +15,7 @@ mod rows;
 mod schema;
 mod select;
 mod store;
+mod whole;
 
 pub use opening::Refused;
 pub use store::SqlStore;

@@ -16,7 +16,7 @@ use delivery::{Broadcast, DownloadKey};
 use numbers::{Minute, Spid, Subject};
 use settle::{BroadcastKey, WaitKey};
 use sql_rows::{
-    Fault, KeyedBroadcast, KeyedWait, Query, broadcast_key, spid_bytes, subject, text, truth,
+    Fault, KeyedBroadcast, KeyedWait, Query, Table, broadcast_key, spid_bytes, subject, text, truth,
 };
 use sqlite::{Alter, Connection};
 use std::alloc::Global;
@@ -31,7 +31,7 @@ pub(crate) fn carriers<S: Alter>(conn: &mut Connection<S>) -> Result<Vec<Spid>, 
     ensures looked { Looked (state S.Store conn.old) (state S.Store conn.new) (is_ok result) }
     ensures idle { conn.new.in_transaction ≡ false }
 {
-    let mut carriers: Vec<Spid> = find_all(conn, Query::AllCarriers, &[])?;
+    let mut carriers: Vec<Spid> = find_all(conn, Query::All(Table::Carrier), &[])?;
     put_in_order(&mut carriers);
     Ok(carriers)
 }
