@@ -32,7 +32,7 @@ use Rattle.sql_rows.specs.Statements.{query_test, shown_by}
 use Rattle.sql_rows.specs.declared.keyed.KeyedBroadcast.{KeyedBroadcast}
 use Rattle.sql_rows.specs.declared.keyed.KeyedWait.{KeyedWait}
 use Rattle.sql_rows.specs.declared.statement.Table.TheVariants.{Carrier, Broadcast, Wait, Version}
-use Rattle.sql_rows.specs.declared.statement.Query.TheVariants.{AllCarriers, BroadcastsByOpen, WaitsAbout, WaitsFor, WaitsOf, InForceAmong, OpenAmong}
+use Rattle.sql_rows.specs.declared.statement.Query.TheVariants.{All, BroadcastsByOpen, WaitsAbout, WaitsFor, WaitsOf, InForceAmong, OpenAmong}
 use Rattle.sql_rows.proofs.Backs.{subject_back}
 use Rattle.sql_rows.proofs.DueLemmas.{below_numbers, le_said, le_told}
 use Rattle.sql_rows.proofs.FoundLemmas.{versions_once}
@@ -129,10 +129,10 @@ open_says r k v is =
 -- ---- the lists
 
 module _ (db : Trees) (once : AreKeysOnce db) where
-  pub carriers_picked : (items : List Spid) → IsListAnswer AllCarriers carrier_in db [] (map carrier_seen items) → Picks carrier_seen (content_in db).carriers (λ k v. Unit {0}) items
+  pub carriers_picked : (items : List Spid) → IsListAnswer (All Carrier) carrier_in db [] (map carrier_seen items) → Picks carrier_seen (content_in db).carriers (λ k v. Unit {0}) items
   carriers_picked items h =
-      picks nat_cmp_total same_number carrier_in carrier_shown carrier_seen (passes (query_test AllCarriers) []) (λ k v. Unit {0}) (db 0) items once.carriers (λ r k v is. (λ e. tt, λ e. refl))
-      (listed carrier_seen carrier_in carrier_shown _ (db 0) h.0 items (plain_answer 0 (query_test AllCarriers) (shown_by Carrier) (overlay db []) [] h.0 h.1) h.2)
+      picks nat_cmp_total same_number carrier_in carrier_shown carrier_seen (passes (query_test (All Carrier)) []) (λ k v. Unit {0}) (db 0) items once.carriers (λ r k v is. (λ e. tt, λ e. refl))
+      (listed carrier_seen carrier_in carrier_shown _ (db 0) h.0 items (plain_answer 0 (query_test (All Carrier)) (shown_by Carrier) (overlay db []) [] h.0 h.1) h.2)
 
   pub waits_for_picked : (s : Spid) (items : List KeyedWait) → IsListAnswer WaitsFor wait_in db (spid_value s.number ∷ []) (map wait_seen items) → Picks wait_seen (content_in db).waits (λ k v. k.carrier ≡ s.number) items
   waits_for_picked s items h =

@@ -8,7 +8,7 @@ use Rattle.sql_rows.specs.Statements.{query_text, query_command, delete_text, de
 use Rattle.sql_rows.specs.declared.statement.Table.{Table}
 use Rattle.sql_rows.specs.declared.statement.Table.TheVariants.{Carrier, Lrn, Code, Block, Version, Broadcast, Wait, Clock}
 use Rattle.sql_rows.specs.declared.statement.Query.{Query}
-use Rattle.sql_rows.specs.declared.statement.Query.TheVariants.{CarrierNamed, LrnNumbered, CodeNumbered, BlockNumbered, ClockNumbered, VersionNumbered, VersionInForce, VersionOpen, VersionDue, BroadcastKeyed, AllCarriers, BroadcastsByOpen, WaitsAbout, WaitsFor, WaitsOf, InForceAmong, OpenAmong}
+use Rattle.sql_rows.specs.declared.statement.Query.TheVariants.{CarrierNamed, LrnNumbered, CodeNumbered, BlockNumbered, ClockNumbered, VersionNumbered, VersionInForce, VersionOpen, VersionDue, BroadcastKeyed, All, BroadcastsByOpen, WaitsAbout, WaitsFor, WaitsOf, InForceAmong, OpenAmong}
 
 pub query_is : (q : Query) → command_of (understood the_schema (query_text q)) ≡ query_command q
 unfolding understood everything
@@ -22,7 +22,14 @@ query_is VersionInForce = refl
 query_is VersionOpen = refl
 query_is VersionDue = refl
 query_is BroadcastKeyed = refl
-query_is AllCarriers = refl
+query_is (All Carrier) = refl
+query_is (All Lrn) = refl
+query_is (All Code) = refl
+query_is (All Block) = refl
+query_is (All Version) = refl
+query_is (All Broadcast) = refl
+query_is (All Wait) = refl
+query_is (All Clock) = refl
 query_is BroadcastsByOpen = refl
 query_is WaitsAbout = refl
 query_is WaitsFor = refl
@@ -42,7 +49,14 @@ query_plain VersionInForce = (refl, refl)
 query_plain VersionOpen = (refl, refl)
 query_plain VersionDue = (refl, refl)
 query_plain BroadcastKeyed = (refl, refl)
-query_plain AllCarriers = (refl, refl)
+query_plain (All Carrier) = (refl, refl)
+query_plain (All Lrn) = (refl, refl)
+query_plain (All Code) = (refl, refl)
+query_plain (All Block) = (refl, refl)
+query_plain (All Version) = (refl, refl)
+query_plain (All Broadcast) = (refl, refl)
+query_plain (All Wait) = (refl, refl)
+query_plain (All Clock) = (refl, refl)
 query_plain BroadcastsByOpen = (refl, refl)
 query_plain WaitsAbout = (refl, refl)
 query_plain WaitsFor = (refl, refl)
@@ -62,7 +76,14 @@ query_unlisted VersionInForce = refl
 query_unlisted VersionOpen = refl
 query_unlisted VersionDue = refl
 query_unlisted BroadcastKeyed = refl
-query_unlisted AllCarriers = refl
+query_unlisted (All Carrier) = refl
+query_unlisted (All Lrn) = refl
+query_unlisted (All Code) = refl
+query_unlisted (All Block) = refl
+query_unlisted (All Version) = refl
+query_unlisted (All Broadcast) = refl
+query_unlisted (All Wait) = refl
+query_unlisted (All Clock) = refl
 query_unlisted BroadcastsByOpen = refl
 query_unlisted WaitsAbout = refl
 query_unlisted WaitsFor = refl

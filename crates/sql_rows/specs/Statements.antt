@@ -15,7 +15,7 @@ use Rattle.sql_rows.specs.Tables.{carrier_table, lrn_table, code_table, block_ta
 use Rattle.sql_rows.specs.declared.statement.Table.{Table}
 use Rattle.sql_rows.specs.declared.statement.Table.TheVariants.{Carrier, Lrn, Code, Block, Version, Broadcast, Wait, Clock}
 use Rattle.sql_rows.specs.declared.statement.Query.{Query}
-use Rattle.sql_rows.specs.declared.statement.Query.TheVariants.{CarrierNamed, LrnNumbered, CodeNumbered, BlockNumbered, ClockNumbered, VersionNumbered, VersionInForce, VersionOpen, VersionDue, BroadcastKeyed, AllCarriers, BroadcastsByOpen, WaitsAbout, WaitsFor, WaitsOf, InForceAmong, OpenAmong}
+use Rattle.sql_rows.specs.declared.statement.Query.TheVariants.{CarrierNamed, LrnNumbered, CodeNumbered, BlockNumbered, ClockNumbered, VersionNumbered, VersionInForce, VersionOpen, VersionDue, BroadcastKeyed, All, BroadcastsByOpen, WaitsAbout, WaitsFor, WaitsOf, InForceAmong, OpenAmong}
 
 -- ---- the tables
 
@@ -148,6 +148,17 @@ insert_command t = Insert (slot_of t) (Values (insert_terms t) (width_of t))
 
 -- ---- queries
 
+-- all rows of a table
+abbrev pub all_text : Table → List ℕ
+all_text Carrier = codes "SELECT spid FROM carrier"
+all_text Lrn = codes "SELECT lrn, spid FROM lrn"
+all_text Code = codes "SELECT code, spid FROM code"
+all_text Block = codes "SELECT block, donor, last FROM block"
+all_text Version = codes "SELECT id, subject, old, new, due, lrn, cic, old_at, new_at, status, sends, since, attempt, release, spent, protective, cancelled_by, deadline, holds, opens FROM version"
+all_text Broadcast = codes "SELECT id, attempt, minute, subject, action, lrn, cic, open, any FROM broadcast"
+all_text Wait = codes "SELECT spid, minute, id, attempt, subject FROM wait"
+all_text Clock = codes "SELECT one, now, next_id, initial_concurrence, final_concurrence, conflict_restriction, conflict_resolution, conflict_expiration, cancellation_initial, cancellation_final, pending_retention, broadcast FROM clock"
+
 abbrev pub query_text : Query → List ℕ
 query_text CarrierNamed = codes "SELECT spid FROM carrier WHERE spid = ?1"
 query_text LrnNumbered = codes "SELECT lrn, spid FROM lrn WHERE lrn = ?1"
@@ -159,7 +170,7 @@ query_text VersionInForce = codes "SELECT id, subject, old, new, due, lrn, cic, 
 query_text VersionOpen = codes "SELECT id, subject, old, new, due, lrn, cic, old_at, new_at, status, sends, since, attempt, release, spent, protective, cancelled_by, deadline, holds, opens FROM version WHERE opens = ?1"
 query_text VersionDue = codes "SELECT id, subject, old, new, due, lrn, cic, old_at, new_at, status, sends, since, attempt, release, spent, protective, cancelled_by, deadline, holds, opens FROM version WHERE deadline <= ?1 ORDER BY deadline LIMIT 1"
 query_text BroadcastKeyed = codes "SELECT id, attempt, minute, subject, action, lrn, cic, open, any FROM broadcast WHERE id = ?1 AND attempt = ?2"
-query_text AllCarriers = codes "SELECT spid FROM carrier"
+query_text (All t) = all_text t
 query_text BroadcastsByOpen = codes "SELECT id, attempt, minute, subject, action, lrn, cic, open, any FROM broadcast WHERE open = ?1"
 query_text WaitsAbout = codes "SELECT spid, minute, id, attempt, subject FROM wait WHERE subject = ?1 AND spid = ?2"
 query_text WaitsFor = codes "SELECT spid, minute, id, attempt, subject FROM wait WHERE spid = ?1"
@@ -178,7 +189,7 @@ asked_of VersionInForce = Version
 asked_of VersionOpen = Version
 asked_of VersionDue = Version
 asked_of BroadcastKeyed = Broadcast
-asked_of AllCarriers = Carrier
+asked_of (All t) = t
 asked_of BroadcastsByOpen = Broadcast
 asked_of WaitsAbout = Wait
 asked_of WaitsFor = Wait
@@ -197,7 +208,7 @@ query_test VersionInForce = column_is 19 0 ∷ []
 query_test VersionOpen = column_is 20 0 ∷ []
 query_test VersionDue = op2 (Compare Le Binary) (col 1 18) (col 0 0) ∷ []
 query_test BroadcastKeyed = column_is 1 0 ∷ column_is 2 1 ∷ []
-query_test AllCarriers = []
+query_test (All t) = []
 query_test BroadcastsByOpen = column_is 8 0 ∷ []
 query_test WaitsAbout = column_is 5 0 ∷ column_is 1 1 ∷ []
 query_test WaitsFor = column_is 1 0 ∷ []

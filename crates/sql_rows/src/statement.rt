@@ -1,6 +1,6 @@
 //! The texts of all statements. A connection keeps the last 64 of them as it understood them.
 ghost use Rattle.std.specs.Prelude.{◌≡◌};
-ghost use Rattle.sql_rows.specs.Statements.{delete_text, insert_text, query_text};
+ghost use Rattle.sql_rows.specs.Statements.{all_text, delete_text, insert_text, query_text};
 
 /// The tables of a register's file.
 #[derive(Clone, Copy, Debug, PartialEq, Eq)]
@@ -32,6 +32,34 @@ impl Table {
                  ?4"
             }
             Table::Clock => "DELETE FROM clock WHERE one = ?1",
+        }
+    }
+
+    /// All rows, each with its columns.
+    pub fn all_text(self) -> &'static str
+        ensures { result.now ≡ all_text self }
+    {
+        match self {
+            Table::Carrier => "SELECT spid FROM carrier",
+            Table::Lrn => "SELECT lrn, spid FROM lrn",
+            Table::Code => "SELECT code, spid FROM code",
+            Table::Block => "SELECT block, donor, last FROM block",
+            Table::Version => {
+                "SELECT id, subject, old, new, due, lrn, cic, old_at, new_at, status, sends, \
+                 since, attempt, release, spent, protective, cancelled_by, deadline, holds, \
+                 opens FROM version"
+            }
+            Table::Broadcast => {
+                "SELECT id, attempt, minute, subject, action, lrn, cic, open, any FROM \
+                 broadcast"
+            }
+            Table::Wait => "SELECT spid, minute, id, attempt, subject FROM wait",
+            Table::Clock => {
+                "SELECT one, now, next_id, initial_concurrence, final_concurrence, \
+                 conflict_restriction, conflict_resolution, conflict_expiration, \
+                 cancellation_initial, cancellation_final, pending_retention, broadcast FROM \
+                 clock"
+            }
         }
     }
 
@@ -92,8 +120,8 @@ pub enum Query {
     VersionDue,
     /// The broadcast of a version by its attempt.
     BroadcastKeyed,
-    /// Every carrier.
-    AllCarriers,
+    /// Every row of a table.
+    All(Table),
     /// The broadcasts that are open, or not.
     BroadcastsByOpen,
     /// A subject's downloads that wait for a carrier.
@@ -148,7 +176,7 @@ impl Query {
                 "SELECT id, attempt, minute, subject, action, lrn, cic, open, any FROM \
                  broadcast WHERE id = ?1 AND attempt = ?2"
             }
-            Query::AllCarriers => "SELECT spid FROM carrier",
+            Query::All(table) => table.all_text(),
             Query::BroadcastsByOpen => {
                 "SELECT id, attempt, minute, subject, action, lrn, cic, open, any FROM \
                  broadcast WHERE open = ?1"

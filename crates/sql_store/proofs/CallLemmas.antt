@@ -353,3 +353,12 @@ module _ (old mid new : State) (change : Content → Content) (Becomes : Content
           };
       crash = all_survives;
     }
+
+-- no read at all
+pub looked_still : (a : State) → Looked a a true
+looked_still a = record {
+  same = λ up. record { was_open = up; now = refl; committed = refl };
+  honest = λ done. done;
+  stays = λ ok was done. was;
+  survives = λ was done. record { clean = omega arith; shield = λ s. s; counts = omega arith; limit = refl; closes = λ clean h. inl h; crash = λ clean db may. inl may };
+}

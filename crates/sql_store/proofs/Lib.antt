@@ -6,3 +6,8 @@ pub mod OpeningLemmas
 pub mod ListLemmas
 pub mod WaiterLemmas
 pub mod BroadcastLemmas
+pub mod QueueLemmas
+pub mod MappedLemmas
+pub mod RoutedLemmas
+pub mod BlockLemmas
+pub mod WholeLemmas

@@ -76,7 +76,7 @@ carriers_are c found items picks rises only each =
 
 -- ---- what waits for a carrier
 
-download_tie : (a b : DownloadKey) → download_cmp a b ≡ Equal → (a.minute.number ≡ b.minute.number) × (a.id ≡ b.id) × (a.attempt ≡ b.attempt)
+pub download_tie : (a b : DownloadKey) → download_cmp a b ≡ Equal → (a.minute.number ≡ b.minute.number) × (a.id ≡ b.id) × (a.attempt ≡ b.attempt)
 download_tie a b e =
     let p = both_Equal (nat_cmp a.minute.number b.minute.number) (ordering_then (nat_cmp a.id b.id) (nat_cmp a.attempt b.attempt)) e in
     let q = both_Equal (nat_cmp a.id b.id) (nat_cmp a.attempt b.attempt) p.1 in

@@ -32,6 +32,10 @@ use Rattle.sql_rows.proofs.DueLemmas.{due_is_found}
 pub one_bound : (r : ValueRef) (v : Value) → bound_value v ≡ v → owned r ≡ v → bound (r ∷ []) ≡ v ∷ []
 one_bound r v plain is = ap (λ w. bound_value w ∷ []) is ∙ ap (λ w. w ∷ []) plain
 
+-- two numbers are bound as they are
+pub two_bound : (r s : ValueRef) (m n : ℕ) → owned r ≡ Int (pos m) → owned s ≡ Int (pos n) → bound (r ∷ s ∷ []) ≡ Int (pos m) ∷ Int (pos n) ∷ []
+two_bound r s m n one two = ap (λ v. bound_value v ∷ bound_value (owned s) ∷ []) one ∙ ap (λ v. Int (pos m) ∷ bound_value v ∷ []) two
+
 abbrev owner_seen : KeyedOwner → ℕ × ℕ
 owner_seen o = (o.number, spid_of o.owner)
 

@@ -1,9 +1,10 @@
 -- What an open says of the store's tables.
-use Rattle.std.proofs.Common.{◌≡◌, sym, ap, subst}
+use Rattle.std.proofs.Common.{◌≡◌, ◌≤◌, Bool, sym, ap, subst}
 use Rattle.sqlite.specs.View.{View, IsShaped}
 use Rattle.sqlite.specs.Effect.{Database, IsDatabase}
 use Rattle.sqlite.specs.State.{State, Opens}
-use Rattle.sqlite_trees.specs.View.{IsOrdered}
+use Rattle.sqlite_trees.specs.View.{IsOrdered, doubt}
+use Rattle.sqlite_trees.proofs.Doubt.{clean_of, no_doubt, only_falls}
 use Rattle.sqlite_trees.specs.Objects.{catalog_tree, IsListed}
 use Rattle.sqlite_catalog.specs.Listing.{IsSound}
 use Rattle.sqlite_catalog.proofs.LayoutLemmas.{laid_out, objects_rise}
@@ -36,3 +37,7 @@ opened_ours v s listed ordered same has opens sound =
       same_schema = ap (λ (d : Database). d.schema) opens.clean;
       same_trees = ap (λ (d : Database). d.trees) opens.clean;
     }
+
+-- where the disk is clean afterwards only if it was before, no fault is forgotten
+pub falls : (old new : Bool) → (doubt new ≡ 0 → doubt old ≡ 0) → doubt old ≤ doubt new
+falls old new honest = only_falls old new (λ clean. clean_of old (honest (no_doubt new clean)))

@@ -42,7 +42,7 @@ none_kept : {A : Type 0} (q : A → Bool) → ((x : A) → q x ≡ false) → (x
 none_kept q none [] = refl
 none_kept q none (x ∷ xs) = ap (λ b. cond b (x ∷ filter q xs) (filter q xs)) (none x) ∙ none_kept q none xs
 
-has_any : {A : Type 0} (p : A → Bool) (xs : List A) (x : A) → Has xs x → p x ≡ true → list_any p xs ≡ true
+pub has_any : {A : Type 0} (p : A → Bool) (xs : List A) (x : A) → Has xs x → p x ≡ true → list_any p xs ≡ true
 has_any p [] x at is = absurd at
 has_any p (y ∷ ys) x (inl same) is = ap (λ b. b || list_any p ys) (ap p (sym same) ∙ is)
 has_any p (y ∷ ys) x (inr at) is = or_true (p y) (has_any p ys x at is)

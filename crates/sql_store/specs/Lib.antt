@@ -3,3 +3,7 @@ pub mod Changes
 pub mod Refusal
 pub mod Wanted
 pub mod Lists
+pub mod Queues
+pub mod Routed
+pub mod Blocks
+pub mod Whole

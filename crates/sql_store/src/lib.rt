@@ -1,6 +1,7 @@
 //! The store over SQL: the rows of a register in the tables of a file, or of a database in memory.
 #![tactic(auto)]
 
+mod blocks;
 mod change;
 mod commit;
 mod lists;
@@ -8,10 +9,13 @@ mod lookups;
 mod once;
 mod opening;
 mod order;
+mod queue;
+mod routed;
 mod rows;
 mod schema;
 mod select;
 mod store;
+mod whole;
 
 pub use opening::Refused;
 pub use store::SqlStore;

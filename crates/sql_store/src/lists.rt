@@ -16,7 +16,7 @@ use delivery::{Broadcast, DownloadKey};
 use numbers::{Minute, Spid, Subject};
 use settle::{BroadcastKey, WaitKey};
 use sql_rows::{
-    Fault, KeyedBroadcast, KeyedWait, Query, broadcast_key, spid_bytes, subject, text, truth,
+    Fault, KeyedBroadcast, KeyedWait, Query, Table, broadcast_key, spid_bytes, subject, text, truth,
 };
 use sqlite::{Alter, Connection};
 use std::alloc::Global;
@@ -31,12 +31,12 @@ pub(crate) fn carriers<S: Alter>(conn: &mut Connection<S>) -> Result<Vec<Spid>, 
     ensures looked { Looked (state S.Store conn.old) (state S.Store conn.new) (is_ok result) }
     ensures idle { conn.new.in_transaction ≡ false }
 {
-    let mut carriers: Vec<Spid> = find_all(conn, Query::AllCarriers, &[])?;
+    let mut carriers: Vec<Spid> = find_all(conn, Query::All(Table::Carrier), &[])?;
     put_in_order(&mut carriers);
     Ok(carriers)
 }
 
-fn downloads_of(alloc: Global, waits: &[KeyedWait]) -> Result<Vec<DownloadKey>, Fault>
+pub(crate) fn downloads_of(alloc: Global, waits: &[KeyedWait]) -> Result<Vec<DownloadKey>, Fault>
     ensures { IfOk result (λ downloads. downloads.items ≡ map download_of waits.now) }
 {
     let mut downloads = Vec::with_capacity(alloc, waits.len())?;

@@ -1,17 +1,23 @@
 //! A store over what was opened.
-ghost use Rattle.std.specs.Prelude.{◌≡◌, ◌≤◌, IsTrue, IfOk, IfErr};
+ghost use Rattle.std.specs.Prelude.{◌≡◌, ◌≤◌, true, false, IsTrue, IfOk, IfErr};
 ghost use Rattle.sqlite.specs.Held.{state};
+ghost use Rattle.sqlite.specs.Files.{file_state};
 ghost use Rattle.sqlite.specs.State.{HasCleanDisk};
-ghost use Rattle.sqlite.specs.Steps.{IsFresh};
+ghost use Rattle.sqlite.specs.Steps.{IsFresh, over_memory};
 ghost use Rattle.sqlite_trees.specs.View.{IsClean, doubt};
+ghost use Rattle.meaning.specs.Content.{empty_content};
 ghost use Rattle.sql_rows.specs.Content.{content_in};
+ghost use Rattle.sql_rows.specs.Tables.{no_schema};
 ghost use Rattle.sql_store.specs.Refusal.{IsUnharmed};
+ghost use Rattle.sql_store.specs.Whole.{IsWhole, ReadsAll};
 
 use crate::SqlStore;
 use crate::schema::is_ours;
+use crate::whole::read_all;
 use settle::StoreFault;
 use sql_rows::Fault;
-use sqlite::{Alter, Connection, Error};
+use sqlite::{Alter, Connection, Error, FileFrom, FileStore, MemStore, Start};
+use sqlite_schema::schema::Schema;
 use std::alloc::Global;
 
 // All tables, and then the indexes: so the trees have the numbers of the schema, and keep them when
@@ -50,25 +56,44 @@ pub enum Refused<S: Alter> {
     Store(S),
 }
 
-fn fault_of(error: Error) -> StoreFault {
-    match Fault::from(error) {
+impl<S: Alter + Drop> Refused<S> {
+    /// The database alone, as the last commit left it.
+    pub fn into_store(self) -> S {
+        match self {
+            Refused::Connection(conn) => conn.into_store(),
+            Refused::Store(store) => store,
+        }
+    }
+}
+
+// Whether nothing is listed yet.
+fn is_blank(schema: &Schema) -> bool
+    ensures yes { IsTrue result → schema.now ≡ no_schema }
+    ensures no { result ≡ false → ¬ (schema.now ≡ no_schema) }
+{
+    schema.tables.is_empty() && schema.indexes.is_empty() && schema.views.is_empty()
+}
+
+// What the store answers for a fault.
+fn told(fault: Fault) -> StoreFault {
+    match fault {
         Fault::Memory => StoreFault::NoMemory,
         Fault::Device => StoreFault::Storage,
     }
 }
 
+fn fault_of(error: Error) -> StoreFault {
+    told(Fault::from(error))
+}
+
 impl<S: Alter + Drop> SqlStore<S> {
-    /// Takes a database if its tables are the schema's. Its lists and rules are checked first.
-    ///
-    /// # Errors
-    ///
-    /// `Storage` where the schema is another or the device failed, with the database.
-    pub fn over(alloc: Global, store: S) -> Result<SqlStore<S>, (StoreFault, S)>
+    // Takes a database if its tables are the schema's.
+    fn listed(alloc: Global, store: S) -> Result<SqlStore<S>, (StoreFault, S)>
         requires { IsClean (S.Store.view store) → IsFresh (S.Store.view store) }
         ensures open { IfOk result (λ s. HasCleanDisk (state S.Store s.conn) → IsTrue (state
             S.Store s.conn).is_open) }
-        ensures content { IfOk result (λ s. HasCleanDisk (state S.Store s.conn) → content_in
-            (state S.Store s.conn).now.trees ≡ content_in (S.Store.view store).trees) }
+        ensures trees { IfOk result (λ s. HasCleanDisk (state S.Store s.conn) → (state S.Store
+            s.conn).now.trees ≡ (S.Store.view store).trees) }
         ensures none { IfOk result (λ s. s.failures ≡ 0) }
         ensures clean { IfOk result (λ s. doubt (S.Store.view store).is_clean ≤ doubt (state
             S.Store s.conn).is_clean) }
@@ -89,21 +114,95 @@ impl<S: Alter + Drop> SqlStore<S> {
         }
     }
 
-    /// Takes a connection if its tables are the schema's. What is not committed is rolled back.
+    // Reads every row once, and tells whether there is none. A row that does not read is refused,
+    // with the database.
+    fn read(mut self) -> Result<(SqlStore<S>, bool), (StoreFault, S)>
+        ensures open { IfOk result (λ e. HasCleanDisk (state S.Store e.0.conn) → IsTrue (state
+            S.Store self.conn).is_open → IsTrue (state S.Store e.0.conn).is_open) }
+        ensures now { IfOk result (λ e. IsTrue (state S.Store e.0.conn).is_open → (state S.Store
+            e.0.conn).now.trees ≡ (state S.Store self.conn).now.trees) }
+        ensures reads { IfOk result (λ e. IsTrue (state S.Store e.0.conn).is_open → ReadsAll (state
+            S.Store e.0.conn).now.trees e.1) }
+        ensures none { IfOk result (λ e. e.0.failures ≡ self.failures) }
+        ensures clean { IfOk result (λ e. doubt (state S.Store self.conn).is_clean ≤ doubt (state
+            S.Store e.0.conn).is_clean) }
+        ensures err_clean { IfErr result (λ e. doubt (state S.Store self.conn).is_clean ≤ doubt
+            (S.Store.view e.1).is_clean) }
+        ensures err { IfErr result (λ e. IsClean (S.Store.view e.1) → IsTrue (S.Store.view
+            e.1).is_open → (S.Store.view e.1).trees ≡ (state S.Store self.conn).now.trees) }
+    {
+        match read_all(&mut self.conn) {
+            Ok(blank) => Ok((self, blank)),
+            Err(fault) => Err((told(fault), self.into_connection().into_store())),
+        }
+    }
+
+    // Takes a database if its tables are the schema's and each row reads, and tells whether there
+    // is none.
+    fn taken(alloc: Global, store: S) -> Result<(SqlStore<S>, bool), (StoreFault, S)>
+        requires { IsClean (S.Store.view store) → IsFresh (S.Store.view store) }
+        ensures open { IfOk result (λ e. HasCleanDisk (state S.Store e.0.conn) → IsTrue (state
+            S.Store e.0.conn).is_open) }
+        ensures content { IfOk result (λ e. HasCleanDisk (state S.Store e.0.conn) → content_in
+            (state S.Store e.0.conn).now.trees ≡ content_in (S.Store.view store).trees) }
+        ensures reads { IfOk result (λ e. HasCleanDisk (state S.Store e.0.conn) → ReadsAll (state
+            S.Store e.0.conn).now.trees e.1) }
+        ensures none { IfOk result (λ e. e.0.failures ≡ 0) }
+        ensures clean { IfOk result (λ e. doubt (S.Store.view store).is_clean ≤ doubt (state
+            S.Store e.0.conn).is_clean) }
+        ensures err_clean { IfErr result (λ e. doubt (S.Store.view store).is_clean ≤ doubt
+            (S.Store.view e.1).is_clean) }
+        ensures err { IfErr result (λ e. IsClean (S.Store.view e.1) → IsTrue (S.Store.view
+            e.1).is_open → (S.Store.view e.1).trees ≡ (S.Store.view store).trees) }
+    {
+        match SqlStore::listed(alloc, store) {
+            Ok(it) => it.read(),
+            Err(refused) => Err(refused),
+        }
+    }
+
+    /// Takes a database if its tables are the schema's and each row of them reads. The database's
+    /// own lists and rules are checked first. It reads the whole database.
     ///
     /// # Errors
     ///
-    /// `Storage` where the schema is another, with the connection as it was; or where the device
-    /// failed, with the database and its last commit.
-    pub fn adopt(
-        alloc: Global,
-        conn: Connection<S>,
-    ) -> Result<SqlStore<S>, (StoreFault, Refused<S>)>
+    /// `Storage` where the schema is another, a row does not read or the device failed, with the
+    /// database.
+    pub fn over(alloc: Global, store: S) -> Result<SqlStore<S>, (StoreFault, S)>
+        requires { IsClean (S.Store.view store) → IsFresh (S.Store.view store) }
         ensures open { IfOk result (λ s. HasCleanDisk (state S.Store s.conn) → IsTrue (state
             S.Store s.conn).is_open) }
         ensures content { IfOk result (λ s. HasCleanDisk (state S.Store s.conn) → content_in
-            (state S.Store s.conn).now.trees ≡ content_in (state S.Store conn).committed.trees) }
+            (state S.Store s.conn).now.trees ≡ content_in (S.Store.view store).trees) }
+        ensures whole { IfOk result (λ s. HasCleanDisk (state S.Store s.conn) → IsWhole (state
+            S.Store s.conn).now.trees) }
         ensures none { IfOk result (λ s. s.failures ≡ 0) }
+        ensures clean { IfOk result (λ s. doubt (S.Store.view store).is_clean ≤ doubt (state
+            S.Store s.conn).is_clean) }
+        ensures err_clean { IfErr result (λ e. doubt (S.Store.view store).is_clean ≤ doubt
+            (S.Store.view e.1).is_clean) }
+        ensures err { IfErr result (λ e. IsClean (S.Store.view e.1) → IsTrue (S.Store.view
+            e.1).is_open → (S.Store.view e.1).trees ≡ (S.Store.view store).trees) }
+    {
+        match SqlStore::taken(alloc, store) {
+            Ok((it, _blank)) => Ok(it),
+            Err(refused) => Err(refused),
+        }
+    }
+
+    // Takes a connection if its tables are the schema's and each row reads, and tells whether there
+    // is none.
+    fn adopted(
+        alloc: Global,
+        conn: Connection<S>,
+    ) -> Result<(SqlStore<S>, bool), (StoreFault, Refused<S>)>
+        ensures open { IfOk result (λ e. HasCleanDisk (state S.Store e.0.conn) → IsTrue (state
+            S.Store e.0.conn).is_open) }
+        ensures content { IfOk result (λ e. HasCleanDisk (state S.Store e.0.conn) → content_in
+            (state S.Store e.0.conn).now.trees ≡ content_in (state S.Store conn).committed.trees) }
+        ensures reads { IfOk result (λ e. HasCleanDisk (state S.Store e.0.conn) → ReadsAll (state
+            S.Store e.0.conn).now.trees e.1) }
+        ensures none { IfOk result (λ e. e.0.failures ≡ 0) }
         ensures err { IfErr result (λ e. IsUnharmed S.Store conn e.1) }
     {
         if !is_ours(conn.schema()) {
@@ -113,14 +212,40 @@ impl<S: Alter + Drop> SqlStore<S> {
         if store.is_broken() {
             return Err((StoreFault::Storage, Refused::Store(store)));
         }
-        match SqlStore::over(alloc, store) {
+        match SqlStore::taken(alloc, store) {
             Ok(it) => Ok(it),
             Err((fault, store)) => Err((fault, Refused::Store(store))),
         }
     }
 
-    /// Makes the tables in one transaction, and takes the connection. With a fault its database is
-    /// handed back.
+    /// Takes a connection if its tables are the schema's and each row of them reads. What is not
+    /// committed is rolled back. It reads the whole database.
+    ///
+    /// # Errors
+    ///
+    /// `Storage` where the schema is another, with the connection as it was; or where a row does not
+    /// read or the device failed, with the database and its last commit.
+    pub fn adopt(
+        alloc: Global,
+        conn: Connection<S>,
+    ) -> Result<SqlStore<S>, (StoreFault, Refused<S>)>
+        ensures open { IfOk result (λ s. HasCleanDisk (state S.Store s.conn) → IsTrue (state
+            S.Store s.conn).is_open) }
+        ensures content { IfOk result (λ s. HasCleanDisk (state S.Store s.conn) → content_in
+            (state S.Store s.conn).now.trees ≡ content_in (state S.Store conn).committed.trees) }
+        ensures whole { IfOk result (λ s. HasCleanDisk (state S.Store s.conn) → IsWhole (state
+            S.Store s.conn).now.trees) }
+        ensures none { IfOk result (λ s. s.failures ≡ 0) }
+        ensures err { IfErr result (λ e. IsUnharmed S.Store conn e.1) }
+    {
+        match SqlStore::adopted(alloc, conn) {
+            Ok((it, _blank)) => Ok(it),
+            Err(refused) => Err(refused),
+        }
+    }
+
+    /// Makes the tables in one transaction, and takes the connection: the store is empty. With a
+    /// fault its database is handed back.
     ///
     /// # Errors
     ///
@@ -128,15 +253,45 @@ impl<S: Alter + Drop> SqlStore<S> {
     pub fn create(alloc: Global, mut conn: Connection<S>) -> Result<SqlStore<S>, (StoreFault, S)>
         ensures open { IfOk result (λ s. HasCleanDisk (state S.Store s.conn) → IsTrue (state
             S.Store s.conn).is_open) }
+        ensures content { IfOk result (λ s. HasCleanDisk (state S.Store s.conn) → content_in
+            (state S.Store s.conn).now.trees ≡ empty_content) }
         ensures none { IfOk result (λ s. s.failures ≡ 0) }
     {
         if let Err(error) = conn.execute_batch(TABLES) {
             return Err((fault_of(error), conn.into_store()));
         }
-        match SqlStore::adopt(alloc, conn) {
+        match SqlStore::adopted(alloc, conn) {
+            Ok((it, true)) => Ok(it),
+            Ok((it, false)) => Err((StoreFault::Storage, it.into_connection().into_store())),
+            Err((fault, refused)) => Err((fault, refused.into_store())),
+        }
+    }
+
+    /// Takes a connection: one that lists nothing yet gets the tables and is an empty store, and any
+    /// other has to be of our tables, as `adopt` asks.
+    ///
+    /// # Errors
+    ///
+    /// As those of `adopt` and of `create`.
+    pub fn open(alloc: Global, conn: Connection<S>) -> Result<SqlStore<S>, (StoreFault, Refused<S>)>
+        ensures open { IfOk result (λ s. HasCleanDisk (state S.Store s.conn) → IsTrue (state
+            S.Store s.conn).is_open) }
+        ensures new { IfOk result (λ s. HasCleanDisk (state S.Store s.conn) → (state S.Store
+            conn).now.schema ≡ no_schema → content_in (state S.Store s.conn).now.trees
+            ≡ empty_content) }
+        ensures found { IfOk result (λ s. HasCleanDisk (state S.Store s.conn) → ¬ ((state S.Store
+            conn).now.schema ≡ no_schema) → content_in (state S.Store s.conn).now.trees
+            ≡ content_in (state S.Store conn).committed.trees) }
+        ensures none { IfOk result (λ s. s.failures ≡ 0) }
+        ensures err { IfErr result (λ e. ¬ ((state S.Store conn).now.schema ≡ no_schema) →
+            IsUnharmed S.Store conn e.1) }
+    {
+        if !is_blank(conn.schema()) {
+            return SqlStore::adopt(alloc, conn);
+        }
+        match SqlStore::create(alloc, conn) {
             Ok(it) => Ok(it),
-            Err((fault, Refused::Connection(conn))) => Err((fault, conn.into_store())),
-            Err((fault, Refused::Store(store))) => Err((fault, store)),
+            Err((fault, store)) => Err((fault, Refused::Store(store))),
         }
     }
 
@@ -146,5 +301,69 @@ impl<S: Alter + Drop> SqlStore<S> {
     {
         let SqlStore { conn, failures: _ } = self;
         conn
+    }
+}
+
+impl SqlStore<MemStore> {
+    /// An empty store in memory.
+    ///
+    /// # Errors
+    ///
+    /// `NoMemory` where there is too little memory.
+    pub fn in_memory(alloc: Global) -> Result<SqlStore<MemStore>, StoreFault>
+        ensures open { IfOk result (λ s. IsTrue (state over_memory s.conn).is_open) }
+        ensures content { IfOk result (λ s. content_in (state over_memory s.conn).now.trees
+            ≡ empty_content) }
+        ensures none { IfOk result (λ s. s.failures ≡ 0) }
+    {
+        match Connection::open_in_memory(alloc) {
+            Ok(conn) => match SqlStore::create(alloc, conn) {
+                Ok(it) => Ok(it),
+                Err((fault, _store)) => Err(fault),
+            },
+            Err(_refused) => Err(StoreFault::NoMemory),
+        }
+    }
+}
+
+impl<S: Start> SqlStore<FileStore<FileFrom<S>>> {
+    /// Opens the file at a path, or makes it: a new one is an empty store. `start` says what is
+    /// supposed of a write that a crash cuts off, as `sqlite` says.
+    ///
+    /// # Errors
+    ///
+    /// `Storage` where the file cannot be opened as a database, is none of ours, has a row that does
+    /// not read, or the device failed. A file that is none of ours is left as it was.
+    pub fn at(
+        rt: &HostRuntime,
+        path: &str,
+        start: S,
+    ) -> Result<SqlStore<FileStore<FileFrom<S>>>, StoreFault>
+        ensures open { IfOk result (λ s. HasCleanDisk (file_state s.conn) → IsTrue (file_state
+            s.conn).is_open) }
+        ensures none { IfOk result (λ s. s.failures ≡ 0) }
+    {
+        match Connection::open_from(rt, path, false, start) {
+            Ok(conn) => match SqlStore::open(rt.alloc(), conn) {
+                Ok(it) => Ok(it),
+                Err((fault, refused)) => {
+                    drop(refused.into_store());
+                    Err(fault)
+                }
+            },
+            Err((error, _left)) => Err(fault_of(error)),
+        }
+    }
+
+    /// Copies the log into the file and closes both, so that the file stands alone.
+    ///
+    /// # Errors
+    ///
+    /// `Storage` where the device failed: what was committed stands in the file and its log then.
+    pub fn close(self) -> Result<(), StoreFault> {
+        match self.into_connection().close() {
+            Ok(()) => Ok(()),
+            Err(error) => Err(fault_of(error)),
+        }
     }
 }

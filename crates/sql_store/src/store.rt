@@ -4,7 +4,7 @@ ghost use Rattle.sqlite.specs.Held.{state};
 ghost use Rattle.settle.specs.Reads.{HasRisen};
 ghost use Rattle.sql_store.specs.Store.{IsOurs, ours_if_open};
 
-use crate::{commit, lists, lookups};
+use crate::{blocks, commit, lists, lookups, queue, routed};
 use delivery::{Broadcast, Download, DownloadKey, RoutedRow};
 use numbers::{BlockId, CodeId, Lrn, Minute, Spid, Subject};
 use settle::{
@@ -124,9 +124,8 @@ impl<S: Alter> Store for SqlStore<S> {
         counted(&mut self.failures, lists::waits(&mut self.conn, spid))
     }
 
-    fn front(&mut self, _spid: Spid, _many: usize) -> Result<Vec<Download>, StoreFault> {
-        self.failures = self.failures.saturating_add(1);
-        Err(StoreFault::Storage)
+    fn front(&mut self, spid: Spid, many: usize) -> Result<Vec<Download>, StoreFault> {
+        counted(&mut self.failures, queue::front(&mut self.conn, spid, many))
     }
 
     fn waiters(&mut self, minute: Minute, key: BroadcastKey) -> Result<Vec<Spid>, StoreFault> {
@@ -152,13 +151,11 @@ impl<S: Alter> Store for SqlStore<S> {
     }
 
     fn in_force(&mut self) -> Result<Vec<RoutedRow>, StoreFault> {
-        self.failures = self.failures.saturating_add(1);
-        Err(StoreFault::Storage)
+        counted(&mut self.failures, routed::in_force(&mut self.conn))
     }
 
-    fn in_block(&mut self, _block: BlockId) -> Result<Vec<NumberInUse>, StoreFault> {
-        self.failures = self.failures.saturating_add(1);
-        Err(StoreFault::Storage)
+    fn in_block(&mut self, block: BlockId) -> Result<Vec<NumberInUse>, StoreFault> {
+        counted(&mut self.failures, blocks::in_block(&mut self.conn, block))
     }
 
     fn commit(&mut self, changes: &Changes) -> Result<(), StoreFault> {

@@ -4,7 +4,7 @@ use Rattle.sqlite.specs.State.{HasCleanDisk}
 use Rattle.sqlite_trees.specs.View.{IsClean}
 use Rattle.sql_store.specs.Store.{clean_if_open}
 use Rattle.sql_store.proofs.OpeningLemmas.{opened_ours}
-use Rattle.sql_store.proofs.store.SqlStore.over.Goals as goal
+use Rattle.sql_store.proofs.store.SqlStore.listed.Goals as goal
 
 pub invariant_of-result : goal.invariant_of-result
 invariant_of-result g c =

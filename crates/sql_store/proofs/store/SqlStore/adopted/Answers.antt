@@ -2,10 +2,10 @@ use Rattle.std.proofs.Common.{◌≡◌, IsTrue, false, rules, sym, ap, ◌∙�
 use Rattle.std.proofs.lemmas.Bool.{true_from_ne_false, both_ways}
 use Rattle.sqlite_trees.specs.View.{IsClean}
 use Rattle.sql_rows.specs.Content.{content_in}
-use Rattle.sql_store.proofs.store.SqlStore.adopt.Goals as goal
+use Rattle.sql_store.proofs.store.SqlStore.adopted.Goals as goal
 
-pub over-requires : goal.over-requires
-over-requires g c = λ clean.
+pub taken-requires : goal.taken-requires
+taken-requires g c = λ clean.
     let v = g.S.Store.view c.into_store-store.result in
     let sound : v.is_broken ≡ false = let e = c.is_broken.ensures clean in search rules in
     let is_open : IsTrue v.is_open = true_from_ne_false _ (λ shut. both_ways _ sound (g.met.S.Store.broken_if_shut _ shut)) in

@@ -1,0 +1,23 @@
+use Rattle.std.proofs.Common.{sym, subst, ◌∙◌}
+use Rattle.sqlite.specs.Held.{state}
+use Rattle.sqlite.specs.Effect.{Database}
+use Rattle.sql_rows.specs.Content.{broadcast_in, clock_in, wait_in}
+use Rattle.sql_rows.specs.declared.statement.Table.TheVariants.{Broadcast, Wait, Clock}
+use Rattle.sql_store.specs.Whole.{IsRead, ReadsVersions}
+use Rattle.sql_store.proofs.WholeLemmas.{versions_told}
+use Rattle.sql_store.proofs.whole.read_versions.Goals as goal
+
+pub returns-clause-value : goal.returns-clause-value
+returns-clause-value g c up =
+    let db = (state g.S.Store c.args.conn.now).now.trees in
+    let fourth = c.in_ok-clock.ensures.looked.same up in
+    let third = c.in_ok-waits.ensures.looked.same fourth.was_open in
+    let second = c.in_ok-broadcasts.ensures.looked.same third.was_open in
+    let first = c.in_ok-versions.ensures.looked.same second.was_open in
+    let two = second.now ∙ first.now in
+    let three = third.now ∙ two in
+    subst (ReadsVersions db) (sym c.are_blank.ensures)
+    (versions_told db c.in_ok-versions.versions c.in_ok-broadcasts.broadcasts c.in_ok-waits.waits c.in_ok-clock.clock (c.in_ok-versions.ensures.value second.was_open)
+    (subst (λ (d : Database). IsRead Broadcast broadcast_in d.trees c.in_ok-broadcasts.broadcasts) first.now (c.in_ok-broadcasts.ensures.value third.was_open))
+    (subst (λ (d : Database). IsRead Wait wait_in d.trees c.in_ok-waits.waits) two (c.in_ok-waits.ensures.value fourth.was_open))
+    (subst (λ (d : Database). IsRead Clock clock_in d.trees c.in_ok-clock.clock) three (c.in_ok-clock.ensures.value up)))

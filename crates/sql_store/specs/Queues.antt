@@ -1,0 +1,44 @@
+-- What the front of a queue is made of.
+use Rattle.std.specs.Prelude.{◌≡◌, ◌⊎◌, ◌≤◌, ℕ, Bool, List, map, filter, take, length, Option, Some, None, true, is_some, All}
+use Rattle.std.specs.FinMap.{get}
+use Rattle.std.specs.List.Sorted.{IsStrictlySortedBy}
+use Rattle.sqlite_rules.specs.Lists.{Has}
+use Rattle.delivery.specs.declared.download.Download.{Download}
+use Rattle.delivery.specs.declared.download.DownloadKey.{DownloadKey}
+use Rattle.meaning.specs.Content.{Content, BroadcastRow}
+use Rattle.settle.specs.Reads.{IsToldBy, download_cmp}
+
+abbrev pub key_in : Download → DownloadKey
+key_in d = record { minute = d.minute; id = d.id; attempt = d.attempt }
+
+-- what waits has a broadcast
+abbrev pub is_told : Content → DownloadKey → Bool
+is_told c wait = is_some (get c.broadcasts (record { id = wait.id; attempt = wait.attempt }))
+
+-- the download is as its broadcast's row tells it
+abbrev pub IsTold : Content → Download → Type 0
+IsTold c d = (row : BroadcastRow) × (get c.broadcasts (record { id = d.id; attempt = d.attempt }) ≡ Some row) × IsToldBy row d
+
+-- what waits as a download, or nothing where it has no broadcast
+abbrev pub IsNext : Content → DownloadKey → Option Download → Type 0
+IsNext c wait None = get c.broadcasts (record { id = wait.id; attempt = wait.attempt }) ≡ None
+IsNext c wait (Some d) = (key_in d ≡ wait) × IsTold c d
+
+-- all that waits and has a broadcast, in its order
+pub record AreTold (c : Content) (waits : List DownloadKey) (downloads : List Download) : Type 0 where
+  pub keys : map key_in downloads ≡ filter (is_told c) waits
+  pub told : All (IsTold c) downloads
+
+-- the first of them: so many, or all where there are fewer
+pub record AreFirstTold (c : Content) (many : ℕ) (waits : List DownloadKey) (downloads : List Download) : Type 0 where
+  pub passed : ℕ
+  pub told : AreTold c (take passed waits) downloads
+  pub whole : (length waits ≤ passed) ⊎ (length downloads ≡ many)
+  pub most : length downloads ≤ many
+
+-- all that waits for the carrier: each once, in the order of its queue
+pub record AreQueued (c : Content) (carrier : ℕ) (waits : List DownloadKey) : Type 0 where
+  pub each : (minute id attempt : ℕ) → is_some (get c.waits (record { carrier = carrier; minute = minute; id = id; attempt = attempt })) ≡ true
+      → (d : DownloadKey) × Has waits d × (d.minute.number ≡ minute) × (d.id ≡ id) × (d.attempt ≡ attempt)
+  pub only : (d : DownloadKey) → Has waits d → is_some (get c.waits (record { carrier = carrier; minute = d.minute.number; id = d.id; attempt = d.attempt })) ≡ true
+  pub rises : IsStrictlySortedBy download_cmp waits

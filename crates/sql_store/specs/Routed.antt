@@ -1,0 +1,14 @@
+-- What is in force, as rows of versions tell it.
+use Rattle.std.specs.Prelude.{Option, option_and_then, option_map}
+use Rattle.numbers.specs.Routings.{Routing}
+use Rattle.numbers.specs.Subjects.{Subject}
+use Rattle.numbers.specs.Views.{routing_of, subject_of}
+use Rattle.delivery.specs.declared.mirror.RoutedRow.{RoutedRow}
+use Rattle.meaning.specs.Content.{VersionRow}
+
+abbrev pub routed_seen : RoutedRow → Subject × Routing
+routed_seen r = (subject_of r.subject, routing_of r.routing)
+
+-- what is in force, and where it is routed
+abbrev pub routed_in : VersionRow → Option (Subject × Routing)
+routed_in v = option_and_then (λ s. option_map (λ r. (s, r)) v.routing) v.holds

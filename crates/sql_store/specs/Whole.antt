@@ -1,0 +1,63 @@
+-- A database of which each row was read once.
+use Rattle.std.specs.Prelude.{◌≡◌, Bool, true, List, [], Option, Some}
+use Rattle.sqlite.specs.Order.{Row}
+use Rattle.sqlite.specs.Tree.{Trees}
+use Rattle.sqlite_rules.specs.Lists.{Has}
+use Rattle.meaning.specs.Content.{empty_content}
+use Rattle.sql_rows.specs.Content.{block_entry, broadcast_entry, carrier_entry, clock_entry, content_in, owner_entry, wait_entry}
+use Rattle.sql_rows.specs.Found.{IsListAnswer}
+use Rattle.sql_rows.specs.Versions.{version_entry}
+use Rattle.sql_rows.specs.declared.statement.Query.TheVariants.{All}
+use Rattle.sql_rows.specs.declared.statement.Table.{Table}
+
+-- all rows of the table read, and `blank` tells that there is none
+abbrev pub IsRead : {X : Type 0} → Table → (Row → Option X) → Trees → (blank : Bool) → Type 0
+IsRead {X} t read db blank = (xs : List X) × IsListAnswer (All t) read db [] xs × (blank ≡ true → xs ≡ [])
+
+-- each row is a key with its value
+abbrev pub EachReads : {X : Type 0} → (Row → Option X) → List Row → Type 0
+EachReads {X} entry rows = (r : Row) → Has rows r → (e : X) × (entry r ≡ Some e)
+
+-- the tables of the registry
+pub record AreRegistryRead (db : Trees) : Type 0 where
+  pub carriers : EachReads carrier_entry (db 0)
+  pub lrns : EachReads owner_entry (db 2)
+  pub codes : EachReads owner_entry (db 3)
+  pub blocks : EachReads block_entry (db 4)
+
+-- those of the versions and of what is sent, and the clock's
+pub record AreVersionsRead (db : Trees) : Type 0 where
+  pub versions : EachReads version_entry (db 5)
+  pub broadcasts : EachReads broadcast_entry (db 8)
+  pub waits : EachReads wait_entry (db 10)
+  pub clock : EachReads clock_entry (db 12)
+
+pub record IsRegistryBlank (db : Trees) : Type 0 where
+  pub carriers : db 0 ≡ []
+  pub lrns : db 2 ≡ []
+  pub codes : db 3 ≡ []
+  pub blocks : db 4 ≡ []
+
+pub record AreVersionsBlank (db : Trees) : Type 0 where
+  pub versions : db 5 ≡ []
+  pub broadcasts : db 8 ≡ []
+  pub waits : db 10 ≡ []
+  pub clock : db 12 ≡ []
+
+-- the tables were read, and `blank` tells that they have no row
+pub record ReadsRegistry (db : Trees) (blank : Bool) : Type 0 where
+  pub read : AreRegistryRead db
+  pub none : blank ≡ true → IsRegistryBlank db
+
+pub record ReadsVersions (db : Trees) (blank : Bool) : Type 0 where
+  pub read : AreVersionsRead db
+  pub none : blank ≡ true → AreVersionsBlank db
+
+-- no row of a database is left out of its content
+pub record IsWhole (db : Trees) : Type 0 where
+  pub registry : AreRegistryRead db
+  pub versions : AreVersionsRead db
+
+pub record ReadsAll (db : Trees) (blank : Bool) : Type 0 where
+  pub whole : IsWhole db
+  pub none : blank ≡ true → content_in db ≡ empty_content

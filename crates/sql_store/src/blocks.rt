@@ -1,0 +1,145 @@
+//! The numbers of a block that are in use.
+ghost use Rattle.std.specs.Prelude.{◌≡◌, ◌++◌, false, IsTrue, IfOk, is_ok, map, option_map};
+ghost use Rattle.std.specs.List.{filter_map};
+ghost use Rattle.sqlite.specs.Held.{state};
+ghost use Rattle.settle.specs.Reads.{AreInBlock};
+ghost use Rattle.settle.specs.Views.{block_of};
+ghost use Rattle.sql_store.specs.Blocks.{AreNumbers, is_listed, number_by, number_in_use, number_of_tn, query_by};
+ghost use Rattle.sql_store.specs.Store.{IsOurs, Looked, content_at};
+
+use crate::order::put_in_order;
+use crate::select::find_all;
+use numbers::{BlockId, Subject, Tn};
+use settle::{NumberedRow, VersionRow};
+use sql_rows::{Fault, Query, number};
+use sqlite::{Alter, Connection};
+use std::alloc::Global;
+use version::NumberInUse;
+
+/// By which column a number's version is found.
+#[derive(Clone, Copy)]
+enum Standing {
+    InForce,
+    Open,
+}
+
+impl Standing {
+    fn query(self) -> Query
+        ensures { result ≡ query_by self }
+    {
+        match self {
+            Standing::InForce => Query::InForceAmong,
+            Standing::Open => Query::OpenAmong,
+        }
+    }
+
+    fn number(self, row: &VersionRow) -> Option<Tn>
+        ensures { option_map number_of_tn result ≡ number_by self row.now }
+    {
+        let subject = match self {
+            Standing::InForce => row.holds(),
+            Standing::Open => row.opens(),
+        };
+        match subject {
+            Some(Subject::Number(tn)) => Some(tn),
+            _ => None,
+        }
+    }
+}
+
+fn numbers_of(alloc: Global, standing: Standing, found: &[NumberedRow]) -> Result<Vec<Tn>, Fault>
+    ensures { IfOk result (λ tns.
+        map number_of_tn tns.items ≡ filter_map (λ v. number_by standing v.row) found.now) }
+{
+    let mut tns = Vec::new(alloc);
+    for version in found {
+        if let Some(tn) = standing.number(&version.row) {
+            tns.push(tn)?;
+        }
+    }
+    Ok(tns)
+}
+
+// The numbers of the block that have such a version.
+fn numbers<S: Alter>(
+    conn: &mut Connection<S>,
+    standing: Standing,
+    block: BlockId,
+) -> Result<Vec<Tn>, Fault>
+    requires ours { IsTrue (state S.Store conn.old).is_open → IsOurs (state S.Store conn.old) }
+    requires idle { conn.old.in_transaction ≡ false }
+    ensures value { IsTrue (state S.Store conn.new).is_open
+        → IfOk result (λ tns. AreNumbers (content_at (state S.Store conn.old)) standing
+        (block_of block) tns.items) }
+    ensures looked { Looked (state S.Store conn.old) (state S.Store conn.new) (is_ok result) }
+    ensures idle { conn.new.in_transaction ≡ false }
+{
+    let first = u64::from(block.number) * 1000;
+    let params = [number(first), number(first + 999)];
+    let found: Vec<NumberedRow> = find_all(conn, standing.query(), &params)?;
+    let tns = numbers_of(*found.allocator(), standing, found.as_slice())?;
+    Ok(tns)
+}
+
+fn both(alloc: Global, first: &[Tn], second: &[Tn]) -> Result<Vec<Tn>, Fault>
+    ensures { IfOk result (λ tns. tns.items ≡ first.now ++ second.now) }
+{
+    let mut tns = Vec::new(alloc);
+    tns.extend_from_slice(first)?;
+    tns.extend_from_slice(second)?;
+    Ok(tns)
+}
+
+fn is_listed(tns: &[Tn], tn: Tn) -> bool
+    ensures { result ≡ is_listed tns.now tn }
+{
+    tns.iter().any(|listed| listed.number == tn.number)
+}
+
+fn in_use(
+    alloc: Global,
+    tns: &[Tn],
+    in_force: &[Tn],
+    opened: &[Tn],
+) -> Result<Vec<NumberInUse>, Fault>
+    ensures { IfOk result (λ numbers.
+        numbers.items ≡ map (number_in_use in_force.now opened.now) tns.now) }
+{
+    let mut numbers = Vec::with_capacity(alloc, tns.len())?;
+    for tn in tns {
+        numbers.push(NumberInUse {
+            tn: *tn,
+            is_in_force: is_listed(in_force, *tn),
+            is_open: is_listed(opened, *tn),
+        })?;
+    }
+    Ok(numbers)
+}
+
+/// The numbers of a block that have a version in force or an open one, rising, and which of both. A
+/// block has a thousand at most.
+pub(crate) fn in_block<S: Alter>(
+    conn: &mut Connection<S>,
+    block: BlockId,
+) -> Result<Vec<NumberInUse>, Fault>
+    requires ours { IsTrue (state S.Store conn.old).is_open → IsOurs (state S.Store conn.old) }
+    requires idle { conn.old.in_transaction ≡ false }
+    ensures value { IsTrue (state S.Store conn.new).is_open
+        → IfOk result (λ numbers. AreInBlock (content_at (state S.Store conn.old))
+        (block_of block) numbers.items) }
+    ensures looked { Looked (state S.Store conn.old) (state S.Store conn.new) (is_ok result) }
+    ensures idle { conn.new.in_transaction ≡ false }
+{
+    let in_force = numbers(conn, Standing::InForce, block)?;
+    let opened = numbers(conn, Standing::Open, block)?;
+    let alloc = *in_force.allocator();
+    let mut tns = both(alloc, in_force.as_slice(), opened.as_slice())?;
+    put_in_order(&mut tns);
+    let numbers = in_use(
+        alloc,
+        tns.as_slice(),
+        in_force.as_slice(),
+        opened.as_slice(),
+    )?;
+    Ok(numbers)
+}

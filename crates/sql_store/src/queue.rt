@@ -1,0 +1,118 @@
+//! The front of a carrier's queue.
+ghost use Rattle.std.specs.Prelude.{◌≡◌, ◌++◌, false, IsTrue, IfOk, OnOk, is_ok, option_to_list};
+ghost use Rattle.sqlite.specs.Held.{state};
+ghost use Rattle.settle.specs.Reads.{AreFirst};
+ghost use Rattle.settle.specs.Views.{spid_of};
+ghost use Rattle.sql_store.specs.Queues.{AreFirstTold, AreQueued, IsNext};
+ghost use Rattle.sql_store.specs.Store.{IsOurs, Looked, content_at};
+
+use crate::lists::downloads_of;
+use crate::lookups::broadcast;
+use crate::order::put_in_order;
+use crate::select::find_all;
+use delivery::{Download, DownloadKey};
+use numbers::Spid;
+use settle::BroadcastKey;
+use sql_rows::{Fault, KeyedWait, Query, spid_bytes, text};
+use sqlite::{Alter, Connection};
+use std::alloc::Global;
+
+// All that waits for a carrier, in the order of its queue.
+fn queue<S: Alter>(conn: &mut Connection<S>, spid: Spid) -> Result<Vec<DownloadKey>, Fault>
+    requires ours { IsTrue (state S.Store conn.old).is_open → IsOurs (state S.Store conn.old) }
+    requires idle { conn.old.in_transaction ≡ false }
+    ensures value { IsTrue (state S.Store conn.new).is_open
+        → IfOk result (λ waits. AreQueued (content_at (state S.Store conn.old)) (spid_of spid)
+        waits.items) }
+    ensures looked { Looked (state S.Store conn.old) (state S.Store conn.new) (is_ok result) }
+    ensures idle { conn.new.in_transaction ≡ false }
+{
+    let bytes = spid_bytes(spid.number);
+    let found: Vec<KeyedWait> = find_all(conn, Query::WaitsFor, &[text(&bytes)])?;
+    let mut waits = downloads_of(*found.allocator(), found.as_slice())?;
+    put_in_order(&mut waits);
+    Ok(waits)
+}
+
+// What waits, as its broadcast's row tells it, or nothing where it has none.
+fn next<S: Alter>(conn: &mut Connection<S>, wait: DownloadKey) -> Result<Option<Download>, Fault>
+    requires ours { IsTrue (state S.Store conn.old).is_open → IsOurs (state S.Store conn.old) }
+    requires idle { conn.old.in_transaction ≡ false }
+    ensures value { IsTrue (state S.Store conn.new).is_open
+        → IfOk result (IsNext (content_at (state S.Store conn.old)) wait) }
+    ensures looked { Looked (state S.Store conn.old) (state S.Store conn.new) (is_ok result) }
+    ensures idle { conn.new.in_transaction ≡ false }
+{
+    let key = BroadcastKey {
+        id: wait.id,
+        attempt: wait.attempt,
+    };
+    let found = broadcast(conn, key)?;
+    match found {
+        Some(row) => Ok(Some(Download {
+            id: wait.id,
+            attempt: wait.attempt,
+            minute: wait.minute,
+            subject: row.subject,
+            action: row.action,
+            routing: row.routing,
+        })),
+        None => Ok(None),
+    }
+}
+
+fn put_behind(downloads: &mut Vec<Download>, download: Option<Download>) -> Result<(), Fault>
+    ensures { OnOk result
+        (downloads.new.items ≡ downloads.old.items ++ option_to_list download) }
+{
+    if let Some(download) = download {
+        downloads.push(download)?;
+    }
+    Ok(())
+}
+
+// The first of what waits: so many, or all where there are fewer.
+fn first_told<S: Alter>(
+    alloc: Global,
+    conn: &mut Connection<S>,
+    waits: &[DownloadKey],
+    many: usize,
+) -> Result<Vec<Download>, Fault>
+    requires ours { IsTrue (state S.Store conn.old).is_open → IsOurs (state S.Store conn.old) }
+    requires idle { conn.old.in_transaction ≡ false }
+    ensures value { IsTrue (state S.Store conn.new).is_open
+        → IfOk result (λ downloads. AreFirstTold (content_at (state S.Store conn.old)) many
+        waits.now downloads.items) }
+    ensures looked { Looked (state S.Store conn.old) (state S.Store conn.new) (is_ok result) }
+    ensures idle { conn.new.in_transaction ≡ false }
+{
+    let mut downloads = Vec::new(alloc);
+    for wait in waits {
+        if downloads.len() >= many {
+            return Ok(downloads);
+        }
+        let download = next(conn, *wait)?;
+        put_behind(&mut downloads, download)?;
+    }
+    Ok(downloads)
+}
+
+/// The first downloads that wait for a carrier, in the order of its queue: so many, or all where
+/// there are fewer. It reads all that waits for the carrier, and the broadcasts of the first alone.
+pub(crate) fn front<S: Alter>(
+    conn: &mut Connection<S>,
+    spid: Spid,
+    many: usize,
+) -> Result<Vec<Download>, Fault>
+    requires ours { IsTrue (state S.Store conn.old).is_open → IsOurs (state S.Store conn.old) }
+    requires idle { conn.old.in_transaction ≡ false }
+    ensures value { IsTrue (state S.Store conn.new).is_open
+        → IfOk result (λ downloads. AreFirst (content_at (state S.Store conn.old)) (spid_of spid)
+        many downloads.items) }
+    ensures looked { Looked (state S.Store conn.old) (state S.Store conn.new) (is_ok result) }
+    ensures idle { conn.new.in_transaction ≡ false }
+{
+    let waits = queue(conn, spid)?;
+    let downloads = first_told(*waits.allocator(), conn, waits.as_slice(), many)?;
+    Ok(downloads)
+}

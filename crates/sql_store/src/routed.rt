@@ -1,0 +1,82 @@
+//! Everything that is in force.
+ghost use Rattle.std.specs.Prelude.{◌≡◌, false, IsTrue, IfOk, is_ok, map, option_map};
+ghost use Rattle.std.specs.List.{filter_map};
+ghost use Rattle.std.specs.List.Sorted.{IsPermutation, IsStrictlySortedBy};
+ghost use Rattle.std.specs.Ordering.{nat_cmp, on};
+ghost use Rattle.sqlite.specs.Held.{state};
+ghost use Rattle.numbers.specs.Views.{key_of};
+ghost use Rattle.settle.specs.Reads.{AreInForce};
+ghost use Rattle.sql_store.specs.Routed.{routed_in, routed_seen};
+ghost use Rattle.sql_store.specs.Store.{IsOurs, Looked, content_at};
+
+use crate::select::find_all;
+use delivery::RoutedRow;
+use settle::{NumberedRow, VersionRow};
+use sql_rows::{Fault, Query, number};
+use sqlite::{Alter, Connection};
+use std::alloc::Global;
+
+// Above the number of each subject, and the greatest that a column holds.
+const HIGHEST: u64 = 9_223_372_036_854_775_807;
+
+// Where the version's subject is routed, if the version is in force.
+fn routed(row: &VersionRow) -> Option<RoutedRow>
+    ensures { option_map routed_seen result ≡ routed_in row.now }
+{
+    Some(RoutedRow {
+        subject: row.holds()?,
+        routing: row.version.routing?,
+    })
+}
+
+fn routed_rows(alloc: Global, found: &[NumberedRow]) -> Result<Vec<RoutedRow>, Fault>
+    ensures { IfOk result (λ rows.
+        map routed_seen rows.items ≡ filter_map (λ v. routed_in v.row) found.now) }
+{
+    let mut rows = Vec::new(alloc);
+    for version in found {
+        if let Some(row) = routed(&version.row) {
+            rows.push(row)?;
+        }
+    }
+    Ok(rows)
+}
+
+fn put_in_order_by_subject(rows: &mut Vec<RoutedRow>)
+    ensures { IsPermutation rows.old.items rows.new.items }
+{
+    rows.sort_unstable_by_key(|row| row.subject);
+}
+
+fn rise(rows: &[RoutedRow]) -> bool
+    ensures { IsTrue result
+        → IsStrictlySortedBy (on (λ r. key_of r.subject) nat_cmp) rows.now }
+{
+    let mut at = 1;
+    while at < rows.len() {
+        if rows[at - 1].subject >= rows[at].subject {
+            return false;
+        }
+        at += 1;
+    }
+    true
+}
+
+/// Everything in force that has a routing, by subject.
+pub(crate) fn in_force<S: Alter>(conn: &mut Connection<S>) -> Result<Vec<RoutedRow>, Fault>
+    requires ours { IsTrue (state S.Store conn.old).is_open → IsOurs (state S.Store conn.old) }
+    requires idle { conn.old.in_transaction ≡ false }
+    ensures value { IsTrue (state S.Store conn.new).is_open
+        → IfOk result (λ rows. AreInForce (content_at (state S.Store conn.old)) rows.items) }
+    ensures looked { Looked (state S.Store conn.old) (state S.Store conn.new) (is_ok result) }
+    ensures idle { conn.new.in_transaction ≡ false }
+{
+    let params = [number(0), number(HIGHEST)];
+    let found: Vec<NumberedRow> = find_all(conn, Query::InForceAmong, &params)?;
+    let mut rows = routed_rows(*found.allocator(), found.as_slice())?;
+    put_in_order_by_subject(&mut rows);
+    if !rise(rows.as_slice()) {
+        return Err(Fault::Device);
+    }
+    Ok(rows)
+}

@@ -1,0 +1,81 @@
+//! All rows of a database read once.
+ghost use Rattle.std.specs.Prelude.{◌≡◌, false, IsTrue, IfOk, is_ok};
+ghost use Rattle.std.specs.List.{list_all};
+ghost use Rattle.sqlite.specs.Held.{state};
+ghost use Rattle.sql_store.specs.Store.{IsOurs, Looked};
+ghost use Rattle.sql_store.specs.Whole.{IsRead, ReadsAll, ReadsRegistry, ReadsVersions};
+
+use crate::select::find_all;
+use numbers::Spid;
+use settle::NumberedRow;
+use sql_rows::{
+    Fault, KeyedBlock, KeyedBroadcast, KeyedClock, KeyedOwner, KeyedWait, Query, Stored, Table,
+};
+use sqlite::{Alter, Connection};
+
+// Reads a table, and tells whether it has no row.
+fn read<T: Stored + Drop, S: Alter>(conn: &mut Connection<S>, table: Table) -> Result<bool, Fault>
+    requires ours { IsTrue (state S.Store conn.old).is_open → IsOurs (state S.Store conn.old) }
+    requires idle { conn.old.in_transaction ≡ false }
+    ensures value { IsTrue (state S.Store conn.new).is_open
+        → IfOk result (IsRead table T.seen_in (state S.Store conn.old).now.trees) }
+    ensures looked { Looked (state S.Store conn.old) (state S.Store conn.new) (is_ok result) }
+    ensures idle { conn.new.in_transaction ≡ false }
+{
+    let items: Vec<T> = find_all(conn, Query::All(table), &[])?;
+    Ok(items.is_empty())
+}
+
+fn are_blank(tables: &[bool]) -> bool
+    ensures { result ≡ list_all (λ b. b) tables.now }
+{
+    tables.iter().all(|is_blank| *is_blank)
+}
+
+// Reads the tables of the registry, and tells whether they have no row.
+fn read_registry<S: Alter>(conn: &mut Connection<S>) -> Result<bool, Fault>
+    requires ours { IsTrue (state S.Store conn.old).is_open → IsOurs (state S.Store conn.old) }
+    requires idle { conn.old.in_transaction ≡ false }
+    ensures value { IsTrue (state S.Store conn.new).is_open
+        → IfOk result (ReadsRegistry (state S.Store conn.old).now.trees) }
+    ensures looked { Looked (state S.Store conn.old) (state S.Store conn.new) (is_ok result) }
+    ensures idle { conn.new.in_transaction ≡ false }
+{
+    let carriers = read::<Spid, S>(conn, Table::Carrier)?;
+    let lrns = read::<KeyedOwner, S>(conn, Table::Lrn)?;
+    let codes = read::<KeyedOwner, S>(conn, Table::Code)?;
+    let blocks = read::<KeyedBlock, S>(conn, Table::Block)?;
+    Ok(are_blank(&[carriers, lrns, codes, blocks]))
+}
+
+// Reads the tables of the versions, of what is sent and of the clock, and tells whether they have
+// no row.
+fn read_versions<S: Alter>(conn: &mut Connection<S>) -> Result<bool, Fault>
+    requires ours { IsTrue (state S.Store conn.old).is_open → IsOurs (state S.Store conn.old) }
+    requires idle { conn.old.in_transaction ≡ false }
+    ensures value { IsTrue (state S.Store conn.new).is_open
+        → IfOk result (ReadsVersions (state S.Store conn.old).now.trees) }
+    ensures looked { Looked (state S.Store conn.old) (state S.Store conn.new) (is_ok result) }
+    ensures idle { conn.new.in_transaction ≡ false }
+{
+    let versions = read::<NumberedRow, S>(conn, Table::Version)?;
+    let broadcasts = read::<KeyedBroadcast, S>(conn, Table::Broadcast)?;
+    let waits = read::<KeyedWait, S>(conn, Table::Wait)?;
+    let clock = read::<KeyedClock, S>(conn, Table::Clock)?;
+    Ok(are_blank(&[versions, broadcasts, waits, clock]))
+}
+
+/// Reads every row once, and tells whether there is none. A row that does not read is a fault of
+/// the device.
+pub(crate) fn read_all<S: Alter>(conn: &mut Connection<S>) -> Result<bool, Fault>
+    requires ours { IsTrue (state S.Store conn.old).is_open → IsOurs (state S.Store conn.old) }
+    requires idle { conn.old.in_transaction ≡ false }
+    ensures value { IsTrue (state S.Store conn.new).is_open
+        → IfOk result (ReadsAll (state S.Store conn.old).now.trees) }
+    ensures looked { Looked (state S.Store conn.old) (state S.Store conn.new) (is_ok result) }
+    ensures idle { conn.new.in_transaction ≡ false }
+{
+    let registry = read_registry(conn)?;
+    let versions = read_versions(conn)?;
+    Ok(are_blank(&[registry, versions]))
+}
