@@ -133,4 +133,5 @@ def main():
             print(f"| {name} | {speed} | {memory} | {ours}, {other} | {our_mib}, {other_mib} | {same} |", flush=True)
 
 
-main()
+if __name__ == "__main__":
+    main()
