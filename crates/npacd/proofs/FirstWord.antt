@@ -62,6 +62,10 @@ export_named : IsNamed (codes "export")
 unfolding clap_on_literals
 export_named = record { met = refl; reads = λ after rows e. ap (option_map (λ (p : Pair). p.1)) e }
 
+audit_named : IsNamed (codes "audit")
+unfolding clap_on_literals
+audit_named = record { met = refl; reads = λ after rows e. ap (option_map (λ (p : Pair). p.1)) e }
+
 at_name : (program literal name : Text) (after : List Text) (rows : List Row) → IsNamed literal → name ≡ literal
     → subcommand_of npacd_app (program ∷ name ∷ after) ≡ Some (name, rows) → rows_named name after ≡ Some rows
 at_name program literal name after rows named e found =
@@ -85,6 +89,7 @@ rows_are_named program name after told rows sub.Feed h found = at_name program (
 rows_are_named program name after told rows (sub.Serve port connections) h found = at_name program (codes "serve") name after rows serve_named h.0 found
 rows_are_named program name after told rows sub.Bulk h found = at_name program (codes "bulk") name after rows bulk_named h found
 rows_are_named program name after told rows sub.Export h found = at_name program (codes "export") name after rows export_named h found
+rows_are_named program name after told rows (sub.Audit spid) h found = at_name program (codes "audit") name after rows audit_named h.0 found
 
 -- where the rows after a word are no line of it, the words are no line
 pub no_line : (program name : Text) (after : List Text) (rows : List Row) → subcommand_of npacd_app (program ∷ name ∷ after) ≡ Some (name, rows)

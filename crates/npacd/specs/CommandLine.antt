@@ -25,6 +25,9 @@ plain_app name = with_rule (with_rule (new_app name) (option_rule (codes "window
 abbrev pub serve_app : App
 serve_app = with_rule (with_rule (plain_app (codes "serve")) (number_rule (codes "port") true)) (number_rule (codes "connections") false)
 
+abbrev pub audit_app : App
+audit_app = with_rule (plain_app (codes "audit")) (option_rule (codes "spid") true)
+
 abbrev pub with_wanted_subcommand : App → App
 with_wanted_subcommand a = record a { top = record a.top { subcommand_required = true } }
 
@@ -37,7 +40,7 @@ with_serving a = with_subcommand (with_subcommand a (plain_app (codes "feed")).t
 
 -- those that read and write files
 abbrev pub with_files : App → App
-with_files a = with_subcommand (with_subcommand a (plain_app (codes "bulk")).top) (plain_app (codes "export")).top
+with_files a = with_subcommand (with_subcommand (with_subcommand a (plain_app (codes "bulk")).top) (plain_app (codes "export")).top) audit_app.top
 
 abbrev pub npacd_app : App
 npacd_app = with_files (with_serving (with_wanted_subcommand (with_version (new_app (codes "npacd")))))
@@ -64,6 +67,7 @@ abbrev pub IsSubcommand : Text → List Row → Subcommand → Type 0
 IsSubcommand name rows sub.Feed = name ≡ codes "feed"
 IsSubcommand name rows sub.Bulk = name ≡ codes "bulk"
 IsSubcommand name rows sub.Export = name ≡ codes "export"
+IsSubcommand name rows (sub.Audit spid) = (name ≡ codes "audit") × (first_of (codes "spid") rows ≡ Some spid.now)
 IsSubcommand name rows (sub.Serve port connections) = (name ≡ codes "serve") × (number_under (codes "port") rows ≡ Some port) × IsNumberIfAny (codes "connections") rows connections
 
 -- it is none

@@ -2,7 +2,7 @@
 ghost use Rattle.std.specs.Prelude.{◌≡◌, IfOk, codes, false};
 ghost use Rattle.clap.specs.Words.{app_of, rule_of, new_app, with_subcommand};
 ghost use Rattle.clap.specs.declared.builder.command.Command.TheViews.{out-Command};
-ghost use Rattle.npacd.specs.CommandLine.{number_rule, option_rule, plain_app, serve_app, npacd_app, with_files, with_serving, with_version, with_wanted_subcommand};
+ghost use Rattle.npacd.specs.CommandLine.{audit_app, number_rule, option_rule, plain_app, serve_app, npacd_app, with_files, with_serving, with_version, with_wanted_subcommand};
 
 use clap::builder::ValueParser;
 use clap::{Arg, Command};
@@ -70,6 +70,20 @@ fn serve<'a>(alloc: Global) -> Result<Command<'a>, AllocError>
     command.arg(port)?.arg(connections)
 }
 
+// The subcommand that compares a copy.
+fn audit<'a>(alloc: Global) -> Result<Command<'a>, AllocError>
+    ensures { IfOk result
+        (λ c. (app_of c ≡ audit_app) × ((out-Command c).has_globals ≡ false)) }
+{
+    let command = plain(
+        alloc,
+        "audit",
+        "Compare a carrier's copy with what is in force",
+    )?;
+    let spid = option(alloc, "spid", "SPID", "The carrier whose copy it is", true);
+    command.arg(spid)
+}
+
 fn with<'a>(command: Command<'a>, part: Command<'a>) -> Result<Command<'a>, AllocError>
     requires { (out-Command part).has_globals ≡ false }
     ensures { IfOk result
@@ -105,6 +119,7 @@ fn with_files<'a>(alloc: Global, command: Command<'a>) -> Result<Command<'a>, Al
     let command = with(command, bulk)?;
     let export = plain(alloc, "export", "Write everything in force")?;
     let command = with(command, export)?;
+    let command = with(command, audit(alloc)?)?;
     Ok(command)
 }
 

@@ -51,7 +51,7 @@ fn number_if_any(matches: &ArgMatches<'_>, id: &str) -> Result<Option<u16>, NoLi
 }
 
 // The port and the connections of a `serve`.
-fn serve_of(matches: &ArgMatches<'_>) -> Result<Subcommand, NoLine>
+fn serve_of<'a>(matches: &ArgMatches<'a>) -> Result<Subcommand<'a>, NoLine>
     ensures given { IfOk result (IsSubcommand (codes "serve") (rows_of (found_of matches.now))) }
     ensures none { IfErr result (λ _. IsNoSubcommand (codes "serve")
         (rows_of (found_of matches.now))) }
@@ -63,7 +63,19 @@ fn serve_of(matches: &ArgMatches<'_>) -> Result<Subcommand, NoLine>
     Ok(Subcommand::Serve { port, connections })
 }
 
-fn subcommand_of(name: &str, matches: &ArgMatches<'_>) -> Result<Subcommand, NoLine>
+// The carrier of an `audit`.
+fn audit_of<'a>(matches: &ArgMatches<'a>) -> Result<Subcommand<'a>, NoLine>
+    ensures given { IfOk result (IsSubcommand (codes "audit") (rows_of (found_of matches.now))) }
+    ensures none { IfErr result (λ _. IsNoSubcommand (codes "audit")
+        (rows_of (found_of matches.now))) }
+{
+    match text_of(matches, "spid") {
+        Some(spid) => Ok(Subcommand::Audit { spid }),
+        None => Err(NoLine),
+    }
+}
+
+fn subcommand_of<'a>(name: &str, matches: &ArgMatches<'a>) -> Result<Subcommand<'a>, NoLine>
     ensures given { IfOk result (IsSubcommand name.now (rows_of (found_of matches.now))) }
     ensures none { IfErr result (λ _. IsNoSubcommand name.now (rows_of (found_of matches.now))) }
 {
@@ -75,6 +87,9 @@ fn subcommand_of(name: &str, matches: &ArgMatches<'_>) -> Result<Subcommand, NoL
     }
     if name == "export" {
         return Ok(Subcommand::Export);
+    }
+    if name == "audit" {
+        return audit_of(matches);
     }
     if name == "serve" {
         return serve_of(matches);

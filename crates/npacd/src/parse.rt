@@ -14,21 +14,30 @@ use std::convert::AsStr;
 
 /// What a subcommand does, with its own options.
 #[derive(Clone, Copy, PartialEq, Eq, Debug)]
-pub enum Subcommand {
+pub enum Subcommand<'a> {
     /// Serves standard input to standard output.
     Feed,
     /// Serves connections to a port of this machine: so many, or without end.
-    Serve { port: u16, connections: Option<u16> },
+    Serve {
+        port: u16,
+        connections: Option<u16>,
+    },
     /// Runs the bulk file on standard input, and writes its report to standard output.
     Bulk,
     /// Writes everything in force to standard output.
     Export,
+    /// Compares the copy on standard input with the register, and writes what it finds to standard
+    /// output.
+    Audit {
+        /// The carrier whose copy it is, as it is written.
+        spid: &'a str,
+    },
 }
 
 /// A command line that is carried out.
 #[derive(Clone, Copy, PartialEq, Eq, Debug)]
 pub struct Line<'a> {
-    pub subcommand: Subcommand,
+    pub subcommand: Subcommand<'a>,
     /// The file of the windows.
     pub windows: &'a str,
     /// The file of the messages that are served first, if there is one.

@@ -13,7 +13,8 @@ use crate::listening::listen;
 use crate::parse::{Line, Subcommand, parse};
 use crate::telling::{tell_outcome, tell_usage};
 use api::{End, NoTicks, Options, Served, serve};
-use bulk::{BulkFault, export, run_file};
+use bulk::{BulkFault, FaultKind, audit, export, run_file};
+use numbers::Spid;
 use register::{Register, law_of_new_stores};
 use settle::Store;
 use std::alloc::Global;
@@ -62,8 +63,8 @@ fn ended(served: Result<Served, api::Fault>) -> Result<(), Fault>
 pub(crate) const GATHERED: usize = 65_536;
 
 // Serves the reader to the writer over a register: where its content stands for the first state of
-// some windows, and its device never failed, the answers are those of the history machine from there
-// on. Unless a write fails, all of them are handed on to the writer behind the buffer.
+// some windows, and its device never failed, the answers are those of the history machine from
+// there on. Unless a write fails, all of them are handed on to the writer behind the buffer.
 fn feed_to<S: Store, R: Read, W: Write + Drop>(
     alloc: Global,
     register: &mut Register<S>,
@@ -196,6 +197,10 @@ fn carry_out_on<T: Files + AllocGlobal + Net + Clock, S: Store, R: Read, W: Writ
         Subcommand::Serve { port, connections } => listen(rt, register, port, connections, writer),
         Subcommand::Bulk => file_ended(run_file(alloc, register, reader, writer)),
         Subcommand::Export => file_ended(export(alloc, register, writer)),
+        Subcommand::Audit { spid } => match Spid::read(spid) {
+            Some(carrier) => file_ended(audit(alloc, register, carrier, reader, writer)),
+            None => Err(Fault::File(FaultKind::UnknownCarrier)),
+        },
     }
 }
 

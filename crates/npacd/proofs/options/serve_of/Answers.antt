@@ -13,6 +13,7 @@ no_connections : (rows : List Row) → IsNoNumber (codes "connections") rows →
 no_connections rows none sub.Feed h = let e : 115 ≡ 102 = first_same h in absurd (omega (arith, e))
 no_connections rows none sub.Bulk h = let e : 115 ≡ 98 = first_same h in absurd (omega (arith, e))
 no_connections rows none sub.Export h = let e : 115 ≡ 101 = first_same h in absurd (omega (arith, e))
+no_connections rows none (sub.Audit spid) h = let e : 115 ≡ 97 = first_same h.0 in absurd (omega (arith, e))
 no_connections rows none (sub.Serve port connections) h = none connections h.2
 
 if_err : {T E : Type 0} (r : Result T E) (P : Type 0) → P → IfErr r (λ _. P)
