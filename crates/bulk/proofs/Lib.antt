@@ -1,7 +1,13 @@
 mod Taken
 mod Exists
+mod Exported
 mod Asked
+mod Waited
 mod Carried
+mod Copied
+mod Sided
+mod FoundIn
+mod Compared
 pub mod FieldLemmas
 mod Filed
 pub mod Names

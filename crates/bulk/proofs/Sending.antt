@@ -38,22 +38,24 @@ sent_part had mid has lines i text within is before now = record {
   written = Appends-trans had mid has (concat (take i lines)) (take now.0 text) before now.2;
 }
 
--- the line of an element that is seen so
+-- the line of an element
 pub line_at :
-    {X Y : Type 0} (line : Y → List ℕ) (seen : X → Y) (xs : List X) (i : ℕ) (x : X) → i < length xs → x ≡ get_or xs i x →
-    (i < length (map line (map seen xs))) × (get_or (map line (map seen xs)) i [] ≡ line (seen x))
-line_at line seen xs i x within is = (
-  omega (arith, length-map (map seen xs) line, length-map xs seen, within),
-  get_or-map line (map seen xs) i (seen x) [] (omega (arith, length-map xs seen, within)) ∙ ap line (get_or-map seen xs i x (seen x) within ∙ ap seen (sym is)),
-)
+    {X : Type 0} (text : X → List ℕ) (xs : List X) (i : ℕ) (x : X) → i < length xs → x ≡ get_or xs i x →
+    (i < length (map text xs)) × (get_or (map text xs) i [] ≡ text x)
+line_at text xs i x within is = (omega (arith, length-map xs text, within), get_or-map text xs i x [] within ∙ ap text (sym is))
 
 -- behind the last element all lines are sent
 pub all_sent :
-    {X Y : Type 0} (line : Y → List ℕ) (seen : X → Y) (xs : List X) (i : ℕ) (had has : Option (List ℕ)) → length xs ≤ i →
-    AreSent had has (take i (map line (map seen xs))) → AreSent had has (map line (map seen xs))
-all_sent line seen xs i had has far sent =
-    let whole : take i (map line (map seen xs)) ≡ map line (map seen xs) = take_all i (map line (map seen xs)) (omega (arith, length-map (map seen xs) line, length-map xs seen, far)) in
+    {X : Type 0} (text : X → List ℕ) (xs : List X) (i : ℕ) (had has : Option (List ℕ)) → length xs ≤ i →
+    AreSent had has (take i (map text xs)) → AreSent had has (map text xs)
+all_sent text xs i had has far sent =
+    let whole : take i (map text xs) ≡ map text xs = take_all i (map text xs) (omega (arith, length-map xs text, far)) in
     subst (AreSent had has) whole sent
+
+-- the lines of elements as they are seen
+pub lines_seen : {X Y : Type 0} (line : Y → List ℕ) (seen : X → Y) (xs : List X) → map (λ x. line (seen x)) xs ≡ map line (map seen xs)
+lines_seen line seen [] = refl
+lines_seen line seen (x ∷ xs) = ap (λ (ts : List (List ℕ)). line (seen x) ∷ ts) (lines_seen line seen xs)
 
 -- the first line, and then the lines
 pub all_behind :

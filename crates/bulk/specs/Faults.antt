@@ -1,8 +1,18 @@
 -- How a run over a file may end early.
-use Rattle.std.specs.Prelude.{◌≡◌, ◌⊎◌, ℕ, Result, Ok, Err}
+use Rattle.std.specs.Prelude.{◌≡◌, ◌⊎◌, ℕ, List, Result, Ok, Err, codes}
 use Rattle.bulk.specs.declared.fault.BulkFault.{BulkFault}
 use Rattle.bulk.specs.declared.fault.FaultKind.{FaultKind}
-use Rattle.bulk.specs.declared.fault.FaultKind.TheVariants.{Storage, NoMemory, Read}
+use Rattle.bulk.specs.declared.fault.FaultKind.TheVariants.{BadHeader, BadFile, UnknownCarrier, Storage, NoMemory, Read, Write}
+
+-- the name that a program tells
+abbrev pub kind_name : FaultKind → List ℕ
+kind_name BadHeader = codes "bad_header"
+kind_name BadFile = codes "bad_file"
+kind_name UnknownCarrier = codes "unknown_carrier"
+kind_name Storage = codes "storage"
+kind_name NoMemory = codes "no_memory"
+kind_name Read = codes "read"
+kind_name Write = codes "write"
 
 -- the device failed, or there was no memory
 abbrev pub IsShort : FaultKind → Type 0

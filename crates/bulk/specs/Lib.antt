@@ -8,4 +8,9 @@ pub mod Exports
 pub mod Report
 pub mod Making
 pub mod Running
+pub mod Findings
+pub mod Audits
+pub mod Sides
+pub mod Comparing
 pub mod Examples
+pub mod AuditExamples

@@ -1,12 +1,14 @@
 //! What is asked of a register.
-ghost use Rattle.std.specs.Prelude.{◌≡◌, IfOk, IfErr, Err, map};
+ghost use Rattle.std.specs.Prelude.{◌≡◌, ◌⊎◌, true, false, IfOk, IfErr, Err, map};
 ghost use Rattle.delivery.specs.Mirrors.{in_force_of};
-ghost use Rattle.meaning.specs.declared.refusal.Refusal.TheVariants.{Storage};
-ghost use Rattle.meaning.specs.Reading.{State, all_in_force};
+ghost use Rattle.meaning.specs.declared.refusal.Refusal.TheVariants.{Storage, UnknownCarrier};
+ghost use Rattle.meaning.specs.Reading.{State, all_in_force, is_carrier};
 ghost use Rattle.register.specs.Answers.{Stands};
 ghost use Rattle.settle.specs.Owing.{Owes, SaysStorage};
 ghost use Rattle.calls.specs.Calls.{command_of};
+ghost use Rattle.numbers.specs.Views.{subject_of};
 ghost use Rattle.bulk.specs.Faults.{IsShort};
+ghost use Rattle.bulk.specs.Findings.{awaited};
 ghost use Rattle.bulk.specs.Report.{command_for, id_taken, in_force_id, open_id};
 
 use crate::fault::FaultKind;
@@ -14,7 +16,7 @@ use crate::order::Wish;
 use calls::{Command, Ids};
 use delivery::RoutedRow;
 use meaning::Refusal;
-use numbers::Tn;
+use numbers::{Spid, Subject, Tn};
 use register::Register;
 use settle::Store;
 use version::{Create, VersionCommand};
@@ -48,6 +50,44 @@ pub fn rows_in_force<S: Store>(register: &mut Register<S>) -> Result<Vec<RoutedR
     match register.in_force() {
         Ok(rows) => Ok(rows),
         Err(refusal) => Err(kind_of(refusal)),
+    }
+}
+
+// What failed, or that the carrier is not registered.
+fn kind_for(refusal: Refusal) -> FaultKind
+    ensures storage { result ≡ FaultKind.Storage → refusal ≡ Storage }
+    ensures unknown { result ≡ FaultKind.UnknownCarrier → refusal ≡ UnknownCarrier }
+    ensures kinds { IsShort result ⊎ (result ≡ FaultKind.UnknownCarrier) }
+{
+    match refusal {
+        Refusal::UnknownCarrier => FaultKind::UnknownCarrier,
+        _ => kind_of(refusal),
+    }
+}
+
+/// The subjects of the downloads that wait for a carrier, each once, by subject. Fails with
+/// `UnknownCarrier` where the carrier is not registered.
+pub fn subjects_waiting<S: Store>(
+    register: &mut Register<S>,
+    carrier: Spid,
+) -> Result<Vec<Subject>, FaultKind>
+    ensures subjects { IfOk result (λ subjects. S.IsUsable register.new.store → (st : State)
+        → Stands (S.content register.old.store) st
+        → (map subject_of subjects.items ≡ awaited st carrier.number)
+        × (is_carrier st carrier.number ≡ true)) }
+    ensures unknown { result ≡ Err FaultKind.UnknownCarrier → S.IsUsable register.new.store
+        → (st : State) → Stands (S.content register.old.store) st
+        → is_carrier st carrier.number ≡ false }
+    ensures kept { S.IsUsable register.new.store → (st : State)
+        → Stands (S.content register.old.store) st → Stands (S.content register.new.store) st }
+    ensures kinds { IfErr result (λ kind. IsShort kind ⊎ (kind ≡ FaultKind.UnknownCarrier)) }
+    ensures owes { Owes S.IsUsable S.IsHonest S.failed register.old.store register.new.store
+        ⊥ (SaysStorage (S.IsUsable register.new.store) (S.content register.old.store)
+        (result ≡ Err FaultKind.Storage)) }
+{
+    match register.waiting(carrier) {
+        Ok(subjects) => Ok(subjects),
+        Err(refusal) => Err(kind_for(refusal)),
     }
 }
 

@@ -1,20 +1,15 @@
 //! Exports.
-ghost use Rattle.std.specs.Prelude.{◌≡◌, ◌+◌, ◌<◌, IfOk, IfErr, length, map};
-ghost use Rattle.std.specs.List.{concat};
-ghost use Rattle.std.specs.Io.KnownBytes.{Appends};
-ghost use Rattle.delivery.specs.Mirrors.{in_force_of};
-ghost use Rattle.delivery.specs.declared.mirror.RoutedRow.{RoutedRow as RoutedRowSeen};
+ghost use Rattle.std.specs.Prelude.{◌≡◌};
 ghost use Rattle.meaning.specs.Reading.{State};
 ghost use Rattle.register.specs.Answers.{Stands};
 ghost use Rattle.settle.specs.Owing.{Owes, SaysStorage};
-ghost use Rattle.bulk.specs.Exports.{Exports, export_header, in_force_line};
+ghost use Rattle.bulk.specs.Exports.{Exports};
 ghost use Rattle.bulk.specs.Faults.{FailsWith};
-ghost use Rattle.bulk.specs.Files.{AreSent, EndsWithin, IsSentPart, file_text};
 
 use crate::asking::rows_in_force;
 use crate::fault::{BulkFault, FaultKind};
 use crate::line::Line;
-use delivery::RoutedRow;
+use crate::writing::send_file;
 use register::Register;
 use settle::Store;
 use std::alloc::Global;
@@ -22,41 +17,6 @@ use std::io::Write;
 
 /// The first row.
 const HEADER: &str = "subject,lrn,cic";
-
-// Sends the lines of these rows. Says how many there were, or how many were sent whole.
-fn send_rows<W: Write>(line: &mut Line, rows: &[RoutedRow], writer: &mut W) -> Result<u64, u64>
-    ensures ok { IfOk result (λ count. (count ≡ length rows.now)
-        × AreSent (W.contents writer.old) (W.contents writer.new)
-        (map in_force_line (map in_force_of rows.now))) }
-    ensures err { IfErr result (IsSentPart (W.contents writer.old) (W.contents writer.new)
-        (map in_force_line (map in_force_of rows.now))) }
-{
-    let mut count: u64 = 0;
-    for row in rows {
-        line.set_in_force(row);
-        match line.send(writer) {
-            Ok(()) => {}
-            Err(_) => return Err(count),
-        }
-        count += 1;
-    }
-    Ok(count)
-}
-
-// Sends the header and then the rows.
-fn send_export<W: Write>(line: &mut Line, rows: &[RoutedRow], writer: &mut W) -> Result<u64, u64>
-    ensures ok { IfOk result (λ count. (count ≡ length rows.now)
-        × Appends (W.contents writer.old) (W.contents writer.new)
-        (file_text export_header (map in_force_line (map in_force_of rows.now)))) }
-    ensures err { IfErr result (λ count. EndsWithin (W.contents writer.old) (W.contents writer.new)
-        export_header (map in_force_line (map in_force_of rows.now)) count) }
-{
-    line.set_first(HEADER);
-    match line.send(writer) {
-        Ok(()) => send_rows(line, rows, writer),
-        Err(_) => Err(0),
-    }
-}
 
 /// Writes everything in force: the header `subject,lrn,cic`, and then a row for each subject, by
 /// subject. Says how many rows were written. Each row is flushed before the next.
@@ -84,7 +44,7 @@ pub fn export<S: Store, W: Write>(
         (Err(_), _) => return Err(BulkFault::at_start(FaultKind::NoMemory)),
         (_, Err(kind)) => return Err(BulkFault::at_start(kind)),
     };
-    match send_export(&mut line, &rows, writer) {
+    match send_file(&mut line, HEADER, &rows, writer) {
         Ok(rows) => Ok(rows),
         Err(rows) => Err(BulkFault {
             kind: FaultKind::Write,

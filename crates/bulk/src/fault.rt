@@ -1,6 +1,6 @@
 //! Why a file was not read to its end, or was not written to it.
-
 ghost use Rattle.std.specs.Prelude.{◌≡◌};
+ghost use Rattle.bulk.specs.Faults.{kind_name};
 
 /// What failed.
 #[derive(Clone, Copy, Debug, PartialEq, Eq)]
@@ -19,6 +19,23 @@ pub enum FaultKind {
     Read,
     /// The writer failed.
     Write,
+}
+
+impl FaultKind {
+    /// The name that a program tells.
+    pub fn name(self) -> &'static str
+        ensures { result.now ≡ kind_name self }
+    {
+        match self {
+            FaultKind::BadHeader => "bad_header",
+            FaultKind::BadFile => "bad_file",
+            FaultKind::UnknownCarrier => "unknown_carrier",
+            FaultKind::Storage => "storage",
+            FaultKind::NoMemory => "no_memory",
+            FaultKind::Read => "read",
+            FaultKind::Write => "write",
+        }
+    }
 }
 
 /// What failed, and how many rows had been flushed whole before, without the header.

@@ -71,8 +71,8 @@ impl Fields<'_> {
     }
 }
 
-// The field as a text.
-fn text_in(field: &[u8]) -> Option<&str>
+/// The field as a text.
+pub fn text_in(field: &[u8]) -> Option<&str>
     ensures some { IfSome result (λ text. text.now ≡ field.now) }
     ensures none { IfNone result (¬ (IsUtf8 field.now)) }
 {
@@ -86,14 +86,16 @@ fn spid_in(field: &[u8]) -> Option<Spid>
     Spid::read(text_in(field)?)
 }
 
-fn tn_in(field: &[u8]) -> Option<Tn>
+/// The telephone number that a field writes.
+pub fn tn_in(field: &[u8]) -> Option<Tn>
     ensures some { IfSome result (λ tn. field.now ≡ tn_text tn.number) }
     ensures none { IfNone result ((n : ℕ) → IsTn n → field.now ≢ tn_text n) }
 {
     Tn::read(text_in(field)?)
 }
 
-fn lrn_in(field: &[u8]) -> Option<Lrn>
+/// The routing number that a field writes.
+pub fn lrn_in(field: &[u8]) -> Option<Lrn>
     ensures some { IfSome result (λ lrn. field.now ≡ lrn_text lrn.number) }
     ensures none { IfNone result ((n : ℕ) → IsLrn n → field.now ≢ lrn_text n) }
 {
@@ -183,7 +185,8 @@ fn flag_in(field: &[u8]) -> Option<bool>
     }
 }
 
-fn optional_cic_in(field: &[u8]) -> Option<Option<Cic>>
+/// The carrier code that a field writes, or none where it is empty.
+pub fn optional_cic_in(field: &[u8]) -> Option<Option<Cic>>
     ensures some { IfSome result (λ cic. field.now ≡ optional_cic cic) }
     ensures none { IfNone result ((cic : Option CicSeen) → field.now ≢ optional_cic cic) }
 {
@@ -340,7 +343,8 @@ pub fn read_order(row: &ByteRecord) -> Option<Order>
     })
 }
 
-fn is_text(field: &[u8], text: &str) -> bool
+/// Whether a field is this text.
+pub fn is_text(field: &[u8], text: &str) -> bool
     ensures { IsTrue result ↔ (field.now ≡ text.now) }
 {
     field == text.as_bytes()

@@ -7,9 +7,12 @@ ghost use Rattle.delivery.specs.Mirrors.{in_force_of};
 ghost use Rattle.messages.specs.Sending.{AppendsFront};
 ghost use Rattle.numbers.specs.Views.{routing_of};
 ghost use Rattle.bulk.specs.Exports.{in_force_line, routing_fields};
+ghost use Rattle.bulk.specs.Findings.{finding_line};
 
 use crate::fault::FaultKind;
+use crate::finding::Found;
 use crate::told::Told;
+use crate::writing::InLine;
 use bodies::{Failure, put, put_cic, put_lrn, put_number, put_subject};
 use delivery::RoutedRow;
 use messages::send_all;
@@ -70,6 +73,17 @@ impl Line {
         put(&mut self.text, "\n");
     }
 
+    /// Writes the row of a finding.
+    pub fn set_finding(&mut self, found: &Found)
+        ensures { string_bytes self.new.text ≡ finding_line found.now }
+    {
+        self.text.clear();
+        put_subject(&mut self.text, found.subject);
+        put(&mut self.text, ",");
+        put(&mut self.text, found.finding.name());
+        put(&mut self.text, "\n");
+    }
+
     // Writes a row's number, a comma and its subject.
     fn set_row(&mut self, row: u64)
         ensures bytes { string_bytes self.new.text ≡ decimal row ++ 44 ∷ [] }
@@ -120,5 +134,21 @@ impl Line {
             Ok(()) => Ok(()),
             Err(_) => Err(FaultKind::Write),
         }
+    }
+}
+
+impl InLine for RoutedRow {
+    ghost text = { λ row. in_force_line (in_force_of row) };
+
+    fn put_in(&self, line: &mut Line) {
+        line.set_in_force(self);
+    }
+}
+
+impl InLine for Found {
+    ghost text = { finding_line };
+
+    fn put_in(&self, line: &mut Line) {
+        line.set_finding(self);
     }
 }

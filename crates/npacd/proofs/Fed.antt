@@ -113,6 +113,14 @@ module _ (from to : ℕ) (st : State) (new : Content) (told : Told) (has : Optio
   serves_kept (Err (serving.Memory k)) x = (whole_kept k x.0, x.1)
   serves_kept (Err (serving.Write k)) x = part_kept k x
 
+-- the device had never failed, and did not
+pub at_zero : (w : WindowsMeant) (unread had mid all : Option (List ℕ)) (r : Result Served ServingFault) (new : Content) (from to : ℕ) → from ≡ 0 → to ≡ 0
+    → IfSome all (λ input. Serves r true from to (first_state w) new (fed input unread had mid)) → IfSome all (λ input. Serves r true 0 0 (first_state w) new (fed input unread had mid))
+at_zero w unread had mid all r new from to before after serves =
+    let From : ℕ → Type 0 = λ k. IfSome all (λ input. Serves r true k to (first_state w) new (fed input unread had mid)) in
+    let To : ℕ → Type 0 = λ k. IfSome all (λ input. Serves r true 0 k (first_state w) new (fed input unread had mid)) in
+    subst To after (subst From before serves)
+
 -- nothing is unwritten
 all_written : (has : Option (List ℕ)) (unwritten : List ℕ) → unwritten ≡ [] → append_known has unwritten ≡ has
 all_written None unwritten e = refl

@@ -28,14 +28,6 @@ kept c names w p (word ∷ rest) e =
 abbrev IsMet : Text → Type 0
 IsMet name = (walked (built npacd_app).top.rules (names_of (built npacd_app)) (walk_from nothing_held) name).stopped ≡ Some (name, [])
 
-feed_met : IsMet (codes "feed")
-unfolding clap_on_literals
-feed_met = refl
-
-serve_met : IsMet (codes "serve")
-unfolding clap_on_literals
-serve_met = refl
-
 -- where a name is met at once, its rule reads the words after it
 entered_at : (program name : Text) (after : List Text) → IsMet name
     → subcommand_of npacd_app (program ∷ name ∷ after) ≡ entered (built npacd_app) (Some (name, after))
@@ -49,20 +41,33 @@ Pair = Text × List Row
 abbrev Reads : Text → List Text → List Row → Type 0
 Reads name after rows = entered (built npacd_app) (Some (name, after)) ≡ Some (name, rows) → rows_named name after ≡ Some rows
 
-feed_rows : (after : List Text) (rows : List Row) → Reads (codes "feed") after rows
-unfolding clap_on_literals
-feed_rows after rows e = ap (option_map (λ (p : Pair). p.1)) e
+-- a subcommand by this name
+record IsNamed (name : Text) : Type 0 where
+  met : IsMet name
+  reads : (after : List Text) (rows : List Row) → Reads name after rows
 
-serve_rows : (after : List Text) (rows : List Row) → Reads (codes "serve") after rows
+feed_named : IsNamed (codes "feed")
 unfolding clap_on_literals
-serve_rows after rows e = ap (option_map (λ (p : Pair). p.1)) e
+feed_named = record { met = refl; reads = λ after rows e. ap (option_map (λ (p : Pair). p.1)) e }
 
-at_name : (program literal name : Text) (after : List Text) (rows : List Row) → IsMet literal → Reads literal after rows → name ≡ literal
+serve_named : IsNamed (codes "serve")
+unfolding clap_on_literals
+serve_named = record { met = refl; reads = λ after rows e. ap (option_map (λ (p : Pair). p.1)) e }
+
+bulk_named : IsNamed (codes "bulk")
+unfolding clap_on_literals
+bulk_named = record { met = refl; reads = λ after rows e. ap (option_map (λ (p : Pair). p.1)) e }
+
+export_named : IsNamed (codes "export")
+unfolding clap_on_literals
+export_named = record { met = refl; reads = λ after rows e. ap (option_map (λ (p : Pair). p.1)) e }
+
+at_name : (program literal name : Text) (after : List Text) (rows : List Row) → IsNamed literal → name ≡ literal
     → subcommand_of npacd_app (program ∷ name ∷ after) ≡ Some (name, rows) → rows_named name after ≡ Some rows
-at_name program literal name after rows met reads e found =
+at_name program literal name after rows named e found =
     let P : Text → Type 0 = λ n. subcommand_of npacd_app (program ∷ n ∷ after) ≡ Some (n, rows) in
     let Q : Text → Type 0 = λ n. rows_named n after ≡ Some rows in
-    subst Q (sym e) (reads (sym (entered_at program literal after met) ∙ subst P e found))
+    subst Q (sym e) (named.reads after rows (sym (entered_at program literal after named.met) ∙ subst P e found))
 
 second_same : {p q a b : Text} {xs ys : List Text} → p ∷ a ∷ xs ≡ q ∷ b ∷ ys → a ≡ b
 second_same e = cc
@@ -76,8 +81,10 @@ some_same e = cc
 -- by whatever rows the name is known to be a subcommand's
 pub rows_are_named : (program name : Text) (after : List Text) (told rows : List Row) (s : Subcommand) → IsSubcommand name told s
     → subcommand_of npacd_app (program ∷ name ∷ after) ≡ Some (name, rows) → rows_named name after ≡ Some rows
-rows_are_named program name after told rows sub.Feed h found = at_name program (codes "feed") name after rows feed_met (feed_rows after rows) h found
-rows_are_named program name after told rows (sub.Serve port connections) h found = at_name program (codes "serve") name after rows serve_met (serve_rows after rows) h.0 found
+rows_are_named program name after told rows sub.Feed h found = at_name program (codes "feed") name after rows feed_named h found
+rows_are_named program name after told rows (sub.Serve port connections) h found = at_name program (codes "serve") name after rows serve_named h.0 found
+rows_are_named program name after told rows sub.Bulk h found = at_name program (codes "bulk") name after rows bulk_named h found
+rows_are_named program name after told rows sub.Export h found = at_name program (codes "export") name after rows export_named h found
 
 -- where the rows after a word are no line of it, the words are no line
 pub no_line : (program name : Text) (after : List Text) (rows : List Row) → subcommand_of npacd_app (program ∷ name ∷ after) ≡ Some (name, rows)

@@ -31,8 +31,16 @@ with_wanted_subcommand a = record a { top = record a.top { subcommand_required =
 abbrev pub with_version : App → App
 with_version a = record a { top = record a.top { has_version = true } }
 
+-- the subcommands that serve messages, behind those of a
+abbrev pub with_serving : App → App
+with_serving a = with_subcommand (with_subcommand a (plain_app (codes "feed")).top) serve_app.top
+
+-- those that read and write files
+abbrev pub with_files : App → App
+with_files a = with_subcommand (with_subcommand a (plain_app (codes "bulk")).top) (plain_app (codes "export")).top
+
 abbrev pub npacd_app : App
-npacd_app = with_subcommand (with_subcommand (with_wanted_subcommand (with_version (new_app (codes "npacd")))) (plain_app (codes "feed")).top) serve_app.top
+npacd_app = with_files (with_serving (with_wanted_subcommand (with_version (new_app (codes "npacd")))))
 
 -- a number below 2^16
 abbrev pub small_number : Option ℕ → Option ℕ
@@ -54,6 +62,8 @@ IsNoNumber id rows = (number : Option ℕ) → ¬ (IsNumberIfAny id rows number)
 -- which subcommand a name is
 abbrev pub IsSubcommand : Text → List Row → Subcommand → Type 0
 IsSubcommand name rows sub.Feed = name ≡ codes "feed"
+IsSubcommand name rows sub.Bulk = name ≡ codes "bulk"
+IsSubcommand name rows sub.Export = name ≡ codes "export"
 IsSubcommand name rows (sub.Serve port connections) = (name ≡ codes "serve") × (number_under (codes "port") rows ≡ Some port) × IsNumberIfAny (codes "connections") rows connections
 
 -- it is none

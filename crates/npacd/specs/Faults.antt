@@ -4,6 +4,8 @@ use Rattle.windows.specs.File.{name_of}
 use Rattle.windows.specs.declared.window.WindowFault.TheVariants as windows
 use Rattle.messages.specs.Faults.{message_name}
 use Rattle.register.specs.declared.register.OpenFault.TheVariants as opening
+use Rattle.bulk.specs.Faults.{kind_name}
+use Rattle.bulk.specs.declared.fault.FaultKind.TheVariants as kind
 use Rattle.npacd.specs.declared.fault.Fault.{Fault}
 use Rattle.npacd.specs.declared.fault.Fault.TheVariants as fault
 
@@ -13,6 +15,7 @@ fault_name (fault.Open opening.WindowsDiffer) = codes "windows_differ"
 fault_name (fault.Open opening.Storage) = codes "storage"
 fault_name (fault.Open opening.NoMemory) = codes "no_memory"
 fault_name (fault.Message refused) = message_name refused
+fault_name (fault.File refused) = kind_name refused
 fault_name fault.Listen = codes "listen"
 fault_name fault.Read = codes "read"
 fault_name fault.Write = codes "write"
@@ -30,6 +33,13 @@ exit_status (fault.Open opening.WindowsDiffer) = 1
 exit_status (fault.Open opening.Storage) = 3
 exit_status (fault.Open opening.NoMemory) = 3
 exit_status (fault.Message refused) = 1
+exit_status (fault.File kind.BadHeader) = 1
+exit_status (fault.File kind.BadFile) = 1
+exit_status (fault.File kind.UnknownCarrier) = 1
+exit_status (fault.File kind.Storage) = 3
+exit_status (fault.File kind.NoMemory) = 3
+exit_status (fault.File kind.Read) = 3
+exit_status (fault.File kind.Write) = 3
 exit_status fault.Listen = 3
 exit_status fault.Read = 3
 exit_status fault.Write = 3

@@ -40,6 +40,7 @@ Feeds w told unwritten (Err (fault.Open opening.NoMemory)) = append_known told.h
 Feeds w told unwritten (Err (fault.Open opening.Storage)) = ⊥
 Feeds w told unwritten (Err (fault.Open opening.WindowsDiffer)) = ⊥
 Feeds w told unwritten (Err (fault.Windows refused)) = ⊥
+Feeds w told unwritten (Err (fault.File refused)) = ⊥
 Feeds w told unwritten (Err fault.Listen) = ⊥
 
 -- how serving ended, as the program's fault

@@ -2,7 +2,7 @@
 ghost use Rattle.std.specs.Prelude.{◌≡◌, IfOk, codes, false};
 ghost use Rattle.clap.specs.Words.{app_of, rule_of, new_app, with_subcommand};
 ghost use Rattle.clap.specs.declared.builder.command.Command.TheViews.{out-Command};
-ghost use Rattle.npacd.specs.CommandLine.{number_rule, option_rule, plain_app, serve_app, npacd_app, with_version, with_wanted_subcommand};
+ghost use Rattle.npacd.specs.CommandLine.{number_rule, option_rule, plain_app, serve_app, npacd_app, with_files, with_serving, with_version, with_wanted_subcommand};
 
 use clap::builder::ValueParser;
 use clap::{Arg, Command};
@@ -87,15 +87,32 @@ fn top<'a>(alloc: Global) -> Command<'a>
         .subcommand_required(true)
 }
 
+// With the subcommands that serve messages.
+fn with_serving<'a>(alloc: Global, command: Command<'a>) -> Result<Command<'a>, AllocError>
+    ensures { IfOk result (λ c. app_of c ≡ with_serving (app_of command.entry)) }
+{
+    let feed = plain(alloc, "feed", "Serve standard input to standard output")?;
+    let command = with(command, feed)?;
+    let command = with(command, serve(alloc)?)?;
+    Ok(command)
+}
+
+// With those that read and write files.
+fn with_files<'a>(alloc: Global, command: Command<'a>) -> Result<Command<'a>, AllocError>
+    ensures { IfOk result (λ c. app_of c ≡ with_files (app_of command.entry)) }
+{
+    let bulk = plain(alloc, "bulk", "Run a bulk file, and write its report")?;
+    let command = with(command, bulk)?;
+    let export = plain(alloc, "export", "Write everything in force")?;
+    let command = with(command, export)?;
+    Ok(command)
+}
+
 /// The whole command.
 pub fn npacd<'a>(alloc: Global) -> Result<Command<'a>, AllocError>
     ensures { IfOk result (λ c. app_of c ≡ npacd_app) }
 {
-    let command = top(alloc);
-    let command = with(
-        command,
-        plain(alloc, "feed", "Serve standard input to standard output")?,
-    )?;
-    let command = with(command, serve(alloc)?)?;
+    let command = with_serving(alloc, top(alloc))?;
+    let command = with_files(alloc, command)?;
     Ok(command)
 }

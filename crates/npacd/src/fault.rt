@@ -3,6 +3,7 @@ ghost use Rattle.std.specs.Prelude.{◌≡◌};
 ghost use Rattle.npacd.specs.Faults.{exit_status, fault_name};
 
 use api::MessageFault;
+use bulk::FaultKind;
 use register::OpenFault;
 use windows::WindowFault;
 
@@ -12,6 +13,8 @@ pub enum Fault {
     Windows(WindowFault),
     Open(OpenFault),
     Message(MessageFault),
+    /// A file of a subcommand was not read or written to its end.
+    File(FaultKind),
     /// The port was not had.
     Listen,
     Read,
@@ -30,6 +33,7 @@ impl Fault {
             Fault::Open(OpenFault::Storage) => "storage",
             Fault::Open(OpenFault::NoMemory) | Fault::NoMemory => "no_memory",
             Fault::Message(fault) => fault.name(),
+            Fault::File(kind) => kind.name(),
             Fault::Listen => "listen",
             Fault::Read => "read",
             Fault::Write => "write",
@@ -43,11 +47,18 @@ impl Fault {
         match self {
             Fault::Windows(WindowFault::NoMemory)
             | Fault::Open(OpenFault::Storage | OpenFault::NoMemory)
+            | Fault::File(
+                FaultKind::Storage | FaultKind::NoMemory | FaultKind::Read | FaultKind::Write,
+            )
             | Fault::Listen
             | Fault::Read
             | Fault::Write
             | Fault::NoMemory => 3,
-            Fault::Windows(_) | Fault::Open(OpenFault::WindowsDiffer) | Fault::Message(_) => 1,
+            Fault::Windows(_)
+            | Fault::Open(OpenFault::WindowsDiffer)
+            | Fault::Message(_)
+            | Fault::File(FaultKind::BadHeader | FaultKind::BadFile | FaultKind::UnknownCarrier) =>
+                1,
         }
     }
 }

@@ -70,6 +70,12 @@ fn subcommand_of(name: &str, matches: &ArgMatches<'_>) -> Result<Subcommand, NoL
     if name == "feed" {
         return Ok(Subcommand::Feed);
     }
+    if name == "bulk" {
+        return Ok(Subcommand::Bulk);
+    }
+    if name == "export" {
+        return Ok(Subcommand::Export);
+    }
     if name == "serve" {
         return serve_of(matches);
     }

@@ -19,6 +19,10 @@ pub enum Subcommand {
     Feed,
     /// Serves connections to a port of this machine: so many, or without end.
     Serve { port: u16, connections: Option<u16> },
+    /// Runs the bulk file on standard input, and writes its report to standard output.
+    Bulk,
+    /// Writes everything in force to standard output.
+    Export,
 }
 
 /// A command line that is carried out.

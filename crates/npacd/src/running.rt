@@ -1,11 +1,10 @@
 //! Carrying out a command line.
-ghost use Rattle.std.specs.Prelude.{◌≡◌, IfSome, map};
+ghost use Rattle.std.specs.Prelude.{◌≡◌, Err, IfErr, IfSome, IsOk, OnOk, map};
 ghost use Rattle.std.specs.Io.Buffered.{writer_buffer, writer_contents, writer_inner};
 ghost use Rattle.meaning.specs.Reading.{first_state};
 ghost use Rattle.meaning.specs.Windows.{Windows as WindowsMeant};
 ghost use Rattle.version.specs.Views.{windows_of};
 ghost use Rattle.register.specs.Answers.{Stands};
-ghost use Rattle.store.specs.Tables.{content_of};
 ghost use Rattle.npacd.specs.Feeding.{Feeds, fed, outcome_of};
 ghost use Rattle.npacd.specs.Telling.{Ends};
 
@@ -14,7 +13,9 @@ use crate::listening::listen;
 use crate::parse::{Line, Subcommand, parse};
 use crate::telling::{tell_outcome, tell_usage};
 use api::{End, NoTicks, Options, Served, serve};
+use bulk::{BulkFault, export, run_file};
 use register::{Register, law_of_new_stores};
+use settle::Store;
 use std::alloc::Global;
 use std::convert::AsStr;
 use std::fs::File;
@@ -60,16 +61,18 @@ fn ended(served: Result<Served, api::Fault>) -> Result<(), Fault>
 // How many bytes of answers are gathered, at most, before they are written.
 pub(crate) const GATHERED: usize = 65_536;
 
-// Serves the reader to the writer over a register in memory: where its content stands for the first
-// state of some windows, the answers are those of the history machine from there on. Unless a write
-// fails, all of them are handed on to the writer behind the buffer.
-fn feed_to<R: Read, W: Write + Drop>(
+// Serves the reader to the writer over a register: where its content stands for the first state of
+// some windows, and its device never failed, the answers are those of the history machine from there
+// on. Unless a write fails, all of them are handed on to the writer behind the buffer.
+fn feed_to<S: Store, R: Read, W: Write + Drop>(
     alloc: Global,
-    register: &mut Register<MemoryStore>,
+    register: &mut Register<S>,
     reader: &mut R,
     writer: &mut BufWriter<W>,
 ) -> Result<(), Fault>
-    ensures { (w : WindowsMeant) → Stands (content_of register.old.store.tables) (first_state w)
+    ensures { S.IsUsable register.new.store → S.failed register.old.store ≡ 0
+        → S.failed register.new.store ≡ 0 → (w : WindowsMeant)
+        → Stands (S.content register.old.store) (first_state w)
         → IfSome (R.remaining reader.old)
         (λ input. Feeds w (fed input (R.remaining reader.new)
         (writer_contents W.contents writer.old) (W.contents (writer_inner writer.new)))
@@ -131,10 +134,25 @@ fn feed_gathering<R: Read, W: Write>(
     outcome
 }
 
+// The same over a register.
+fn feed_gathering_to<S: Store, R: Read, W: Write>(
+    alloc: Global,
+    register: &mut Register<S>,
+    reader: &mut R,
+    writer: &mut W,
+) -> Result<(), Fault> {
+    let Ok(mut gathering) = BufWriter::with_capacity(alloc, GATHERED, writer) else {
+        return Err(Fault::NoMemory);
+    };
+    let outcome = feed_to(alloc, register, reader, &mut gathering);
+    let (_writer, _unwritten) = gathering.into_parts();
+    outcome
+}
+
 // Serves the messages of a file, whose answers nobody sees.
-fn feed_file<T: Files + AllocGlobal>(
+fn feed_file<T: Files + AllocGlobal, S: Store>(
     rt: &T,
-    register: &mut Register<MemoryStore>,
+    register: &mut Register<S>,
     path: &str,
 ) -> Result<(), Fault> {
     let mut file = File::open(rt, path).map_err(read_fault)?;
@@ -150,41 +168,57 @@ fn feed_file<T: Files + AllocGlobal>(
     ))
 }
 
-// A new register in memory, to which a file of messages was fed.
-fn fed_register<T: Files + AllocGlobal>(
-    rt: &T,
-    windows: &Windows,
-    path: Option<&str>,
-) -> Result<Register<MemoryStore>, Fault> {
-    let store = MemoryStore::new(rt.alloc());
-    let mut register = match Register::open(rt.alloc(), store, windows) {
-        Ok(register) => register,
-        Err((_store, fault)) => return Err(Fault::Open(fault)),
-    };
-    if let Some(path) = path {
-        feed_file(rt, &mut register, path)?;
+// A file that was read or written whole, or broke off, ends the program so.
+fn file_ended(ran: Result<u64, BulkFault>) -> Result<(), Fault>
+    ensures done { OnOk ran (IsOk result) }
+    ensures broken { IfErr ran (λ fault. result ≡ Err (Fault.File fault.kind)) }
+{
+    match ran {
+        Ok(_) => Ok(()),
+        Err(fault) => Err(Fault::File(fault.kind)),
     }
-    Ok(register)
 }
 
-// Serves the reader to the writer over a register to which a file of messages was fed.
-fn feed_after<T: Files + AllocGlobal, R: Read, W: Write>(
+// Feeds the file of `--feed` to a register, and then does what the subcommand does.
+fn carry_out_on<T: Files + AllocGlobal + Net + Clock, S: Store, R: Read, W: Write>(
     rt: &T,
-    windows: &Windows,
-    path: &str,
+    register: &mut Register<S>,
+    line: &Line<'_>,
     reader: &mut R,
     writer: &mut W,
 ) -> Result<(), Fault> {
-    let mut register = fed_register(rt, windows, Some(path))?;
-    let Ok(mut gathering) = BufWriter::with_capacity(rt.alloc(), GATHERED, writer) else {
-        return Err(Fault::NoMemory);
-    };
-    let outcome = feed_to(rt.alloc(), &mut register, reader, &mut gathering);
-    let (_writer, _unwritten) = gathering.into_parts();
-    outcome
+    let alloc = rt.alloc();
+    if let Some(path) = line.feed {
+        feed_file(rt, register, path)?;
+    }
+    match line.subcommand {
+        Subcommand::Feed => feed_gathering_to(alloc, register, reader, writer),
+        Subcommand::Serve { port, connections } => listen(rt, register, port, connections, writer),
+        Subcommand::Bulk => file_ended(run_file(alloc, register, reader, writer)),
+        Subcommand::Export => file_ended(export(alloc, register, writer)),
+    }
 }
 
-// Carries out a line.
+// Carries out a line over a store, which is handed back.
+fn carry_out_over<T: Files + AllocGlobal + Net + Clock, S: Store, R: Read, W: Write>(
+    rt: &T,
+    store: S,
+    windows: &Windows,
+    line: &Line<'_>,
+    reader: &mut R,
+    writer: &mut W,
+) -> (S, Result<(), Fault>) {
+    match Register::open(rt.alloc(), store, windows) {
+        Ok(register) => {
+            let mut register = register;
+            let outcome = carry_out_on(rt, &mut register, line, reader, writer);
+            (register.close(), outcome)
+        }
+        Err((store, fault)) => (store, Err(Fault::Open(fault))),
+    }
+}
+
+// Carries out a line. A plain `feed` is the function that says what it answers.
 fn carry_out<T: Files + AllocGlobal + Net + Clock, R: Read, W: Write>(
     rt: &T,
     line: &Line<'_>,
@@ -194,18 +228,18 @@ fn carry_out<T: Files + AllocGlobal + Net + Clock, R: Read, W: Write>(
     let windows = windows_at(rt, line.windows)?;
     match (line.subcommand, line.feed) {
         (Subcommand::Feed, None) => feed_gathering(rt.alloc(), &windows, reader, writer),
-        (Subcommand::Feed, Some(path)) => feed_after(rt, &windows, path, reader, writer),
-        (Subcommand::Serve { port, connections }, feed) => {
-            let mut register = fed_register(rt, &windows, feed)?;
-            listen(rt, &mut register, port, connections, writer)
+        _ => {
+            let store = MemoryStore::new(rt.alloc());
+            let (_store, outcome) = carry_out_over(rt, store, &windows, line, reader, writer);
+            outcome
         }
     }
 }
 
 /// Carries out the words of a command line, of which the first is the program's name, and gives the
-/// exit status: 0 done, or help; 1 a refused windows file, or input that ended by a message's
-/// fault; 2 the command line; 3 memory, a read or a write. With 1 and 3 one line `npacd: ` and the
-/// fault's name goes to the errors, unless it cannot be written.
+/// exit status: 0 done, or help; 1 a file that is refused, or messages that ended by a fault; 2 the
+/// command line; 3 memory, a read or a write. With 1 and 3 one line `npacd: ` and the fault's name
+/// goes to the errors, unless it cannot be written.
 ///
 /// The windows file comes first, then the file of `--feed`, then the subcommand: nothing is done
 /// behind the first fault.

@@ -1,11 +1,18 @@
-use Rattle.std.proofs.Common.{◌∙◌, List, map, subst, ap}
-use Rattle.calls.specs.Calls.{in_force_of}
-use Rattle.meaning.specs.Reading.{InForce}
-use Rattle.bulk.specs.Exports.{export_header, in_force_line}
-use Rattle.bulk.specs.Files.{EndsWithin}
+use Rattle.std.proofs.Common.{◌∙◌, map, ap}
+use Rattle.delivery.specs.Mirrors.{in_force_of}
+use Rattle.meaning.specs.Reading.{all_in_force}
+use Rattle.bulk.specs.Exports.{export_header}
+use Rattle.bulk.proofs.Exported.{all_exported, part_exported}
 use Rattle.bulk.proofs.exporting.export.Goals as goal
 
+pub returns-in-Ok-clause-exports : goal.returns-in-Ok-clause-exports
+unfolding export_header
+returns-in-Ok-clause-exports g c = λ u st s.
+    all_exported (g.W.Write.contents c.args.writer.now) (g.W.Write.contents c.send_file.new.writer) export_header c.deref.result.now (all_in_force st) c.in-Ok.rows
+    (ap (map in_force_of) c.deref.ensures.value ∙ c.in-Ok-Ok.ensures'.rows u st s) c.in-Ok.ensures.ok
+
 pub returns-clause-exports : goal.returns-clause-exports
+unfolding export_header
 returns-clause-exports g c = λ u st s.
-    subst (λ (rows : List InForce). EndsWithin (g.W.Write.contents c.args.writer.now) (g.W.Write.contents c.send_export.new.writer) export_header (map in_force_line rows) c.in-Err.rows)
+    part_exported (g.W.Write.contents c.args.writer.now) (g.W.Write.contents c.send_file.new.writer) export_header c.deref.result.now (all_in_force st) c.in-Err.rows
     (ap (map in_force_of) c.deref.ensures.value ∙ c.in-Ok-Ok.ensures'.rows u st s) c.in-Err.ensures.err

@@ -6,10 +6,13 @@ use Rattle.npacd.specs.declared.parse.Subcommand.TheVariants as sub
 use Rattle.npacd.specs.CommandLine.{IsNoNumber, IsSubcommand}
 use Rattle.npacd.proofs.options.serve_of.Goals as goal
 
+first_same : {s t : List ℕ} → s ≡ t → slice_index s 0 ≡ slice_index t 0
+first_same e = ap (λ (t : List ℕ). slice_index t 0) e
+
 no_connections : (rows : List Row) → IsNoNumber (codes "connections") rows → (s : Subcommand) → IsSubcommand (codes "serve") rows s → ⊥
-no_connections rows none sub.Feed h =
-    let e : 115 ≡ 102 = ap (λ (t : List ℕ). slice_index t 0) h in
-    absurd (omega (arith, e))
+no_connections rows none sub.Feed h = let e : 115 ≡ 102 = first_same h in absurd (omega (arith, e))
+no_connections rows none sub.Bulk h = let e : 115 ≡ 98 = first_same h in absurd (omega (arith, e))
+no_connections rows none sub.Export h = let e : 115 ≡ 101 = first_same h in absurd (omega (arith, e))
 no_connections rows none (sub.Serve port connections) h = none connections h.2
 
 if_err : {T E : Type 0} (r : Result T E) (P : Type 0) → P → IfErr r (λ _. P)

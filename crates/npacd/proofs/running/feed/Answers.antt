@@ -11,4 +11,4 @@ returns-in-Ok g c =
     let first = first_state (windows_of c.args.windows.now) in
     let new : Represents (content_of c.new-store.result.tables) first =
     subst (λ (m : Content). Represents m first) (sym c.new-store.ensures) (c.law_of_new_stores.ensures (windows_of c.args.windows.now) (are-windows c.args.windows.now)) in
-    c.feed_to-outcome.ensures (windows_of c.args.windows.now) (c.in-Ok.ensures.stands tt first new refl)
+    c.feed_to-outcome.ensures tt refl refl (windows_of c.args.windows.now) (c.in-Ok.ensures.stands tt first new refl)

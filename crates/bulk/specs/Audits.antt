@@ -1,0 +1,121 @@
+-- An audit of a copy, which is a file in the form of an export.
+use Rattle.std.specs.Prelude.{◌≡◌, ◌≢◌, ◌⊎◌, ℕ, true, false, List, [], ◌∷◌, length, map, codes, ⊤, Option, Result, Ok, Err}
+use Rattle.std.specs.List.{list_any}
+use Rattle.std.specs.Io.KnownBytes.{Appends}
+use Rattle.numbers.specs.Subjects.{Subject, subject_eq}
+use Rattle.numbers.specs.Texts.{subject_text, lrn_text}
+use Rattle.numbers.specs.Views.{subject_of}
+use Rattle.delivery.specs.Mirrors.{in_force_of}
+use Rattle.delivery.specs.declared.mirror.RoutedRow.{RoutedRow}
+use Rattle.meaning.specs.Reading.{State, is_carrier}
+use Rattle.bulk.specs.Files.{EndsWithin, file_text}
+use Rattle.bulk.specs.Findings.{AreFindings, audit_header, finding_line}
+use Rattle.bulk.specs.Orders.{optional_cic}
+use Rattle.bulk.specs.Rows.{Row, AreRowsOf}
+use Rattle.bulk.specs.declared.fault.BulkFault.{BulkFault}
+use Rattle.bulk.specs.declared.fault.FaultKind.{FaultKind}
+use Rattle.bulk.specs.declared.fault.FaultKind.TheVariants.{BadHeader, BadFile, UnknownCarrier, Storage, NoMemory, Read, Write}
+use Rattle.bulk.specs.declared.finding.Found.{Found}
+
+-- ---- a copy
+
+-- the row that a copy begins with
+unfoldable pub copy_header : Row
+copy_header = codes "subject" ∷ codes "lrn" ∷ codes "cic" ∷ []
+
+-- the row says where a subject is routed
+abbrev pub IsEntry : Row → RoutedRow → Type 0
+IsEntry row entry = row ≡ subject_text (subject_of entry.subject) ∷ lrn_text entry.routing.lrn.number ∷ optional_cic entry.routing.cic ∷ []
+
+-- it says that of none
+abbrev pub IsNoEntry : Row → Type 0
+IsNoEntry row = (entry : RoutedRow) → ¬ (IsEntry row entry)
+
+-- each row says its entry
+abbrev pub AreEntries : List Row → List RoutedRow → Type 0
+AreEntries [] [] = Unit {0}
+AreEntries (row ∷ rows) (entry ∷ entries) = IsEntry row entry × AreEntries rows entries
+AreEntries [] (entry ∷ entries) = ⊥
+AreEntries (row ∷ rows) [] = ⊥
+
+-- some row says none
+abbrev pub HasNoEntry : List Row → Type 0
+HasNoEntry [] = ⊥
+HasNoEntry (row ∷ rows) = IsNoEntry row ⊎ HasNoEntry rows
+
+abbrev pub subjects_in : List RoutedRow → List Subject
+subjects_in entries = map (λ (entry : RoutedRow). subject_of entry.subject) entries
+
+-- each subject is none of those before it
+abbrev pub AreNew : (before subjects : List Subject) → Type 0
+AreNew before [] = ⊤
+AreNew before (s ∷ ss) = (list_any (λ t. subject_eq t s) before ≡ false) × AreNew (s ∷ before) ss
+
+-- no subject stands twice
+abbrev pub EachOnce : List Subject → Type 0
+EachOnce subjects = AreNew [] subjects
+
+-- the rows behind the header are a copy with these entries
+pub record IsCopy (rows : List Row) (entries : List RoutedRow) : Type 0 where
+  pub read : AreEntries rows entries
+  pub once : EachOnce (subjects_in entries)
+
+-- some row is none of a copy's, or a subject stands twice
+abbrev pub IsBadCopy : List Row → Type 0
+IsBadCopy rows = HasNoEntry rows ⊎ ((entries : List RoutedRow) × AreEntries rows entries × (¬ (EachOnce (subjects_in entries))))
+
+-- why the rows of a file were not read as entries of a copy
+abbrev pub IsNotRead : FaultKind → List Row → Type 0
+IsNotRead BadHeader rows = (others : List Row) → rows ≢ copy_header ∷ others
+IsNotRead BadFile rows = (others : List Row) × (rows ≡ copy_header ∷ others) × HasNoEntry others
+IsNotRead NoMemory rows = Unit {0}
+IsNotRead Read rows = Unit {0}
+IsNotRead UnknownCarrier rows = ⊥
+IsNotRead Storage rows = ⊥
+IsNotRead Write rows = ⊥
+
+-- ---- an audit
+
+-- the file of these bytes is a copy of a carrier that is registered, and these are the findings
+pub record Finds (st : State) (carrier : ℕ) (bytes : List ℕ) (findings : List Found) : Type 0 where
+  pub known : is_carrier st carrier ≡ true
+  pub rows : List Row
+  pub entries : List RoutedRow
+  pub file : AreRowsOf bytes (copy_header ∷ rows)
+  pub copy : IsCopy rows entries
+  pub found : AreFindings st carrier (map in_force_of entries) findings
+
+-- all of them were written
+abbrev pub AuditsAll : State → (carrier : ℕ) → (bytes : List ℕ) → (had has : Option (List ℕ)) → (rows : ℕ) → Type 0
+AuditsAll st carrier bytes had has rows =
+    (findings : List Found) × Finds st carrier bytes findings × (rows ≡ length findings) × Appends had has (file_text audit_header (map finding_line findings))
+
+-- so many of them were written whole, and no more than a front of the next
+abbrev pub AuditsPart : State → (carrier : ℕ) → (bytes : List ℕ) → (had has : Option (List ℕ)) → (rows : ℕ) → Type 0
+AuditsPart st carrier bytes had has rows =
+    (findings : List Found) × Finds st carrier bytes findings × EndsWithin had has audit_header (map finding_line findings) rows
+
+-- why nothing was written
+abbrev pub HasBadHeader : (bytes : List ℕ) → Type 0
+HasBadHeader bytes = (rows : List Row) × AreRowsOf bytes rows × ((others : List Row) → rows ≢ copy_header ∷ others)
+
+abbrev pub HasBadRows : (bytes : List ℕ) → Type 0
+HasBadRows bytes = (rows : List Row) × AreRowsOf bytes (copy_header ∷ rows) × IsBadCopy rows
+
+abbrev pub WritesNothing : FaultKind → State → (carrier : ℕ) → (bytes : List ℕ) → Type 0
+WritesNothing UnknownCarrier st carrier bytes = is_carrier st carrier ≡ false
+WritesNothing BadHeader st carrier bytes = (is_carrier st carrier ≡ true) × HasBadHeader bytes
+WritesNothing BadFile st carrier bytes = (is_carrier st carrier ≡ true) × HasBadRows bytes
+WritesNothing Storage st carrier bytes = Unit {0}
+WritesNothing NoMemory st carrier bytes = Unit {0}
+WritesNothing Read st carrier bytes = is_carrier st carrier ≡ true
+WritesNothing Write st carrier bytes = ⊥
+
+abbrev pub StopsBefore : FaultKind → State → (carrier : ℕ) → (bytes : List ℕ) → (had has : Option (List ℕ)) → (rows : ℕ) → Type 0
+StopsBefore kind st carrier bytes had has rows = WritesNothing kind st carrier bytes × (rows ≡ 0) × Appends had has []
+
+-- the audit of the file of these bytes came to this result
+abbrev pub Audits : State → (carrier : ℕ) → (bytes : List ℕ) → (had has : Option (List ℕ)) → Result ℕ BulkFault → Type 0
+Audits st carrier bytes had has (Ok rows) = AuditsAll st carrier bytes had has rows
+Audits st carrier bytes had has (Err fault) =
+    StopsBefore fault.kind st carrier bytes had has fault.rows ⊎ ((fault.kind ≡ Write) × AuditsPart st carrier bytes had has fault.rows)

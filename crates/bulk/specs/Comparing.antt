@@ -1,0 +1,40 @@
+-- What comparing a copy with what the register has comes to.
+use Rattle.std.specs.Prelude.{◌≡◌, ℕ, List, ◌∷◌, map}
+use Rattle.std.specs.List.{list_any}
+use Rattle.numbers.specs.Subjects.{subject_eq}
+use Rattle.numbers.specs.Views.{subject_of}
+use Rattle.numbers.specs.declared.ported.Subject.{Subject}
+use Rattle.delivery.specs.Mirrors.{in_force_of}
+use Rattle.delivery.specs.declared.mirror.RoutedRow.{RoutedRow}
+use Rattle.meaning.specs.Copies.{started}
+use Rattle.meaning.specs.Laws.{SubjectsRise}
+use Rattle.bulk.specs.Audits.{HasBadHeader, HasBadRows, IsCopy, copy_header}
+use Rattle.bulk.specs.Findings.{finding_of, told_of}
+use Rattle.bulk.specs.Rows.{Row, AreRowsOf}
+use Rattle.bulk.specs.declared.fault.FaultKind.{FaultKind}
+use Rattle.bulk.specs.declared.fault.FaultKind.TheVariants.{BadHeader, BadFile, UnknownCarrier, Storage, NoMemory, Read, Write}
+use Rattle.bulk.specs.declared.finding.Found.{Found}
+
+-- by subject, each once: what is found of each subject, by the rows in force, the subjects that wait and the entries of a copy
+pub record AreCompared (in_force : List RoutedRow) (waiting : List Subject) (entries : List RoutedRow) (findings : List Found) : Type 0 where
+  pub rise : SubjectsRise (map (λ (f : Found). subject_of f.subject) findings)
+  pub each : (s : Subject) → told_of findings (subject_of s)
+      ≡ finding_of (list_any (λ t. subject_eq t (subject_of s)) (map subject_of waiting)) (started (map in_force_of in_force) (subject_of s)) (started (map in_force_of entries) (subject_of s))
+
+-- the file of these bytes is a copy, and so compared
+pub record ComparesFile (in_force : List RoutedRow) (waiting : List Subject) (bytes : List ℕ) (findings : List Found) : Type 0 where
+  pub rows : List Row
+  pub entries : List RoutedRow
+  pub file : AreRowsOf bytes (copy_header ∷ rows)
+  pub copy : IsCopy rows entries
+  pub compared : AreCompared in_force waiting entries findings
+
+-- why it was not
+abbrev pub IsNotCompared : FaultKind → (bytes : List ℕ) → Type 0
+IsNotCompared BadHeader bytes = HasBadHeader bytes
+IsNotCompared BadFile bytes = HasBadRows bytes
+IsNotCompared NoMemory bytes = Unit {0}
+IsNotCompared Read bytes = Unit {0}
+IsNotCompared UnknownCarrier bytes = ⊥
+IsNotCompared Storage bytes = ⊥
+IsNotCompared Write bytes = ⊥

@@ -1,0 +1,68 @@
+-- What an audit tells: a carrier's own copy beside the register, by three sets of subjects: those of the copy, those in force, and those of
+-- which a download waits for the carrier.
+use Rattle.std.specs.Prelude.{◌≡◌, ℕ, ◌==◌, ◌&&◌, Bool, true, false, List, [], ◌∷◌, ◌++◌, map, codes, Option, Some, None, if◌then◌else◌}
+use Rattle.std.specs.List.{list_any}
+use Rattle.numbers.specs.Routings.{Routing}
+use Rattle.numbers.specs.Subjects.{Subject, subject_eq}
+use Rattle.numbers.specs.Texts.{subject_text}
+use Rattle.numbers.specs.Views.{subject_of}
+use Rattle.numbers.specs.declared.ported.Subject.{Subject as SubjectCode}
+use Rattle.meaning.specs.Copies.{started}
+use Rattle.meaning.specs.Laws.{SubjectsRise}
+use Rattle.meaning.specs.Machine.{each_once}
+use Rattle.meaning.specs.Reading.{State, Download, InForce, all_in_force, queue}
+use Rattle.bulk.specs.declared.finding.Finding.{Finding}
+use Rattle.bulk.specs.declared.finding.Finding.TheVariants.{Waiting, Missing, Extra, Different}
+use Rattle.bulk.specs.declared.finding.Found.{Found}
+
+abbrev pub finding_name : Finding → List ℕ
+finding_name Waiting = codes "waiting"
+finding_name Missing = codes "missing"
+finding_name Extra = codes "extra"
+finding_name Different = codes "different"
+
+-- ---- what is found of a subject
+
+abbrev pub same_cic : Option ℕ → Option ℕ → Bool
+same_cic None None = true
+same_cic (Some a) (Some b) = a == b
+same_cic None (Some b) = false
+same_cic (Some a) None = false
+
+abbrev pub same_routing : Routing → Routing → Bool
+same_routing r q = (r.lrn == q.lrn) && same_cic r.cic q.cic
+
+-- by whether a download of it waits, and by where it is routed in force and in the copy: nothing where these agree
+abbrev pub finding_of : (waits : Bool) → (in_force copied : Option Routing) → Option Finding
+finding_of true in_force copied = Some Waiting
+finding_of false None None = None
+finding_of false None (Some copy) = Some Extra
+finding_of false (Some routing) None = Some Missing
+finding_of false (Some routing) (Some copy) = if same_routing routing copy then None else Some Different
+
+-- the subjects of the downloads that wait for a carrier
+abbrev pub awaited : State → (carrier : ℕ) → List Subject
+awaited st carrier = each_once (map (λ (d : Download). d.subject) (queue st carrier))
+
+abbrev pub finding_at : State → (carrier : ℕ) → (copy : List InForce) → Subject → Option Finding
+finding_at st carrier copy s = finding_of (list_any (λ t. subject_eq t s) (awaited st carrier)) (started (all_in_force st) s) (started copy s)
+
+-- ---- all findings
+
+-- what these findings tell of a subject
+abbrev pub told_of : List Found → Subject → Option Finding
+told_of [] s = None
+told_of (f ∷ fs) s = if subject_eq (subject_of f.subject) s then Some f.finding else told_of fs s
+
+-- by subject, each once: what is found of each subject, and nothing else
+pub record AreFindings (st : State) (carrier : ℕ) (copy : List InForce) (findings : List Found) : Type 0 where
+  pub rise : SubjectsRise (map (λ (f : Found). subject_of f.subject) findings)
+  pub each : (s : SubjectCode) → told_of findings (subject_of s) ≡ finding_at st carrier copy (subject_of s)
+
+-- ---- their file
+
+unfoldable pub audit_header : List ℕ
+audit_header = codes "subject,finding\n"
+
+abbrev pub finding_line : Found → List ℕ
+finding_line f = subject_text (subject_of f.subject) ++ 44 ∷ (finding_name f.finding ++ 10 ∷ [])

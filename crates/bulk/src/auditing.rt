@@ -1,0 +1,158 @@
+//! Audits.
+ghost use Rattle.std.specs.Prelude.{◌≡◌, ◌≢◌, ◌⊎◌, Err, IfErr, IfOk, IfSome, false, map, true};
+ghost use Rattle.numbers.specs.Views.{subject_of};
+ghost use Rattle.delivery.specs.Mirrors.{in_force_of};
+ghost use Rattle.meaning.specs.Reading.{State, all_in_force, is_carrier};
+ghost use Rattle.register.specs.Answers.{Stands};
+ghost use Rattle.settle.specs.Owing.{Owes, SaysStorage};
+ghost use Rattle.bulk.specs.Audits.{Audits, EachOnce, subjects_in};
+ghost use Rattle.bulk.specs.Comparing.{AreCompared, ComparesFile, IsNotCompared};
+ghost use Rattle.bulk.specs.Faults.{FailsWith, IsShort};
+ghost use Rattle.bulk.specs.Findings.{awaited};
+
+use crate::asking::{rows_in_force, subjects_waiting};
+use crate::copy::read_copy;
+use crate::fault::{BulkFault, FaultKind};
+use crate::finding::Found;
+use crate::line::Line;
+use crate::rows::open;
+use crate::sides::{add_in_force, add_waiting, copy_sides, findings_in};
+use crate::writing::send_file;
+use delivery::RoutedRow;
+use numbers::{Spid, Subject};
+use register::Register;
+use settle::Store;
+use std::alloc::Global;
+use std::io::{Read, Write};
+
+/// The first line of an audit.
+const HEADER: &str = "subject,finding";
+
+/// What the register has beside a carrier's copy.
+#[derive(Drop)]
+struct Held {
+    in_force: Vec<RoutedRow>,
+    waiting: Vec<Subject>,
+}
+
+// What the register has for a carrier.
+fn held_for<S: Store>(register: &mut Register<S>, carrier: Spid) -> Result<Held, FaultKind>
+    ensures held { IfOk result (λ held. S.IsUsable register.new.store → (st : State)
+        → Stands (S.content register.old.store) st
+        → (map in_force_of held.in_force.items ≡ all_in_force st)
+        × (map subject_of held.waiting.items ≡ awaited st carrier.number)
+        × (is_carrier st carrier.number ≡ true)) }
+    ensures unknown { result ≡ Err FaultKind.UnknownCarrier → S.IsUsable register.new.store
+        → (st : State) → Stands (S.content register.old.store) st
+        → is_carrier st carrier.number ≡ false }
+    ensures kept { S.IsUsable register.new.store → (st : State)
+        → Stands (S.content register.old.store) st → Stands (S.content register.new.store) st }
+    ensures kinds { IfErr result (λ kind. IsShort kind ⊎ (kind ≡ FaultKind.UnknownCarrier)) }
+    ensures owes { Owes S.IsUsable S.IsHonest S.failed register.old.store register.new.store
+        ⊥ (SaysStorage (S.IsUsable register.new.store) (S.content register.old.store)
+        (result ≡ Err FaultKind.Storage)) }
+{
+    let waiting = match subjects_waiting(register, carrier) {
+        Ok(waiting) => waiting,
+        Err(kind) => return Err(kind),
+    };
+    match rows_in_force(register) {
+        Ok(in_force) => Ok(Held { in_force, waiting }),
+        Err(kind) => Err(kind),
+    }
+}
+
+// What is found, by subject, of a copy with these entries.
+fn compare(alloc: Global, held: &Held, entries: &[RoutedRow]) -> Result<Vec<Found>, FaultKind>
+    ensures compared { IfOk result (λ findings. EachOnce (subjects_in entries.now)
+        × AreCompared held.now.in_force.items held.now.waiting.items entries.now
+        findings.items) }
+    ensures twice { result ≡ Err FaultKind.BadFile → ¬ (EachOnce (subjects_in entries.now)) }
+    ensures kinds { IfErr result
+        (λ kind. (kind ≡ FaultKind.BadFile) ⊎ (kind ≡ FaultKind.NoMemory)) }
+{
+    let mut all = match copy_sides(alloc, entries) {
+        Ok(all) => all,
+        Err(kind) => return Err(kind),
+    };
+    match add_in_force(&mut all, &held.in_force) {
+        Ok(()) => {}
+        Err(kind) => return Err(kind),
+    }
+    match add_waiting(&mut all, &held.waiting) {
+        Ok(()) => {}
+        Err(kind) => return Err(kind),
+    }
+    match findings_in(alloc, &all) {
+        Ok(findings) => Ok(findings),
+        Err(_) => Err(FaultKind::NoMemory),
+    }
+}
+
+// What is found of the copy that a reader has.
+fn compare_file<R: Read + Drop>(
+    alloc: Global,
+    held: &Held,
+    reader: R,
+) -> Result<Vec<Found>, FaultKind>
+    ensures compared { IfOk result (λ findings. IfSome (R.remaining reader) (λ bytes. ComparesFile
+        held.now.in_force.items held.now.waiting.items bytes findings.items)) }
+    ensures other { IfErr result (λ kind. IfSome (R.remaining reader) (IsNotCompared kind)) }
+    ensures kinds { IfErr result (λ kind. kind ≢ FaultKind.Storage) }
+{
+    let mut reader = open(alloc, reader);
+    match read_copy(alloc, &mut reader) {
+        Ok(entries) => compare(alloc, held, &entries),
+        Err(kind) => Err(kind),
+    }
+}
+
+/// Compares a carrier's own copy, a file in the form of an export, with the register: writes the
+/// header `subject,finding`, and then a row for each subject of which something is told, by
+/// subject. `waiting` is told of a subject of which a download waits for the carrier; of others
+/// `missing` where it is in force alone, `extra` where it is in the copy alone, and `different`
+/// where it is routed otherwise. Says how many rows were written. Each row is flushed before the
+/// next.
+///
+/// Fails with `UnknownCarrier` where the carrier is not registered, which is judged before the file
+/// is read; with `BadHeader` where the file does not begin with an export's header; with `BadFile`
+/// where a row is none of an export's, or a subject stands twice; with `Storage`, `NoMemory` or
+/// `Read`: nothing is written then. Fails with `Write`, and the number of rows that were flushed
+/// whole.
+///
+/// First it settles every subject. The rows stand for the state that they stood for. It holds the
+/// copy, what is in force and what waits at once.
+pub fn audit<S: Store, R: Read + Drop, W: Write>(
+    alloc: Global,
+    register: &mut Register<S>,
+    carrier: Spid,
+    reader: R,
+    writer: &mut W,
+) -> Result<u64, BulkFault>
+    ensures audits { S.IsUsable register.new.store → (st : State)
+        → Stands (S.content register.old.store) st
+        → IfSome (R.remaining reader) (λ bytes. Audits st carrier.number bytes
+        (W.contents writer.old) (W.contents writer.new) result) }
+    ensures kept { S.IsUsable register.new.store → (st : State)
+        → Stands (S.content register.old.store) st → Stands (S.content register.new.store) st }
+    ensures owes { Owes S.IsUsable S.IsHonest S.failed register.old.store register.new.store
+        ⊥ (SaysStorage (S.IsUsable register.new.store) (S.content register.old.store)
+        (FailsWith FaultKind.Storage result)) }
+{
+    let (mut line, held) = match (Line::new(alloc), held_for(register, carrier)) {
+        (Ok(line), Ok(held)) => (line, held),
+        (Err(_), _) => return Err(BulkFault::at_start(FaultKind::NoMemory)),
+        (_, Err(kind)) => return Err(BulkFault::at_start(kind)),
+    };
+    let findings = match compare_file(alloc, &held, reader) {
+        Ok(findings) => findings,
+        Err(kind) => return Err(BulkFault::at_start(kind)),
+    };
+    match send_file(&mut line, HEADER, &findings, writer) {
+        Ok(rows) => Ok(rows),
+        Err(rows) => Err(BulkFault {
+            kind: FaultKind::Write,
+            rows,
+        }),
+    }
+}

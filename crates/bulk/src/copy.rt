@@ -1,0 +1,184 @@
+//! A carrier's own copy, as a file in the form of an export.
+ghost use Rattle.std.specs.Prelude.{◌≡◌, ◌≢◌, ◌⊎◌, ◌↔◌, ◌∷◌, [], ℕ, IsTrue, IfSome, IfNone, IfOk, IfErr, List, OnOk, length};
+ghost use Rattle.csv.specs.Records.{fields_of};
+ghost use Rattle.numbers.specs.Digits.{IsBlock, IsTn};
+ghost use Rattle.numbers.specs.Texts.{block_text, lrn_text, subject_text};
+ghost use Rattle.numbers.specs.Views.{subject_of};
+ghost use Rattle.numbers.specs.declared.ported.Subject.{Subject as SubjectSeen};
+ghost use Rattle.delivery.specs.declared.mirror.RoutedRow.{RoutedRow as RoutedRowSeen};
+ghost use Rattle.bulk.specs.Audits.{AreEntries, HasNoEntry, IsEntry, IsNoEntry, IsNotRead, copy_header};
+ghost use Rattle.bulk.specs.Faults.{IsUnread};
+ghost use Rattle.bulk.specs.Rows.{Row, HasRows, IsPlain};
+
+use crate::fault::FaultKind;
+use crate::fields::{is_text, lrn_in, optional_cic_in, text_in, tn_in};
+use crate::rows::next_row;
+use csv::{ByteRecord, Reader};
+use delivery::RoutedRow;
+use numbers::{BlockId, Routing, Subject};
+use std::alloc::Global;
+use std::io::Read;
+
+/// How many fields a row has.
+const FIELD_COUNT: usize = 3;
+
+/// The fields of a row.
+#[derive(Clone, Copy, Debug)]
+struct EntryFields<'a> {
+    subject: &'a [u8],
+    lrn: &'a [u8],
+    cic: &'a [u8],
+}
+
+fn has_entry_count(row: &ByteRecord) -> bool
+    ensures { IsTrue result ↔ (length (fields_of row.now) ≡ 3) }
+{
+    row.len() == FIELD_COUNT
+}
+
+// The fields of a row that has three.
+#[tactic(auto, using(crate::proofs::FieldLemmas::missing_field))]
+fn entry_fields(row: &ByteRecord) -> Option<EntryFields<'_>>
+    ensures some { IfSome result (λ fields.
+        fields_of row.now ≡ fields.subject.now ∷ fields.lrn.now ∷ fields.cic.now ∷ []) }
+    ensures none { IfNone result (length (fields_of row.now) ≢ 3) }
+{
+    if !has_entry_count(row) {
+        return None;
+    }
+    Some(EntryFields {
+        subject: row.get(0)?,
+        lrn: row.get(1)?,
+        cic: row.get(2)?,
+    })
+}
+
+fn block_in(field: &[u8]) -> Option<BlockId>
+    ensures some { IfSome result (λ block. field.now ≡ block_text block.number) }
+    ensures none { IfNone result ((n : ℕ) → IsBlock n → field.now ≢ block_text n) }
+{
+    BlockId::read(text_in(field)?)
+}
+
+fn subject_in(field: &[u8]) -> Option<Subject>
+    ensures some { IfSome result (λ subject. field.now ≡ subject_text (subject_of subject)) }
+    ensures none { IfNone result ((subject : SubjectSeen)
+        → field.now ≢ subject_text (subject_of subject)) }
+{
+    match tn_in(field) {
+        Some(tn) => Some(Subject::Number(tn)),
+        None => Some(Subject::Block(block_in(field)?)),
+    }
+}
+
+// Where a row says that a subject is routed, if it does.
+fn entry_in(row: &ByteRecord) -> Option<RoutedRow>
+    ensures some { IfSome result (IsEntry (fields_of row.now)) }
+    ensures none { IfNone result (IsNoEntry (fields_of row.now)) }
+{
+    let fields = entry_fields(row)?;
+    Some(RoutedRow {
+        subject: subject_in(fields.subject)?,
+        routing: Routing {
+            lrn: lrn_in(fields.lrn)?,
+            cic: optional_cic_in(fields.cic)?,
+        },
+    })
+}
+
+#[tactic(auto, unfolding(crate::specs::Audits::copy_header))]
+fn are_copy_names(fields: &EntryFields) -> bool
+    ensures { IsTrue result ↔ (fields.now.subject.now ∷ fields.now.lrn.now ∷ fields.now.cic.now
+        ∷ [] ≡ copy_header) }
+{
+    is_text(fields.subject, "subject") && is_text(fields.lrn, "lrn") && is_text(fields.cic, "cic")
+}
+
+/// Whether a row is the header of a copy.
+pub fn is_copy_header(row: &ByteRecord) -> bool
+    ensures { IsTrue result ↔ (fields_of row.now ≡ copy_header) }
+{
+    match entry_fields(row) {
+        Some(fields) => are_copy_names(&fields),
+        None => false,
+    }
+}
+
+// Reads the header of a copy.
+fn read_copy_header<R: Read>(alloc: Global, reader: &mut Reader<R>) -> Result<(), FaultKind>
+    requires { IsPlain reader.old }
+    ensures plain { OnOk result (IsPlain reader.new) }
+    ensures header { OnOk result ((rows : List Row) → HasRows R.remaining reader.old rows
+        → (others : List Row) × (rows ≡ copy_header ∷ others)
+        × HasRows R.remaining reader.new others) }
+    ensures other { IfErr result (λ kind. ((kind ≡ FaultKind.BadHeader)
+        × ((rows : List Row) → HasRows R.remaining reader.old rows
+        → (others : List Row) → rows ≢ copy_header ∷ others))
+        ⊎ IsUnread kind) }
+{
+    let mut row = ByteRecord::new(alloc);
+    match next_row(reader, &mut row) {
+        Ok(true) => {
+            if is_copy_header(&row) {
+                Ok(())
+            } else {
+                Err(FaultKind::BadHeader)
+            }
+        }
+        Ok(false) => Err(FaultKind::BadHeader),
+        Err(kind) => Err(kind),
+    }
+}
+
+// How many rows a copy may have.
+const MOST_ROWS: u64 = 1 << 50;
+
+// Reads the rows behind the header.
+fn read_entries<R: Read>(alloc: Global, reader: &mut Reader<R>) -> Result<Vec<RoutedRow>, FaultKind>
+    requires { IsPlain reader.old }
+    ensures entries { IfOk result (λ entries. (rows : List Row)
+        → HasRows R.remaining reader.old rows → AreEntries rows entries.items) }
+    ensures other { IfErr result (λ kind. ((kind ≡ FaultKind.BadFile)
+        × ((rows : List Row) → HasRows R.remaining reader.old rows → HasNoEntry rows))
+        ⊎ IsUnread kind) }
+{
+    let mut entries = Vec::new(alloc);
+    let mut row = ByteRecord::new(alloc);
+    for _row in 0..MOST_ROWS {
+        match next_row(reader, &mut row) {
+            Ok(true) => match entry_in(&row) {
+                Some(entry) => match entries.push(entry) {
+                    Ok(()) => {}
+                    Err(_) => return Err(FaultKind::NoMemory),
+                },
+                None => return Err(FaultKind::BadFile),
+            },
+            Ok(false) => return Ok(entries),
+            Err(kind) => return Err(kind),
+        }
+    }
+    Err(FaultKind::NoMemory)
+}
+
+/// Reads a copy: the header `subject,lrn,cic`, and then where each subject is routed, in any order.
+/// Whether a subject stands twice is not judged here.
+///
+/// Fails with `BadHeader` where the file does not begin so, with `BadFile` where a row is
+/// otherwise, and with `Read` and `NoMemory`.
+pub fn read_copy<R: Read>(
+    alloc: Global,
+    reader: &mut Reader<R>,
+) -> Result<Vec<RoutedRow>, FaultKind>
+    requires { IsPlain reader.old }
+    ensures copy { IfOk result (λ entries. (rows : List Row)
+        → HasRows R.remaining reader.old rows
+        → (others : List Row) × (rows ≡ copy_header ∷ others) × AreEntries others entries.items) }
+    ensures other { IfErr result (λ kind. (rows : List Row)
+        → HasRows R.remaining reader.old rows → IsNotRead kind rows) }
+    ensures kinds { IfErr result (λ kind. kind ≢ FaultKind.Storage) }
+{
+    match read_copy_header(alloc, reader) {
+        Ok(()) => read_entries(alloc, reader),
+        Err(kind) => Err(kind),
+    }
+}

@@ -1,0 +1,175 @@
+//! What is known of each subject on the three sides of an audit.
+ghost use Rattle.std.specs.Prelude.{◌≡◌, ◌⊎◌, false, true, None, Err, IfErr, IfOk, OnOk, if◌then◌else◌, option_map, Some};
+ghost use Rattle.std.specs.BTreeMap.{IsOrdered};
+ghost use Rattle.std.specs.Ordering.{nat_cmp, on};
+ghost use Rattle.numbers.specs.Subjects.{subject_eq};
+ghost use Rattle.numbers.specs.Views.{key_of, routing_of, subject_of};
+ghost use Rattle.numbers.specs.declared.ported.Subject.{Subject as SubjectSeen};
+ghost use Rattle.bulk.specs.Audits.{EachOnce, subjects_in};
+ghost use Rattle.bulk.specs.Findings.{finding_of, same_routing};
+ghost use Rattle.bulk.specs.declared.finding.Finding.TheVariants.{Different};
+ghost use Rattle.bulk.specs.Sides.{found_in, found_of, routed_after, sides_at, waits_after};
+
+use crate::fault::FaultKind;
+use crate::finding::{Finding, Found};
+use delivery::RoutedRow;
+use numbers::{Routing, Subject};
+use std::alloc::{AllocError, Global};
+use std::collections::BTreeMap;
+
+/// A subject on the three sides of an audit.
+#[derive(Clone, Copy, Debug, PartialEq, Eq)]
+pub struct Sides {
+    /// Where it is routed in force.
+    pub in_force: Option<Routing>,
+    /// Where the copy routes it.
+    pub copied: Option<Routing>,
+    /// A download of it waits for the carrier.
+    pub waits: bool,
+}
+
+const NO_SIDES: Sides = Sides {
+    in_force: None,
+    copied: None,
+    waits: false,
+};
+
+// What is told of a subject that is routed so in force and so in the copy, if anything is.
+fn difference(routing: &Routing, copy: &Routing) -> Option<Finding>
+    ensures { result ≡ if same_routing (routing_of routing.now) (routing_of copy.now) then None
+        else Some Different }
+{
+    if routing == copy {
+        None
+    } else {
+        Some(Finding::Different)
+    }
+}
+
+// What is told of a subject of which nothing waits, if anything is.
+fn routed_finding(in_force: Option<Routing>, copied: Option<Routing>) -> Option<Finding>
+    ensures { result
+        ≡ finding_of false (option_map routing_of in_force) (option_map routing_of copied) }
+{
+    match in_force {
+        Some(routing) => match copied {
+            Some(copy) => difference(&routing, &copy),
+            None => Some(Finding::Missing),
+        },
+        None => match copied {
+            Some(_) => Some(Finding::Extra),
+            None => None,
+        },
+    }
+}
+
+impl Sides {
+    /// What is told of the subject, if anything is.
+    pub fn finding(&self) -> Option<Finding>
+        ensures { result ≡ found_of self.now }
+    {
+        if self.waits {
+            Some(Finding::Waiting)
+        } else {
+            routed_finding(self.in_force, self.copied)
+        }
+    }
+}
+
+fn sides_of(all: &BTreeMap<Subject, Sides>, subject: Subject) -> Sides
+    ensures { result ≡ sides_at all.now subject }
+{
+    all.get(&subject).copied().unwrap_or(NO_SIDES)
+}
+
+// These are the sides of a subject from now on.
+fn set_sides(
+    all: &mut BTreeMap<Subject, Sides>,
+    subject: Subject,
+    sides: Sides,
+) -> Result<(), FaultKind>
+    ensures set { OnOk result ((s : SubjectSeen) → sides_at all.new s
+        ≡ if subject_eq (subject_of subject) (subject_of s) then sides else sides_at all.old s) }
+    ensures memory { IfErr result (λ kind. kind ≡ FaultKind.NoMemory) }
+{
+    match all.insert(subject, sides) {
+        Ok(_) => Ok(()),
+        Err(_) => Err(FaultKind::NoMemory),
+    }
+}
+
+/// What is in force is one side.
+pub fn add_in_force(all: &mut BTreeMap<Subject, Sides>, rows: &[RoutedRow]) -> Result<(), FaultKind>
+    ensures added { OnOk result ((s : SubjectSeen) → sides_at all.new s
+        ≡ record (sides_at all.old s) {
+          in_force = routed_after rows.now s (sides_at all.old s).in_force;
+        }) }
+    ensures memory { IfErr result (λ kind. kind ≡ FaultKind.NoMemory) }
+{
+    for row in rows {
+        let mut sides = sides_of(all, row.subject);
+        sides.in_force = Some(row.routing);
+        set_sides(all, row.subject, sides)?;
+    }
+    Ok(())
+}
+
+/// What waits for the carrier is another.
+pub fn add_waiting(
+    all: &mut BTreeMap<Subject, Sides>,
+    subjects: &[Subject],
+) -> Result<(), FaultKind>
+    ensures added { OnOk result ((s : SubjectSeen) → sides_at all.new s
+        ≡ record (sides_at all.old s) {
+          waits = waits_after subjects.now s (sides_at all.old s).waits;
+        }) }
+    ensures memory { IfErr result (λ kind. kind ≡ FaultKind.NoMemory) }
+{
+    for subject in subjects {
+        let mut sides = sides_of(all, *subject);
+        sides.waits = true;
+        set_sides(all, *subject, sides)?;
+    }
+    Ok(())
+}
+
+/// The entries of a copy are the first side. Fails with `BadFile` where a subject stands twice.
+pub fn copy_sides(
+    alloc: Global,
+    entries: &[RoutedRow],
+) -> Result<BTreeMap<Subject, Sides>, FaultKind>
+    ensures added { IfOk result (λ all. (s : SubjectSeen) → sides_at all s
+        ≡ record { in_force = None; copied = routed_after entries.now s None; waits = false }) }
+    ensures once { OnOk result (EachOnce (subjects_in entries.now)) }
+    ensures twice { result ≡ Err FaultKind.BadFile → ¬ (EachOnce (subjects_in entries.now)) }
+    ensures kinds { IfErr result
+        (λ kind. (kind ≡ FaultKind.BadFile) ⊎ (kind ≡ FaultKind.NoMemory)) }
+{
+    let mut all = BTreeMap::new(alloc);
+    for entry in entries {
+        let mut sides = sides_of(&all, entry.subject);
+        if sides.copied.is_some() {
+            return Err(FaultKind::BadFile);
+        }
+        sides.copied = Some(entry.routing);
+        set_sides(&mut all, entry.subject, sides)?;
+    }
+    Ok(all)
+}
+
+/// What is found of each subject, by subject.
+pub fn findings_in(alloc: Global, all: &BTreeMap<Subject, Sides>) -> Result<Vec<Found>, AllocError>
+    ensures found { IfOk result (λ findings. findings.items ≡ found_in all.now.entries) }
+    ensures ordered { OnOk result (IsOrdered (on key_of nat_cmp) all.now) }
+{
+    let mut findings = Vec::new(alloc);
+    for (subject, sides) in all {
+        if let Some(finding) = sides.finding() {
+            findings.push(Found {
+                subject: *subject,
+                finding,
+            })?;
+        }
+    }
+    Ok(findings)
+}

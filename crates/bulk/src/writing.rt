@@ -1,0 +1,57 @@
+//! Files that are written line by line.
+ghost use Rattle.std.specs.Prelude.{◌≡◌, ◌≤◌, ◌++◌, ◌∷◌, [], ℕ, List, IfErr, IfOk, length, map, string_bytes};
+ghost use Rattle.std.specs.Io.KnownBytes.{Appends};
+ghost use Rattle.bulk.specs.Files.{AreSent, EndsWithin, IsSentPart, file_text};
+
+use crate::line::Line;
+use std::io::Write;
+
+/// What has a line of its own in a file.
+pub trait InLine {
+    ghost text: { Self → List ℕ };
+
+    /// Writes its line, in place of what stood there.
+    fn put_in(&self, line: &mut Line)
+        ensures { string_bytes line.new.text ≡ text self.now };
+}
+
+// Sends the lines of these rows. Says how many there were, or how many were sent whole.
+fn send_rows<L: InLine, W: Write>(line: &mut Line, rows: &[L], writer: &mut W) -> Result<u64, u64>
+    ensures ok { IfOk result (λ count. (count ≡ length rows.now)
+        × AreSent (W.contents writer.old) (W.contents writer.new) (map L.text rows.now)) }
+    ensures err { IfErr result (IsSentPart (W.contents writer.old) (W.contents writer.new)
+        (map L.text rows.now)) }
+{
+    let mut count: u64 = 0;
+    for row in rows {
+        row.put_in(line);
+        match line.send(writer) {
+            Ok(()) => {}
+            Err(_) => return Err(count),
+        }
+        count += 1;
+    }
+    Ok(count)
+}
+
+/// Sends a header and then the lines of these rows, each flushed before the next. Says how many
+/// rows there were, or how many were sent whole.
+pub fn send_file<L: InLine, W: Write>(
+    line: &mut Line,
+    header: &str,
+    rows: &[L],
+    writer: &mut W,
+) -> Result<u64, u64>
+    requires { length header.now ≤ 127 }
+    ensures ok { IfOk result (λ count. (count ≡ length rows.now)
+        × Appends (W.contents writer.old) (W.contents writer.new)
+        (file_text (header.now ++ 10 ∷ []) (map L.text rows.now))) }
+    ensures err { IfErr result (λ count. EndsWithin (W.contents writer.old) (W.contents writer.new)
+        (header.now ++ 10 ∷ []) (map L.text rows.now) count) }
+{
+    line.set_first(header);
+    match line.send(writer) {
+        Ok(()) => send_rows(line, rows, writer),
+        Err(_) => Err(0),
+    }
+}
