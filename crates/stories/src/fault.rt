@@ -1,5 +1,6 @@
 //! Why the stories were not played to their end.
 use register::OpenFault;
+use settle::StoreFault;
 use std::alloc::AllocError;
 use std::io;
 use windows::WindowFault;
@@ -10,6 +11,7 @@ pub enum Fault {
     Io(io::Error),
     Memory,
     Open(OpenFault),
+    Store(StoreFault),
     Windows(WindowFault),
     Serving(api::Fault),
 }
@@ -29,6 +31,12 @@ impl From<AllocError> for Fault {
 impl From<OpenFault> for Fault {
     fn from(fault: OpenFault) -> Fault {
         Fault::Open(fault)
+    }
+}
+
+impl From<StoreFault> for Fault {
+    fn from(fault: StoreFault) -> Fault {
+        Fault::Store(fault)
     }
 }
 

@@ -1,5 +1,7 @@
 //! Plays stories: the messages of each file that the command line names are served to a new
-//! register over memory, whole and byte by byte, and what is answered is printed.
+//! register over memory, whole and byte by byte, and what is answered is printed. Then they are
+//! served to a new register over a database, and what that answers is printed where it is something
+//! else.
 //!
 //! A file has the bytes of a connection, or of several to the same register with a byte 30 between
 //! them. The windows are those of `w.toml`.
@@ -14,12 +16,33 @@ use fault::Fault;
 use std::io::Write;
 use std::rt::{Env, Files};
 use std::{env, fs, io};
-use story::play;
+use story::{play, play_stored};
 use windows::Windows;
 
 fn read_windows<T: Files + AllocGlobal>(rt: &T) -> Result<Windows, Fault> {
     let text = fs::read_to_string(rt, "w.toml")?;
     Ok(Windows::from_toml(rt.alloc(), text.as_str())?)
+}
+
+// Prints what a register over a database answers, where that is something else than what was heard,
+// and how often its store failed, if it did.
+fn tell_stored<T: AllocGlobal + Print>(
+    rt: &T,
+    windows: &Windows,
+    name: &str,
+    story: &[u8],
+    heard: &[u8],
+) -> Result<(), Fault> {
+    let (stored, failures) = play_stored(rt.alloc(), windows, story)?;
+    let mut out = io::writer(rt);
+    if stored.as_slice() != heard {
+        writeln!(out, "story {name}, from a database")?;
+        out.write_all(&stored)?;
+    }
+    if failures > 0 {
+        writeln!(out, "story {name}, {failures} failures of the database")?;
+    }
+    Ok(())
 }
 
 // Prints a story's name and what is answered to it, and what is answered to it byte by byte where
@@ -39,6 +62,7 @@ fn tell<T: Files + AllocGlobal + Print>(
         writeln!(out, "story {name}, byte by byte")?;
         out.write_all(&again)?;
     }
+    tell_stored(rt, windows, name, &story, &heard)?;
     match play_failing(rt.alloc(), windows, &story)? {
         Played::Same(0) => writeln!(out, "story {name}, no call of the store")?,
         Played::Otherwise(before) => writeln!(out, "story {name}, a failure after {before}")?,

@@ -2,6 +2,8 @@
 use crate::fault::Fault;
 use api::{End, NoTicks, Options, Served, serve};
 use register::Register;
+use settle::Store;
+use sql_store::SqlStore;
 use std::alloc::Global;
 use std::io;
 use std::io::{Read, Write};
@@ -47,9 +49,9 @@ fn ended(served: Result<Served, api::Fault>) -> (u64, &'static str) {
 }
 
 // Serves a connection: its answers, and a line that says how it ended.
-fn hear(
+fn hear<S: Store>(
     alloc: Global,
-    register: &mut Register<MemoryStore>,
+    register: &mut Register<S>,
     mut connection: Pieces<'_>,
     heard: &mut Vec<u8>,
 ) -> io::Result<()> {
@@ -60,9 +62,9 @@ fn hear(
     writeln!(heard, "\n{count} answered, {how}")
 }
 
-fn hear_all(
+fn hear_all<S: Store>(
     alloc: Global,
-    register: &mut Register<MemoryStore>,
+    register: &mut Register<S>,
     story: &[u8],
     size: usize,
 ) -> io::Result<Vec<u8>> {
@@ -79,5 +81,27 @@ pub fn play(alloc: Global, windows: &Windows, story: &[u8], size: usize) -> Resu
     match Register::open(alloc, MemoryStore::new(alloc), windows) {
         Ok(mut register) => Ok(hear_all(alloc, &mut register, story, size)?),
         Err((_store, fault)) => Err(Fault::from(fault)),
+    }
+}
+
+/// The same to a new register over a database in memory, and how often that store failed.
+pub fn play_stored(
+    alloc: Global,
+    windows: &Windows,
+    story: &[u8],
+) -> Result<(Vec<u8>, u64), Fault> {
+    let store = SqlStore::in_memory(alloc)?;
+    match Register::open(alloc, store, windows) {
+        Ok(mut register) => {
+            let heard = hear_all(alloc, &mut register, story, usize::MAX);
+            let store = register.close();
+            let failures = store.failures();
+            let _database = store.into_connection().into_store();
+            Ok((heard?, failures))
+        }
+        Err((store, fault)) => {
+            let _database = store.into_connection().into_store();
+            Err(Fault::from(fault))
+        }
     }
 }
