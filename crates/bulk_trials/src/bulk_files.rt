@@ -1,47 +1,8 @@
 //! Bulk files and exports over memory: worked files with their reports, each kind of bad row, and
 //! what is in force afterwards.
+use crate::started::{acknowledge_all, started};
 use bulk::{BulkFault, FaultKind, export, run_file};
-use calls::Command;
-use numbers::{CodeId, Lrn, Spid};
-use register::Register;
 use std::alloc::Global;
-use std::process::Abort;
-use store::MemoryStore;
-use windows::Windows;
-
-// The windows of the tests, in minutes.
-const WINDOWS: &str =
-    "initial_concurrence = 60\nfinal_concurrence = 60\nconflict_restriction = 30\nconflict_resolution = 120\nconflict_expiration = 1000\ncancellation_initial = 60\ncancellation_final = 60\npending_retention = 500\nbroadcast = 15\n";
-
-fn new_register(alloc: Global) -> Option<Register<MemoryStore>> {
-    let windows = Windows::from_toml(alloc, WINDOWS).ok()?;
-    Register::open(alloc, MemoryStore::new(alloc), &windows).ok()
-}
-
-// Three carriers, each with a routing number, and a code that BBBB holds.
-fn started(alloc: Global) -> Option<Register<MemoryStore>> {
-    let mut register = new_register(alloc)?;
-    for (name, lrn) in [
-        ("AAAA", "2025440000"),
-        ("BBBB", "2025330000"),
-        ("CCCC", "2025550000"),
-    ] {
-        let spid = Spid::read(name)?;
-        let lrn = Lrn::read(lrn)?;
-        register
-            .do_it(Spid::NPAC, &Command::RegisterCarrier { spid })
-            .ok()?;
-        register
-            .do_it(spid, &Command::RegisterRoutingNumber { lrn })
-            .ok()?;
-    }
-    let code = CodeId::read("202533")?;
-    let spid = Spid::read("BBBB")?;
-    register
-        .do_it(Spid::NPAC, &Command::OpenCode { code, spid })
-        .ok()?;
-    Some(register)
-}
 
 /// A file, its report, and what the run answers.
 type Row<'a> = (&'a str, &'a str, Result<u64, BulkFault>);
@@ -122,6 +83,24 @@ fn files_are_run_and_reported(rt: HostRuntime) {
     }
 }
 
+const NOT_UTF_8: &[u8] =
+    b"caller,action,subject,old,new,due,lrn,cic,flag\nAA\xffA,subscriptionVersionCancel,2025331234,,,,,,\nDDDD,subscriptionVersionCancel,2025331234,,,,,,\n";
+
+const NOT_UTF_8_REPORT: &str =
+    "row,subject,result,id\n1,,bad_row,\n2,2025331234,unknown_carrier,\n";
+
+fn is_bad_row(alloc: Global) -> Option<bool> {
+    let mut register = started(alloc)?;
+    let mut written = Vec::new(alloc);
+    let answered = run_file(alloc, &mut register, NOT_UTF_8, &mut written);
+    Some(answered == Ok(2) && written.as_slice() == NOT_UTF_8_REPORT.as_bytes())
+}
+
+#[test]
+fn bytes_that_are_no_text_are_a_bad_row(rt: HostRuntime) {
+    assert!(rt; is_bad_row(rt.alloc()) == Some(true));
+}
+
 const RANGE: &str =
     "caller,action,subject,old,new,due,lrn,cic,flag\nAAAA,subscriptionVersionNewSP-Create,2025331000-2025331999,BBBB,AAAA,100,2025440000,,\n";
 
@@ -152,9 +131,7 @@ fn is_exported(alloc: Global) -> Option<bool> {
     let none = export(alloc, &mut register, &mut before);
     let mut report = Vec::new(alloc);
     let ran = run_file(alloc, &mut register, PORT.as_bytes(), &mut report);
-    for name in ["AAAA", "BBBB", "CCCC"] {
-        register.acknowledge(Spid::read(name)?, 1, 1).ok()?;
-    }
+    acknowledge_all(&mut register, 1, 1)?;
     let mut after = Vec::new(alloc);
     let one = export(alloc, &mut register, &mut after);
     Some(

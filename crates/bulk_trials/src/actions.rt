@@ -1,0 +1,63 @@
+//! Each of the nine actions of a bulk file accepted and refused, and which version it takes.
+use crate::started::{acknowledge_all, started};
+use bulk::run_file;
+use register::Register;
+use std::alloc::Global;
+use store::MemoryStore;
+
+// At minute 0. The first number's port is created, disputed and cancelled by the new provider, the
+// second's is cancelled by the old one, the third's is activated.
+const PORTS: &str =
+    "caller,action,subject,old,new,due,lrn,cic,flag\nBBBB,subscriptionVersionOldSP-Create,2025331001,BBBB,AAAA,100,,,yes\nBBBB,subscriptionVersionOldSP-Create,2025331001,BBBB,AAAA,100,,,yes\nAAAA,subscriptionVersionNewSP-Create,2025331001,BBBB,AAAA,100,2025440000,,\nAAAA,subscriptionVersionNewSP-Create,2025331001,BBBB,AAAA,100,2025440000,,\nAAAA,subscriptionVersionActivate,2025331001,,,,,,\nBBBB,subscriptionVersionConflict,2025331001,,,,,,\nBBBB,subscriptionVersionConflict,2025331001,,,,,,\nAAAA,subscriptionVersionRemoveFromConflict,2025331001,,,,,,\nBBBB,subscriptionVersionRemoveFromConflict,2025331001,,,,,,\nCCCC,subscriptionVersionCancel,2025331001,,,,,,\nAAAA,subscriptionVersionCancel,2025331001,,,,,,\nAAAA,subscriptionVersionNewSP-CancellationAcknowledge,2025331001,,,,,,\nBBBB,subscriptionVersionOldSP-CancellationAcknowledge,2025331001,,,,,,\nBBBB,subscriptionVersionOldSP-CancellationAcknowledge,2025331001,,,,,,\nAAAA,subscriptionVersionNewSP-Create,2025331002,BBBB,AAAA,0,2025440000,,\nBBBB,subscriptionVersionOldSP-Create,2025331002,BBBB,AAAA,0,,,yes\nBBBB,subscriptionVersionCancel,2025331002,,,,,,\nAAAA,subscriptionVersionNewSP-CancellationAcknowledge,2025331002,,,,,,\nAAAA,subscriptionVersionNewSP-Create,2025331003,BBBB,AAAA,0,2025440000,,\nBBBB,subscriptionVersionOldSP-Create,2025331003,BBBB,AAAA,0,,,yes\nAAAA,subscriptionVersionActivate,2025331003,,,,,,\nAAAA,subscriptionVersionDisconnect,2025331003,,,,,,\n";
+
+const PORTED: &str =
+    "row,subject,result,id\n1,2025331001,ok,1\n2,2025331001,busy,\n3,2025331001,ok,1\n4,2025331001,busy,\n5,2025331001,before_due,\n6,2025331001,ok,1\n7,2025331001,wrong_status,\n8,2025331001,too_early,\n9,2025331001,ok,1\n10,2025331001,not_yours,\n11,2025331001,ok,1\n12,2025331001,not_yours,\n13,2025331001,ok,1\n14,2025331001,not_found,\n15,2025331002,ok,2\n16,2025331002,ok,2\n17,2025331002,ok,2\n18,2025331002,ok,2\n19,2025331003,ok,3\n20,2025331003,ok,3\n21,2025331003,ok,3\n22,2025331003,not_found,\n";
+
+// The third is in force, and another port of it is open: a disconnect takes the one in force, a
+// cancel the open one, and then, where there is none, the one in force.
+const RETURNS: &str =
+    "caller,action,subject,old,new,due,lrn,cic,flag\nCCCC,subscriptionVersionNewSP-Create,2025331003,AAAA,CCCC,0,2025550000,,\nAAAA,subscriptionVersionDisconnect,2025331003,,,,,,\nCCCC,subscriptionVersionCancel,2025331003,,,,,,\nAAAA,subscriptionVersionCancel,2025331003,,,,,,\nAAAA,subscriptionVersionDisconnect,2025331003,,,,,,\nAAAA,subscriptionVersionDisconnect,2025331003,,,,,,\n";
+
+const RETURNED: &str =
+    "row,subject,result,id\n1,2025331003,ok,4\n2,2025331003,busy,\n3,2025331003,ok,4\n4,2025331003,wrong_status,\n5,2025331003,ok,3\n6,2025331003,wrong_status,\n";
+
+const TWICE: &str =
+    "caller,action,subject,old,new,due,lrn,cic,flag\nAAAA,subscriptionVersionNewSP-Create,2025331234,BBBB,AAAA,100,2025440000,,\nCCCC,subscriptionVersionNewSP-Create,2025331234,BBBB,CCCC,100,2025550000,,\nBBBB,subscriptionVersionOldSP-Create,2025331234,BBBB,AAAA,100,,,yes\n";
+
+const ONCE_RUN: &str =
+    "row,subject,result,id\n1,2025331234,ok,1\n2,2025331234,busy,\n3,2025331234,ok,1\n";
+
+const TWICE_RUN: &str =
+    "row,subject,result,id\n1,2025331234,busy,\n2,2025331234,busy,\n3,2025331234,busy,\n";
+
+// The register runs the file so.
+fn runs(alloc: Global, register: &mut Register<MemoryStore>, file: &str, report: &str) -> bool {
+    let mut written = Vec::new(alloc);
+    let ran = run_file(alloc, register, file.as_bytes(), &mut written);
+    ran.is_ok() && written.as_slice() == report.as_bytes()
+}
+
+fn are_answered(alloc: Global) -> Option<bool> {
+    let mut register = started(alloc)?;
+    let ported = runs(alloc, &mut register, PORTS, PORTED);
+    acknowledge_all(&mut register, 3, 1)?;
+    let returned = runs(alloc, &mut register, RETURNS, RETURNED);
+    Some(ported && returned)
+}
+
+#[test]
+fn each_action_is_accepted_and_refused(rt: HostRuntime) {
+    assert!(rt; are_answered(rt.alloc()) == Some(true));
+}
+
+fn is_busy_again(alloc: Global) -> Option<bool> {
+    let mut register = started(alloc)?;
+    let once = runs(alloc, &mut register, TWICE, ONCE_RUN);
+    let twice = runs(alloc, &mut register, TWICE, TWICE_RUN);
+    Some(once && twice)
+}
+
+#[test]
+fn the_same_file_again_is_busy(rt: HostRuntime) {
+    assert!(rt; is_busy_again(rt.alloc()) == Some(true));
+}

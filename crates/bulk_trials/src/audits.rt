@@ -1,0 +1,323 @@
+//! Copies that are compared with the register, and what pooled numbers export.
+use crate::failing::{Filling, MUCH, Piecewise, whole_within};
+use crate::started::{acknowledge_all, started};
+use bulk::{BulkFault, FaultKind, audit, export, run_file};
+use calls::Command;
+use numbers::{BlockId, Line, Lrn, Minute, Routing, Spid};
+use pool::Assignment;
+use register::Register;
+use std::alloc::Global;
+use store::MemoryStore;
+
+// The port of a number from BBBB to AAAA.
+const PORT: &str =
+    "caller,action,subject,old,new,due,lrn,cic,flag\nAAAA,subscriptionVersionNewSP-Create,2025331234,BBBB,AAAA,0,2025440000,,\nBBBB,subscriptionVersionOldSP-Create,2025331234,BBBB,AAAA,0,,,yes\nAAAA,subscriptionVersionActivate,2025331234,,,,,,\n";
+
+fn acknowledged_by(register: &mut Register<MemoryStore>, name: &str) -> Option<()> {
+    register.acknowledge(Spid::read(name)?, 1, 1).ok()?;
+    Some(())
+}
+
+// The number is in force, and CCCC has not acknowledged it.
+fn add_port(alloc: Global, register: &mut Register<MemoryStore>) -> Option<()> {
+    let mut report = Vec::new(alloc);
+    run_file(alloc, register, PORT.as_bytes(), &mut report).ok()?;
+    acknowledged_by(register, "AAAA")?;
+    acknowledged_by(register, "BBBB")?;
+    register.clock(Minute::new(15)?).ok()?;
+    Some(())
+}
+
+/// A carrier, its copy, the findings, and what the audit answers.
+type Row<'a> = (&'a str, &'a str, &'a str, Result<u64, BulkFault>);
+
+const STRANGER: Result<u64, BulkFault> = Err(BulkFault {
+    kind: FaultKind::UnknownCarrier,
+    rows: 0,
+});
+
+const NO_HEADER: Result<u64, BulkFault> = Err(BulkFault {
+    kind: FaultKind::BadHeader,
+    rows: 0,
+});
+
+const NO_COPY: Result<u64, BulkFault> = Err(BulkFault {
+    kind: FaultKind::BadFile,
+    rows: 0,
+});
+
+// The number is in force at 2025440000, and its download waits for CCCC.
+static ROWS: [Row<'static>; 20] = [
+    (
+        "AAAA",
+        "subject,lrn,cic\n2025331234,2025550000,\n2025339999,2025330000,\n",
+        "subject,finding\n2025331234,different\n2025339999,extra\n",
+        Ok(2),
+    ),
+    (
+        "AAAA",
+        "subject,lrn,cic\n2025339999,2025330000,\n2025331234,2025550000,\n",
+        "subject,finding\n2025331234,different\n2025339999,extra\n",
+        Ok(2),
+    ),
+    (
+        "AAAA",
+        "\u{feff}subject,lrn,cic\r\n2025331234,2025440000,\r\n",
+        "subject,finding\n",
+        Ok(0),
+    ),
+    (
+        "AAAA",
+        "subject,lrn,cic\n2025331234,2025440000,0288\n",
+        "subject,finding\n2025331234,different\n",
+        Ok(1),
+    ),
+    (
+        "AAAA",
+        "subject,lrn,cic\n",
+        "subject,finding\n2025331234,missing\n",
+        Ok(1),
+    ),
+    (
+        "AAAA",
+        "subject,lrn,cic\n2025331,2025440000,\n",
+        "subject,finding\n2025331,extra\n2025331234,missing\n",
+        Ok(2),
+    ),
+    (
+        "CCCC",
+        "subject,lrn,cic\n",
+        "subject,finding\n2025331234,waiting\n",
+        Ok(1),
+    ),
+    (
+        "CCCC",
+        "subject,lrn,cic\n2025331234,2025550000,\n2025331233,2025330000,\n",
+        "subject,finding\n2025331233,extra\n2025331234,waiting\n",
+        Ok(2),
+    ),
+    (
+        "CCCC",
+        "subject,lrn,cic\n2025331234,2025440000,\n",
+        "subject,finding\n2025331234,waiting\n",
+        Ok(1),
+    ),
+    ("DDDD", "subject,lrn,cic\n", "", STRANGER),
+    ("NPAC", "", "", STRANGER),
+    ("AAAA", "", "", NO_HEADER),
+    ("AAAA", "subject,lrn\n", "", NO_HEADER),
+    (
+        "AAAA",
+        "subject,lrn,cic\n2025331234,2025440000\n",
+        "",
+        NO_COPY,
+    ),
+    (
+        "AAAA",
+        "subject,lrn,cic\n2025331234,2025440000,,\n",
+        "",
+        NO_COPY,
+    ),
+    (
+        "AAAA",
+        "subject,lrn,cic\n202533123,2025440000,\n",
+        "",
+        NO_COPY,
+    ),
+    (
+        "AAAA",
+        "subject,lrn,cic\n2025331234,202544000,\n",
+        "",
+        NO_COPY,
+    ),
+    (
+        "AAAA",
+        "subject,lrn,cic\n2025331234,2025440000,288\n",
+        "",
+        NO_COPY,
+    ),
+    (
+        "AAAA",
+        "subject,lrn,cic\n2025331234,2025440000,\n2025339999,2025330000,\n2025331234,2025440000,\n",
+        "",
+        NO_COPY,
+    ),
+    (
+        "AAAA",
+        "subject,lrn,cic\n2025331234-2025331235,2025440000,\n",
+        "",
+        NO_COPY,
+    ),
+];
+
+fn is_audited(alloc: Global, register: &mut Register<MemoryStore>, row: &Row<'_>) -> Option<bool> {
+    let (name, copy, findings, result) = *row;
+    let carrier = Spid::read(name)?;
+    let mut written = Vec::new(alloc);
+    let audited = audit(alloc, register, carrier, copy.as_bytes(), &mut written);
+    Some(audited == result && written.as_slice() == findings.as_bytes())
+}
+
+// The first copy that is compared otherwise.
+fn first_wrong(alloc: Global) -> Option<&'static str> {
+    let mut register = match started(alloc) {
+        Some(register) => register,
+        None => return Some("no register"),
+    };
+    if add_port(alloc, &mut register).is_none() {
+        return Some("no port");
+    }
+    for row in &ROWS {
+        if is_audited(alloc, &mut register, row) != Some(true) {
+            return Some(row.1);
+        }
+    }
+    None
+}
+
+#[test]
+fn copies_are_compared(rt: HostRuntime) {
+    assert_eq!(rt; first_wrong(rt.alloc()), None);
+}
+
+const COPY: &str = "subject,lrn,cic\n2025331234,2025550000,\n2025339999,2025330000,\n";
+
+const FINDINGS_HEADER: &str = "subject,finding\n";
+
+static FINDINGS: [&str; 2] = ["2025331234,different\n", "2025339999,extra\n"];
+
+const AUDITED: &str = "subject,finding\n2025331234,different\n2025339999,extra\n";
+
+fn audit_of_port(
+    alloc: Global,
+    reader: Piecewise<'_>,
+    writer: &mut Filling,
+) -> Option<Result<u64, BulkFault>> {
+    let mut register = started(alloc)?;
+    add_port(alloc, &mut register)?;
+    Some(audit(alloc, &mut register, Spid::read("AAAA")?, reader, writer))
+}
+
+// The reader fails at a place: nothing is written.
+fn is_read_so(alloc: Global, place: usize) -> Option<bool> {
+    let reader = Piecewise {
+        rest: COPY.as_bytes().get(..place)?,
+        most: MUCH,
+        fails: true,
+    };
+    let mut writer = Filling {
+        bytes: Vec::new(alloc),
+        room: MUCH,
+    };
+    let unread = Err(BulkFault {
+        kind: FaultKind::Read,
+        rows: 0,
+    });
+    let audited = audit_of_port(alloc, reader, &mut writer)?;
+    Some(audited == unread && writer.bytes.is_empty())
+}
+
+// The writer has so much room: the front of the findings is written.
+fn is_written_so(alloc: Global, room: usize) -> Option<bool> {
+    let reader = Piecewise {
+        rest: COPY.as_bytes(),
+        most: 1,
+        fails: false,
+    };
+    let mut writer = Filling {
+        bytes: Vec::new(alloc),
+        room,
+    };
+    let whole = whole_within(FINDINGS_HEADER.len(), &FINDINGS, room) as u64;
+    let wanted = if room < AUDITED.len() {
+        Err(BulkFault {
+            kind: FaultKind::Write,
+            rows: whole,
+        })
+    } else {
+        Ok(whole)
+    };
+    let audited = audit_of_port(alloc, reader, &mut writer)?;
+    let front = AUDITED.as_bytes().get(..room)?;
+    Some(audited == wanted && writer.bytes.as_slice() == front)
+}
+
+fn first_wrong_place(alloc: Global) -> Option<usize> {
+    for place in 0..=COPY.len() {
+        if is_read_so(alloc, place) != Some(true) {
+            return Some(place);
+        }
+    }
+    for room in 0..=AUDITED.len() {
+        if is_written_so(alloc, room) != Some(true) {
+            return Some(room);
+        }
+    }
+    None
+}
+
+#[test]
+fn an_audit_that_breaks_off(rt: HostRuntime) {
+    assert!(rt; first_wrong_place(rt.alloc()) == None);
+}
+
+fn donate(alloc: Global, register: &mut Register<MemoryStore>) -> Option<()> {
+    let mut used = Vec::new(alloc);
+    used.push(Line::read("001")?).ok()?;
+    used.push(Line::read("002")?).ok()?;
+    let donation = Command::Donate {
+        block: BlockId::read("2025337")?,
+        used,
+        routing: routed_to("2025330000")?,
+    };
+    register.do_it(Spid::read("BBBB")?, &donation).ok()?;
+    Some(())
+}
+
+fn routed_to(lrn: &str) -> Option<Routing> {
+    Some(Routing {
+        lrn: Lrn::read(lrn)?,
+        cic: None,
+    })
+}
+
+fn assign(register: &mut Register<MemoryStore>) -> Option<()> {
+    let assignment = Command::Assign(Assignment {
+        block: BlockId::read("2025337")?,
+        holder: Spid::read("CCCC")?,
+        routing: routed_to("2025550000")?,
+    });
+    register.do_it(Spid::NPAC, &assignment).ok()?;
+    Some(())
+}
+
+const AGAIN: &str =
+    "caller,action,subject,old,new,due,lrn,cic,flag\nBBBB,subscriptionVersionActivate,2025337002,,,,,,\n";
+
+// A block with two numbers in use, the second of which is sent again when nobody acknowledged it.
+fn pool_block(alloc: Global, register: &mut Register<MemoryStore>) -> Option<()> {
+    donate(alloc, register)?;
+    acknowledge_all(register, 1, 1)?;
+    register.clock(Minute::new(20)?).ok()?;
+    let mut report = Vec::new(alloc);
+    run_file(alloc, register, AGAIN.as_bytes(), &mut report).ok()?;
+    acknowledge_all(register, 2, 2)?;
+    assign(register)?;
+    acknowledge_all(register, 3, 1)
+}
+
+const POOLED: &str =
+    "subject,lrn,cic\n2025337,2025550000,\n2025337001,2025330000,\n2025337002,2025330000,\n";
+
+fn is_pool_exported(alloc: Global) -> Option<bool> {
+    let mut register = started(alloc)?;
+    pool_block(alloc, &mut register)?;
+    let mut written = Vec::new(alloc);
+    let exported = export(alloc, &mut register, &mut written);
+    Some(exported == Ok(3) && written.as_slice() == POOLED.as_bytes())
+}
+
+#[test]
+fn a_block_is_exported_before_its_numbers(rt: HostRuntime) {
+    assert!(rt; is_pool_exported(rt.alloc()) == Some(true));
+}

@@ -1,0 +1,224 @@
+//! Files that are cut, readers and writers that fail in mid-file, and readers that give a byte at a
+//! time.
+use crate::failing::{Filling, MUCH, Piecewise, whole_within};
+use crate::started::started;
+use bulk::{BulkFault, FaultKind, run_file};
+use register::Register;
+use std::alloc::Global;
+use store::MemoryStore;
+
+const HEADER: &str = "caller,action,subject,old,new,due,lrn,cic,flag\n";
+
+// Three rows, behind the header.
+static ROWS: [&str; 3] = [
+    "AAAA,subscriptionVersionNewSP-Create,2025331234,BBBB,AAAA,100,2025440000,,\n",
+    "CCCC,subscriptionVersionNewSP-Create,2025331234,BBBB,CCCC,100,2025550000,,\n",
+    "BBBB,subscriptionVersionOldSP-Create,2025331234,BBBB,AAAA,100,,,yes\n",
+];
+
+const REPORT_HEADER: &str = "row,subject,result,id\n";
+
+static LINES: [&str; 3] = [
+    "1,2025331234,ok,1\n",
+    "2,2025331234,busy,\n",
+    "3,2025331234,ok,1\n",
+];
+
+// The lines of a row that is cut.
+static BAD_LINES: [&str; 3] = ["1,,bad_row,\n", "2,,bad_row,\n", "3,,bad_row,\n"];
+
+// What another run of the file reports, by how many of its commands were made before.
+static LATER: [[&str; 3]; 4] = [
+    [
+        "1,2025331234,ok,1\n",
+        "2,2025331234,busy,\n",
+        "3,2025331234,ok,1\n",
+    ],
+    [
+        "1,2025331234,busy,\n",
+        "2,2025331234,busy,\n",
+        "3,2025331234,ok,1\n",
+    ],
+    [
+        "1,2025331234,busy,\n",
+        "2,2025331234,busy,\n",
+        "3,2025331234,ok,1\n",
+    ],
+    [
+        "1,2025331234,busy,\n",
+        "2,2025331234,busy,\n",
+        "3,2025331234,busy,\n",
+    ],
+];
+
+// A first line, and lines behind it.
+fn text_of(alloc: Global, first: &str, lines: &[&str]) -> Option<String> {
+    let mut text = String::new(alloc);
+    text.push_str(first).ok()?;
+    for line in lines {
+        text.push_str(line).ok()?;
+    }
+    Some(text)
+}
+
+// Where the row behind so many begins.
+fn start_of(first: usize, lines: &[&str], count: usize) -> usize {
+    let mut start = first;
+    for line in lines.iter().take(count) {
+        start = start.saturating_add(line.len());
+    }
+    start
+}
+
+// A report, and what a run answers.
+#[derive(Drop)]
+struct Wanted {
+    text: String,
+    ran: Result<u64, BulkFault>,
+}
+
+fn broken(kind: FaultKind, rows: usize) -> Result<u64, BulkFault> {
+    Err(BulkFault {
+        kind,
+        rows: rows as u64,
+    })
+}
+
+// The report of a file that ends at a place: a row that lacks no more than its line feed is whole.
+fn wanted_of_cut(alloc: Global, place: usize) -> Option<Wanted> {
+    let place_behind = place.saturating_add(1);
+    if place_behind < HEADER.len() {
+        return Some(Wanted {
+            text: String::new(alloc),
+            ran: broken(FaultKind::BadHeader, 0),
+        });
+    }
+    let whole = whole_within(HEADER.len(), &ROWS, place_behind);
+    let mut text = text_of(alloc, REPORT_HEADER, LINES.get(..whole)?)?;
+    let mut count = whole;
+    if place > start_of(HEADER.len(), &ROWS, whole) {
+        text.push_str(BAD_LINES.get(whole)?).ok()?;
+        count = count.saturating_add(1);
+    }
+    Some(Wanted {
+        text,
+        ran: Ok(count as u64),
+    })
+}
+
+// The report of a file whose reader fails at a place: that of the rows before it.
+fn wanted_of_read(alloc: Global, place: usize) -> Option<Wanted> {
+    if place < HEADER.len() {
+        return Some(Wanted {
+            text: String::new(alloc),
+            ran: broken(FaultKind::Read, 0),
+        });
+    }
+    let whole = whole_within(HEADER.len(), &ROWS, place);
+    Some(Wanted {
+        text: text_of(alloc, REPORT_HEADER, LINES.get(..whole)?)?,
+        ran: broken(FaultKind::Read, whole),
+    })
+}
+
+// A new register runs what the reader gives so.
+fn is_run(alloc: Global, reader: Piecewise<'_>, wanted: &Wanted) -> Option<bool> {
+    let mut register = started(alloc)?;
+    let mut written = Vec::new(alloc);
+    let ran = run_file(alloc, &mut register, reader, &mut written);
+    Some(ran == wanted.ran && written.as_slice() == wanted.text.as_bytes())
+}
+
+fn is_cut_so(alloc: Global, file: &[u8], place: usize, most: usize) -> Option<bool> {
+    let reader = Piecewise {
+        rest: file.get(..place)?,
+        most,
+        fails: false,
+    };
+    is_run(alloc, reader, &wanted_of_cut(alloc, place)?)
+}
+
+fn is_read_so(alloc: Global, file: &[u8], place: usize) -> Option<bool> {
+    let reader = Piecewise {
+        rest: file.get(..place)?,
+        most: MUCH,
+        fails: true,
+    };
+    is_run(alloc, reader, &wanted_of_read(alloc, place)?)
+}
+
+// The first place at which a file that is cut there, or whose reader fails there, is run otherwise.
+fn first_wrong_read(alloc: Global) -> Option<usize> {
+    let file = text_of(alloc, HEADER, &ROWS)?;
+    for place in 0..=file.len() {
+        let bytes = file.as_bytes();
+        let whole = is_cut_so(alloc, bytes, place, MUCH) == Some(true);
+        let by_bytes = is_cut_so(alloc, bytes, place, 1) == Some(true);
+        let broken = is_read_so(alloc, bytes, place) == Some(true);
+        if !whole || !by_bytes || !broken {
+            return Some(place);
+        }
+    }
+    None
+}
+
+#[test]
+fn files_that_are_cut_are_run_up_to_there(rt: HostRuntime) {
+    assert!(rt; first_wrong_read(rt.alloc()) == None);
+}
+
+// What a run says whose writer has so much room, and how many of its commands are made.
+fn ended_within(room: usize) -> (Result<u64, BulkFault>, usize) {
+    let whole = whole_within(REPORT_HEADER.len(), &LINES, room);
+    if room < REPORT_HEADER.len() {
+        (broken(FaultKind::Write, 0), 0)
+    } else if whole < LINES.len() {
+        (broken(FaultKind::Write, whole), whole.saturating_add(1))
+    } else {
+        (Ok(whole as u64), whole)
+    }
+}
+
+// The register reports another run of the file so, after so many of its commands.
+fn goes_on(
+    alloc: Global,
+    register: &mut Register<MemoryStore>,
+    file: &[u8],
+    made: usize,
+) -> Option<bool> {
+    let wanted = text_of(alloc, REPORT_HEADER, LATER.get(made)?)?;
+    let mut again = Vec::new(alloc);
+    let ran = run_file(alloc, register, file, &mut again);
+    Some(ran == Ok(3) && again.as_slice() == wanted.as_bytes())
+}
+
+// A writer with so much room has the report's front, and one command more was made than it has
+// whole lines.
+fn is_written_so(alloc: Global, file: &[u8], report: &[u8], room: usize) -> Option<bool> {
+    let (wanted, made) = ended_within(room);
+    let mut register = started(alloc)?;
+    let mut writer = Filling {
+        bytes: Vec::new(alloc),
+        room,
+    };
+    let ran = run_file(alloc, &mut register, file, &mut writer);
+    let is_front = ran == wanted && Some(writer.bytes.as_slice()) == report.get(..room);
+    Some(is_front && goes_on(alloc, &mut register, file, made)?)
+}
+
+// The first room in which a report is written otherwise.
+fn first_wrong_room(alloc: Global) -> Option<usize> {
+    let file = text_of(alloc, HEADER, &ROWS)?;
+    let report = text_of(alloc, REPORT_HEADER, &LINES)?;
+    for room in 0..=report.len() {
+        if is_written_so(alloc, file.as_bytes(), report.as_bytes(), room) != Some(true) {
+            return Some(room);
+        }
+    }
+    None
+}
+
+#[test]
+fn a_writer_that_fails_leaves_whole_lines(rt: HostRuntime) {
+    assert!(rt; first_wrong_room(rt.alloc()) == None);
+}

@@ -1,0 +1,60 @@
+//! Readers and writers that fail, and what is whole before they do.
+use std::io;
+use std::io::{ErrorKind, Read, Write};
+
+/// How many bytes a reader gives at once that gives all it can.
+pub const MUCH: usize = 8192;
+
+/// Hands out its bytes, at most so many at once, and then ends or fails.
+#[derive(Drop)]
+pub struct Piecewise<'a> {
+    pub rest: &'a [u8],
+    pub most: usize,
+    pub fails: bool,
+}
+
+impl Read for Piecewise<'_> {
+    fn read(&mut self, buf: &mut [u8]) -> io::Result<usize> {
+        if self.rest.is_empty() && self.fails {
+            return Err(ErrorKind::ConnectionReset.into());
+        }
+        let count = buf.len().min(self.most);
+        self.rest.read(&mut buf[..count])
+    }
+}
+
+/// Takes so many bytes, and then fails.
+#[derive(Drop)]
+pub struct Filling {
+    pub bytes: Vec<u8>,
+    pub room: usize,
+}
+
+impl Write for Filling {
+    fn write(&mut self, buf: &[u8]) -> io::Result<usize> {
+        let count = buf.len().min(self.room);
+        if count == 0 {
+            return Err(ErrorKind::StorageFull.into());
+        }
+        self.room -= count;
+        self.bytes.write(&buf[..count])
+    }
+
+    fn flush(&mut self) -> io::Result<()> {
+        Ok(())
+    }
+}
+
+/// How many of the lines, behind a first line, end at or before a place.
+pub fn whole_within(first: usize, lines: &[&str], place: usize) -> usize {
+    let mut end = first;
+    let mut count = 0;
+    for line in lines {
+        end = end.saturating_add(line.len());
+        if end > place {
+            return count;
+        }
+        count = count.saturating_add(1);
+    }
+    count
+}
