@@ -20,7 +20,7 @@ number_rule id required = record (option_rule id required) { parser = Some (Unsi
 
 -- a subcommand with the options that each has
 abbrev pub plain_app : Text → App
-plain_app name = with_rule (with_rule (new_app name) (option_rule (codes "windows") true)) (option_rule (codes "feed") false)
+plain_app name = with_rule (with_rule (with_rule (new_app name) (option_rule (codes "windows") true)) (option_rule (codes "feed") false)) (option_rule (codes "db") false)
 
 abbrev pub serve_app : App
 serve_app = with_rule (with_rule (plain_app (codes "serve")) (number_rule (codes "port") true)) (number_rule (codes "connections") false)
@@ -78,6 +78,7 @@ pub record IsLineOf (name : Text) (rows : List Row) (line : Line) : Type 0 where
   pub subcommand : IsSubcommand name rows line.subcommand
   pub windows : first_of (codes "windows") rows ≡ Some line.windows.now
   pub feed : first_of (codes "feed") rows ≡ option_map (λ s. s.now) line.feed
+  pub db : first_of (codes "db") rows ≡ option_map (λ s. s.now) line.db
 
 abbrev pub IsNoLineOf : Text → List Row → Type 0
 IsNoLineOf name rows = (line : Line) → ¬ (IsLineOf name rows line)

@@ -46,7 +46,14 @@ fn plain<'a>(alloc: Global, name: &'a str, about: &'a str) -> Result<Command<'a>
         "HTTP messages that are served first, their answers dropped",
         false,
     );
-    command.arg(windows)?.arg(feed)
+    let db = option(
+        alloc,
+        "db",
+        "FILE",
+        "The database of the register, in place of memory",
+        false,
+    );
+    command.arg(windows)?.arg(feed)?.arg(db)
 }
 
 // The subcommand that listens.

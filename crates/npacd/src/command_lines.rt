@@ -5,9 +5,8 @@ use crate::parse::{Line, Subcommand, parse};
 use crate::running::run;
 use std::alloc::{AllocError, Global};
 use std::env::{Env, FillError};
-use std::net::{Net, OpenListener};
+use std::net::OpenListener;
 use std::rt::Files;
-use std::time::Clock;
 use std::{env, fs, io};
 
 // A command line, its input, its exit status, what is written, and what is told. Where `None`
@@ -182,6 +181,45 @@ static FED: [Row<'static>; 3] = [
     ),
 ];
 
+// Lines over a file, each after those before it.
+static STORED: [Row<'static>; 5] = [
+    (
+        "npacd feed --windows good.toml --db made.db",
+        FIRST,
+        0,
+        Some(REGISTERED),
+        NO_TEXT,
+    ),
+    (
+        "npacd feed --windows good.toml --db made.db",
+        FIRST,
+        0,
+        Some(TAKEN),
+        NO_TEXT,
+    ),
+    (
+        "npacd feed --windows wide.toml --db made.db",
+        FIRST,
+        1,
+        NO_TEXT,
+        Some("npacd: windows_differ\n"),
+    ),
+    (
+        "npacd feed --windows good.toml --db good.toml",
+        FIRST,
+        3,
+        NO_TEXT,
+        Some("npacd: storage\n"),
+    ),
+    (
+        "npacd feed --windows good.toml --db :memory:",
+        FIRST,
+        3,
+        NO_TEXT,
+        Some("npacd: storage\n"),
+    ),
+];
+
 fn is_text(bytes: &[u8], wanted: Option<&str>) -> bool {
     match wanted {
         Some(text) => bytes == text.as_bytes(),
@@ -197,7 +235,7 @@ fn words_in(alloc: Global, line: &str) -> Result<Vec<&str>, AllocError> {
     Ok(words)
 }
 
-fn is_carried_out<T: Files + AllocGlobal + Net + Clock>(rt: &T, row: &Row<'_>) -> Option<bool> {
+fn is_carried_out(rt: &HostRuntime, row: &Row<'_>) -> Option<bool> {
     let (line, input, status, written, told) = *row;
     let words = words_in(rt.alloc(), line).ok()?;
     let mut output = Vec::new(rt.alloc());
@@ -208,10 +246,7 @@ fn is_carried_out<T: Files + AllocGlobal + Net + Clock>(rt: &T, row: &Row<'_>) -
 }
 
 // The first line that ends otherwise.
-fn first_wrong<'a, T>(rt: &T, rows: &'a [Row<'a>]) -> Option<&'a str>
-where
-    T: Files + AllocGlobal + Net + Clock,
-{
+fn first_wrong<'a>(rt: &HostRuntime, rows: &'a [Row<'a>]) -> Option<&'a str> {
     for row in rows {
         if is_carried_out(rt, row) != Some(true) {
             return Some(row.0);
@@ -226,6 +261,8 @@ fn make_files<T: Files + AllocGlobal + Env>(rt: &T) -> io::Result<()> {
     let narrow = WINDOWS.strip_suffix(BROADCAST).unwrap_or("");
     fs::write(rt, "good.toml", WINDOWS)?;
     fs::write(rt, "narrow.toml", narrow)?;
+    let wide = WINDOWS.replace(rt.alloc(), BROADCAST, "broadcast = 16\n")?;
+    fs::write(rt, "wide.toml", wide)?;
     fs::write(rt, "first.http", FIRST)?;
     fs::write(rt, "cut.http", CUT)?;
     fs::write(rt, "closed.http", LAST)
@@ -238,11 +275,12 @@ fn lines_are_carried_out(rt: HostRuntime) {
     assert_eq!(rt; first_wrong(&rt, &HELP), None);
     assert_eq!(rt; first_wrong(&rt, &FAULTS), None);
     assert_eq!(rt; first_wrong(&rt, &FED), None);
+    assert_eq!(rt; first_wrong(&rt, &STORED), None);
     assert_eq!(rt; is_port_taken(&rt), Some(true));
 }
 
 // A port that another listener has.
-fn is_port_taken<T: Files + AllocGlobal + Net + Clock>(rt: &T) -> Option<bool> {
+fn is_port_taken(rt: &HostRuntime) -> Option<bool> {
     let listener = new_listener(rt)?;
     let port = listener.local_addr().ok()?.port();
     let line = format!(in rt.alloc(); "npacd serve --windows good.toml --port {port}").ok()?;
@@ -274,6 +312,7 @@ fn are_lines(alloc: Global) -> Option<bool> {
             subcommand,
             windows,
             feed,
+            db: None,
         },
     )?;
     let subcommand = Subcommand::Serve {
@@ -290,6 +329,7 @@ fn are_lines(alloc: Global) -> Option<bool> {
                 subcommand,
                 windows,
                 feed,
+                db: None,
             },
         )?,
     )

@@ -108,6 +108,7 @@ pub fn line_of<'a>(name: &str, matches: &ArgMatches<'a>) -> Result<Line<'a>, NoL
             subcommand,
             windows,
             feed: text_of(matches, "feed"),
+            db: text_of(matches, "db"),
         }),
         None => Err(NoLine),
     }

@@ -42,6 +42,8 @@ pub struct Line<'a> {
     pub windows: &'a str,
     /// The file of the messages that are served first, if there is one.
     pub feed: Option<&'a str>,
+    /// The file that the register stands in, if it is not memory.
+    pub db: Option<&'a str>,
 }
 
 /// A text for the user and the exit status that goes with it: 0 for help, 2 for a mistake, 3 where

@@ -15,8 +15,10 @@ use crate::telling::{tell_outcome, tell_usage};
 use api::{End, NoTicks, Options, Served, serve};
 use bulk::{BulkFault, FaultKind, audit, export, run_file};
 use numbers::Spid;
-use register::{Register, law_of_new_stores};
-use settle::Store;
+use register::{OpenFault, Register, law_of_new_stores};
+use settle::{Store, StoreFault};
+use sql_store::SqlStore;
+use sqlite::Unknown;
 use std::alloc::Global;
 use std::convert::AsStr;
 use std::fs::File;
@@ -223,16 +225,40 @@ fn carry_out_over<T: Files + AllocGlobal + Net + Clock, S: Store, R: Read, W: Wr
     }
 }
 
+fn file_fault(fault: StoreFault) -> Fault {
+    match fault {
+        StoreFault::Storage => Fault::Open(OpenFault::Storage),
+        StoreFault::NoMemory => Fault::Open(OpenFault::NoMemory),
+    }
+}
+
+// Carries out a line over the file of `--db`, which is closed behind it.
+fn carry_out_at<R: Read, W: Write>(
+    rt: &HostRuntime,
+    path: &str,
+    windows: &Windows,
+    line: &Line<'_>,
+    reader: &mut R,
+    writer: &mut W,
+) -> Result<(), Fault> {
+    let store = SqlStore::at(rt, path, Unknown).map_err(file_fault)?;
+    let (store, outcome) = carry_out_over(rt, store, windows, line, reader, writer);
+    let closed = store.close().map_err(file_fault);
+    outcome?;
+    closed
+}
+
 // Carries out a line. A plain `feed` is the function that says what it answers.
-fn carry_out<T: Files + AllocGlobal + Net + Clock, R: Read, W: Write>(
-    rt: &T,
+fn carry_out<R: Read, W: Write>(
+    rt: &HostRuntime,
     line: &Line<'_>,
     reader: &mut R,
     writer: &mut W,
 ) -> Result<(), Fault> {
     let windows = windows_at(rt, line.windows)?;
-    match (line.subcommand, line.feed) {
-        (Subcommand::Feed, None) => feed_gathering(rt.alloc(), &windows, reader, writer),
+    match (line.subcommand, line.feed, line.db) {
+        (_, _, Some(path)) => carry_out_at(rt, path, &windows, line, reader, writer),
+        (Subcommand::Feed, None, None) => feed_gathering(rt.alloc(), &windows, reader, writer),
         _ => {
             let store = MemoryStore::new(rt.alloc());
             let (_store, outcome) = carry_out_over(rt, store, &windows, line, reader, writer);
@@ -246,10 +272,10 @@ fn carry_out<T: Files + AllocGlobal + Net + Clock, R: Read, W: Write>(
 /// command line; 3 memory, a read or a write. With 1 and 3 one line `npacd: ` and the fault's name
 /// goes to the errors, unless it cannot be written.
 ///
-/// The windows file comes first, then the file of `--feed`, then the subcommand: nothing is done
-/// behind the first fault.
-pub fn run<T: Files + AllocGlobal + Net + Clock, S: AsStr, R: Read, W: Write, E: Write>(
-    rt: &T,
+/// The windows file comes first, then the file of `--db`, then that of `--feed`, then the
+/// subcommand: nothing is done behind the first fault.
+pub fn run<S: AsStr, R: Read, W: Write, E: Write>(
+    rt: &HostRuntime,
     words: &[S],
     reader: &mut R,
     writer: &mut W,
