@@ -5,21 +5,31 @@ into one copy of the crate, which is checked once. One of them is refused where 
 proved; that it calls another function that is not proved says nothing. What was not refused so stays for the next check, alone among
 those that were not, until a check refuses none of them: what is left then is proved, and the crate's contracts are too weak.
 
+What became of an edit as it has to is written into the file tests/refused, with a checksum of all that it stands on: the edit, the
+sources, definitions and proofs of its crate and of those below. With --changed only those are tried that stand there with no such
+checksum, so that the gate pays for what changed alone.
+
 An edit is a file crates/NAME/wrong-bodies/*.edit, of the form of must-fail edits: a line 'file: src/lib.rt', then pairs of lines
 'old: TEXT' and 'new: TEXT', each TEXT once in that file, all in one function. An edit whose name begins with 'harmless' changes no
 meaning and has to be proved: it shows that a harmless change is not counted as refused.
 """
+import functools
+import hashlib
 import os
 import re
 import shutil
 import subprocess
 import sys
 import tempfile
+import threading
 from concurrent.futures import FIRST_COMPLETED, ThreadPoolExecutor, wait
 from dataclasses import dataclass
 
-PARTS = ("src", "specs", "proofs", "out")
+SOURCES = ("src", "specs", "proofs")
+PARTS = (*SOURCES, "out")
 LANES = 2
+RECORD = "tests/refused"
+NOTING = threading.Lock()
 
 
 @dataclass
@@ -108,6 +118,47 @@ def together(edits):
     return chosen, texts
 
 
+# ---- the record
+
+def sum_of_sources(crate, below):
+    """A checksum of the sources, definitions and proofs of the crate and of those below."""
+    said = hashlib.sha256()
+    for name in [*below, crate]:
+        for part in SOURCES:
+            for folder, folders, files in os.walk(f"crates/{name}/{part}"):
+                folders.sort()
+                for file in sorted(files):
+                    with open(f"{folder}/{file}", "rb") as it:
+                        said.update(f"{folder}/{file}\n".encode() + hashlib.sha256(it.read()).digest())
+    return said.digest()
+
+
+def sums_of(crate, below, edits):
+    """For each edit the checksum under which it is noted."""
+    sources, found = sum_of_sources(crate, below), {}
+    for edit in edits:
+        with open(f"crates/{crate}/wrong-bodies/{edit.name}.edit", "rb") as file:
+            found[edit.name] = hashlib.sha256(sources + file.read()).hexdigest()[:16]
+    return found
+
+
+def read_record():
+    """The checksum under which each edit was seen to do as it has to."""
+    if not os.path.isfile(RECORD):
+        return {}
+    with open(RECORD, encoding="utf-8") as file:
+        return dict(line.split() for line in file)
+
+
+def note(crate, sums):
+    """Puts the edits of the crate that did as they have to into the record, and takes out those that are no more."""
+    kept = {name: it for name, it in read_record().items() if name.partition("/")[0] != crate or os.path.isfile(
+        "crates/{0}/wrong-bodies/{1}.edit".format(*name.split("/")))}
+    kept |= {f"{crate}/{name}": it for name, it in sums.items()}
+    with open(RECORD, "w", encoding="utf-8") as file:
+        file.writelines(f"{name} {it}\n" for name, it in sorted(kept.items()))
+
+
 # ---- checks
 
 def check_edited(crate, texts, below):
@@ -161,19 +212,22 @@ def verdicts(crate, edits, below):
     return goals
 
 
-def try_crate(crate, below):
-    """Says what became of each edit of the crate, and returns whether each did as it has to."""
-    edits = edits_of(crate)
+def try_crate(crate, below, edits):
+    """Says what became of each of these edits of the crate, and returns whether each did as it has to."""
+    sums = sums_of(crate, below, edits)
     goals = verdicts(crate, edits, below)
-    lines, is_well = [], True
+    lines, seen = [], {}
     for edit in edits:
         goal = goals[edit.name]
         well = edit.is_harmless() == (goal is None)
-        is_well &= well
+        if well:
+            seen[edit.name] = sums[edit.name]
         unrefused = "not judged, since it takes away a goal's name" if edit.takes_a_name else "proved"
         lines.append(f"{crate}/{edit.name}: {'refused: ' + goal if goal else unrefused}{'' if well else ', WHICH IS WRONG'}")
     print("\n".join(lines), flush=True)
-    return is_well
+    with NOTING:
+        note(crate, seen)
+    return len(seen) == len(edits)
 
 
 def make_library(crate, _below):
@@ -193,17 +247,24 @@ def all_below(crates, crate):
     return list(found)
 
 
-def tasks_of(crates, names):
-    """What is to be done, and what each waits for."""
-    needed = {it for name in names for it in [*all_below(crates, name), name]}
+def unnoted(crate, below, edits):
+    """Those of the edits that the record does not have as they stand."""
+    sums, record = sums_of(crate, below, edits), read_record()
+    return [it for it in edits if record.get(f"{crate}/{it.name}") != sums[it.name]]
+
+
+def tasks_of(crates, tried):
+    """What is to be done, and what each waits for. `tried` has the edits of each crate."""
+    needed = {it for name in tried for it in [*all_below(crates, name), name]}
     tasks = {}
     for crate in crates:
         below = all_below(crates, crate)
         is_library = os.path.isfile(f"crates/{crate}/src/lib.rt")
         if crate in needed and is_library:
             tasks["library", crate] = ([("library", it) for it in below], below, make_library)
-        if crate in names:
-            tasks["edits", crate] = ([("library", it) for it in [*below, *([crate] if is_library else [])]], below, try_crate)
+        if crate in tried:
+            do = functools.partial(try_crate, edits=tried[crate])
+            tasks["edits", crate] = ([("library", it) for it in [*below, *([crate] if is_library else [])]], below, do)
     return tasks
 
 
@@ -224,11 +285,17 @@ def in_lanes(tasks):
 
 def main():
     crates = read_crates()
-    names = sys.argv[1:] or [it for it in crates if os.path.isdir(f"crates/{it}/wrong-bodies")]
+    only_changed = "--changed" in sys.argv[1:]
+    names = [it for it in sys.argv[1:] if it != "--changed"] or [it for it in crates if os.path.isdir(f"crates/{it}/wrong-bodies")]
     for name in names:
         if name not in crates:
             stop(f"crates.txt has no crate {name}")
-    sys.exit(0 if in_lanes(tasks_of(crates, names)) else 1)
+    tried = {it: edits_of(it) for it in names}
+    if only_changed:
+        tried = {it: unnoted(it, all_below(crates, it), edits) for it, edits in tried.items()}
+    left = sum(map(len, tried.values()))
+    print(f"{left} wrong bodies to try" + (", the others were seen refused as they stand" if only_changed else ""), flush=True)
+    sys.exit(0 if in_lanes(tasks_of(crates, {it: edits for it, edits in tried.items() if edits})) else 1)
 
 
 if __name__ == "__main__":
