@@ -58,14 +58,23 @@ def written(path, texts):
     return path
 
 
+def high_water(process):
+    """The most memory that a process has had so far, in MiB. (What `wait4` tells has that of this script in it.)"""
+    with open(f"/proc/{process.pid}/status", encoding="ascii") as status:
+        return next((int(line.split()[1]) / 1024 for line in status if line.startswith("VmHWM:")), 0.0)
+
+
 def once(program, words, stdin, stdout):
     """Seconds of the processor and on the clock, and the peak memory in MiB."""
-    begun = time.monotonic()
+    begun, peak, ended = time.monotonic(), 0.0, 0
     with open(stdin, "rb") as source, open(stdout, "wb") as target:
         process = subprocess.Popen([program, *words, "--windows", WINDOWS], stdin=source, stdout=target)
-        _, status, usage = os.wait4(process.pid, 0)
+        while not ended:
+            peak = max(peak, high_water(process))
+            ended, status, usage = os.wait4(process.pid, os.WNOHANG)
+            time.sleep(0 if ended else 0.002)
     assert status == 0, (program, words, status)
-    return usage.ru_utime + usage.ru_stime, time.monotonic() - begun, usage.ru_maxrss / 1024
+    return usage.ru_utime + usage.ru_stime, time.monotonic() - begun, peak
 
 
 def told(path):

@@ -1,6 +1,6 @@
 //! Copies that are compared with the register, and what pooled numbers export.
 use crate::failing::{Filling, MUCH, Piecewise, whole_within};
-use crate::started::{acknowledge_all, started};
+use crate::started::{acknowledge_all, add_port, started};
 use bulk::{BulkFault, FaultKind, audit, export, run_file};
 use calls::Command;
 use numbers::{BlockId, Line, Lrn, Minute, Routing, Spid};
@@ -8,25 +8,6 @@ use pool::Assignment;
 use register::Register;
 use std::alloc::Global;
 use store::MemoryStore;
-
-// The port of a number from BBBB to AAAA.
-const PORT: &str =
-    "caller,action,subject,old,new,due,lrn,cic,flag\nAAAA,subscriptionVersionNewSP-Create,2025331234,BBBB,AAAA,0,2025440000,,\nBBBB,subscriptionVersionOldSP-Create,2025331234,BBBB,AAAA,0,,,yes\nAAAA,subscriptionVersionActivate,2025331234,,,,,,\n";
-
-fn acknowledged_by(register: &mut Register<MemoryStore>, name: &str) -> Option<()> {
-    register.acknowledge(Spid::read(name)?, 1, 1).ok()?;
-    Some(())
-}
-
-// The number is in force, and CCCC has not acknowledged it.
-fn add_port(alloc: Global, register: &mut Register<MemoryStore>) -> Option<()> {
-    let mut report = Vec::new(alloc);
-    run_file(alloc, register, PORT.as_bytes(), &mut report).ok()?;
-    acknowledged_by(register, "AAAA")?;
-    acknowledged_by(register, "BBBB")?;
-    register.clock(Minute::new(15)?).ok()?;
-    Some(())
-}
 
 /// A carrier, its copy, the findings, and what the audit answers.
 type Row<'a> = (&'a str, &'a str, &'a str, Result<u64, BulkFault>);

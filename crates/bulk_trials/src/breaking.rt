@@ -1,8 +1,8 @@
 //! Files that are cut, readers and writers that fail in mid-file, and readers that give a byte at a
 //! time.
 use crate::failing::{Filling, MUCH, Piecewise, whole_within};
-use crate::started::started;
-use bulk::{BulkFault, FaultKind, run_file};
+use crate::started::{add_port, started};
+use bulk::{BulkFault, FaultKind, export, run_file};
 use register::Register;
 use std::alloc::Global;
 use store::MemoryStore;
@@ -221,4 +221,43 @@ fn first_wrong_room(alloc: Global) -> Option<usize> {
 #[test]
 fn a_writer_that_fails_leaves_whole_lines(rt: HostRuntime) {
     assert!(rt; first_wrong_room(rt.alloc()) == None);
+}
+
+const EXPORT_HEADER: &str = "subject,lrn,cic\n";
+
+static EXPORT_ROWS: [&str; 1] = ["2025331234,2025440000,\n"];
+
+const EXPORTED: &str = "subject,lrn,cic\n2025331234,2025440000,\n";
+
+// A writer with so much room has the front of what is in force.
+fn is_exported_so(alloc: Global, room: usize) -> Option<bool> {
+    let mut register = started(alloc)?;
+    add_port(alloc, &mut register)?;
+    let mut writer = Filling {
+        bytes: Vec::new(alloc),
+        room,
+    };
+    let whole = whole_within(EXPORT_HEADER.len(), &EXPORT_ROWS, room);
+    let wanted = if room < EXPORTED.len() {
+        broken(FaultKind::Write, whole)
+    } else {
+        Ok(whole as u64)
+    };
+    let exported = export(alloc, &mut register, &mut writer);
+    Some(exported == wanted && Some(writer.bytes.as_slice()) == EXPORTED.as_bytes().get(..room))
+}
+
+// The first room in which what is in force is written otherwise.
+fn first_wrong_export(alloc: Global) -> Option<usize> {
+    for room in 0..=EXPORTED.len() {
+        if is_exported_so(alloc, room) != Some(true) {
+            return Some(room);
+        }
+    }
+    None
+}
+
+#[test]
+fn an_export_that_breaks_off(rt: HostRuntime) {
+    assert!(rt; first_wrong_export(rt.alloc()) == None);
 }

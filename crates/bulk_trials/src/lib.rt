@@ -12,4 +12,8 @@ mod bulk_files;
 #[cfg(test)]
 mod failing;
 #[cfg(test)]
+mod hostile;
+#[cfg(test)]
+mod refused;
+#[cfg(test)]
 mod started;

@@ -1,6 +1,7 @@
 //! What the tests share: a register over memory with three carriers.
+use bulk::run_file;
 use calls::Command;
-use numbers::{CodeId, Lrn, Spid};
+use numbers::{CodeId, Lrn, Minute, Spid};
 use register::Register;
 use std::alloc::Global;
 use store::MemoryStore;
@@ -48,5 +49,24 @@ pub fn acknowledge_all(register: &mut Register<MemoryStore>, id: u64, attempt: u
     for name in CARRIERS {
         register.acknowledge(Spid::read(name)?, id, attempt).ok()?;
     }
+    Some(())
+}
+
+// The port of a number from BBBB to AAAA.
+const PORT: &str =
+    "caller,action,subject,old,new,due,lrn,cic,flag\nAAAA,subscriptionVersionNewSP-Create,2025331234,BBBB,AAAA,0,2025440000,,\nBBBB,subscriptionVersionOldSP-Create,2025331234,BBBB,AAAA,0,,,yes\nAAAA,subscriptionVersionActivate,2025331234,,,,,,\n";
+
+fn acknowledged_by(register: &mut Register<MemoryStore>, name: &str) -> Option<()> {
+    register.acknowledge(Spid::read(name)?, 1, 1).ok()?;
+    Some(())
+}
+
+/// 2025331234 is in force at 2025440000, and CCCC has not acknowledged it.
+pub fn add_port(alloc: Global, register: &mut Register<MemoryStore>) -> Option<()> {
+    let mut report = Vec::new(alloc);
+    run_file(alloc, register, PORT.as_bytes(), &mut report).ok()?;
+    acknowledged_by(register, "AAAA")?;
+    acknowledged_by(register, "BBBB")?;
+    register.clock(Minute::new(15)?).ok()?;
     Some(())
 }

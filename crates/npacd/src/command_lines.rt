@@ -9,11 +9,11 @@ use std::net::OpenListener;
 use std::rt::Files;
 use std::{env, fs, io};
 
-// A command line, its input, its exit status, what is written, and what is told. Where `None`
-// stands some text of `clap`'s is.
-type Row<'a> = (&'a str, &'a str, u8, Option<&'a str>, Option<&'a str>);
+/// A command line, its input, its exit status, what is written, and what is told. Where `None`
+/// stands some text of `clap`'s is.
+pub type Row<'a> = (&'a str, &'a str, u8, Option<&'a str>, Option<&'a str>);
 
-const NO_TEXT: Option<&str> = Some("");
+pub const NO_TEXT: Option<&str> = Some("");
 
 const BROADCAST: &str = "broadcast = 15\n";
 
@@ -227,7 +227,8 @@ fn is_text(bytes: &[u8], wanted: Option<&str>) -> bool {
     }
 }
 
-fn words_in(alloc: Global, line: &str) -> Result<Vec<&str>, AllocError> {
+/// The words of a line.
+pub fn words_in(alloc: Global, line: &str) -> Result<Vec<&str>, AllocError> {
     let mut words = Vec::new(alloc);
     for word in line.split(' ') {
         words.push(word)?;
@@ -245,8 +246,8 @@ fn is_carried_out(rt: &HostRuntime, row: &Row<'_>) -> Option<bool> {
     Some(ended == status && is_text(&output, written) && is_text(&errors, told))
 }
 
-// The first line that ends otherwise.
-fn first_wrong<'a>(rt: &HostRuntime, rows: &'a [Row<'a>]) -> Option<&'a str> {
+/// The first line that ends otherwise.
+pub fn first_wrong<'a>(rt: &HostRuntime, rows: &'a [Row<'a>]) -> Option<&'a str> {
     for row in rows {
         if is_carried_out(rt, row) != Some(true) {
             return Some(row.0);

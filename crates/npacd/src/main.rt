@@ -8,6 +8,8 @@ mod command_lines;
 #[cfg(test)]
 mod connections;
 mod fault;
+#[cfg(test)]
+mod file_lines;
 mod listening;
 mod options;
 pub mod parse;
