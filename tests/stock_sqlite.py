@@ -1,0 +1,168 @@
+"""What stock SQLite finds in a register's file, and what the program makes of a file that was changed by hand.
+
+The wanted rows are worked out from docs/RULES.md and docs/FILES.md for the messages below.
+"""
+import os
+import shutil
+import sqlite3
+import subprocess
+import sys
+import tempfile
+
+sys.path.insert(0, "bench")
+from ports import PROGRAM, WINDOWS, message
+
+TN, LRN = "2025331234", "2025440000"
+PARTIES = f'"new":"AAAA","old":"BBBB","tn":"{TN}"'
+
+# A port that was activated at minute 100 and that only its new provider acknowledged; and a block that its donor, who uses one of its
+# numbers, gave to the pool and nobody acknowledged.
+MESSAGES = [
+    ("NPAC", "/carriers", '{"spid":"AAAA"}'),
+    ("NPAC", "/carriers", '{"spid":"BBBB"}'),
+    ("AAAA", "/lrns", f'{{"lrn":"{LRN}"}}'),
+    ("BBBB", "/lrns", '{"lrn":"2025330000"}'),
+    ("NPAC", "/codes", '{"code":"202533","spid":"BBBB"}'),
+    ("AAAA", "/subscriptionVersionNewSP-Create", f'{{"cic":"0288","due":60,"lrn":"{LRN}",{PARTIES}}}'),
+    ("BBBB", "/subscriptionVersionOldSP-Create", f'{{"authorized":true,"due":60,{PARTIES}}}'),
+    ("NPAC", "/clock", '{"minute":100}'),
+    ("AAAA", "/subscriptionVersionActivate", '{"id":1}'),
+    ("AAAA", "/downloads/acknowledge", '{"attempt":1,"id":1}'),
+    ("BBBB", "/blocks/donate", '{"block":"2025337","lrn":"2025330000","used":["001"]}'),
+]
+
+# how many rows each table has then: versions of the port, and of the one number of the block that is in use
+COUNTS = {"carrier": 2, "lrn": 2, "code": 1, "block": 1, "version": 2, "broadcast": 2, "wait": 3, "clock": 1}
+
+# one look-up of each table, and what docs/FILES.md tells an operator to ask
+QUERIES = [
+    ("SELECT count(*) FROM carrier WHERE spid = 'AAAA'", [(1,)]),
+    ("SELECT spid FROM lrn WHERE lrn = 2025440000", [("AAAA",)]),
+    ("SELECT spid FROM code WHERE code = 202533", [("BBBB",)]),
+    ("SELECT donor, last FROM block WHERE block = 2025337", [("BBBB", None)]),
+    ("SELECT old, new, due, lrn, cic, status, sends, since, attempt, opens, holds FROM version WHERE id = 1",
+     [("BBBB", "AAAA", 60, 2025440000, 288, "sending", "create", 100, 1, 2025331234, None)]),
+    ("SELECT minute, subject, action, lrn, cic, open, any FROM broadcast WHERE id = 1 AND attempt = 1",
+     [(100, 2025331234, "create", 2025440000, 288, 1, 1)]),
+    ("SELECT spid FROM wait WHERE id = 1 ORDER BY spid", [("BBBB",)]),
+    ("SELECT now, next_id FROM clock WHERE one = 0", [(100, 3)]),
+    ("SELECT printf('%010d', lrn), printf('%04d', cic) FROM version WHERE holds = 2025331234", []),
+    ("SELECT minute, id, attempt, subject FROM wait WHERE spid = 'AAAA' ORDER BY minute, id, attempt", [(100, 2, 1, 2025337001)]),
+]
+
+# values that are none of each column's type
+SPOILED = {
+    "carrier": {"spid": ["AB1", "aaaa", ""]},
+    "lrn": {"lrn": [-1], "spid": ["A"]},
+    "code": {"code": [-1], "spid": ["A"]},
+    "block": {"block": [-1], "donor": ["A"], "last": [-1]},
+    "version": {
+        "id": [-1], "subject": [5], "old": ["A"], "new": ["A"], "due": [-1], "lrn": [10**10], "cic": [10_000, -1], "old_at": [-1],
+        "new_at": [-1], "status": ["gone", ""], "sends": ["update"], "since": [-1], "attempt": [-1],
+        "spent": [2], "protective": [2], "deadline": [-1], "holds": [5], "opens": [5],
+    },
+    "broadcast": {
+        "id": [-1], "attempt": [-1], "minute": [-1], "subject": [5], "action": ["none"], "lrn": [10**10], "cic": [10_000], "open": [2],
+        "any": [2],
+    },
+    "wait": {"spid": ["A"], "minute": [-1], "id": [-1], "attempt": [-1], "subject": [5]},
+    "clock": {"one": [-1], "now": [-1], "next_id": [-1]},
+}
+
+# what docs/FILES.md says is not judged: a key of the registry beyond ten digits, and what a version in another status would have
+TAKEN = [
+    ("lrn", "lrn", 10**10),
+    ("code", "code", 10**6),
+    ("block", "block", 10**7),
+    ("version", "release", -1),
+    ("version", "cancelled_by", "both"),
+]
+
+# other schemas
+SCHEMAS = [
+    "CREATE TABLE more (one INTEGER PRIMARY KEY) STRICT",
+    "ALTER TABLE carrier ADD COLUMN name TEXT",
+    "DROP INDEX version_deadline",
+    "CREATE INDEX more ON version (old)",
+    "DROP TABLE wait",
+]
+
+
+def run(file, text="", windows=WINDOWS):
+    """The exit and what is said of a feed over the file."""
+    words = [PROGRAM, "feed", "--windows", windows, "--db", file]
+    ran = subprocess.run(words, input=text.encode(), capture_output=True, check=False)
+    return ran.returncode, ran.stderr.decode().strip(), ran.stdout
+
+
+def changed(original, folder, statement, *values):
+    """A copy of the file in which a statement was carried out by hand."""
+    file = os.path.join(folder, "changed.db")
+    shutil.copy(original, file)
+    database = sqlite3.connect(file, isolation_level=None)
+    database.execute("PRAGMA journal_mode = DELETE")
+    database.execute(statement, values)
+    database.close()
+    return file
+
+
+def is_refused(file, fault="npacd: storage", status=3, windows=WINDOWS):
+    """Whether the program refuses the file with this fault, and leaves it as it was."""
+    with open(file, "rb") as before:
+        was = before.read()
+    found = run(file, windows=windows)[:2]
+    with open(file, "rb") as after:
+        return found == (status, fault) and after.read() == was
+
+
+def check_rows(file):
+    database = sqlite3.connect(file)
+    ask = lambda query: database.execute(query).fetchall()
+    found = {f"rows of {table}": ask(f"SELECT count(*) FROM {table}") == [(count,)] for table, count in COUNTS.items()}
+    found |= {query: ask(query) == wanted for query, wanted in QUERIES}
+    found["integrity"] = ask("PRAGMA integrity_check") == [("ok",)]
+    database.close()
+    return found
+
+
+def windows_of(file):
+    """The columns of the clock that hold windows."""
+    database = sqlite3.connect(file)
+    names = [row[1] for row in database.execute("PRAGMA table_info(clock)")]
+    database.close()
+    return names[3:]
+
+
+def with_value(file, folder, table, column, value):
+    """A copy of the file in which the first row of the table has this value by hand."""
+    first = f"rowid = (SELECT min(rowid) FROM {table})"
+    return changed(file, folder, f"UPDATE OR REPLACE {table} SET {column} = ? WHERE {first}", value)
+
+
+def spoiled_values(file):
+    windows = {name: [0, 525_601] for name in windows_of(file)}
+    for table, columns in (SPOILED | {"clock": SPOILED["clock"] | windows}).items():
+        for column, values in columns.items():
+            yield from ((table, column, value) for value in values)
+
+
+def main():
+    wrong = []
+    with tempfile.TemporaryDirectory() as folder:
+        file = os.path.join(folder, "register.db")
+        status, said, answers = run(file, "".join(message(*it) for it in MESSAGES))
+        assert (status, said, answers.count(b"HTTP/1.1 200 ")) == (0, "", len(MESSAGES)), (status, said, answers)
+        found = check_rows(file)
+        found |= {what: is_refused(with_value(file, folder, *what)) for what in spoiled_values(file)}
+        found |= {what: run(with_value(file, folder, *what))[0] == 0 for what in TAKEN}
+        found |= {schema: is_refused(changed(file, folder, schema)) for schema in SCHEMAS}
+        other = os.path.join(folder, "other.toml")
+        with open(WINDOWS, encoding="utf-8") as windows, open(other, "w", encoding="utf-8") as changed_windows:
+            changed_windows.write("".join(line if not line.startswith("broadcast") else "broadcast = 61\n" for line in windows))
+        found["other windows"] = is_refused(file, "npacd: windows_differ", 1, other)
+        wrong = [str(what) for what, well in found.items() if not well]
+    print("\n".join([*wrong, f"{len(found) - len(wrong)} as wanted, {len(wrong)} otherwise"]))
+    sys.exit(1 if wrong else 0)
+
+
+main()
