@@ -25,7 +25,8 @@ def version_row(place, status, sends="none", attempt=0, deadline=None):
     code, line = place % 100, place // 100
     old, new = CARRIERS[code % 10], CARRIERS[(code + 1 + line % 9) % 10]
     subject = int(number_of(place))
-    kept = (subject, None) if status == "active" else (None, subject)
+    nobody = -2 - place
+    kept = (subject, nobody) if status == "active" else (nobody, subject)
     routing = int(f"20244{CARRIERS.index(new)}0000")
     return (place + 1, subject, old, new, 0, routing, None, 0, 0, status, sends, 0, attempt, None, 0, 0, None, deadline, *kept)
 
@@ -50,7 +51,7 @@ class Peer:
 
     def settle(self):
         self.ask(self.clock, 0)
-        self.ask(f"SELECT {VERSION} FROM version WHERE deadline <= ? ORDER BY deadline LIMIT 1", 0)
+        self.ask(f"SELECT {VERSION} FROM version WHERE deadline >= 0 AND deadline <= ? ORDER BY deadline LIMIT 1", 0)
 
     def number(self, subject):
         """What is read of a number and its block."""

@@ -41,7 +41,7 @@ QUERIES = [
     ("SELECT spid FROM code WHERE code = 202533", [("BBBB",)]),
     ("SELECT donor, last FROM block WHERE block = 2025337", [("BBBB", None)]),
     ("SELECT old, new, due, lrn, cic, status, sends, since, attempt, opens, holds FROM version WHERE id = 1",
-     [("BBBB", "AAAA", 60, 2025440000, 288, "sending", "create", 100, 1, 2025331234, None)]),
+     [("BBBB", "AAAA", 60, 2025440000, 288, "sending", "create", 100, 1, 2025331234, -2)]),
     ("SELECT minute, subject, action, lrn, cic, open, any FROM broadcast WHERE id = 1 AND attempt = 1",
      [(100, 2025331234, "create", 2025440000, 288, 1, 1)]),
     ("SELECT spid FROM wait WHERE id = 1 ORDER BY spid", [("BBBB",)]),
@@ -53,27 +53,24 @@ QUERIES = [
 # values that are none of each column's type
 SPOILED = {
     "carrier": {"spid": ["AB1", "aaaa", ""]},
-    "lrn": {"lrn": [-1], "spid": ["A"]},
-    "code": {"code": [-1], "spid": ["A"]},
-    "block": {"block": [-1], "donor": ["A"], "last": [-1]},
+    "lrn": {"lrn": [-1, 10**10], "spid": ["A"]},
+    "code": {"code": [-1, 10**6, 102_533, 202_133], "spid": ["A"]},
+    "block": {"block": [-1, 10**7, 1_025_337, 2_021_337], "donor": ["A"], "last": [-1]},
     "version": {
         "id": [-1], "subject": [5], "old": ["A"], "new": ["A"], "due": [-1], "lrn": [10**10], "cic": [10_000, -1], "old_at": [-1],
         "new_at": [-1], "status": ["gone", ""], "sends": ["update"], "since": [-1], "attempt": [-1],
-        "spent": [2], "protective": [2], "deadline": [-1], "holds": [5], "opens": [5],
+        "spent": [2], "protective": [2], "deadline": [-1], "holds": [5, -7], "opens": [5, -7],
     },
     "broadcast": {
         "id": [-1], "attempt": [-1], "minute": [-1], "subject": [5], "action": ["none"], "lrn": [10**10], "cic": [10_000], "open": [2],
         "any": [2],
     },
     "wait": {"spid": ["A"], "minute": [-1], "id": [-1], "attempt": [-1], "subject": [5]},
-    "clock": {"one": [-1], "now": [-1], "next_id": [-1]},
+    "clock": {"one": [-1, 1], "now": [-1], "next_id": [-1]},
 }
 
-# what docs/FILES.md says is not judged: a key of the registry beyond ten digits, and what a version in another status would have
+# what docs/FILES.md says is not judged: what a version in another status would have
 TAKEN = [
-    ("lrn", "lrn", 10**10),
-    ("code", "code", 10**6),
-    ("block", "block", 10**7),
     ("version", "release", -1),
     ("version", "cancelled_by", "both"),
 ]

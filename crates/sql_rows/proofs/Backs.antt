@@ -1,10 +1,11 @@
 -- A version that is stored reads as it was.
-use Rattle.std.proofs.Common.{◌≡◌, ℕ, pos, ◌∷◌, Option, Some, None, Bool, true, false, cond, nat_lt, nat_le, ◌<◌, ◌≤◌, ◌/◌, ◌%◌, ◌*◌, ◌+◌, refl, ap, arith, IsTrue, IfSome}
+use Rattle.std.proofs.Common.{◌≡◌, ℕ, pos, negsuc, ◌∷◌, Option, Some, None, Bool, true, false, cond, nat_lt, nat_le, ◌<◌, ◌≤◌, ◌/◌, ◌%◌, ◌*◌, ◌+◌, refl, ap, arith, IsTrue, IfSome}
 use Rattle.std.specs.Prelude.{option_map, ◌&&◌}
+use Rattle.std.specs.Cmp.{signed_Decides}
 use Rattle.sqlite.specs.declared.types.Value.{Value}
 use Rattle.sqlite.specs.declared.types.Value.TheVariants.{Int, Text}
 use Rattle.sqlite.specs.Values.{or_null}
-use Rattle.numbers.specs.Digits.{IsTn, IsBlock}
+use Rattle.numbers.specs.Digits.{IsTn, IsBlock, IsCode}
 use Rattle.numbers.specs.Spids.{IsSpid, is_spid_character}
 use Rattle.numbers.specs.Views.{subject_of, routing_of, minute_of}
 use Rattle.numbers.specs.declared.ported.Subject.{Subject as SubjectCode}
@@ -13,6 +14,9 @@ use Rattle.numbers.specs.declared.ported.Routing.{Routing as RoutingCode}
 use Rattle.numbers.specs.declared.minute.Minute.{Minute}
 use Rattle.numbers.specs.declared.spid.Spid.{Spid}
 use Rattle.numbers.specs.declared.cic.Cic.{Cic}
+use Rattle.numbers.specs.declared.lrn.Lrn.{Lrn}
+use Rattle.numbers.specs.declared.code_id.CodeId.{CodeId}
+use Rattle.numbers.specs.declared.block_id.BlockId.{BlockId}
 use Rattle.meaning.specs.declared.words.Status.{Status as StatusCode}
 use Rattle.meaning.specs.declared.words.Status.TheVariants as code
 use Rattle.meaning.specs.declared.words.Action.TheVariants.{Create, Delete}
@@ -27,11 +31,9 @@ use Rattle.settle.specs.declared.rows.WaitKey.{WaitKey as WaitCode}
 use Rattle.delivery.specs.declared.broadcast.Broadcast.{Broadcast as BroadcastCode}
 use Rattle.windows.specs.declared.window.Window.{Window}
 use Rattle.meaning.specs.declared.words.Action.{Action}
-use Rattle.sql_rows.specs.Content.{carrier_entry, owner_entry, block_entry, broadcast_entry, wait_entry, clock_entry, carrier_params, owner_params, block_params, broadcast_params, wait_params, clock_params, stored}
+use Rattle.sql_rows.specs.Content.{carrier_entry, lrn_entry, code_entry, block_entry, broadcast_entry, wait_entry, clock_entry, carrier_params, owner_params, block_params, broadcast_params, wait_params, clock_params, stored}
 use Rattle.settle.specs.declared.rows.VersionRow.TheInside.{Inside}
 use Rattle.sql_rows.specs.Values.{number_in, minute_in, lrn_in, cic_in, bool_in, subject_in, spid_in, or_null_in, status_in, routing_in, number_value, spid_value, bool_value, subject_value, lrn_value, cic_value, status_word, sends_word, release_value, by_value, found_in, found_value, subject_number, window_in, action_in, action_word}
-use Rattle.std.specs.Prelude.{◌==◌}
-use Rattle.std.proofs.lemmas.Bool.Decides.{nat_tests}
 use Rattle.sql_rows.specs.Versions.{version_entry, version_row}
 
 is_less : (n m : ℕ) → n < m → nat_lt n m ≡ true
@@ -61,19 +63,9 @@ subject_back (BlockCode block) =
     let v : IsBlock n = block.valid in
     rw (is_less n 9223372036854775808 (omega (arith, v.0))) (rw (is_less n 10000000 v.0, is_at_most 2 (n / 1000000) v.1, is_at_most 2 (n / 1000 % 10) v.2) refl)
 
-pub found_back : (s : SubjectCode) (b : Bool) → found_in (subject_of s) (found_value (subject_if b (subject_of s))) ≡ Some b
-found_back s false = refl
-found_back s true = go s
-  where
-    small : (s : SubjectCode) → subject_number (subject_of s) < 9223372036854775808
-    small (NumberCode tn) = let v : IsTn tn.number = tn.valid in omega (arith, v.0)
-    small (BlockCode block) = let v : IsBlock block.number = block.valid in omega (arith, v.0)
-
-    itself : (n : ℕ) → (n == n) ≡ true
-    itself n = grind (arith, nat_tests)
-
-    go : (s : SubjectCode) → found_in (subject_of s) (subject_value (subject_of s)) ≡ Some true
-    go s = rw (is_less _ 9223372036854775808 (small s)) (rw (itself (subject_number (subject_of s))) refl)
+pub found_back : (id : ℕ) (s : SubjectCode) (b : Bool) → found_in id (subject_of s) (found_value id (subject_if b (subject_of s))) ≡ Some b
+found_back id s false = rw ((signed_Decides (negsuc id) (negsuc id)).1 refl) refl
+found_back id s true = rw ((signed_Decides (pos (subject_number (subject_of s))) (pos (subject_number (subject_of s)))).1 refl) refl
 
 pub spid_back : (s : Spid) → spid_in (spid_value s.number) ≡ Some s.number
 spid_back s =
@@ -93,20 +85,20 @@ pub bool_back : (b : Bool) → bool_in (bool_value b) ≡ Some b
 bool_back true = refl
 bool_back false = refl
 
+routed_back : (l : Lrn) → lrn_in (Int (pos l.number)) ≡ Some l.number
+routed_back l = let small : l.number < 10000000000 = l.valid in rw (is_less l.number 9223372036854775808 (omega arith)) (rw (is_less l.number 10000000000 small) refl)
+
 pub routing_back : (o : Option RoutingCode) → routing_in (lrn_value (option_map routing_of o)) (cic_value (option_map routing_of o)) ≡ Some (option_map routing_of o)
 routing_back None = refl
 routing_back (Some r) = go r.cic
   where
-    lrn_back : lrn_in (Int (pos r.lrn.number)) ≡ Some r.lrn.number
-    lrn_back = let small : r.lrn.number < 10000000000 = r.lrn.valid in rw (is_less r.lrn.number 9223372036854775808 (omega arith)) (rw (is_less r.lrn.number 10000000000 small) refl)
-
     cic_back : (c : Cic) → cic_in (Int (pos c.number)) ≡ Some c.number
     cic_back c = let small : c.number < 10000 = c.valid in rw (is_less c.number 9223372036854775808 (omega arith)) (rw (is_less c.number 10000 small) refl)
 
     go : (o : Option Cic) → routing_in (lrn_value (Some (record { lrn = r.lrn.number; cic = option_map (λ (c : Cic). c.number) o }))) (cic_value (Some (record { lrn = r.lrn.number; cic = option_map (λ (c : Cic). c.number) o })))
         ≡ Some (Some (record { lrn = r.lrn.number; cic = option_map (λ (c : Cic). c.number) o }))
-    go None = rw lrn_back refl
-    go (Some c) = rw (lrn_back, cic_back c) refl
+    go None = rw (routed_back r.lrn) refl
+    go (Some c) = rw (routed_back r.lrn, cic_back c) refl
 
 pub status_back : (s : StatusCode) → status_in (Text (status_word (status_of s))) (Text (sends_word (status_of s))) (release_value (status_of s)) (by_value (status_of s)) ≡ Some (status_of s)
 status_back code.Pending = refl
@@ -139,8 +131,8 @@ reads_back id v low few =
       bool_back v.version.is_conflict_spent,
       bool_back v.version.is_protective,
       minutes_back v.deadline,
-      found_back v.version.subject v.is_in_force,
-      found_back v.version.subject v.is_open,
+      found_back id v.version.subject v.is_in_force,
+      found_back id v.version.subject v.is_open,
     ) refl
 
 -- ---- the rows of the other tables
@@ -148,15 +140,24 @@ reads_back id v low few =
 pub carrier_back : (id : Value) (c : Spid) → carrier_entry (id ∷ carrier_params c.number) ≡ Some (c.number, tt)
 carrier_back id c = rw (spid_back c) refl
 
-pub owner_back : (n : ℕ) (c : Spid) → n < 9223372036854775808 → owner_entry (stored (owner_params n c.number)) ≡ Some (n, c.number)
-owner_back n c low = rw (number_back n low, spid_back c) refl
+pub lrn_back : (l : Lrn) (c : Spid) → lrn_entry (stored (owner_params l.number c.number)) ≡ Some (l.number, c.number)
+lrn_back l c = rw (routed_back l, spid_back c) refl
+
+pub code_back : (k : CodeId) (c : Spid) → code_entry (stored (owner_params k.number c.number)) ≡ Some (k.number, c.number)
+code_back k c =
+    let n = k.number in
+    let v : IsCode n = k.valid in
+    rw (is_less n 9223372036854775808 (omega (arith, v.0)), spid_back c) (rw (is_less n 1000000 v.0, is_at_most 2 (n / 100000) v.1, is_at_most 2 (n / 100 % 10) v.2) refl)
 
 last_back : (o : Option ℕ) → IfSome o (λ n. n < 9223372036854775808) → or_null_in number_in (or_null number_value o) ≡ Some o
 last_back None low = refl
 last_back (Some n) low = ap (option_map Some) (number_back n low)
 
-pub block_back : (n : ℕ) (b : BlockRowCode) → n < 9223372036854775808 → IfSome b.last (λ id. id < 9223372036854775808) → block_entry (stored (block_params n (block_row_of b))) ≡ Some (n, block_row_of b)
-block_back n b low last = rw (number_back n low, spid_back b.donor, last_back b.last last) refl
+pub block_back : (k : BlockId) (b : BlockRowCode) → IfSome b.last (λ id. id < 9223372036854775808) → block_entry (stored (block_params k.number (block_row_of b))) ≡ Some (k.number, block_row_of b)
+block_back k b last =
+    let n = k.number in
+    let v : IsBlock n = k.valid in
+    rw (is_less n 9223372036854775808 (omega (arith, v.0)), spid_back b.donor, last_back b.last last) (rw (is_less n 10000000 v.0, is_at_most 2 (n / 1000000) v.1, is_at_most 2 (n / 1000 % 10) v.2) refl)
 
 action_back : (a : Action) → action_in (Text (action_word a)) ≡ Some a
 action_back Create = refl
@@ -186,10 +187,9 @@ window_back w =
     let most : w.minutes ≤ 525600 = w.in_range.1 in
     rw (is_less w.minutes 9223372036854775808 (omega arith)) (rw (is_less 0 w.minutes least, is_at_most w.minutes 525600 most) refl)
 
-pub clock_back : (n : ℕ) (c : ClockCode) → n < 9223372036854775808 → c.next_id < 9223372036854775808 → clock_entry (stored (clock_params n (clock_row_of c))) ≡ Some (n, clock_row_of c)
-clock_back n c low few =
+pub clock_back : (c : ClockCode) → c.next_id < 9223372036854775808 → clock_entry (stored (clock_params 0 (clock_row_of c))) ≡ Some (0, clock_row_of c)
+clock_back c few =
     rw (
-      number_back n low,
       minute_back c.minute,
       number_back c.next_id few,
       window_back c.windows.initial_concurrence,

@@ -21,9 +21,9 @@ numbers : (o : Option ℕ) → bound_value (or_null number_value o) ≡ or_null 
 numbers None = refl
 numbers (Some n) = refl
 
-founds : (o : Option Subject) → bound_value (found_value o) ≡ found_value o
-founds None = refl
-founds (Some s) = refl
+founds : (id : ℕ) (o : Option Subject) → bound_value (found_value id o) ≡ found_value id o
+founds id None = refl
+founds id (Some s) = refl
 
 bools : (b : Bool) → bound_value (bool_value b) ≡ bool_value b
 bools true = refl
@@ -71,7 +71,7 @@ bound_as rs row is same = bound_map rs ∙ ap (map bound_value) is ∙ same
 
 pub bound_version : (rs : List ValueRef) (id : ℕ) (v : VersionRow) → map owned rs ≡ version_params id v → bound rs ≡ version_params id v
 bound_version rs id v is =
-    bound_as rs _ is (rw (lrns v.routing, cics v.routing, numbers v.old_at, numbers v.new_at, releases v.status, bools v.spent, bools v.protective, sides v.status, numbers v.deadline, founds v.holds, founds v.opens) refl)
+    bound_as rs _ is (rw (lrns v.routing, cics v.routing, numbers v.old_at, numbers v.new_at, releases v.status, bools v.spent, bools v.protective, sides v.status, numbers v.deadline, founds id v.holds, founds id v.opens) refl)
 
 pub bound_block : (rs : List ValueRef) (block : ℕ) (row : BlockRow) → map owned rs ≡ block_params block row → bound rs ≡ block_params block row
 bound_block rs block row is = bound_as rs _ is (rw (numbers row.last) refl)

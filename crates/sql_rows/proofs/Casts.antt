@@ -12,7 +12,7 @@ use Rattle.numbers.specs.Routings.{Routing}
 use Rattle.meaning.specs.Content.{BlockRow, VersionRow, BroadcastRow, BroadcastKey, WaitKey, ClockRow}
 use Rattle.meaning.specs.Statuses.{Status, Pending, Conflict, CancelPending, Sending, Active, PartialFailure, Failed, DisconnectPending, Old, Canceled}
 use Rattle.sqlite.specs.Edit.{next_rowid}
-use Rattle.sql_rows.specs.Values.{number_value, bool_value, lrn_value, cic_value, cic_of, release_value, by_value, found_value}
+use Rattle.sql_rows.specs.Values.{number_value, bool_value, lrn_value, cic_value, cic_of, release_value, by_value, found_value, subject_value}
 use Rattle.sql_rows.specs.Versions.{version_params, version_row}
 use Rattle.sql_rows.specs.Content.{carrier_params, owner_params, block_params, broadcast_params, wait_params, clock_params, stored}
 use Rattle.sql_rows.specs.declared.statement.Table.TheVariants.{Carrier, Lrn, Code, Block, Version, Broadcast, Wait, Clock}
@@ -34,9 +34,12 @@ cast_number : (o : Option ℕ) → cast kind.Integer (or_null number_value o) �
 cast_number None = cast_null
 cast_number (Some n) = cast_int (pos n)
 
-cast_found : (o : Option Subject) → cast kind.Integer (found_value o) ≡ found_value o
-cast_found None = cast_null
-cast_found (Some s) = cast_int _
+cast_subject : (s : Subject) → cast kind.Integer (subject_value s) ≡ subject_value s
+cast_subject s = cast_int _
+
+cast_found : (id : ℕ) (o : Option Subject) → cast kind.Integer (found_value id o) ≡ found_value id o
+cast_found id None = cast_int _
+cast_found id (Some s) = cast_subject s
 
 cast_bool : (b : Bool) → cast kind.Integer (bool_value b) ≡ bool_value b
 cast_bool true = cast_int (pos 1)
@@ -96,10 +99,10 @@ module _ (db : Trees) where
   block_cast block row = rw (cast_int (pos block), cast_null, cast_number row.last) refl
 
   pub broadcast_cast : (k : BroadcastKey) (b : BroadcastRow) → cast_rows Broadcast (broadcast_params k b) db ≡ (next_in 8 ∷ broadcast_params k b) ∷ []
-  broadcast_cast k b = rw (cast_null, cast_int (pos k.id), cast_int (pos k.attempt), cast_int (pos b.minute), cast_found (Some b.subject), cast_lrn b.routing, cast_cic b.routing, cast_bool b.is_open, cast_bool b.any) refl
+  broadcast_cast k b = rw (cast_null, cast_int (pos k.id), cast_int (pos k.attempt), cast_int (pos b.minute), cast_subject b.subject, cast_lrn b.routing, cast_cic b.routing, cast_bool b.is_open, cast_bool b.any) refl
 
   pub wait_cast : (k : WaitKey) (s : Subject) → cast_rows Wait (wait_params k s) db ≡ (next_in 10 ∷ wait_params k s) ∷ []
-  wait_cast k s = rw (cast_null, cast_int (pos k.minute), cast_int (pos k.id), cast_int (pos k.attempt), cast_found (Some s)) refl
+  wait_cast k s = rw (cast_null, cast_int (pos k.minute), cast_int (pos k.id), cast_int (pos k.attempt), cast_subject s) refl
 
   pub clock_cast : (number : ℕ) (c : ClockRow) → cast_rows Clock (clock_params number c) db ≡ stored (clock_params number c) ∷ []
   clock_cast number c =
@@ -136,7 +139,7 @@ module _ (db : Trees) where
         cast_bool v.protective,
         cast_by v.status,
         cast_number v.deadline,
-        cast_found v.holds,
-        cast_found v.opens,
-        cast_found (Some v.subject),
+        cast_found id v.holds,
+        cast_found id v.opens,
+        cast_subject v.subject,
       ) refl

@@ -1,7 +1,7 @@
 -- What the query of the least deadline says.
-use Rattle.std.proofs.Common.{◌≡◌, inl, inr, ℕ, pos, List, [], ◌∷◌, map, filter, Bool, true, false, Option, Some, None, refl, sym, ap, subst, ◌∙◌, arith, true≢false, nat_lt, ◌<◌, ◌≤◌, slice_index_or, ◌+◌, take, Less, Equal, Greater}
+use Rattle.std.proofs.Common.{◌≡◌, inl, inr, ℕ, pos, negsuc, List, [], ◌∷◌, map, filter, Bool, true, false, Option, Some, None, refl, sym, ap, subst, ◌∙◌, arith, true≢false, nat_lt, ◌<◌, ◌≤◌, slice_index_or, ◌+◌, take, Less, Equal, Greater}
 use Rattle.std.specs.Prelude.{option_map}
-use Rattle.std.specs.Ordering.{nat_cmp, is_lt, is_le, int_cmp}
+use Rattle.std.specs.Ordering.{nat_cmp, is_lt, is_le, is_ge, int_cmp}
 use Rattle.std.specs.List.{list_all, AllByRecursion}
 use Rattle.std.specs.List.Sorted.{IsPermutation, IsSorted, IsSortedBy}
 use Rattle.std.proofs.lemmas.List.Sorted.{IsPermutation-sym, sorted_far}
@@ -11,12 +11,13 @@ use Rattle.std.specs.Ordering.{ordering_reverse}
 use Rattle.std.proofs.lemmas.Int.{ints}
 use Rattle.std.proofs.lemmas.Bool.Decides.{nat_tests}
 use Rattle.sqlite_trees.proofs.ListLemmas.{all-permutation}
+use Rattle.sqlite.specs.declared.types.Value.{Value}
 use Rattle.sqlite.specs.declared.types.Value.TheVariants.{Null, Int}
 use Rattle.sqlite.specs.Order.{Row, column, value_cmp}
 use Rattle.sqlite.specs.Ops.{binary, is_true, from_truth}
 use Rattle.sqlite.specs.Term.{Term}
 use Rattle.sqlite_sql.specs.declared.ops.BinaryOp.TheVariants.{Compare}
-use Rattle.sqlite_sql.specs.declared.ops.CompareOp.TheVariants.{Le}
+use Rattle.sqlite_sql.specs.declared.ops.CompareOp.TheVariants.{Ge, Le}
 use Rattle.sqlite.specs.Collation.TheVariants.{Binary}
 use Rattle.sqlite_value.proofs.OrderLemmas.{value_cmp-Int, value_cmp_total, then-Equal}
 use Rattle.sqlite_rules.specs.Lists.{Has}
@@ -56,9 +57,9 @@ true_of : (b : Bool) → is_true (from_truth (Some b)) ≡ b
 true_of true = refl
 true_of false = refl
 
-alone : (b : Bool) → list_all (λ (c : Bool). c) (b ∷ []) ≡ b
-alone true = refl
-alone false = refl
+behind_true : (b : Bool) → list_all (λ (c : Bool). c) (true ∷ b ∷ []) ≡ b
+behind_true true = refl
+behind_true false = refl
 
 le_numbers : (m n : ℕ) → is_le (int_cmp (pos m) (pos n)) ≡ is_le (nat_cmp m n)
 le_numbers m n = grind (arith, ints, nat_tests)
@@ -67,14 +68,37 @@ pub below_numbers : (m n : ℕ) → is_true (binary (Compare Le Binary) (Int (po
 unfolding binary
 below_numbers m n = true_of _ ∙ ap is_le (value_cmp-Int (pos m) (pos n)) ∙ le_numbers m n
 
+above_ints : (m n : ℕ) → is_ge (int_cmp (pos m) (pos n)) ≡ is_ge (nat_cmp m n)
+above_ints m n = grind (arith, ints, nat_tests)
+
+pub above_numbers : (m n : ℕ) → is_true (binary (Compare Ge Binary) (Int (pos m)) (Int (pos n))) ≡ is_ge (nat_cmp m n)
+unfolding binary
+above_numbers m n = true_of _ ∙ ap is_ge (value_cmp-Int (pos m) (pos n)) ∙ above_ints m n
+
+-- what says that a row is not found is no number
+pub never_above : (m n : ℕ) → is_true (binary (Compare Ge Binary) (Int (negsuc m)) (Int (pos n))) ≡ false
+unfolding binary
+never_above m n = true_of _ ∙ ap is_ge (value_cmp-Int (negsuc m) (pos n))
+
+pub ge_told : (m n : ℕ) → n ≤ m → is_ge (nat_cmp m n) ≡ true
+ge_told m n h = grind (arith, nat_tests)
+
+above_zero : (m : ℕ) → is_true (binary (Compare Ge Binary) (Int (pos m)) (Int (pos 0))) ≡ true
+above_zero m = above_numbers m 0 ∙ ge_told m 0 (omega arith)
+
+-- the two tests of a deadline
+abbrev tests : ℕ → Value → List Bool
+tests n v = is_true (binary (Compare Ge Binary) v (Int (pos 0))) ∷ is_true (binary (Compare Le Binary) v (Int (pos n))) ∷ []
+
 number_due : (n m : ℕ) (r : Row) → column r 18 ≡ Int (pos m) → is_due n r ≡ is_le (nat_cmp m n)
 number_due n m r is =
-    ap (λ v. list_all (λ (b : Bool). b) (is_true (binary (Compare Le Binary) v (Int (pos n))) ∷ [])) is
-    ∙ ap (λ b. list_all (λ (c : Bool). c) (b ∷ [])) (below_numbers m n) ∙ alone (is_le (nat_cmp m n))
+    ap (λ v. list_all (λ (b : Bool). b) (tests n v)) is
+    ∙ ap (λ b. list_all (λ (c : Bool). c) (b ∷ is_true (binary (Compare Le Binary) (Int (pos m)) (Int (pos n))) ∷ [])) (above_zero m)
+    ∙ ap (λ b. list_all (λ (c : Bool). c) (true ∷ b ∷ [])) (below_numbers m n) ∙ behind_true (is_le (nat_cmp m n))
 
 null_not_due : (n : ℕ) (r : Row) → column r 18 ≡ Null → is_due n r ≡ false
 unfolding binary
-null_not_due n r is = ap (λ v. list_all (λ (b : Bool). b) (is_true (binary (Compare Le Binary) v (Int (pos n))) ∷ [])) is
+null_not_due n r is = ap (λ v. list_all (λ (b : Bool). b) (tests n v)) is
 
 pub le_said : (m n : ℕ) → is_le (nat_cmp m n) ≡ true → m ≤ n
 le_said m n h = grind (arith, nat_tests)

@@ -6,7 +6,7 @@ use Rattle.std.specs.Cmp.{nat_cmp_total, tied_itself}
 use Rattle.std.specs.List.Sorted.{IsPermutation}
 use Rattle.std.specs.FinMap.{get}
 use Rattle.std.specs.Ordering.{is_eq}
-use Rattle.sqlite.specs.declared.types.Value.TheVariants.{Null, Int}
+use Rattle.sqlite.specs.declared.types.Value.TheVariants.{Int}
 use Rattle.sqlite.specs.Order.{Row, column, value_cmp}
 use Rattle.sqlite.specs.Tree.{Trees, rowid}
 use Rattle.sqlite_rules.specs.Lists.{Has}
@@ -23,7 +23,7 @@ use Rattle.settle.specs.declared.rows.NumberedRow.{NumberedRow}
 use Rattle.sql_rows.specs.Shaped.{AreShaped}
 use Rattle.sql_rows.specs.Values.{spid_value, subject_value, subject_number, subject_in, found_in}
 use Rattle.sql_rows.specs.Versions.{version_in, version_entry, shown_of}
-use Rattle.sql_rows.specs.Content.{content_in, carrier_in, carrier_shown, owner_in, owner_shown, block_in, block_shown, broadcast_in, broadcast_shown, clock_in, clock_shown}
+use Rattle.sql_rows.specs.Content.{content_in, carrier_in, carrier_shown, lrn_row_in, code_row_in, owner_shown, block_row_in, block_shown, broadcast_in, broadcast_shown, clock_in, clock_shown}
 use Rattle.sql_rows.specs.Found.{IsSoleAnswer}
 use Rattle.sql_rows.specs.Statements.{column_is, query_test, shown_by}
 use Rattle.sql_rows.specs.declared.statement.Table.TheVariants.{Carrier, Lrn, Code, Block, Version, Broadcast, Clock}
@@ -31,7 +31,7 @@ use Rattle.sql_rows.specs.declared.statement.Query.TheVariants.{CarrierNamed, Lr
 use Rattle.sql_rows.proofs.QueryLemmas.{passes, plain_answer}
 use Rattle.sql_rows.proofs.Lookups.{looked_up, only, none_picked, none_passes, entry_of, entry_from, From}
 use Rattle.sql_rows.proofs.Orders.{broadcast_total, same_number, same_broadcast}
-use Rattle.sql_rows.proofs.KeyTests.{column_passes, equal_numbers, never_null, carrier_tests, owner_tests, block_tests, version_tests, clock_tests, broadcast_tests}
+use Rattle.sql_rows.proofs.KeyTests.{column_passes, equal_numbers, never_below, carrier_tests, lrn_tests, code_tests, block_tests, version_tests, clock_tests, broadcast_tests}
 use Rattle.sql_rows.proofs.Inversions.{reads, number_read, number_small, subject_read, found_read, unfound_read, version_key, broadcast_reads}
 use Rattle.sql_rows.proofs.Backs.{subject_back}
 
@@ -44,14 +44,14 @@ module _ (db : Trees) where
   carrier_found s o h =
       looked_up nat_cmp nat_cmp_total carrier_in carrier_shown s.number _ (carrier_tests s) (db 0) h.0 o (plain_answer 0 (query_test CarrierNamed) (shown_by Carrier) (overlay db []) (spid_value s.number ∷ []) h.0 h.1) h.2
 
-  pub lrn_found : (n : ℕ) (o : Option (ℕ × ℕ)) → IsSoleAnswer LrnNumbered owner_in db (Int (pos n) ∷ []) o → get (content_in db).lrns n ≡ value_of o
-  lrn_found n o h = looked_up nat_cmp nat_cmp_total owner_in owner_shown n _ (owner_tests n) (db 2) h.0 o (plain_answer 2 (query_test LrnNumbered) (shown_by Lrn) (overlay db []) (Int (pos n) ∷ []) h.0 h.1) h.2
+  pub lrn_found : (n : ℕ) (o : Option (ℕ × ℕ)) → IsSoleAnswer LrnNumbered lrn_row_in db (Int (pos n) ∷ []) o → get (content_in db).lrns n ≡ value_of o
+  lrn_found n o h = looked_up nat_cmp nat_cmp_total lrn_row_in owner_shown n _ (lrn_tests n) (db 2) h.0 o (plain_answer 2 (query_test LrnNumbered) (shown_by Lrn) (overlay db []) (Int (pos n) ∷ []) h.0 h.1) h.2
 
-  pub code_found : (n : ℕ) (o : Option (ℕ × ℕ)) → IsSoleAnswer CodeNumbered owner_in db (Int (pos n) ∷ []) o → get (content_in db).codes n ≡ value_of o
-  code_found n o h = looked_up nat_cmp nat_cmp_total owner_in owner_shown n _ (owner_tests n) (db 3) h.0 o (plain_answer 3 (query_test CodeNumbered) (shown_by Code) (overlay db []) (Int (pos n) ∷ []) h.0 h.1) h.2
+  pub code_found : (n : ℕ) (o : Option (ℕ × ℕ)) → IsSoleAnswer CodeNumbered code_row_in db (Int (pos n) ∷ []) o → get (content_in db).codes n ≡ value_of o
+  code_found n o h = looked_up nat_cmp nat_cmp_total code_row_in owner_shown n _ (code_tests n) (db 3) h.0 o (plain_answer 3 (query_test CodeNumbered) (shown_by Code) (overlay db []) (Int (pos n) ∷ []) h.0 h.1) h.2
 
-  pub block_found : (n : ℕ) (o : Option (ℕ × BlockRow)) → IsSoleAnswer BlockNumbered block_in db (Int (pos n) ∷ []) o → get (content_in db).blocks n ≡ value_of o
-  block_found n o h = looked_up nat_cmp nat_cmp_total block_in block_shown n _ (block_tests n) (db 4) h.0 o (plain_answer 4 (query_test BlockNumbered) (shown_by Block) (overlay db []) (Int (pos n) ∷ []) h.0 h.1) h.2
+  pub block_found : (n : ℕ) (o : Option (ℕ × BlockRow)) → IsSoleAnswer BlockNumbered block_row_in db (Int (pos n) ∷ []) o → get (content_in db).blocks n ≡ value_of o
+  block_found n o h = looked_up nat_cmp nat_cmp_total block_row_in block_shown n _ (block_tests n) (db 4) h.0 o (plain_answer 4 (query_test BlockNumbered) (shown_by Block) (overlay db []) (Int (pos n) ∷ []) h.0 h.1) h.2
 
   pub clock_found : (o : Option (ℕ × ClockRow)) → IsSoleAnswer ClockNumbered clock_in db (Int (pos 0) ∷ []) o → (content_in db).clock ≡ value_of o
   clock_found o h = looked_up nat_cmp nat_cmp_total clock_in clock_shown 0 _ (clock_tests 0) (db 12) h.0 o (plain_answer 12 (query_test ClockNumbered) (shown_by Clock) (overlay db []) (Int (pos 0) ∷ []) h.0 h.1) h.2
@@ -108,18 +108,18 @@ module _ (db : Trees) where
   version_row_of id v e = entry_from nat_cmp nat_cmp_total version_in shown_of same_number (db 5) id v e
 
 -- a column by which a subject's row is found passes the test of that subject alone
-found_passes : (place : ℕ) (r : Row) (t : Subject) (b : Bool) (s : SubjectCode) → found_in t (column r place) ≡ Some b → subject_in (column r 2) ≡ Some t → subject_if b t ≡ Some (subject_of s) → passes (column_is place 0 ∷ []) (subject_value (subject_of s) ∷ []) r ≡ true
-found_passes place r t false s is of e = absurd cc
-found_passes place r t true s is of e =
+found_passes : (place id : ℕ) (r : Row) (t : Subject) (b : Bool) (s : SubjectCode) → found_in id t (column r place) ≡ Some b → subject_in (column r 2) ≡ Some t → subject_if b t ≡ Some (subject_of s) → passes (column_is place 0 ∷ []) (subject_value (subject_of s) ∷ []) r ≡ true
+found_passes place id r t false s is of e = absurd cc
+found_passes place id r t true s is of e =
     let same : t ≡ subject_of s = cc in
-    let col = found_read t (column r place) is in
+    let col = found_read id t (column r place) is in
     column_passes place _ _ r col ∙ equal_numbers (subject_number t) (subject_number (subject_of s)) ∙ ap (λ u. is_eq (nat_cmp (subject_number u) (subject_number (subject_of s)))) same ∙ ap is_eq (tied_itself nat_cmp_total (subject_number (subject_of s)))
 
-passes_found : (place : ℕ) (r : Row) (t : Subject) (b : Bool) (s : SubjectCode) → found_in t (column r place) ≡ Some b → subject_in (column r 2) ≡ Some t → passes (column_is place 0 ∷ []) (subject_value (subject_of s) ∷ []) r ≡ true → subject_if b t ≡ Some (subject_of s)
-passes_found place r t false s is of passed =
-    absurd (true≢false (sym passed ∙ column_passes place (subject_value (subject_of s)) Null r (unfound_read t (column r place) is) ∙ never_null (subject_number (subject_of s))))
-passes_found place r t true s is of passed =
-    let col = found_read t (column r place) is in
+passes_found : (place id : ℕ) (r : Row) (t : Subject) (b : Bool) (s : SubjectCode) → found_in id t (column r place) ≡ Some b → subject_in (column r 2) ≡ Some t → passes (column_is place 0 ∷ []) (subject_value (subject_of s) ∷ []) r ≡ true → subject_if b t ≡ Some (subject_of s)
+passes_found place id r t false s is of passed =
+    absurd (true≢false (sym passed ∙ column_passes place (subject_value (subject_of s)) _ r (unfound_read id t (column r place) is) ∙ never_below id (subject_number (subject_of s))))
+passes_found place id r t true s is of passed =
+    let col = found_read id t (column r place) is in
     let n = subject_number (subject_of s) in
     let same : subject_number t ≡ n = same_number (subject_number t) n (sym (sym passed ∙ column_passes place _ _ r col ∙ equal_numbers (subject_number t) n)) in
     let own : column r 2 ≡ subject_value t = subject_read (column r 2) t of in
@@ -132,21 +132,21 @@ module _ (db : Trees) (shaped : AreShaped db) (s : SubjectCode) where
       let none = none_picked shown_of _ (db 5) (subst (IsPermutation _) h.2 (plain_answer 5 (query_test VersionInForce) (shown_by Version) (overlay db []) (subject_value (subject_of s) ∷ []) h.0 h.1)) in
       let f = version_row_of db id row at in
       let r = reads (shown_of f.row) (id, row) f.reads in
-      none_passes _ (db 5) f.row none f.has (found_passes 19 f.row row.subject r.is_in_force s r.found_in_force r.subject (sym r.holds ∙ given))
+      none_passes _ (db 5) f.row none f.has (found_passes 19 id f.row row.subject r.is_in_force s r.found_in_force r.subject (sym r.holds ∙ given))
   in_force_found (Some v) h =
       let one = only shown_of (passes (query_test VersionInForce) (subject_value (subject_of s) ∷ [])) (db 5) h.2.0 (subst (IsPermutation _) h.2.1 (plain_answer 5 (query_test VersionInForce) (shown_by Version) (overlay db []) (subject_value (subject_of s) ∷ []) h.0 h.1)) in
       let entry : version_entry one.row ≡ Some (v.id, v.row) = ap version_in one.shows ∙ h.2.2 in
       let r = reads (shown_of one.row) (v.id, v.row) entry in
-      (version_stands db shaped one.row v.id v.row one.has entry, r.holds ∙ passes_found 19 one.row v.row.subject r.is_in_force s r.found_in_force r.subject one.passes)
+      (version_stands db shaped one.row v.id v.row one.has entry, r.holds ∙ passes_found 19 v.id one.row v.row.subject r.is_in_force s r.found_in_force r.subject one.passes)
 
   pub open_found : (o : Option NumberedRow) → IsSoleAnswer VersionOpen version_in db (subject_value (subject_of s) ∷ []) (option_map (λ (v : NumberedRow). (v.id, v.row)) o) → IsOpen (content_in db) (subject_of s) o
   open_found None h = λ id row at given.
       let none = none_picked shown_of _ (db 5) (subst (IsPermutation _) h.2 (plain_answer 5 (query_test VersionOpen) (shown_by Version) (overlay db []) (subject_value (subject_of s) ∷ []) h.0 h.1)) in
       let f = version_row_of db id row at in
       let r = reads (shown_of f.row) (id, row) f.reads in
-      none_passes _ (db 5) f.row none f.has (found_passes 20 f.row row.subject r.is_open s r.found_open r.subject (sym r.opens ∙ given))
+      none_passes _ (db 5) f.row none f.has (found_passes 20 id f.row row.subject r.is_open s r.found_open r.subject (sym r.opens ∙ given))
   open_found (Some v) h =
       let one = only shown_of (passes (query_test VersionOpen) (subject_value (subject_of s) ∷ [])) (db 5) h.2.0 (subst (IsPermutation _) h.2.1 (plain_answer 5 (query_test VersionOpen) (shown_by Version) (overlay db []) (subject_value (subject_of s) ∷ []) h.0 h.1)) in
       let entry : version_entry one.row ≡ Some (v.id, v.row) = ap version_in one.shows ∙ h.2.2 in
       let r = reads (shown_of one.row) (v.id, v.row) entry in
-      (version_stands db shaped one.row v.id v.row one.has entry, r.opens ∙ passes_found 20 one.row v.row.subject r.is_open s r.found_open r.subject one.passes)
+      (version_stands db shaped one.row v.id v.row one.has entry, r.opens ∙ passes_found 20 v.id one.row v.row.subject r.is_open s r.found_open r.subject one.passes)

@@ -1,19 +1,18 @@
 -- What the columns of a row that reads hold.
-use Rattle.std.proofs.Common.{◌≡◌, ℕ, pos, negsuc, Option, Some, None, Bool, true, false, cond, nat_lt, refl, sym, ap, subst, ◌∙◌, arith, true≢false}
+use Rattle.std.proofs.Common.{◌≡◌, ℕ, ℤ, pos, negsuc, Option, Some, None, Bool, true, false, cond, nat_lt, refl, sym, ap, subst, ◌∙◌, true≢false}
 use Rattle.std.specs.Prelude.{option_and_then, option_map}
+use Rattle.std.specs.Cmp.{signed_Decides}
 use Rattle.sqlite.specs.declared.types.Value.{Value}
 use Rattle.sqlite.specs.declared.types.Value.TheVariants.{Null, Int, Real, Text, Blob}
 use Rattle.sqlite.specs.Order.{Row, column}
 use Rattle.numbers.specs.Subjects.{Subject, Number, Block}
 use Rattle.meaning.specs.Content.{VersionRow, subject_if}
-use Rattle.sql_rows.specs.Values.{number_in, minute_in, subject_in, subject_from, below, or_null_in, spid_in, routing_in, status_in, bool_in, subject_number, found_in}
+use Rattle.sql_rows.specs.Values.{number_in, lrn_in, code_from, code_in, block_from, block_in, minute_in, subject_in, subject_from, below, or_null_in, spid_in, routing_in, status_in, bool_in, subject_number, found_in, is_int, only_in}
 use Rattle.numbers.specs.Texts.{spid_text}
 use Rattle.meaning.specs.Content.{BlockRow, BroadcastRow, BroadcastKey, WaitKey, ClockRow}
 use Rattle.sql_rows.specs.Versions.{version_in, version_entry, shown_of}
 use Rattle.sql_rows.specs.Values.{action_in}
-use Rattle.sql_rows.specs.Content.{carrier_entry, owner_entry, block_entry, clock_entry, clock_shown, windows_in, broadcast_entry, wait_entry}
-use Rattle.std.specs.Prelude.{◌==◌}
-use Rattle.std.proofs.lemmas.Bool.Decides.{nat_tests}
+use Rattle.sql_rows.specs.Content.{carrier_entry, lrn_entry, code_entry, block_entry, clock_entry, clock_shown, windows_in, broadcast_entry, wait_entry}
 use Rattle.sql_rows.proofs.SpidLemmas.{spelt}
 
 pub bind_some : {A B : Type 0} (f : A → Option B) (o : Option A) (b : B) → option_and_then f o ≡ Some b → (a : A) × (o ≡ Some a) × (f a ≡ Some b)
@@ -31,8 +30,8 @@ pub record Reads (r : Row) (e : ℕ × VersionRow) : Type 0 where
   pub subject : subject_in (column r 1) ≡ Some e.1.subject
   pub is_in_force : Bool
   pub is_open : Bool
-  pub found_in_force : found_in e.1.subject (column r 18) ≡ Some is_in_force
-  pub found_open : found_in e.1.subject (column r 19) ≡ Some is_open
+  pub found_in_force : found_in e.0 e.1.subject (column r 18) ≡ Some is_in_force
+  pub found_open : found_in e.0 e.1.subject (column r 19) ≡ Some is_open
   pub holds : e.1.holds ≡ subject_if is_in_force e.1.subject
   pub opens : e.1.opens ≡ subject_if is_open e.1.subject
 
@@ -52,8 +51,8 @@ reads r e h =
     let n = bind_some _ (bool_in (column r 14)) e m.2 in
     let o = bind_some _ (bool_in (column r 15)) e n.2 in
     let p = bind_some _ (or_null_in minute_in (column r 17)) e o.2 in
-    let q = bind_some _ (found_in b.0 (column r 18)) e p.2 in
-    let s = map_some _ (found_in b.0 (column r 19)) e q.2 in
+    let q = bind_some _ (found_in a.0 b.0 (column r 18)) e p.2 in
+    let s = map_some _ (found_in a.0 b.0 (column r 19)) e q.2 in
     subst (Reads r) s.2 (record { id = a.1; deadline = p.1; subject = b.1; is_in_force = q.0; is_open = s.0; found_in_force = q.1; found_open = s.1; holds = refl; opens = refl })
 
 pub number_read : (v : Value) (n : ℕ) → number_in v ≡ Some n → v ≡ Int (pos n)
@@ -80,12 +79,13 @@ number_small (Real x) n h = absurd cc
 number_small (Text t) n h = absurd cc
 number_small (Blob b) n h = absurd cc
 
+-- what passed a test is what was tested
+some_kept : {m n : ℕ} (b : Bool) → cond b (Some m) None ≡ Some n → m ≡ n
+some_kept true h = cc
+some_kept false h = absurd cc
+
 pub below_same : (limit m n : ℕ) → below limit m ≡ Some n → m ≡ n
-below_same limit m n h = go (nat_lt m limit) h
-  where
-    go : (b : Bool) → cond b (Some m) None ≡ Some n → m ≡ n
-    go true h = cc
-    go false h = absurd cc
+below_same limit m n h = some_kept (nat_lt m limit) h
 
 pub minute_read : (v : Value) (n : ℕ) → minute_in v ≡ Some n → v ≡ Int (pos n)
 minute_read v n h = let a = bind_some _ (number_in v) n h in number_read v a.0 a.1 ∙ ap (λ k. Int (pos k)) (below_same 1099511627776 a.0 n a.2)
@@ -120,57 +120,79 @@ none_read read (Real y) h = absurd (no_some _ h)
 none_read read (Text t) h = absurd (no_some _ h)
 none_read read (Blob b) h = absurd (no_some _ h)
 
--- a column by which the subject's row is found holds the subject's number
-pub found_read : (s : Subject) (v : Value) → found_in s v ≡ Some true → v ≡ Int (pos (subject_number s))
-found_read s Null h = absurd cc
-found_read s (Int n) h =
-    let a = bind_some _ (number_in (Int n)) true h in
-    number_read (Int n) a.0 a.1 ∙ ap (λ k. Int (pos k)) (same a.0 (subject_number s) (a.0 == subject_number s) refl a.2)
-  where
-    same : (m n : ℕ) (b : Bool) → (m == n) ≡ b → cond b (Some true) None ≡ Some true → m ≡ n
-    same m n true e h = grind (arith, nat_tests, e)
-    same m n false e h = absurd cc
-found_read s (Real x) h = absurd cc
-found_read s (Text t) h = absurd cc
-found_read s (Blob b) h = absurd cc
+is_int_read : (n : ℤ) (v : Value) → is_int n v ≡ true → v ≡ Int n
+is_int_read n (Int m) h = ap Int ((signed_Decides m n).0 h)
+is_int_read n Null h = absurd (true≢false (sym h))
+is_int_read n (Real x) h = absurd (true≢false (sym h))
+is_int_read n (Text t) h = absurd (true≢false (sym h))
+is_int_read n (Blob b) h = absurd (true≢false (sym h))
 
--- or NULL
-pub unfound_read : (s : Subject) (v : Value) → found_in s v ≡ Some false → v ≡ Null
-unfound_read s Null h = refl
-unfound_read s (Int n) h = let a = bind_some _ (number_in (Int n)) false h in absurd (never (a.0 == subject_number s) a.2)
+-- a column by which the subject's row is found holds the subject's number
+pub found_read : (id : ℕ) (s : Subject) (v : Value) → found_in id s v ≡ Some true → v ≡ Int (pos (subject_number s))
+found_read id s v h = go (is_int (negsuc id) v) (is_int (pos (subject_number s)) v) refl h
   where
-    never : (b : Bool) → cond b (Some true) None ≡ Some false → ⊥
-    never true h = absurd (let e : true ≡ false = cc in true≢false e)
-    never false h = absurd cc
-unfound_read s (Real x) h = absurd cc
-unfound_read s (Text t) h = absurd cc
-unfound_read s (Blob b) h = absurd cc
+    go : (b c : Bool) → is_int (pos (subject_number s)) v ≡ c → cond b (Some false) (cond c (Some true) None) ≡ Some true → v ≡ Int (pos (subject_number s))
+    go true c e h = absurd (let f : false ≡ true = cc in true≢false (sym f))
+    go false true e h = is_int_read (pos (subject_number s)) v e
+    go false false e h = absurd cc
+
+-- or what says that it is not
+pub unfound_read : (id : ℕ) (s : Subject) (v : Value) → found_in id s v ≡ Some false → v ≡ Int (negsuc id)
+unfound_read id s v h = go (is_int (negsuc id) v) (is_int (pos (subject_number s)) v) refl h
+  where
+    go : (b c : Bool) → is_int (negsuc id) v ≡ b → cond b (Some false) (cond c (Some true) None) ≡ Some false → v ≡ Int (negsuc id)
+    go true c e h = is_int_read (negsuc id) v e
+    go false true e h = absurd (let f : true ≡ false = cc in true≢false f)
+    go false false e h = absurd cc
 
 -- ---- the keys of the other tables
 
 pub carrier_key : (r : Row) (e : ℕ × Unit {0}) → carrier_entry r ≡ Some e → spid_in (column r 1) ≡ Some e.0
 carrier_key r e h = let a = map_some _ (spid_in (column r 1)) e h in a.1 ∙ ap (λ (x : ℕ × Unit {0}). Some x.0) a.2
 
-pub owner_key : (r : Row) (e : ℕ × ℕ) → owner_entry r ≡ Some e → number_in (column r 0) ≡ Some e.0
-owner_key r e h =
-    let a = bind_some _ (number_in (column r 0)) e h in
+-- a number that has to pass a test to be a key is the one that stands there
+tested_read : (test : ℕ → Option ℕ) → ((m n : ℕ) → test m ≡ Some n → m ≡ n) → (v : Value) (n : ℕ) → option_and_then test (number_in v) ≡ Some n → number_in v ≡ Some n
+tested_read test same v n h = let a = bind_some test (number_in v) n h in a.1 ∙ ap Some (same a.0 n a.2)
+
+code_same : (m n : ℕ) → code_from m ≡ Some n → m ≡ n
+code_same m n h = some_kept _ h
+
+block_same : (m n : ℕ) → block_from m ≡ Some n → m ≡ n
+block_same m n h = some_kept _ h
+
+pub lrn_key : (r : Row) (e : ℕ × ℕ) → lrn_entry r ≡ Some e → number_in (column r 0) ≡ Some e.0
+lrn_key r e h =
+    let a = bind_some _ (lrn_in (column r 0)) e h in
     let b = map_some _ (spid_in (column r 2)) e a.2 in
-    a.1 ∙ ap (λ (x : ℕ × ℕ). Some x.0) b.2
+    tested_read (below 10000000000) (below_same 10000000000) (column r 0) a.0 a.1 ∙ ap (λ (x : ℕ × ℕ). Some x.0) b.2
+
+pub code_key : (r : Row) (e : ℕ × ℕ) → code_entry r ≡ Some e → number_in (column r 0) ≡ Some e.0
+code_key r e h =
+    let a = bind_some _ (code_in (column r 0)) e h in
+    let b = map_some _ (spid_in (column r 2)) e a.2 in
+    tested_read code_from code_same (column r 0) a.0 a.1 ∙ ap (λ (x : ℕ × ℕ). Some x.0) b.2
 
 pub block_key : (r : Row) (e : ℕ × BlockRow) → block_entry r ≡ Some e → number_in (column r 0) ≡ Some e.0
 block_key r e h =
-    let a = bind_some _ (number_in (column r 0)) e h in
+    let a = bind_some _ (block_in (column r 0)) e h in
     let b = bind_some _ (spid_in (column r 2)) e a.2 in
     let c = map_some _ (or_null_in number_in (column r 3)) e b.2 in
-    a.1 ∙ ap (λ (x : ℕ × BlockRow). Some x.0) c.2
+    tested_read block_from block_same (column r 0) a.0 a.1 ∙ ap (λ (x : ℕ × BlockRow). Some x.0) c.2
+
+only_read : (v : Value) (n : ℕ) → only_in v ≡ Some n → number_in v ≡ Some n
+only_read v n h = go (is_int (pos 0) v) refl h
+  where
+    go : (b : Bool) → is_int (pos 0) v ≡ b → cond b (Some 0) None ≡ Some n → number_in v ≡ Some n
+    go true e h = ap number_in (is_int_read (pos 0) v e) ∙ h
+    go false e h = absurd cc
 
 pub clock_key : (r : Row) (e : ℕ × ClockRow) → clock_entry r ≡ Some e → number_in (column r 0) ≡ Some e.0
 clock_key r e h =
-    let a = bind_some _ (number_in (column r 0)) e h in
+    let a = bind_some _ (only_in (column r 0)) e h in
     let b = bind_some _ (minute_in (column r 2)) e a.2 in
     let c = bind_some _ (number_in (column r 3)) e b.2 in
     let d = map_some _ (windows_in (clock_shown r)) e c.2 in
-    a.1 ∙ ap (λ (x : ℕ × ClockRow). Some x.0) d.2
+    only_read (column r 0) a.0 a.1 ∙ ap (λ (x : ℕ × ClockRow). Some x.0) d.2
 
 pub version_key : (r : Row) (e : ℕ × VersionRow) → version_entry r ≡ Some e → number_in (column r 0) ≡ Some e.0
 version_key r e h = (reads (shown_of r) e h).id

@@ -1,5 +1,5 @@
 -- The tests of the statements are the comparisons of keys.
-use Rattle.std.proofs.Common.{◌≡◌, ℕ, pos, List, [], ◌∷◌, Bool, true, false, Option, Some, refl, sym, ap, ◌∙◌, arith, true≢false, Less, Equal, Greater}
+use Rattle.std.proofs.Common.{◌≡◌, ℕ, pos, negsuc, List, [], ◌∷◌, Bool, true, false, Option, Some, refl, sym, ap, ◌∙◌, arith, true≢false, Less, Equal, Greater}
 use Rattle.std.specs.Prelude.{◌&&◌}
 use Rattle.std.specs.declared.cmp.Ordering.{Ordering}
 use Rattle.std.specs.Ordering.{nat_cmp, is_eq, int_cmp}
@@ -8,7 +8,7 @@ use Rattle.std.specs.List.{list_all}
 use Rattle.std.proofs.lemmas.Int.{ints}
 use Rattle.std.proofs.lemmas.Bool.Decides.{nat_tests}
 use Rattle.sqlite.specs.declared.types.Value.{Value}
-use Rattle.sqlite.specs.declared.types.Value.TheVariants.{Null, Int, Text}
+use Rattle.sqlite.specs.declared.types.Value.TheVariants.{Int, Text}
 use Rattle.sqlite.specs.Order.{Row, column, value_cmp}
 use Rattle.sqlite.specs.Ops.{binary, is_true, from_truth}
 use Rattle.sqlite_sql.specs.declared.ops.BinaryOp.TheVariants.{Compare}
@@ -20,12 +20,12 @@ use Rattle.numbers.specs.declared.spid.Spid.{Spid}
 use Rattle.meaning.specs.Content.{BroadcastKey, WaitKey, broadcast_cmp, wait_cmp}
 use Rattle.sql_rows.specs.Values.{number_in, spid_in, spid_value}
 use Rattle.sql_rows.specs.Versions.{version_entry}
-use Rattle.sql_rows.specs.Content.{carrier_entry, owner_entry, block_entry, broadcast_entry, wait_entry, clock_entry}
+use Rattle.sql_rows.specs.Content.{carrier_entry, lrn_entry, code_entry, block_entry, broadcast_entry, wait_entry, clock_entry}
 use Rattle.sql_rows.specs.Statements.{key_test, column_is}
-use Rattle.sql_rows.specs.declared.statement.Table.TheVariants.{Carrier, Lrn, Block, Version, Broadcast, Wait, Clock}
+use Rattle.sql_rows.specs.declared.statement.Table.TheVariants.{Carrier, Lrn, Code, Block, Version, Broadcast, Wait, Clock}
 use Rattle.sql_rows.proofs.QueryLemmas.{passes}
 use Rattle.sql_rows.proofs.RowLemmas.{Tests}
-use Rattle.sql_rows.proofs.Inversions.{number_read, minute_read, spid_read, carrier_key, owner_key, block_key, clock_key, version_key, broadcast_reads, wait_reads}
+use Rattle.sql_rows.proofs.Inversions.{number_read, minute_read, spid_read, carrier_key, lrn_key, code_key, block_key, clock_key, version_key, broadcast_reads, wait_reads}
 use Rattle.sql_rows.proofs.Backs.{spid_back}
 use Rattle.sql_rows.proofs.Orders.{broadcast_total, wait_total, broadcast_tie, wait_tie, same_number}
 use Rattle.std.proofs.lemmas.Map.Lookups.{exact_bytes}
@@ -44,9 +44,9 @@ pub equal_numbers : (m n : ℕ) → equals (Int (pos m)) (Int (pos n)) ≡ is_eq
 unfolding binary
 equal_numbers m n = true_of _ ∙ ap is_eq (value_cmp-Int (pos m) (pos n)) ∙ same_numbers m n
 
-pub never_null : (n : ℕ) → equals Null (Int (pos n)) ≡ false
+pub never_below : (m n : ℕ) → equals (Int (negsuc m)) (Int (pos n)) ≡ false
 unfolding binary
-never_null n = refl
+never_below m n = true_of _ ∙ ap is_eq (value_cmp-Int (negsuc m) (pos n))
 
 texts : (s t : List ℕ) → equals (Text s) (Text t) ≡ is_eq (value_cmp (Text s) (Text t))
 unfolding binary
@@ -106,8 +106,11 @@ carrier_tests s r e is =
     let col = spid_read (column r 1) e.0 read in
     column_passes 1 (spid_value s.number) _ r col ∙ equal_spids e.0 s (ap spid_in (sym col) ∙ read) ∙ (eq_by_cmp_equiv nat_cmp_total).symm e.0 s.number
 
-pub owner_tests : (n : ℕ) → Tests nat_cmp owner_entry n (passes (key_test Lrn) (Int (pos n) ∷ []))
-owner_tests = number_tests owner_entry owner_key
+pub lrn_tests : (n : ℕ) → Tests nat_cmp lrn_entry n (passes (key_test Lrn) (Int (pos n) ∷ []))
+lrn_tests = number_tests lrn_entry lrn_key
+
+pub code_tests : (n : ℕ) → Tests nat_cmp code_entry n (passes (key_test Code) (Int (pos n) ∷ []))
+code_tests = number_tests code_entry code_key
 
 pub block_tests : (n : ℕ) → Tests nat_cmp block_entry n (passes (key_test Block) (Int (pos n) ∷ []))
 block_tests = number_tests block_entry block_key

@@ -15,11 +15,11 @@ use Rattle.sql_rows.specs.Tables.{the_schema}
 use Rattle.sql_rows.specs.Shaped.{AreShaped}
 use Rattle.sql_rows.specs.Values.{spid_value}
 use Rattle.sql_rows.specs.Versions.{version_entry, version_row, version_params}
-use Rattle.sql_rows.specs.Content.{content_in, carrier_entry, owner_entry, block_entry, broadcast_entry, wait_entry, clock_entry, carrier_params, owner_params, block_params, broadcast_params, wait_params, clock_params, stored, broadcast_key_params, wait_key_params}
+use Rattle.sql_rows.specs.Content.{content_in, carrier_entry, lrn_entry, code_entry, block_entry, broadcast_entry, wait_entry, clock_entry, carrier_params, owner_params, block_params, broadcast_params, wait_params, clock_params, stored, broadcast_key_params, wait_key_params}
 use Rattle.sql_rows.specs.Written.{Removed, Replaced}
 use Rattle.sql_rows.specs.declared.statement.Table.TheVariants.{Carrier, Lrn, Code, Block, Version, Broadcast, Wait, Clock}
 use Rattle.sql_rows.proofs.Orders.{broadcast_total, broadcast_exact, wait_total, wait_exact}
-use Rattle.sql_rows.proofs.KeyTests.{carrier_tests, owner_tests, block_tests, version_tests, clock_tests, broadcast_tests, wait_tests}
+use Rattle.sql_rows.proofs.KeyTests.{carrier_tests, lrn_tests, code_tests, block_tests, version_tests, clock_tests, broadcast_tests, wait_tests}
 use Rattle.sql_rows.proofs.Casts.{next_in, carrier_cast, lrn_cast, code_cast, block_cast, version_cast, broadcast_cast, wait_cast, clock_cast}
 use Rattle.sql_rows.proofs.TableLemmas.{put, taken, carriers_framed, lrns_framed, codes_framed, blocks_framed, versions_framed, broadcasts_framed, waits_framed, clock_framed}
 use Rattle.sql_rows.proofs.Backs.{carrier_back}
@@ -36,14 +36,14 @@ module _ (old new : Database) (shaped : AreShaped old.trees) where
       let l = put Carrier nat_cmp nat_cmp_total nat_cmp-IsAntisymmetric carrier_entry s.number (spid_value s.number ∷ []) (carrier_tests s) (carrier_params s.number) (λ mid. next_in mid 0 ∷ carrier_params s.number) tt (λ mid. refl) (λ mid. carrier_back (next_in mid 0) s) old new (λ mid. carrier_cast mid s.number) shaped r in
       record { schema = (r.added (next_in r.mid.trees 0 ∷ carrier_params s.number) (carrier_cast r.mid.trees s.number)).schema; shaped = l.shaped; is = carriers_framed old.trees new.trees l.frame ∙ ap (λ m. record (content_in old.trees) { carriers = m }) l.map }
 
-  pub put_lrn : (n v : ℕ) → owner_entry (stored (owner_params n v)) ≡ Some (n, v) → Replaced Lrn (Int (pos n) ∷ []) (owner_params n v) old new → Became new (record (content_in old.trees) { lrns = insert (content_in old.trees).lrns n v })
+  pub put_lrn : (n v : ℕ) → lrn_entry (stored (owner_params n v)) ≡ Some (n, v) → Replaced Lrn (Int (pos n) ∷ []) (owner_params n v) old new → Became new (record (content_in old.trees) { lrns = insert (content_in old.trees).lrns n v })
   put_lrn n v back r =
-      let l = put Lrn nat_cmp nat_cmp_total nat_cmp-IsAntisymmetric owner_entry n (Int (pos n) ∷ []) (owner_tests n) (owner_params n v) (λ mid. stored (owner_params n v)) v (λ mid. refl) (λ mid. back) old new (λ mid. lrn_cast mid n v) shaped r in
+      let l = put Lrn nat_cmp nat_cmp_total nat_cmp-IsAntisymmetric lrn_entry n (Int (pos n) ∷ []) (lrn_tests n) (owner_params n v) (λ mid. stored (owner_params n v)) v (λ mid. refl) (λ mid. back) old new (λ mid. lrn_cast mid n v) shaped r in
       record { schema = (r.added (stored (owner_params n v)) (lrn_cast r.mid.trees n v)).schema; shaped = l.shaped; is = lrns_framed old.trees new.trees l.frame ∙ ap (λ m. record (content_in old.trees) { lrns = m }) l.map }
 
-  pub put_code : (n v : ℕ) → owner_entry (stored (owner_params n v)) ≡ Some (n, v) → Replaced Code (Int (pos n) ∷ []) (owner_params n v) old new → Became new (record (content_in old.trees) { codes = insert (content_in old.trees).codes n v })
+  pub put_code : (n v : ℕ) → code_entry (stored (owner_params n v)) ≡ Some (n, v) → Replaced Code (Int (pos n) ∷ []) (owner_params n v) old new → Became new (record (content_in old.trees) { codes = insert (content_in old.trees).codes n v })
   put_code n v back r =
-      let l = put Code nat_cmp nat_cmp_total nat_cmp-IsAntisymmetric owner_entry n (Int (pos n) ∷ []) (owner_tests n) (owner_params n v) (λ mid. stored (owner_params n v)) v (λ mid. refl) (λ mid. back) old new (λ mid. code_cast mid n v) shaped r in
+      let l = put Code nat_cmp nat_cmp_total nat_cmp-IsAntisymmetric code_entry n (Int (pos n) ∷ []) (code_tests n) (owner_params n v) (λ mid. stored (owner_params n v)) v (λ mid. refl) (λ mid. back) old new (λ mid. code_cast mid n v) shaped r in
       record { schema = (r.added (stored (owner_params n v)) (code_cast r.mid.trees n v)).schema; shaped = l.shaped; is = codes_framed old.trees new.trees l.frame ∙ ap (λ m. record (content_in old.trees) { codes = m }) l.map }
 
   pub put_block : (n : ℕ) (v : BlockRow) → block_entry (stored (block_params n v)) ≡ Some (n, v) → Replaced Block (Int (pos n) ∷ []) (block_params n v) old new → Became new (record (content_in old.trees) { blocks = insert (content_in old.trees).blocks n v })

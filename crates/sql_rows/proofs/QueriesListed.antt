@@ -1,18 +1,16 @@
 -- What each query for a list says of the content.
-use Rattle.std.proofs.Common.{◌≡◌, ℕ, pos, [], ◌∷◌, List, map, Bool, true, false, Option, Some, None, refl, sym, ap, subst, ◌∙◌, true≢false, arith, nat_lt, ◌≤◌, ◌&&◌}
+use Rattle.std.proofs.Common.{◌≡◌, ℕ, pos, negsuc, [], ◌∷◌, List, map, Bool, true, false, Option, Some, None, refl, sym, ap, subst, ◌∙◌, true≢false, arith, nat_lt, ◌≤◌, ◌&&◌}
 use Rattle.std.specs.Prelude.{if◌then◌else◌}
-use Rattle.std.specs.Ordering.{nat_cmp, is_eq, is_ge, is_le, int_cmp}
+use Rattle.std.specs.Ordering.{nat_cmp, is_eq, is_ge, is_le}
 use Rattle.std.specs.Cmp.{nat_cmp_total, tied_itself}
-use Rattle.std.proofs.lemmas.Int.{ints}
 use Rattle.std.proofs.lemmas.Bool.Decides.{nat_tests}
 use Rattle.sqlite.specs.declared.types.Value.{Value}
-use Rattle.sqlite.specs.declared.types.Value.TheVariants.{Null, Int}
+use Rattle.sqlite.specs.declared.types.Value.TheVariants.{Int}
 use Rattle.sqlite.specs.Order.{column}
 use Rattle.sqlite.specs.Ops.{binary, is_true}
 use Rattle.sqlite_sql.specs.declared.ops.BinaryOp.TheVariants.{Compare}
 use Rattle.sqlite_sql.specs.declared.ops.CompareOp.TheVariants.{Ge, Le}
 use Rattle.sqlite.specs.Collation.TheVariants.{Binary}
-use Rattle.sqlite_value.proofs.OrderLemmas.{value_cmp-Int}
 use Rattle.sqlite.specs.Tree.{Trees}
 use Rattle.sqlite.specs.Program.{overlay}
 use Rattle.numbers.specs.Subjects.{Subject}
@@ -34,10 +32,10 @@ use Rattle.sql_rows.specs.declared.keyed.KeyedWait.{KeyedWait}
 use Rattle.sql_rows.specs.declared.statement.Table.TheVariants.{Carrier, Broadcast, Wait, Version}
 use Rattle.sql_rows.specs.declared.statement.Query.TheVariants.{All, BroadcastsByOpen, WaitsAbout, WaitsFor, WaitsOf, InForceAmong, OpenAmong}
 use Rattle.sql_rows.proofs.Backs.{subject_back}
-use Rattle.sql_rows.proofs.DueLemmas.{below_numbers, le_said, le_told}
+use Rattle.sql_rows.proofs.DueLemmas.{above_numbers, below_numbers, ge_told, le_said, le_told, never_above}
 use Rattle.sql_rows.proofs.FoundLemmas.{versions_once}
 use Rattle.sql_rows.proofs.Inversions.{bind_some, broadcast_reads, found_read, number_read, reads, spid_read, subject_read, unfound_read, wait_reads}
-use Rattle.sql_rows.proofs.KeyTests.{both, column_passes, equal_numbers, equal_spids, equals, true_of, two_of}
+use Rattle.sql_rows.proofs.KeyTests.{both, column_passes, equal_numbers, equal_spids, equals, two_of}
 use Rattle.sql_rows.proofs.Listed.{listed}
 use Rattle.sql_rows.proofs.Orders.{broadcast_total, same_broadcast, same_number, same_wait, wait_total}
 use Rattle.sql_rows.proofs.Picked.{Picks, Says, picks}
@@ -157,23 +155,15 @@ module _ (db : Trees) (once : AreKeysOnce db) where
 
 -- ---- versions by a column of their subject
 
-above_numbers : (m n : ℕ) → is_true (binary (Compare Ge Binary) (Int (pos m)) (Int (pos n))) ≡ is_ge (nat_cmp m n)
-unfolding binary
-above_numbers m n = true_of _ ∙ ap is_ge (value_cmp-Int (pos m) (pos n)) ∙ (let same : is_ge (int_cmp (pos m) (pos n)) ≡ is_ge (nat_cmp m n) = grind (arith, ints, nat_tests) in same)
-
 ge_said : (m n : ℕ) → is_ge (nat_cmp m n) ≡ true → n ≤ m
 ge_said m n h = grind (arith, nat_tests)
-
-ge_told : (m n : ℕ) → n ≤ m → is_ge (nat_cmp m n) ≡ true
-ge_told m n h = grind (arith, nat_tests)
 
 -- the value is a number from low to high
 abbrev within : (low high : ℕ) → Value → Bool
 within low high v = both (is_true (binary (Compare Ge Binary) v (Int (pos low))) ∷ is_true (binary (Compare Le Binary) v (Int (pos high))) ∷ [])
 
-null_within : (low high : ℕ) → within low high Null ≡ false
-unfolding binary
-null_within low high = refl
+unfound_within : (low high id : ℕ) → within low high (Int (negsuc id)) ≡ false
+unfound_within low high id = ap (λ b. both (b ∷ is_true (binary (Compare Le Binary) (Int (negsuc id)) (Int (pos high))) ∷ [])) (never_above id low)
 
 number_within : (low high n : ℕ) → within low high (Int (pos n)) ≡ (is_ge (nat_cmp n low) && is_le (nat_cmp n high))
 number_within low high n = rw (above_numbers n low, below_numbers n high) (two_of _ _)
@@ -183,25 +173,25 @@ abbrev pub IsAmong : (low high : ℕ) → Option Subject → Type 0
 IsAmong low high None = ⊥
 IsAmong low high (Some t) = (low ≤ subject_number t) × (subject_number t ≤ high)
 
-within_says : (low high : ℕ) (v : Value) (t : Subject) (b : Bool) → found_in t v ≡ Some b → (within low high v ≡ true → IsAmong low high (subject_if b t)) × (IsAmong low high (subject_if b t) → within low high v ≡ true)
-within_says low high v t true is =
-    let test : within low high v ≡ (is_ge (nat_cmp (subject_number t) low) && is_le (nat_cmp (subject_number t) high)) = ap (within low high) (found_read t v is) ∙ number_within low high (subject_number t) in (
+within_says : (low high id : ℕ) (v : Value) (t : Subject) (b : Bool) → found_in id t v ≡ Some b → (within low high v ≡ true → IsAmong low high (subject_if b t)) × (IsAmong low high (subject_if b t) → within low high v ≡ true)
+within_says low high id v t true is =
+    let test : within low high v ≡ (is_ge (nat_cmp (subject_number t) low) && is_le (nat_cmp (subject_number t) high)) = ap (within low high) (found_read id t v is) ∙ number_within low high (subject_number t) in (
       λ e. let both = both_true _ _ (sym test ∙ e) in (ge_said (subject_number t) low both.0, le_said (subject_number t) high both.1),
       λ h. test ∙ true_both _ _ (ge_told (subject_number t) low h.0) (le_told (subject_number t) high h.1),
     )
-within_says low high v t false is = (λ e. absurd (true≢false (sym e ∙ ap (within low high) (unfound_read t v is) ∙ null_within low high)), λ h. absurd h)
+within_says low high id v t false is = (λ e. absurd (true≢false (sym e ∙ ap (within low high) (unfound_read id t v is) ∙ unfound_within low high id)), λ h. absurd h)
 
 module _ (db : Trees) (shaped : AreShaped db) (low high : ℕ) where
   holds_say : Says nat_cmp_total same_number version_in shown_of version_seen (passes (query_test InForceAmong) (Int (pos low) ∷ Int (pos high) ∷ [])) (λ id v. IsAmong low high v.holds)
   holds_say r id v is =
       let it = reads (shown_of r) (id, v) is in
-      let says = within_says low high (column r 19) v.subject it.is_in_force it.found_in_force in
+      let says = within_says low high id (column r 19) v.subject it.is_in_force it.found_in_force in
       (λ e. subst (IsAmong low high) (sym it.holds) (says.0 e), λ h. says.1 (subst (IsAmong low high) it.holds h))
 
   opens_say : Says nat_cmp_total same_number version_in shown_of version_seen (passes (query_test OpenAmong) (Int (pos low) ∷ Int (pos high) ∷ [])) (λ id v. IsAmong low high v.opens)
   opens_say r id v is =
       let it = reads (shown_of r) (id, v) is in
-      let says = within_says low high (column r 20) v.subject it.is_open it.found_open in
+      let says = within_says low high id (column r 20) v.subject it.is_open it.found_open in
       (λ e. subst (IsAmong low high) (sym it.opens) (says.0 e), λ h. says.1 (subst (IsAmong low high) it.opens h))
 
   pub in_force_picked : (items : List NumberedRow) → IsListAnswer InForceAmong version_in db (Int (pos low) ∷ Int (pos high) ∷ []) (map version_seen items) → Picks version_seen (content_in db).versions (λ id v. IsAmong low high v.holds) items

@@ -12,7 +12,7 @@ use Rattle.sqlite_trees.proofs.TreeLemmas.{IsShaped-put_row}
 use Rattle.sqlite.specs.Effect.{Database}
 use Rattle.meaning.specs.Content.{broadcast_cmp, wait_cmp}
 use Rattle.sql_rows.specs.Versions.{version_entry}
-use Rattle.sql_rows.specs.Content.{content_of, content_in, carrier_entry, owner_entry, block_entry, broadcast_entry, wait_entry, clock_entry}
+use Rattle.sql_rows.specs.Content.{content_of, content_in, carrier_entry, lrn_entry, code_entry, block_entry, broadcast_entry, wait_entry, clock_entry}
 use Rattle.sql_rows.specs.Shaped.{AreShaped}
 use Rattle.sql_rows.specs.Statements.{tree_of, key_test}
 use Rattle.sql_rows.specs.declared.statement.Table.{Table}
@@ -82,10 +82,10 @@ module _ (db next : Trees) where
   pub carriers_framed : IsFrame Carrier db next → content_in next ≡ record (content_in db) { carriers = content_of nat_cmp carrier_entry (next 0) }
   carriers_framed f = rw (f Lrn (λ e. omega arith), f Code (λ e. omega arith), f Block (λ e. omega arith), f Version (λ e. omega arith), f Broadcast (λ e. omega arith), f Wait (λ e. omega arith), f Clock (λ e. omega arith)) refl
 
-  pub lrns_framed : IsFrame Lrn db next → content_in next ≡ record (content_in db) { lrns = content_of nat_cmp owner_entry (next 2) }
+  pub lrns_framed : IsFrame Lrn db next → content_in next ≡ record (content_in db) { lrns = content_of nat_cmp lrn_entry (next 2) }
   lrns_framed f = rw (f Carrier (λ e. omega arith), f Code (λ e. omega arith), f Block (λ e. omega arith), f Version (λ e. omega arith), f Broadcast (λ e. omega arith), f Wait (λ e. omega arith), f Clock (λ e. omega arith)) refl
 
-  pub codes_framed : IsFrame Code db next → content_in next ≡ record (content_in db) { codes = content_of nat_cmp owner_entry (next 3) }
+  pub codes_framed : IsFrame Code db next → content_in next ≡ record (content_in db) { codes = content_of nat_cmp code_entry (next 3) }
   codes_framed f = rw (f Carrier (λ e. omega arith), f Lrn (λ e. omega arith), f Block (λ e. omega arith), f Version (λ e. omega arith), f Broadcast (λ e. omega arith), f Wait (λ e. omega arith), f Clock (λ e. omega arith)) refl
 
   pub blocks_framed : IsFrame Block db next → content_in next ≡ record (content_in db) { blocks = content_of nat_cmp block_entry (next 4) }

@@ -9,9 +9,10 @@ use Rattle.sqlite.specs.Tree.{Trees}
 use Rattle.meaning.specs.Content.{Content, BlockRow, VersionRow, BroadcastRow, BroadcastKey, WaitKey, ClockRow, broadcast_cmp, wait_cmp}
 use Rattle.meaning.specs.Windows.{Windows}
 use Rattle.numbers.specs.Subjects.{Subject}
+use Rattle.sqlite.specs.declared.types.Value.{Value}
 use Rattle.sqlite.specs.declared.types.Value.TheVariants.{Null, Text}
 use Rattle.sqlite.specs.Values.{or_null}
-use Rattle.sql_rows.specs.Values.{number_in, minute_in, spid_in, subject_in, action_in, routing_in, bool_in, or_null_in, window_in, number_value, spid_value, subject_value, bool_value, lrn_value, cic_value, action_word}
+use Rattle.sql_rows.specs.Values.{number_in, lrn_in, code_in, block_in, only_in, minute_in, spid_in, subject_in, action_in, routing_in, bool_in, or_null_in, window_in, number_value, spid_value, subject_value, bool_value, lrn_value, cic_value, action_word}
 use Rattle.sql_rows.specs.Versions.{version_entry}
 
 abbrev pub content_of : {K V : Type 0} (R : K → K → Ordering) → (Row → Option (K × V)) → List Row → FinMap R V
@@ -32,26 +33,35 @@ abbrev pub carrier_entry : Row → Option (ℕ × Unit {0})
 carrier_entry r = carrier_in (carrier_shown r)
 
 -- a number, and whose it is: of the tables of routing numbers and of codes
-abbrev pub owner_in : Row → Option (ℕ × ℕ)
-owner_in r = option_and_then (λ k. option_map (pair k) (spid_in (column r 1))) (number_in (column r 0))
+abbrev pub owner_by : (Value → Option ℕ) → Row → Option (ℕ × ℕ)
+owner_by key r = option_and_then (λ k. option_map (pair k) (spid_in (column r 1))) (key (column r 0))
+
+abbrev pub lrn_row_in : Row → Option (ℕ × ℕ)
+lrn_row_in r = owner_by lrn_in r
+
+abbrev pub code_row_in : Row → Option (ℕ × ℕ)
+code_row_in r = owner_by code_in r
 
 abbrev pub owner_shown : Row → Row
 owner_shown r = column r 0 ∷ column r 2 ∷ []
 
-abbrev pub owner_entry : Row → Option (ℕ × ℕ)
-owner_entry r = owner_in (owner_shown r)
+abbrev pub lrn_entry : Row → Option (ℕ × ℕ)
+lrn_entry r = lrn_row_in (owner_shown r)
+
+abbrev pub code_entry : Row → Option (ℕ × ℕ)
+code_entry r = code_row_in (owner_shown r)
 
 abbrev pub block_row : ℕ → Option ℕ → BlockRow
 block_row donor last = record { donor = donor; last = last }
 
-abbrev pub block_in : Row → Option (ℕ × BlockRow)
-block_in r = option_and_then (λ k. option_and_then (λ donor. option_map (λ last. pair k (block_row donor last)) (or_null_in number_in (column r 2))) (spid_in (column r 1))) (number_in (column r 0))
+abbrev pub block_row_in : Row → Option (ℕ × BlockRow)
+block_row_in r = option_and_then (λ k. option_and_then (λ donor. option_map (λ last. pair k (block_row donor last)) (or_null_in number_in (column r 2))) (spid_in (column r 1))) (block_in (column r 0))
 
 abbrev pub block_shown : Row → Row
 block_shown r = column r 0 ∷ column r 2 ∷ column r 3 ∷ []
 
 abbrev pub block_entry : Row → Option (ℕ × BlockRow)
-block_entry r = block_in (block_shown r)
+block_entry r = block_row_in (block_shown r)
 
 abbrev pub broadcast_key : ℕ → ℕ → BroadcastKey
 broadcast_key id attempt = record { id = id; attempt = attempt }
@@ -102,7 +112,7 @@ clock_row minute next_id windows = record { minute = minute; next_id = next_id; 
 
 abbrev pub clock_in : Row → Option (ℕ × ClockRow)
 clock_in r =
-    option_and_then (λ k. option_and_then (λ minute. option_and_then (λ next_id. option_map (λ w. pair k (clock_row minute next_id w)) (windows_in r)) (number_in (column r 2))) (minute_in (column r 1))) (number_in (column r 0))
+    option_and_then (λ k. option_and_then (λ minute. option_and_then (λ next_id. option_map (λ w. pair k (clock_row minute next_id w)) (windows_in r)) (number_in (column r 2))) (minute_in (column r 1))) (only_in (column r 0))
 
 abbrev pub clock_shown : Row → Row
 clock_shown r =
@@ -120,8 +130,8 @@ versions_in rows = content_of nat_cmp version_entry rows
 abbrev pub content_in : Trees → Content
 content_in db = record {
   carriers = content_of nat_cmp carrier_entry (db 0);
-  lrns = content_of nat_cmp owner_entry (db 2);
-  codes = content_of nat_cmp owner_entry (db 3);
+  lrns = content_of nat_cmp lrn_entry (db 2);
+  codes = content_of nat_cmp code_entry (db 3);
   blocks = content_of nat_cmp block_entry (db 4);
   versions = versions_in (db 5);
   broadcasts = content_of broadcast_cmp broadcast_entry (db 8);

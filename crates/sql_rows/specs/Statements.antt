@@ -168,7 +168,7 @@ query_text ClockNumbered = codes "SELECT one, now, next_id, initial_concurrence,
 query_text VersionNumbered = codes "SELECT id, subject, old, new, due, lrn, cic, old_at, new_at, status, sends, since, attempt, release, spent, protective, cancelled_by, deadline, holds, opens FROM version WHERE id = ?1"
 query_text VersionInForce = codes "SELECT id, subject, old, new, due, lrn, cic, old_at, new_at, status, sends, since, attempt, release, spent, protective, cancelled_by, deadline, holds, opens FROM version WHERE holds = ?1"
 query_text VersionOpen = codes "SELECT id, subject, old, new, due, lrn, cic, old_at, new_at, status, sends, since, attempt, release, spent, protective, cancelled_by, deadline, holds, opens FROM version WHERE opens = ?1"
-query_text VersionDue = codes "SELECT id, subject, old, new, due, lrn, cic, old_at, new_at, status, sends, since, attempt, release, spent, protective, cancelled_by, deadline, holds, opens FROM version WHERE deadline <= ?1 ORDER BY deadline LIMIT 1"
+query_text VersionDue = codes "SELECT id, subject, old, new, due, lrn, cic, old_at, new_at, status, sends, since, attempt, release, spent, protective, cancelled_by, deadline, holds, opens FROM version WHERE deadline >= 0 AND deadline <= ?1 ORDER BY deadline LIMIT 1"
 query_text BroadcastKeyed = codes "SELECT id, attempt, minute, subject, action, lrn, cic, open, any FROM broadcast WHERE id = ?1 AND attempt = ?2"
 query_text (All t) = all_text t
 query_text BroadcastsByOpen = codes "SELECT id, attempt, minute, subject, action, lrn, cic, open, any FROM broadcast WHERE open = ?1"
@@ -206,7 +206,7 @@ query_test ClockNumbered = column_is 0 0 ∷ []
 query_test VersionNumbered = column_is 0 0 ∷ []
 query_test VersionInForce = column_is 19 0 ∷ []
 query_test VersionOpen = column_is 20 0 ∷ []
-query_test VersionDue = op2 (Compare Le Binary) (col 1 18) (col 0 0) ∷ []
+query_test VersionDue = op2 (Compare Ge Binary) (col 1 18) (lit (Int (pos 0))) ∷ op2 (Compare Le Binary) (col 1 18) (col 0 0) ∷ []
 query_test BroadcastKeyed = column_is 1 0 ∷ column_is 2 1 ∷ []
 query_test (All t) = []
 query_test BroadcastsByOpen = column_is 8 0 ∷ []

@@ -94,7 +94,7 @@ version_columns =
     number_column (codes "subject") ∷ text_column (codes "old") ∷ text_column (codes "new") ∷ number_column (codes "due") ∷ number_or_null (codes "lrn") ∷ number_or_null (codes "cic")
     ∷ number_or_null (codes "old_at") ∷ number_or_null (codes "new_at") ∷ text_column (codes "status") ∷ text_column (codes "sends") ∷ number_column (codes "since")
     ∷ number_column (codes "attempt") ∷ number_or_null (codes "release") ∷ number_column (codes "spent") ∷ number_column (codes "protective") ∷ text_or_null (codes "cancelled_by")
-    ∷ number_or_null (codes "deadline") ∷ number_or_null (codes "holds") ∷ number_or_null (codes "opens") ∷ []
+    ∷ number_or_null (codes "deadline") ∷ number_column (codes "holds") ∷ number_column (codes "opens") ∷ []
 
 abbrev pub version_table : Table
 version_table = record (numbered_table 5 (codes "version") (codes "id") version_columns) { uniques = (19 ∷ []) ∷ (20 ∷ []) ∷ []; orders = plain ∷ plain ∷ [] }

@@ -1,5 +1,6 @@
 -- Stored values as values of the rows. A value that is none of its column's is no value.
-use Rattle.std.specs.Prelude.{ℕ, ◌+◌, ◌*◌, ◌/◌, ◌%◌, pos, nat_lt, nat_le, ◌==◌, Bool, true, false, ◌&&◌, if◌then◌else◌, List, [], ◌∷◌, codes, bytes_eq, Option, Some, None, option_map, option_and_then}
+use Rattle.std.specs.Prelude.{ℕ, ℤ, ◌+◌, ◌*◌, ◌/◌, ◌%◌, pos, negsuc, nat_lt, nat_le, Bool, true, false, ◌&&◌, if◌then◌else◌, List, [], ◌∷◌, codes, bytes_eq, Option, Some, None, option_map, option_and_then}
+use Rattle.std.specs.Ordering.{int_eq}
 use Rattle.sqlite.specs.declared.types.Value.{Value}
 use Rattle.sqlite.specs.declared.types.Value.TheVariants.{Null, Int, Text}
 use Rattle.numbers.specs.Spids.{is_spid_character}
@@ -25,6 +26,20 @@ minute_in v = option_and_then (below 1099511627776) (number_in v)
 
 abbrev pub lrn_in : Value → Option ℕ
 lrn_in v = option_and_then (below 10000000000) (number_in v)
+
+-- the first six digits of a telephone number
+abbrev pub code_from : ℕ → Option ℕ
+code_from n = if nat_lt n 1000000 && (nat_le 2 (n / 100000) && nat_le 2 (n / 100 % 10)) then Some n else None
+
+abbrev pub code_in : Value → Option ℕ
+code_in v = option_and_then code_from (number_in v)
+
+-- the first seven
+abbrev pub block_from : ℕ → Option ℕ
+block_from n = if nat_lt n 10000000 && (nat_le 2 (n / 1000000) && nat_le 2 (n / 1000 % 10)) then Some n else None
+
+abbrev pub block_in : Value → Option ℕ
+block_in v = option_and_then block_from (number_in v)
 
 abbrev pub cic_in : Value → Option ℕ
 cic_in v = option_and_then (below 10000) (number_in v)
@@ -80,10 +95,19 @@ abbrev pub subject_number : Subject → ℕ
 subject_number (Number n) = n
 subject_number (Block n) = n
 
--- NULL, or the subject itself: a column by which the subject's row is found, and whether it is
-abbrev pub found_in : Subject → Value → Option Bool
-found_in s Null = Some false
-found_in s v = option_and_then (λ n. if n == subject_number s then Some true else None) (number_in v)
+abbrev pub is_int : ℤ → Value → Bool
+is_int n (Int m) = int_eq m n
+is_int n _ = false
+
+-- the number of the only row of its table
+abbrev pub only_in : Value → Option ℕ
+only_in v = if is_int (pos 0) v then Some 0 else None
+
+-- a column by which the subject's row is found, and whether it is: the subject itself, or else -1 - id, which is no subject, and no other row's
+abbrev pub found_in : (id : ℕ) → Subject → Value → Option Bool
+found_in id s v =
+    if is_int (negsuc id) v then Some false else (
+    if is_int (pos (subject_number s)) v then Some true else None)
 
 -- a status by its name, and by what it sends, when it is released, or who cancelled
 abbrev pub status_in : (status sends release by : Value) → Option Status
@@ -166,7 +190,7 @@ abbrev pub by_value : Status → Value
 by_value (CancelPending side) = Text (side_word side)
 by_value _ = Null
 
--- the subject in a column by which its row is found, or NULL
-abbrev pub found_value : Option Subject → Value
-found_value None = Null
-found_value (Some s) = subject_value s
+-- the subject in a column by which its row is found, or what says that it is not
+abbrev pub found_value : (id : ℕ) → Option Subject → Value
+found_value id None = Int (negsuc id)
+found_value id (Some s) = subject_value s

@@ -31,7 +31,7 @@ version_in r =
         opens = subject_if is_open subject;
       },
     ))
-    (found_in subject (column r 19))) (found_in subject (column r 18))) (or_null_in minute_in (column r 17))) (bool_in (column r 15))) (bool_in (column r 14))) (number_in (column r 12)))
+    (found_in id subject (column r 19))) (found_in id subject (column r 18))) (or_null_in minute_in (column r 17))) (bool_in (column r 15))) (bool_in (column r 14))) (number_in (column r 12)))
     (minute_in (column r 11))) (status_in (column r 9) (column r 10) (column r 13) (column r 16))) (or_null_in minute_in (column r 8))) (or_null_in minute_in (column r 7))) (routing_in (column r 5) (column r 6)))
     (minute_in (column r 4))) (spid_in (column r 3))) (spid_in (column r 2))) (subject_in (column r 1))) (number_in (column r 0))
 
@@ -45,16 +45,16 @@ abbrev pub version_entry : Row → Option (ℕ × VersionRow)
 version_entry r = version_in (shown_of r)
 
 -- the parameters of the statement that inserts it, after the id
-abbrev pub version_values : VersionRow → Row
-version_values v =
+abbrev pub version_values : ℕ → VersionRow → Row
+version_values id v =
     subject_value v.subject ∷ spid_value v.old_provider ∷ spid_value v.new_provider ∷ number_value v.due ∷ lrn_value v.routing ∷ cic_value v.routing
     ∷ or_null number_value v.old_at ∷ or_null number_value v.new_at ∷ Text (status_word v.status) ∷ Text (sends_word v.status) ∷ number_value v.since
     ∷ number_value v.attempt ∷ release_value v.status ∷ bool_value v.spent ∷ bool_value v.protective ∷ by_value v.status
-    ∷ or_null number_value v.deadline ∷ found_value v.holds ∷ found_value v.opens ∷ []
+    ∷ or_null number_value v.deadline ∷ found_value id v.holds ∷ found_value id v.opens ∷ []
 
 abbrev pub version_params : ℕ → VersionRow → Row
-version_params id v = Int (pos id) ∷ version_values v
+version_params id v = Int (pos id) ∷ version_values id v
 
 -- the row as it is stored
 abbrev pub version_row : ℕ → VersionRow → Row
-version_row id v = Int (pos id) ∷ Null ∷ version_values v
+version_row id v = Int (pos id) ∷ Null ∷ version_values id v

@@ -5,12 +5,12 @@ ghost use Rattle.version.specs.Views.{windows_of};
 ghost use Rattle.sql_rows.specs.Content.{windows_in};
 
 use crate::reading::{
-    action_at, bool_at, minute_at, number_at, number_or_null_at, routing_at, spid_at, subject_at,
-    window_at,
+    action_at, block_at, bool_at, code_at, lrn_at, minute_at, number_at, number_or_null_at,
+    only_at, routing_at, spid_at, subject_at, window_at,
 };
 use crate::stored::Stored;
 use delivery::Broadcast;
-use numbers::{Spid, Subject};
+use numbers::{BlockId, CodeId, Lrn, Spid, Subject};
 use settle::{BlockRow, BroadcastKey, ClockRow, WaitKey};
 use sqlite::Row;
 use windows::Windows;
@@ -31,27 +31,53 @@ impl Stored for Spid {
     }
 }
 
-/// A number, and the provider whose it is: a routing number or a code.
+/// A routing number, and the provider who registered it.
 #[derive(Clone, Copy, Debug, PartialEq, Eq)]
-pub struct KeyedOwner {
-    pub number: u64,
+pub struct KeyedLrn {
+    pub lrn: Lrn,
     pub owner: Spid,
 }
 
-impl Stored for KeyedOwner {
+impl Stored for KeyedLrn {
     ghost use Rattle.std.specs.Prelude.{ℕ};
-    ghost use Rattle.settle.specs.Views.{spid_of};
-    ghost use Rattle.sql_rows.specs.Content.{owner_in};
+    ghost use Rattle.settle.specs.Views.{lrn_of, spid_of};
+    ghost use Rattle.sql_rows.specs.Content.{lrn_row_in};
 
     ghost Seen = { ℕ × ℕ };
 
-    ghost seen = { λ o. (o.number, spid_of o.owner) };
+    ghost seen = { λ o. (lrn_of o.lrn, spid_of o.owner) };
 
-    ghost seen_in = { owner_in };
+    ghost seen_in = { lrn_row_in };
 
-    fn read(row: &Row) -> Option<KeyedOwner> {
-        Some(KeyedOwner {
-            number: number_at(row, 0)?,
+    fn read(row: &Row) -> Option<KeyedLrn> {
+        Some(KeyedLrn {
+            lrn: lrn_at(row, 0)?,
+            owner: spid_at(row, 1)?,
+        })
+    }
+}
+
+/// A code, and the provider for whom it was opened.
+#[derive(Clone, Copy, Debug, PartialEq, Eq)]
+pub struct KeyedCode {
+    pub code: CodeId,
+    pub owner: Spid,
+}
+
+impl Stored for KeyedCode {
+    ghost use Rattle.std.specs.Prelude.{ℕ};
+    ghost use Rattle.settle.specs.Views.{code_of, spid_of};
+    ghost use Rattle.sql_rows.specs.Content.{code_row_in};
+
+    ghost Seen = { ℕ × ℕ };
+
+    ghost seen = { λ o. (code_of o.code, spid_of o.owner) };
+
+    ghost seen_in = { code_row_in };
+
+    fn read(row: &Row) -> Option<KeyedCode> {
+        Some(KeyedCode {
+            code: code_at(row, 0)?,
             owner: spid_at(row, 1)?,
         })
     }
@@ -60,25 +86,25 @@ impl Stored for KeyedOwner {
 /// A donated block's row with the block.
 #[derive(Clone, Copy, Debug, PartialEq, Eq)]
 pub struct KeyedBlock {
-    pub number: u64,
+    pub block: BlockId,
     pub row: BlockRow,
 }
 
 impl Stored for KeyedBlock {
     ghost use Rattle.std.specs.Prelude.{ℕ};
     ghost use Rattle.meaning.specs.Content.{BlockRow as BlockSeen};
-    ghost use Rattle.settle.specs.Views.{block_row_of};
-    ghost use Rattle.sql_rows.specs.Content.{block_in};
+    ghost use Rattle.settle.specs.Views.{block_of, block_row_of};
+    ghost use Rattle.sql_rows.specs.Content.{block_row_in};
 
     ghost Seen = { ℕ × BlockSeen };
 
-    ghost seen = { λ b. (b.number, block_row_of b.row) };
+    ghost seen = { λ b. (block_of b.block, block_row_of b.row) };
 
-    ghost seen_in = { block_in };
+    ghost seen_in = { block_row_in };
 
     fn read(row: &Row) -> Option<KeyedBlock> {
         Some(KeyedBlock {
-            number: number_at(row, 0)?,
+            block: block_at(row, 0)?,
             row: BlockRow {
                 donor: spid_at(row, 1)?,
                 last: number_or_null_at(row, 2)?,
@@ -177,7 +203,7 @@ impl Stored for KeyedClock {
 
     fn read(row: &Row) -> Option<KeyedClock> {
         Some(KeyedClock {
-            number: number_at(row, 0)?,
+            number: only_at(row, 0)?,
             row: ClockRow {
                 minute: minute_at(row, 1)?,
                 next_id: number_at(row, 2)?,

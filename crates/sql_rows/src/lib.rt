@@ -12,7 +12,7 @@ mod values;
 mod version_row;
 
 pub use fault::Fault;
-pub use keyed::{KeyedBlock, KeyedBroadcast, KeyedClock, KeyedOwner, KeyedWait};
+pub use keyed::{KeyedBlock, KeyedBroadcast, KeyedClock, KeyedCode, KeyedLrn, KeyedWait};
 pub use params::{
     block_params, broadcast_key, broadcast_params, clock_params, fits_block, wait_key, wait_params,
 };

@@ -1,22 +1,23 @@
 //! Stored values as values of the rows. A value that is none of its column's type reads as `None`.
-ghost use Rattle.std.specs.Prelude.{◌≡◌, ◌<◌, ◌+◌, ◌*◌, option_map};
+ghost use Rattle.std.specs.Prelude.{◌≡◌, ◌<◌, ◌+◌, ◌*◌, option_map, IfSome};
 ghost use Rattle.sqlite.specs.Order.{column};
 ghost use Rattle.sqlite.specs.Ops.{is_null};
 ghost use Rattle.numbers.specs.Views.{subject_of, routing_of, minute_of};
 ghost use Rattle.numbers.specs.Spids.{is_spid_character};
-ghost use Rattle.settle.specs.Views.{spid_of, lrn_of};
+ghost use Rattle.settle.specs.Views.{spid_of, lrn_of, code_of, block_of};
 ghost use Rattle.meaning.specs.Views.{status_of};
-ghost use Rattle.sql_rows.specs.Values.{number_in, minute_in, lrn_in, cic_in, bool_from, bool_in, subject_from, subject_in, spid_from, spid_in, found_in, window_in, or_null_in, is_word, action_in, side_in, status_in, routing_in};
+ghost use Rattle.sql_rows.specs.Values.{number_in, minute_in, lrn_in, code_from, code_in, block_from, block_in, cic_in, bool_from, bool_in, subject_from, subject_in, spid_from, spid_in, found_in, is_int, only_in, window_in, or_null_in, is_word, action_in, side_in, status_in, routing_in};
 
-use crate::values::subject_number;
+use crate::values::{not_found, subject_number};
 use meaning::{Action, Side, Status};
-use numbers::{BlockId, Cic, Lrn, Minute, Routing, Spid, Subject, Tn};
+use numbers::{BlockId, Cic, CodeId, Lrn, Minute, Routing, Spid, Subject, Tn};
 use sqlite::Row;
 use sqlite::types::ValueRef;
 use windows::Window;
 
 pub fn number_at(row: &Row, at: usize) -> Option<u64>
-    ensures { result ≡ number_in (column row.now at) }
+    ensures value { result ≡ number_in (column row.now at) }
+    ensures small { IfSome result (λ n. n < 9223372036854775808) }
 {
     match row.get_ref(at) {
         Ok(ValueRef::Int(n)) => u64::try_from(n).ok(),
@@ -112,14 +113,31 @@ pub fn subject_at(row: &Row, at: usize) -> Option<Subject>
     subject_from(number_at(row, at)?)
 }
 
-/// Whether the row is found by the subject in this column: NULL, or the subject itself.
-pub fn found_at(row: &Row, at: usize, subject: Subject) -> Option<bool>
-    ensures { result ≡ found_in (subject_of subject) (column row.now at) }
+fn is_int(row: &Row, at: usize, number: i64) -> bool
+    ensures { result ≡ is_int number (column row.now at) }
 {
-    if is_null(row, at) {
-        return Some(false);
+    match row.get_ref(at) {
+        Ok(ValueRef::Int(n)) => n == number,
+        _ => false,
     }
-    if number_at(row, at)? == subject_number(subject) {
+}
+
+/// The number of the only row of its table, which is 0.
+pub fn only_at(row: &Row, at: usize) -> Option<u64>
+    ensures { result ≡ only_in (column row.now at) }
+{
+    if is_int(row, at, 0) { Some(0) } else { None }
+}
+
+/// Whether the row with the id is found by its subject in this column: the subject itself, or else
+/// what says that it is not.
+pub fn found_at(row: &Row, at: usize, id: u64, subject: Subject) -> Option<bool>
+    requires { id < 9223372036854775808 }
+    ensures { result ≡ found_in id (subject_of subject) (column row.now at) }
+{
+    if is_int(row, at, not_found(id)) {
+        Some(false)
+    } else if is_int(row, at, subject_number(subject) as i64) {
         Some(true)
     } else {
         None
@@ -232,7 +250,7 @@ pub fn status_at(row: &Row, at: usize, sends: usize, release: usize, by: usize) 
     None
 }
 
-fn lrn_at(row: &Row, at: usize) -> Option<Lrn>
+pub fn lrn_at(row: &Row, at: usize) -> Option<Lrn>
     ensures { option_map lrn_of result ≡ lrn_in (column row.now at) }
 {
     let number = number_at(row, at)?;
@@ -241,6 +259,42 @@ fn lrn_at(row: &Row, at: usize) -> Option<Lrn>
     } else {
         None
     }
+}
+
+fn code_from(number: u64) -> Option<CodeId>
+    ensures { option_map code_of result ≡ code_from number }
+{
+    if number < 1_000_000 && 2 <= number / 100_000 && 2 <= number / 100 % 10 {
+        Some(CodeId {
+            number: number as u32,
+        })
+    } else {
+        None
+    }
+}
+
+pub fn code_at(row: &Row, at: usize) -> Option<CodeId>
+    ensures { option_map code_of result ≡ code_in (column row.now at) }
+{
+    code_from(number_at(row, at)?)
+}
+
+fn block_from(number: u64) -> Option<BlockId>
+    ensures { option_map block_of result ≡ block_from number }
+{
+    if number < 10_000_000 && 2 <= number / 1_000_000 && 2 <= number / 1000 % 10 {
+        Some(BlockId {
+            number: number as u32,
+        })
+    } else {
+        None
+    }
+}
+
+pub fn block_at(row: &Row, at: usize) -> Option<BlockId>
+    ensures { option_map block_of result ≡ block_in (column row.now at) }
+{
+    block_from(number_at(row, at)?)
 }
 
 fn cic_at(row: &Row, at: usize) -> Option<Cic>

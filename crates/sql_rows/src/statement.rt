@@ -170,7 +170,8 @@ impl Query {
             Query::VersionDue => {
                 "SELECT id, subject, old, new, due, lrn, cic, old_at, new_at, status, sends, \
                  since, attempt, release, spent, protective, cancelled_by, deadline, holds, \
-                 opens FROM version WHERE deadline <= ?1 ORDER BY deadline LIMIT 1"
+                 opens FROM version WHERE deadline >= 0 AND deadline <= ?1 ORDER BY deadline \
+                 LIMIT 1"
             }
             Query::BroadcastKeyed => {
                 "SELECT id, attempt, minute, subject, action, lrn, cic, open, any FROM \

@@ -1,5 +1,5 @@
 //! Values on their way into a statement.
-ghost use Rattle.std.specs.Prelude.{◌≡◌, ◌<◌, ◌*◌, ◌+◌, pos, codes, option_map, IfSome};
+ghost use Rattle.std.specs.Prelude.{◌≡◌, ◌<◌, ◌*◌, ◌+◌, pos, negsuc, codes, option_map, IfSome};
 ghost use Rattle.sqlite.specs.declared.types.Value.TheVariants.{Int, Text};
 ghost use Rattle.sqlite.specs.Value.{owned};
 ghost use Rattle.sqlite.specs.Values.{or_null};
@@ -67,12 +67,23 @@ pub fn subject(subject: Subject) -> ValueRef<'static>
     number(subject_number(subject))
 }
 
-pub fn subject_or_null(given: Option<Subject>) -> ValueRef<'static>
-    ensures { owned result ≡ found_value (option_map subject_of given) }
+/// What stands in a column by which subjects are found where the row with the id is not found:
+/// a number that is no subject's, and no other row's, so that the column is unique without `NULL`.
+pub fn not_found(id: u64) -> i64
+    requires { id < 9223372036854775808 }
+    ensures { result ≡ negsuc id }
+{
+    -1 - id as i64
+}
+
+/// What stands in a column by which subjects are found.
+pub fn found(id: u64, given: Option<Subject>) -> ValueRef<'static>
+    requires { id < 9223372036854775808 }
+    ensures { owned result ≡ found_value id (option_map subject_of given) }
 {
     match given {
         Some(given) => subject(given),
-        None => ValueRef::Null,
+        None => ValueRef::Int(not_found(id)),
     }
 }
 

@@ -10,8 +10,8 @@ use crate::reading::{
 };
 use crate::stored::Stored;
 use crate::values::{
-    cancelled_by, cic, lrn, minute, minute_or_null, number, release, sends, status, subject,
-    subject_or_null, truth,
+    cancelled_by, cic, found, lrn, minute, minute_or_null, number, release, sends, status, subject,
+    truth,
 };
 use settle::{NumberedRow, VersionRow};
 use sqlite::Row;
@@ -50,8 +50,8 @@ impl Stored for NumberedRow {
                     is_protective: bool_at(row, 15)?,
                 },
                 deadline: minute_or_null_at(row, 17)?,
-                is_in_force: found_at(row, 18, subject)?,
-                is_open: found_at(row, 19, subject)?,
+                is_in_force: found_at(row, 18, id, subject)?,
+                is_open: found_at(row, 19, id, subject)?,
             },
         })
     }
@@ -99,7 +99,7 @@ pub fn version_params<'a>(
         truth(version.is_protective),
         cancelled_by(version.status),
         minute_or_null(row.deadline),
-        subject_or_null(row.holds()),
-        subject_or_null(row.opens()),
+        found(id, row.holds()),
+        found(id, row.opens()),
     ]
 }

@@ -12,15 +12,16 @@ use Rattle.numbers.specs.Views.{subject_of}
 use Rattle.numbers.specs.declared.spid.Spid.{Spid}
 use Rattle.numbers.specs.declared.ported.Subject.{Subject as SubjectCode}
 use Rattle.meaning.specs.Content.{BroadcastKey, BlockRow, ClockRow, BroadcastRow, VersionRow}
-use Rattle.settle.specs.Views.{spid_of, block_row_of, clock_row_of, broadcast_row_of, broadcast_key_of}
+use Rattle.settle.specs.Views.{spid_of, lrn_of, code_of, block_of, block_row_of, clock_row_of, broadcast_row_of, broadcast_key_of}
 use Rattle.settle.specs.Reads.{IsInForce, IsOpen, IsLeastDue}
 use Rattle.settle.specs.declared.rows.NumberedRow.{NumberedRow}
 use Rattle.sql_rows.specs.Shaped.{AreShaped}
 use Rattle.sql_rows.specs.Values.{spid_value, subject_value}
 use Rattle.sql_rows.specs.Versions.{version_in}
-use Rattle.sql_rows.specs.Content.{content_in, carrier_in, owner_in, block_in, clock_in, broadcast_in}
+use Rattle.sql_rows.specs.Content.{content_in, carrier_in, lrn_row_in, code_row_in, block_row_in, clock_in, broadcast_in}
 use Rattle.sql_rows.specs.Found.{IsSoleAnswer}
-use Rattle.sql_rows.specs.declared.keyed.KeyedOwner.{KeyedOwner}
+use Rattle.sql_rows.specs.declared.keyed.KeyedLrn.{KeyedLrn}
+use Rattle.sql_rows.specs.declared.keyed.KeyedCode.{KeyedCode}
 use Rattle.sql_rows.specs.declared.keyed.KeyedBlock.{KeyedBlock}
 use Rattle.sql_rows.specs.declared.keyed.KeyedClock.{KeyedClock}
 use Rattle.sql_rows.specs.declared.keyed.KeyedBroadcast.{KeyedBroadcast}
@@ -36,14 +37,17 @@ one_bound r v plain is = ap (λ w. bound_value w ∷ []) is ∙ ap (λ w. w ∷ 
 pub two_bound : (r s : ValueRef) (m n : ℕ) → owned r ≡ Int (pos m) → owned s ≡ Int (pos n) → bound (r ∷ s ∷ []) ≡ Int (pos m) ∷ Int (pos n) ∷ []
 two_bound r s m n one two = ap (λ v. bound_value v ∷ bound_value (owned s) ∷ []) one ∙ ap (λ v. Int (pos m) ∷ bound_value v ∷ []) two
 
-abbrev owner_seen : KeyedOwner → ℕ × ℕ
-owner_seen o = (o.number, spid_of o.owner)
+abbrev lrn_seen : KeyedLrn → ℕ × ℕ
+lrn_seen o = (lrn_of o.lrn, spid_of o.owner)
+
+abbrev code_seen : KeyedCode → ℕ × ℕ
+code_seen o = (code_of o.code, spid_of o.owner)
 
 abbrev carrier_seen : Spid → ℕ × Unit {0}
 carrier_seen c = (spid_of c, tt)
 
 abbrev block_seen : KeyedBlock → ℕ × BlockRow
-block_seen b = (b.number, block_row_of b.row)
+block_seen b = (block_of b.block, block_row_of b.row)
 
 abbrev clock_seen : KeyedClock → ℕ × ClockRow
 clock_seen c = (c.number, clock_row_of c.row)
@@ -68,17 +72,17 @@ module _ (db : Trees) (r : ValueRef) where
       there None = refl
       there (Some x) = refl
 
-  pub lrn_is : (n : ℕ) → owned r ≡ Int (pos n) → (found o : Option KeyedOwner) → found ≡ o → IsSoleAnswer LrnNumbered owner_in db (bound (r ∷ [])) (option_map owner_seen found) → option_map (λ (x : KeyedOwner). spid_of x.owner) o ≡ get (content_in db).lrns n
+  pub lrn_is : (n : ℕ) → owned r ≡ Int (pos n) → (found o : Option KeyedLrn) → found ≡ o → IsSoleAnswer LrnNumbered lrn_row_in db (bound (r ∷ [])) (option_map lrn_seen found) → option_map (λ (x : KeyedLrn). spid_of x.owner) o ≡ get (content_in db).lrns n
   lrn_is n is found o same h =
-      twice owner_seen (λ (x : KeyedOwner). spid_of x.owner) (λ (x : KeyedOwner). refl) o ∙ ap (λ o. value_of (option_map owner_seen o)) (sym same) ∙ sym (lrn_found db n _ (subst (λ p. IsSoleAnswer LrnNumbered owner_in db p (option_map owner_seen found)) (one_bound r (Int (pos n)) refl is) h))
+      twice lrn_seen (λ (x : KeyedLrn). spid_of x.owner) (λ (x : KeyedLrn). refl) o ∙ ap (λ o. value_of (option_map lrn_seen o)) (sym same) ∙ sym (lrn_found db n _ (subst (λ p. IsSoleAnswer LrnNumbered lrn_row_in db p (option_map lrn_seen found)) (one_bound r (Int (pos n)) refl is) h))
 
-  pub code_is : (n : ℕ) → owned r ≡ Int (pos n) → (found o : Option KeyedOwner) → found ≡ o → IsSoleAnswer CodeNumbered owner_in db (bound (r ∷ [])) (option_map owner_seen found) → option_map (λ (x : KeyedOwner). spid_of x.owner) o ≡ get (content_in db).codes n
+  pub code_is : (n : ℕ) → owned r ≡ Int (pos n) → (found o : Option KeyedCode) → found ≡ o → IsSoleAnswer CodeNumbered code_row_in db (bound (r ∷ [])) (option_map code_seen found) → option_map (λ (x : KeyedCode). spid_of x.owner) o ≡ get (content_in db).codes n
   code_is n is found o same h =
-      twice owner_seen (λ (x : KeyedOwner). spid_of x.owner) (λ (x : KeyedOwner). refl) o ∙ ap (λ o. value_of (option_map owner_seen o)) (sym same) ∙ sym (code_found db n _ (subst (λ p. IsSoleAnswer CodeNumbered owner_in db p (option_map owner_seen found)) (one_bound r (Int (pos n)) refl is) h))
+      twice code_seen (λ (x : KeyedCode). spid_of x.owner) (λ (x : KeyedCode). refl) o ∙ ap (λ o. value_of (option_map code_seen o)) (sym same) ∙ sym (code_found db n _ (subst (λ p. IsSoleAnswer CodeNumbered code_row_in db p (option_map code_seen found)) (one_bound r (Int (pos n)) refl is) h))
 
-  pub block_is : (n : ℕ) → owned r ≡ Int (pos n) → (found o : Option KeyedBlock) → found ≡ o → IsSoleAnswer BlockNumbered block_in db (bound (r ∷ [])) (option_map block_seen found) → option_map (λ (x : KeyedBlock). block_row_of x.row) o ≡ get (content_in db).blocks n
+  pub block_is : (n : ℕ) → owned r ≡ Int (pos n) → (found o : Option KeyedBlock) → found ≡ o → IsSoleAnswer BlockNumbered block_row_in db (bound (r ∷ [])) (option_map block_seen found) → option_map (λ (x : KeyedBlock). block_row_of x.row) o ≡ get (content_in db).blocks n
   block_is n is found o same h =
-      twice block_seen (λ (x : KeyedBlock). block_row_of x.row) (λ (x : KeyedBlock). refl) o ∙ ap (λ o. value_of (option_map block_seen o)) (sym same) ∙ sym (block_found db n _ (subst (λ p. IsSoleAnswer BlockNumbered block_in db p (option_map block_seen found)) (one_bound r (Int (pos n)) refl is) h))
+      twice block_seen (λ (x : KeyedBlock). block_row_of x.row) (λ (x : KeyedBlock). refl) o ∙ ap (λ o. value_of (option_map block_seen o)) (sym same) ∙ sym (block_found db n _ (subst (λ p. IsSoleAnswer BlockNumbered block_row_in db p (option_map block_seen found)) (one_bound r (Int (pos n)) refl is) h))
 
   pub version_is : (n : ℕ) → owned r ≡ Int (pos n) → (found o : Option NumberedRow) → found ≡ o → IsSoleAnswer VersionNumbered version_in db (bound (r ∷ [])) (option_map version_seen found) → option_map (λ (x : NumberedRow). x.row) o ≡ get (content_in db).versions n
   version_is n is found o same h =

@@ -10,7 +10,7 @@ use Rattle.sqlite.specs.Tree.{Trees}
 use Rattle.sqlite_rules.specs.Lists.{Has}
 use Rattle.sqlite_rules.proofs.ListLemmas.{has_kept}
 use Rattle.meaning.specs.Content.{ClockRow, empty_content}
-use Rattle.sql_rows.specs.Content.{block_in, block_shown, broadcast_in, broadcast_shown, carrier_in, carrier_shown, clock_in, clock_shown, content_in, owner_in, owner_shown, wait_in, wait_shown}
+use Rattle.sql_rows.specs.Content.{block_row_in, block_shown, broadcast_in, broadcast_shown, carrier_in, carrier_shown, clock_in, clock_shown, content_in, lrn_row_in, code_row_in, owner_shown, wait_in, wait_shown}
 use Rattle.sql_rows.specs.Found.{AreRead}
 use Rattle.sql_rows.specs.Statements.{shown_by}
 use Rattle.sql_rows.specs.Versions.{shown_of, version_in}
@@ -66,21 +66,21 @@ four_true true false c d e = absurd (true≢false (sym e))
 four_true true true false d e = absurd (true≢false (sym e))
 
 module _ (db : Trees) (a b c d : Bool) where
-  module _ (carriers : IsRead Carrier carrier_in db a) (lrns : IsRead Lrn owner_in db b) (coded : IsRead Code owner_in db c) (blocks : IsRead Block block_in db d) where
+  module _ (carriers : IsRead Carrier carrier_in db a) (lrns : IsRead Lrn lrn_row_in db b) (coded : IsRead Code code_row_in db c) (blocks : IsRead Block block_row_in db d) where
     registry_read : AreRegistryRead db
     registry_read = record {
       carriers = each_reads carrier_in carrier_shown (db 0) carriers.1.0 carriers.0 (plain_answer 0 [] (shown_by Carrier) (overlay db []) [] carriers.1.0 carriers.1.1) carriers.1.2;
-      lrns = each_reads owner_in owner_shown (db 2) lrns.1.0 lrns.0 (plain_answer 2 [] (shown_by Lrn) (overlay db []) [] lrns.1.0 lrns.1.1) lrns.1.2;
-      codes = each_reads owner_in owner_shown (db 3) coded.1.0 coded.0 (plain_answer 3 [] (shown_by Code) (overlay db []) [] coded.1.0 coded.1.1) coded.1.2;
-      blocks = each_reads block_in block_shown (db 4) blocks.1.0 blocks.0 (plain_answer 4 [] (shown_by Block) (overlay db []) [] blocks.1.0 blocks.1.1) blocks.1.2;
+      lrns = each_reads lrn_row_in owner_shown (db 2) lrns.1.0 lrns.0 (plain_answer 2 [] (shown_by Lrn) (overlay db []) [] lrns.1.0 lrns.1.1) lrns.1.2;
+      codes = each_reads code_row_in owner_shown (db 3) coded.1.0 coded.0 (plain_answer 3 [] (shown_by Code) (overlay db []) [] coded.1.0 coded.1.1) coded.1.2;
+      blocks = each_reads block_row_in block_shown (db 4) blocks.1.0 blocks.0 (plain_answer 4 [] (shown_by Block) (overlay db []) [] blocks.1.0 blocks.1.1) blocks.1.2;
     }
 
     registry_blank : every (a ∷ b ∷ c ∷ d ∷ []) ≡ true → IsRegistryBlank db
     registry_blank all = let each = four_true a b c d all in record {
       carriers = is_blank carrier_in carrier_shown (db 0) carriers.1.0 carriers.0 (plain_answer 0 [] (shown_by Carrier) (overlay db []) [] carriers.1.0 carriers.1.1) carriers.1.2 (carriers.2 each.0);
-      lrns = is_blank owner_in owner_shown (db 2) lrns.1.0 lrns.0 (plain_answer 2 [] (shown_by Lrn) (overlay db []) [] lrns.1.0 lrns.1.1) lrns.1.2 (lrns.2 each.1.0);
-      codes = is_blank owner_in owner_shown (db 3) coded.1.0 coded.0 (plain_answer 3 [] (shown_by Code) (overlay db []) [] coded.1.0 coded.1.1) coded.1.2 (coded.2 each.1.1.0);
-      blocks = is_blank block_in block_shown (db 4) blocks.1.0 blocks.0 (plain_answer 4 [] (shown_by Block) (overlay db []) [] blocks.1.0 blocks.1.1) blocks.1.2 (blocks.2 each.1.1.1);
+      lrns = is_blank lrn_row_in owner_shown (db 2) lrns.1.0 lrns.0 (plain_answer 2 [] (shown_by Lrn) (overlay db []) [] lrns.1.0 lrns.1.1) lrns.1.2 (lrns.2 each.1.0);
+      codes = is_blank code_row_in owner_shown (db 3) coded.1.0 coded.0 (plain_answer 3 [] (shown_by Code) (overlay db []) [] coded.1.0 coded.1.1) coded.1.2 (coded.2 each.1.1.0);
+      blocks = is_blank block_row_in block_shown (db 4) blocks.1.0 blocks.0 (plain_answer 4 [] (shown_by Block) (overlay db []) [] blocks.1.0 blocks.1.1) blocks.1.2 (blocks.2 each.1.1.1);
     }
 
     pub registry_told : ReadsRegistry db (every (a ∷ b ∷ c ∷ d ∷ []))

@@ -4,7 +4,7 @@ use Rattle.sqlite.specs.Order.{Row}
 use Rattle.sqlite.specs.Tree.{Trees}
 use Rattle.sqlite_rules.specs.Lists.{Has}
 use Rattle.meaning.specs.Content.{empty_content}
-use Rattle.sql_rows.specs.Content.{block_entry, broadcast_entry, carrier_entry, clock_entry, content_in, owner_entry, wait_entry}
+use Rattle.sql_rows.specs.Content.{block_entry, broadcast_entry, carrier_entry, clock_entry, content_in, lrn_entry, code_entry, wait_entry}
 use Rattle.sql_rows.specs.Found.{IsListAnswer}
 use Rattle.sql_rows.specs.Versions.{version_entry}
 use Rattle.sql_rows.specs.declared.statement.Query.TheVariants.{All}
@@ -21,8 +21,8 @@ EachReads {X} entry rows = (r : Row) → Has rows r → (e : X) × (entry r ≡ 
 -- the tables of the registry
 pub record AreRegistryRead (db : Trees) : Type 0 where
   pub carriers : EachReads carrier_entry (db 0)
-  pub lrns : EachReads owner_entry (db 2)
-  pub codes : EachReads owner_entry (db 3)
+  pub lrns : EachReads lrn_entry (db 2)
+  pub codes : EachReads code_entry (db 3)
   pub blocks : EachReads block_entry (db 4)
 
 -- those of the versions and of what is sent, and the clock's

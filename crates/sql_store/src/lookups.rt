@@ -12,8 +12,8 @@ use delivery::Broadcast;
 use numbers::{BlockId, CodeId, Lrn, Minute, Spid, Subject};
 use settle::{BlockRow, BroadcastKey, ClockRow, NumberedRow, VersionRow};
 use sql_rows::{
-    Fault, KeyedBlock, KeyedBroadcast, KeyedClock, KeyedOwner, Query, minute, number, spid_bytes,
-    subject, text,
+    Fault, KeyedBlock, KeyedBroadcast, KeyedClock, KeyedCode, KeyedLrn, Query, minute, number,
+    spid_bytes, subject, text,
 };
 use sqlite::{Alter, Connection};
 
@@ -42,7 +42,7 @@ pub(crate) fn lrn<S: Alter>(conn: &mut Connection<S>, lrn: Lrn) -> Result<Option
     ensures looked { Looked (state S.Store conn.old) (state S.Store conn.new) (is_ok result) }
     ensures idle { conn.new.in_transaction ≡ false }
 {
-    let found: Option<KeyedOwner> = find(conn, Query::LrnNumbered, &[number(lrn.number)])?;
+    let found: Option<KeyedLrn> = find(conn, Query::LrnNumbered, &[number(lrn.number)])?;
     match found {
         Some(found) => Ok(Some(found.owner)),
         None => Ok(None),
@@ -59,7 +59,7 @@ pub(crate) fn code<S: Alter>(conn: &mut Connection<S>, code: CodeId) -> Result<O
     ensures looked { Looked (state S.Store conn.old) (state S.Store conn.new) (is_ok result) }
     ensures idle { conn.new.in_transaction ≡ false }
 {
-    let found: Option<KeyedOwner> = find(
+    let found: Option<KeyedCode> = find(
         conn,
         Query::CodeNumbered,
         &[number(u64::from(code.number))],

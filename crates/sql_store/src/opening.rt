@@ -32,7 +32,8 @@ const TABLES: &str = "\
     new TEXT NOT NULL, due INTEGER NOT NULL, lrn INTEGER, cic INTEGER, old_at INTEGER, new_at \
     INTEGER, status TEXT NOT NULL, sends TEXT NOT NULL, since INTEGER NOT NULL, attempt INTEGER \
     NOT NULL, release INTEGER, spent INTEGER NOT NULL, protective INTEGER NOT NULL, \
-    cancelled_by TEXT, deadline INTEGER, holds INTEGER UNIQUE, opens INTEGER UNIQUE) STRICT; \
+    cancelled_by TEXT, deadline INTEGER, holds INTEGER NOT NULL UNIQUE, opens INTEGER NOT NULL \
+    UNIQUE) STRICT; \
     CREATE TABLE broadcast (id INTEGER NOT NULL, attempt INTEGER NOT NULL, minute INTEGER NOT \
     NULL, subject INTEGER NOT NULL, action TEXT NOT NULL, lrn INTEGER, cic INTEGER, open \
     INTEGER NOT NULL, any INTEGER NOT NULL, PRIMARY KEY (id, attempt)) STRICT; \

@@ -230,8 +230,8 @@ fn is_version(table: &Table) -> bool
             number(b"protective"),
             text_or_null(b"cancelled_by"),
             number_or_null(b"deadline"),
-            number_or_null(b"holds"),
-            number_or_null(b"opens"),
+            number(b"holds"),
+            number(b"opens"),
         ],
     )
 }

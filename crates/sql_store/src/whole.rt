@@ -9,7 +9,8 @@ use crate::select::find_all;
 use numbers::Spid;
 use settle::NumberedRow;
 use sql_rows::{
-    Fault, KeyedBlock, KeyedBroadcast, KeyedClock, KeyedOwner, KeyedWait, Query, Stored, Table,
+    Fault, KeyedBlock, KeyedBroadcast, KeyedClock, KeyedCode, KeyedLrn, KeyedWait, Query, Stored,
+    Table,
 };
 use sqlite::{Alter, Connection};
 
@@ -42,8 +43,8 @@ fn read_registry<S: Alter>(conn: &mut Connection<S>) -> Result<bool, Fault>
     ensures idle { conn.new.in_transaction ≡ false }
 {
     let carriers = read::<Spid, S>(conn, Table::Carrier)?;
-    let lrns = read::<KeyedOwner, S>(conn, Table::Lrn)?;
-    let codes = read::<KeyedOwner, S>(conn, Table::Code)?;
+    let lrns = read::<KeyedLrn, S>(conn, Table::Lrn)?;
+    let codes = read::<KeyedCode, S>(conn, Table::Code)?;
     let blocks = read::<KeyedBlock, S>(conn, Table::Block)?;
     Ok(are_blank(&[carriers, lrns, codes, blocks]))
 }

@@ -1,4 +1,4 @@
-use Rattle.std.proofs.Common.{pos, arith, ap, ◌∙◌, refl, ◌<◌, ◌∷◌, [], IsTrue, rules}
+use Rattle.std.proofs.Common.{pos, ap, ◌∙◌, refl, ◌∷◌, [], IsTrue, rules}
 use Rattle.sqlite.specs.declared.types.Value.TheVariants.{Int}
 use Rattle.sqlite.specs.Held.{state}
 use Rattle.sql_rows.specs.declared.statement.Table.TheVariants.{Block}
@@ -18,8 +18,7 @@ returns-clause-makes g c =
     let new = state g.S.Store c.replace.new.tx.conn.now in
     let n = c.args.block.number in
     let row = c.args.row.now in
-    let low : n < 9223372036854775808 = let v = c.args.block.valid in omega (arith, v) in
     let fit : IsTrue c.fits_block.result = search rules in
     put_made old new Block (Int (pos n) ∷ []) _ (block_params n (block_row_of row)) _ (with_block n (block_row_of row)) (one_bound c.number.result (Int (pos n)) refl (c.number.ensures ∙ ap (λ k. Int (pos k)) c.from-key.ensures))
     (bound_block _ n (block_row_of row) (c.block_params-params.ensures ∙ ap (λ k. block_params k (block_row_of row)) c.from-key.ensures)) c.in_ok-replace.ensures.writes
-    (λ shaped did. put_block old.now new.now shaped n (block_row_of row) (block_back n row low (c.fits_block.ensures fit)) did)
+    (λ shaped did. put_block old.now new.now shaped n (block_row_of row) (block_back c.args.block row (c.fits_block.ensures fit)) did)

@@ -19,4 +19,4 @@ returns-clause-makes g c =
     let row = c.args.row.now in
     let few : row.next_id < 9223372036854775808 = grind arith in
     put_made old new Clock (Int (pos 0) ∷ []) _ (clock_params 0 (clock_row_of row)) _ (with_clock (clock_row_of row)) (one_bound c.number.result (Int (pos 0)) refl c.number.ensures)
-    (bound_clock _ 0 (clock_row_of row) c.clock_params.ensures) c.in_ok-replace.ensures.writes (λ shaped did. put_clock old.now new.now shaped (clock_row_of row) (clock_back 0 row (omega arith) few) did)
+    (bound_clock _ 0 (clock_row_of row) c.clock_params.ensures) c.in_ok-replace.ensures.writes (λ shaped did. put_clock old.now new.now shaped (clock_row_of row) (clock_back row few) did)

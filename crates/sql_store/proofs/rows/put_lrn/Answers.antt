@@ -1,11 +1,11 @@
-use Rattle.std.proofs.Common.{pos, arith, ap, ◌∙◌, refl, ◌<◌, ◌∷◌, []}
+use Rattle.std.proofs.Common.{pos, ap, ◌∙◌, refl, ◌∷◌, []}
 use Rattle.sqlite.specs.declared.types.Value.TheVariants.{Int, Text}
 use Rattle.sqlite.specs.Held.{state}
 use Rattle.sql_rows.specs.declared.statement.Table.TheVariants.{Lrn}
 use Rattle.sql_rows.specs.Content.{owner_params}
 use Rattle.sql_rows.proofs.PutLemmas.{put_lrn}
 use Rattle.sql_store.specs.Changes.{with_lrn}
-use Rattle.sql_rows.proofs.Backs.{owner_back}
+use Rattle.sql_rows.proofs.Backs.{lrn_back}
 use Rattle.sql_store.proofs.LookupLemmas.{one_bound}
 use Rattle.sql_store.proofs.MadeLemmas.{put_made, two_bound}
 use Rattle.sql_store.proofs.rows.put_lrn.Goals as goal
@@ -16,7 +16,6 @@ returns-clause-makes g c =
     let new = state g.S.Store c.replace.new.tx.conn.now in
     let n = c.args.lrn.number in
     let m = c.args.owner.number in
-    let low : n < 9223372036854775808 = let v : n < 10000000000 = c.args.lrn.valid in omega (arith, v) in
     put_made old new Lrn (Int (pos n) ∷ []) _ (owner_params n m) _ (with_lrn n m) (one_bound c.number-key.result (Int (pos n)) refl c.number-key.ensures)
     (two_bound c.number-key.result c.text.result (Int (pos n)) (Text _) refl refl c.number-key.ensures (c.text.ensures ∙ ap Text c.spid_bytes-bytes.ensures)) c.in_ok-replace.ensures.writes
-    (λ shaped did. put_lrn old.now new.now shaped n m (owner_back n c.args.owner low) did)
+    (λ shaped did. put_lrn old.now new.now shaped n m (lrn_back c.args.lrn c.args.owner) did)

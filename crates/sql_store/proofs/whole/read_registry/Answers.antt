@@ -1,7 +1,7 @@
 use Rattle.std.proofs.Common.{sym, subst, ◌∙◌}
 use Rattle.sqlite.specs.Held.{state}
 use Rattle.sqlite.specs.Effect.{Database}
-use Rattle.sql_rows.specs.Content.{block_in, owner_in}
+use Rattle.sql_rows.specs.Content.{block_row_in, code_row_in, lrn_row_in}
 use Rattle.sql_rows.specs.declared.statement.Table.TheVariants.{Lrn, Code, Block}
 use Rattle.sql_store.specs.Whole.{IsRead, ReadsRegistry}
 use Rattle.sql_store.proofs.WholeLemmas.{registry_told}
@@ -18,6 +18,6 @@ returns-clause-value g c up =
     let three = third.now ∙ two in
     subst (ReadsRegistry db) (sym c.are_blank.ensures)
     (registry_told db c.in_ok-carriers.carriers c.in_ok-lrns.lrns c.in_ok-codes.codes c.in_ok-blocks.blocks (c.in_ok-carriers.ensures.value second.was_open)
-    (subst (λ (d : Database). IsRead Lrn owner_in d.trees c.in_ok-lrns.lrns) first.now (c.in_ok-lrns.ensures.value third.was_open))
-    (subst (λ (d : Database). IsRead Code owner_in d.trees c.in_ok-codes.codes) two (c.in_ok-codes.ensures.value fourth.was_open))
-    (subst (λ (d : Database). IsRead Block block_in d.trees c.in_ok-blocks.blocks) three (c.in_ok-blocks.ensures.value up)))
+    (subst (λ (d : Database). IsRead Lrn lrn_row_in d.trees c.in_ok-lrns.lrns) first.now (c.in_ok-lrns.ensures.value third.was_open))
+    (subst (λ (d : Database). IsRead Code code_row_in d.trees c.in_ok-codes.codes) two (c.in_ok-codes.ensures.value fourth.was_open))
+    (subst (λ (d : Database). IsRead Block block_row_in d.trees c.in_ok-blocks.blocks) three (c.in_ok-blocks.ensures.value up)))
