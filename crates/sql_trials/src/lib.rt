@@ -1,0 +1,16 @@
+//! The proved tests of a register in a file: what a stop at each call of the files leaves, and
+//! which files are refused.
+#![tactic(auto)]
+
+#[cfg(test)]
+mod files;
+#[cfg(test)]
+mod refused;
+#[cfg(test)]
+mod rows;
+#[cfg(test)]
+mod said;
+#[cfg(test)]
+mod stops;
+#[cfg(test)]
+mod stories;

@@ -1,0 +1,65 @@
+//! All rows of a register's tables, as a text.
+use sqlite::types::ValueRef;
+use sqlite::{Alter, Connection, Row};
+use std::alloc::Global;
+use std::io::Write;
+
+// Each table, in the order of its key.
+static QUERIES: [&str; 8] = [
+    "SELECT * FROM carrier ORDER BY spid",
+    "SELECT * FROM lrn ORDER BY lrn",
+    "SELECT * FROM code ORDER BY code",
+    "SELECT * FROM block ORDER BY block",
+    "SELECT * FROM version ORDER BY id",
+    "SELECT * FROM broadcast ORDER BY id, attempt",
+    "SELECT * FROM wait ORDER BY spid, minute, id, attempt",
+    "SELECT * FROM clock ORDER BY one",
+];
+
+fn add_value(value: ValueRef<'_>, text: &mut Vec<u8>) -> Option<()> {
+    match value {
+        ValueRef::Null => write!(text, "NULL|").ok(),
+        ValueRef::Int(number) => write!(text, "{number}|").ok(),
+        ValueRef::Real(_) => write!(text, "real|").ok(),
+        ValueRef::Text(bytes) => add_bytes(b"'", bytes, text),
+        ValueRef::Blob(bytes) => add_bytes(b"x", bytes, text),
+    }
+}
+
+// The first byte tells a text from other bytes.
+fn add_bytes(first: &[u8], bytes: &[u8], text: &mut Vec<u8>) -> Option<()> {
+    text.extend_from_slice(first).ok()?;
+    text.extend_from_slice(bytes).ok()?;
+    text.extend_from_slice(b"|").ok()
+}
+
+fn add_row(row: &Row, text: &mut Vec<u8>) -> Option<()> {
+    for place in 0..row.column_count() {
+        add_value(row.get_ref(place).ok()?, text)?;
+    }
+    text.extend_from_slice(b"\n").ok()
+}
+
+/// Puts what a query shows behind a text, a line for each row.
+pub fn add_shown<S: Alter>(
+    conn: &mut Connection<S>,
+    query: &str,
+    text: &mut Vec<u8>,
+) -> Option<()> {
+    let rows = conn.query_all(query, &[]).ok()?;
+    for row in &rows {
+        add_row(row, text)?;
+    }
+    Some(())
+}
+
+/// Every row of every table.
+pub fn rows_of<S: Alter>(alloc: Global, conn: &mut Connection<S>) -> Option<Vec<u8>> {
+    let mut text = Vec::new(alloc);
+    for query in QUERIES {
+        text.extend_from_slice(query.as_bytes()).ok()?;
+        text.extend_from_slice(b"\n").ok()?;
+        add_shown(conn, query, &mut text)?;
+    }
+    Some(text)
+}

@@ -1,0 +1,532 @@
+//! A stop at each call of the database file and of its log while a request is carried out: whatever
+//! the machine leaves of them, what is opened again is the register before the request or after it.
+use crate::files::{
+    Calls, ENDLESS, FileRegister, Fused, Held, NARROW, PLAIN, connect, copy_of, files_under,
+    files_with, held_in, register_in,
+};
+use crate::rows::rows_of;
+use crate::said::{Said, answer, is_accepted, is_unavailable, tell};
+use crate::stories::{
+    ACKNOWLEDGEMENT, ACTIVATION, ASSIGNMENT, DONATION, JUMP, NEWCOMER, OPENING, Story, Trial,
+};
+use sqlite::{Files, Options};
+use sqlite_disk::{Crash, Disk};
+use std::alloc::Global;
+
+// More calls than a file takes in a run.
+const MOST: Calls = Calls {
+    log: 20_000,
+    db: 20_000,
+};
+
+// What a message made: its answer, the rows, and the bytes that both files have then.
+#[derive(Drop)]
+struct After {
+    answer: Vec<u8>,
+    rows: Vec<u8>,
+    held: Held,
+}
+
+// What a run without a stop shows: the bytes before the request, the rows before it and after each
+// of its commits, its answer, and that to the same request once more; and how many calls the files
+// take until the register is opened, and until the request is answered.
+#[derive(Drop)]
+struct Told {
+    held: Held,
+    opened: Calls,
+    answered: Calls,
+    states: Vec<Vec<u8>>,
+    answer: Vec<u8>,
+    again: Vec<u8>,
+}
+
+// The rows that stand in these bytes.
+fn rows_in(alloc: Global, held: &Held) -> Option<Vec<u8>> {
+    let files = files_with(alloc, held, ENDLESS)?;
+    let mut conn = connect(alloc, files, PLAIN).ok()?;
+    let rows = rows_of(alloc, &mut conn);
+    drop(conn.into_store());
+    rows
+}
+
+// What a register answers, and its files.
+fn heard(
+    alloc: Global,
+    mut register: FileRegister,
+    said: &Said<'_>,
+) -> (Option<Vec<u8>>, Files<Fused>) {
+    let heard = answer(alloc, &mut register, said);
+    (heard, files_under(register.close()))
+}
+
+// What a message makes of a register that stands in these bytes.
+fn tell_once(alloc: Global, held: &Held, said: &Said<'_>, options: Options) -> Option<After> {
+    let files = files_with(alloc, held, ENDLESS)?;
+    let (answer, files) = heard(alloc, register_in(alloc, files, options).ok()?, said);
+    let held = held_in(alloc, &files)?;
+    Some(After {
+        answer: answer?,
+        rows: rows_in(alloc, &held)?,
+        held,
+    })
+}
+
+fn tell_all(alloc: Global, register: &mut FileRegister, stories: &[Story<'_>]) -> Option<()> {
+    tell(alloc, register, OPENING)?;
+    for story in stories {
+        tell(alloc, register, story)?;
+    }
+    Some(())
+}
+
+// The bytes of a new register to which the stories were told.
+fn told_stories(alloc: Global, stories: &[Story<'_>], options: Options) -> Option<Held> {
+    let files = files_with(alloc, &Held::nothing(alloc), ENDLESS)?;
+    let mut register = register_in(alloc, files, options).ok()?;
+    let told = tell_all(alloc, &mut register, stories);
+    let files = files_under(register.close());
+    told?;
+    held_in(alloc, &files)
+}
+
+// Puts the rows after each step behind those that there are.
+fn add_steps(
+    alloc: Global,
+    held: &Held,
+    steps: Story<'_>,
+    states: &mut Vec<Vec<u8>>,
+) -> Option<()> {
+    let mut held = Held {
+        log: copy_of(alloc, &held.log)?,
+        db: copy_of(alloc, &held.db)?,
+    };
+    for step in steps {
+        let next = tell_once(alloc, &held, step, PLAIN)?;
+        states.push(next.rows).ok()?;
+        held = next.held;
+    }
+    Some(())
+}
+
+fn tell_whole(alloc: Global, trial: &Trial<'_>, options: Options) -> Option<Told> {
+    let held = told_stories(alloc, trial.stories, options)?;
+    let mut states = Vec::new(alloc);
+    states.push(rows_in(alloc, &held)?).ok()?;
+    add_steps(alloc, &held, trial.steps, &mut states)?;
+    let done = tell_once(alloc, &held, &trial.request, PLAIN)?;
+    let again = tell_once(alloc, &done.held, &trial.request, PLAIN)?;
+    if !is_accepted(&done.answer) || again.rows != done.rows {
+        return None;
+    }
+    states.push(done.rows).ok()?;
+    Some(Told {
+        opened: calls_of_opening(alloc, &held, options)?,
+        answered: calls_of_request(alloc, &held, &trial.request, options)?,
+        held,
+        states,
+        answer: done.answer,
+        again: again.answer,
+    })
+}
+
+// Which state the rows are.
+fn place_of(states: &[Vec<u8>], rows: &[u8]) -> Option<usize> {
+    for place in 0..states.len() {
+        if states.get(place)?.as_slice() == rows {
+            return Some(place);
+        }
+    }
+    None
+}
+
+// Whether each state is another one.
+fn are_different(states: &[Vec<u8>]) -> Option<bool> {
+    for place in 0..states.len() {
+        if place_of(states, states.get(place)?)? != place {
+            return Some(false);
+        }
+    }
+    Some(true)
+}
+
+// How many calls a file would still take.
+fn calls_left(file: &mut Fused, most: u64) -> u64 {
+    for count in 0..most {
+        if !file.may_be_used() || file.len().is_err() {
+            return count;
+        }
+    }
+    most
+}
+
+// How many calls the files have taken, of which each may take `MOST`.
+fn calls_taken(mut files: Files<Fused>) -> Calls {
+    Calls {
+        log: MOST
+            .log
+            .saturating_sub(calls_left(&mut files.log, MOST.log)),
+        db: MOST.db.saturating_sub(calls_left(&mut files.db, MOST.db)),
+    }
+}
+
+// How many calls the files take while a register is opened over them.
+fn calls_of_opening(alloc: Global, held: &Held, options: Options) -> Option<Calls> {
+    let files = files_with(alloc, held, MOST)?;
+    let register = register_in(alloc, files, options).ok()?;
+    Some(calls_taken(files_under(register.close())))
+}
+
+// How many they take until the request is answered.
+fn calls_of_request(
+    alloc: Global,
+    held: &Held,
+    request: &Said<'_>,
+    options: Options,
+) -> Option<Calls> {
+    let files = files_with(alloc, held, MOST)?;
+    let register = register_in(alloc, files, options).ok()?;
+    let (_heard, files) = heard(alloc, register, request);
+    Some(calls_taken(files))
+}
+
+// What a stop leaves: what was answered, if the register was opened, and the bytes of both files,
+// as they were read last and as they were last synced.
+#[derive(Drop)]
+struct Left {
+    answer: Option<Vec<u8>>,
+    seen: Held,
+    synced: Held,
+}
+
+// The files stop after so many calls.
+fn stop(
+    alloc: Global,
+    held: &Held,
+    request: &Said<'_>,
+    options: Options,
+    calls: Calls,
+) -> Option<Left> {
+    let files = files_with(alloc, held, calls)?;
+    let (answer, mut files) = match register_in(alloc, files, options) {
+        Ok(register) => heard(alloc, register, request),
+        Err(files) => (None, files),
+    };
+    let seen = held_in(alloc, &files)?;
+    files.log.crash();
+    files.db.crash();
+    let synced = held_in(alloc, &files)?;
+    Some(Left {
+        answer,
+        seen,
+        synced,
+    })
+}
+
+// Where two texts differ first, or the shorter ends.
+fn first_difference(one: &[u8], other: &[u8]) -> usize {
+    let mut same = 0usize;
+    for (byte, another) in one.iter().zip(other.iter()) {
+        if *byte != *another {
+            return same;
+        }
+        same = same.saturating_add(1);
+    }
+    same
+}
+
+// The first half of what was written is there, and the rest is as it was.
+fn torn(alloc: Global, seen: &[u8], synced: &[u8]) -> Option<Vec<u8>> {
+    let first = first_difference(seen, synced);
+    let middle = first.saturating_add(seen.len().saturating_sub(first) / 2);
+    let mut bytes = copy_of(alloc, seen.get(..middle)?)?;
+    if let Some(rest) = synced.get(middle..) {
+        bytes.extend_from_slice(rest).ok()?;
+    }
+    Some(bytes)
+}
+
+fn pair(alloc: Global, log: &[u8], db: &[u8]) -> Option<Held> {
+    Some(Held {
+        log: copy_of(alloc, log)?,
+        db: copy_of(alloc, db)?,
+    })
+}
+
+// What may be left of both files: where the program died, all that was written; where the machine
+// did, what was synced, or more of one of them, or a part of what was written to the log.
+fn images(alloc: Global, left: &Left) -> Option<[Held; 5]> {
+    let (seen, synced) = (&left.seen, &left.synced);
+    let torn_log = torn(alloc, &seen.log, &synced.log)?;
+    Some([
+        pair(alloc, &seen.log, &seen.db)?,
+        pair(alloc, &synced.log, &synced.db)?,
+        pair(alloc, &seen.log, &synced.db)?,
+        pair(alloc, &synced.log, &seen.db)?,
+        pair(alloc, &torn_log, &synced.db)?,
+    ])
+}
+
+// The states that may be found after such an answer, from the first to the last.
+fn bounds(told: &Told, answer: &Option<Vec<u8>>) -> Option<(usize, usize)> {
+    let last = told.states.len().checked_sub(1)?;
+    match answer {
+        None => Some((0, 0)),
+        Some(heard) if *heard == told.answer => Some((last, last)),
+        Some(heard) if is_unavailable(heard) => Some((0, last)),
+        Some(_) => None,
+    }
+}
+
+// The request is made where it was not, and then the rows are those after it.
+fn goes_on(
+    alloc: Global,
+    told: &Told,
+    request: &Said<'_>,
+    held: &Held,
+    place: usize,
+) -> Option<bool> {
+    let last = told.states.len().checked_sub(1)?;
+    let next = tell_once(alloc, held, request, PLAIN)?;
+    let wanted = if place == last {
+        &told.again
+    } else {
+        &told.answer
+    };
+    Some(next.answer == *wanted && Some(&next.rows) == told.states.get(last))
+}
+
+// Bytes that a stop has left, and the state that stands in them.
+#[derive(Drop)]
+struct Judged {
+    held: Held,
+    place: usize,
+}
+
+// Which state stands in these bytes, if it is one that goes on.
+fn judge(alloc: Global, told: &Told, request: &Said<'_>, held: &Held) -> Option<usize> {
+    let rows = rows_in(alloc, held)?;
+    let place = place_of(&told.states, &rows)?;
+    if goes_on(alloc, told, request, held, place)? {
+        Some(place)
+    } else {
+        None
+    }
+}
+
+fn known(judged: &[Judged], held: &Held) -> Option<usize> {
+    for other in judged {
+        if other.held.log == held.log && other.held.db == held.db {
+            return Some(other.place);
+        }
+    }
+    None
+}
+
+// Which state stands in these bytes. Most stops leave the same, which are judged once.
+fn judge_once(
+    alloc: Global,
+    told: &Told,
+    request: &Said<'_>,
+    held: Held,
+    judged: &mut Vec<Judged>,
+) -> Option<usize> {
+    if let Some(place) = known(judged, &held) {
+        return Some(place);
+    }
+    let place = judge(alloc, told, request, &held)?;
+    judged.push(Judged { held, place }).ok()?;
+    Some(place)
+}
+
+// Whether each image is a state that may be found after the answer.
+fn are_whole(
+    alloc: Global,
+    told: &Told,
+    request: &Said<'_>,
+    left: &Left,
+    judged: &mut Vec<Judged>,
+) -> Option<bool> {
+    let (least, most) = bounds(told, &left.answer)?;
+    for held in images(alloc, left)? {
+        let place = judge_once(alloc, told, request, held, judged)?;
+        if place < least || most < place {
+            return Some(false);
+        }
+    }
+    Some(true)
+}
+
+// Which of the files stops.
+#[derive(Clone, Copy, Debug, PartialEq, Eq)]
+enum Stops {
+    Log,
+    Database,
+}
+
+impl Stops {
+    // The stopped file takes so many calls, and the other all.
+    fn after(self, count: u64) -> Calls {
+        match self {
+            Stops::Log => Calls {
+                log: count,
+                ..ENDLESS
+            },
+            Stops::Database => Calls {
+                db: count,
+                ..ENDLESS
+            },
+        }
+    }
+
+    fn count(self, calls: Calls) -> u64 {
+        match self {
+            Stops::Log => calls.log,
+            Stops::Database => calls.db,
+        }
+    }
+}
+
+// The first stop of a file, after so many of its calls, that leaves something else.
+fn first_wrong_stop(
+    alloc: Global,
+    told: &Told,
+    request: &Said<'_>,
+    options: Options,
+    stops: Stops,
+    judged: &mut Vec<Judged>,
+) -> Option<u64> {
+    for count in stops.count(told.opened)..stops.count(told.answered) {
+        let Some(left) = stop(alloc, &told.held, request, options, stops.after(count)) else {
+            return Some(count);
+        };
+        if are_whole(alloc, told, request, &left, judged) != Some(true) {
+            return Some(count);
+        }
+    }
+    None
+}
+
+fn is_found(place: usize, judged: &[Judged]) -> bool {
+    for other in judged {
+        if other.place == place {
+            return true;
+        }
+    }
+    false
+}
+
+// Whether each state was found.
+fn are_all_found(count: usize, judged: &[Judged]) -> bool {
+    for place in 0..count {
+        if !is_found(place, judged) {
+            return false;
+        }
+    }
+    true
+}
+
+/// Where a trial goes wrong.
+#[derive(Clone, Copy, Debug, PartialEq, Eq)]
+enum Wrong {
+    /// The run without a stop does not go as it should.
+    Told,
+    /// A stop of a file after so many calls leaves something else.
+    Stop(Stops, u64),
+    /// No stop leaves one of the states.
+    Found,
+}
+
+// Each commit makes another state.
+fn is_told_so(told: &Told, trial: &Trial<'_>) -> bool {
+    let commits = trial.steps.len().saturating_add(1);
+    let count = told.states.len();
+    count == commits.saturating_add(1) && are_different(&told.states) == Some(true)
+}
+
+fn wrong_stop(
+    alloc: Global,
+    told: &Told,
+    request: &Said<'_>,
+    options: Options,
+    judged: &mut Vec<Judged>,
+) -> Option<Wrong> {
+    for stops in [Stops::Log, Stops::Database] {
+        match first_wrong_stop(alloc, told, request, options, stops, judged) {
+            None => {}
+            Some(count) => return Some(Wrong::Stop(stops, count)),
+        }
+    }
+    None
+}
+
+fn wrong_under(alloc: Global, trial: &Trial<'_>, options: Options) -> Option<Wrong> {
+    let Some(told) = tell_whole(alloc, trial, options) else {
+        return Some(Wrong::Told);
+    };
+    if !is_told_so(&told, trial) {
+        return Some(Wrong::Told);
+    }
+    let mut judged = Vec::new(alloc);
+    match wrong_stop(alloc, &told, &trial.request, options, &mut judged) {
+        None => {}
+        wrong => return wrong,
+    }
+    if are_all_found(told.states.len(), &judged) {
+        None
+    } else {
+        Some(Wrong::Found)
+    }
+}
+
+fn first_wrong(alloc: Global, trial: &Trial<'_>) -> Option<Wrong> {
+    match wrong_under(alloc, trial, PLAIN) {
+        None => wrong_under(alloc, trial, NARROW),
+        wrong => wrong,
+    }
+}
+
+// As `first_wrong_stop`, of the stops before the register is opened.
+fn wrong_opening(alloc: Global, trial: &Trial<'_>, options: Options) -> Option<Wrong> {
+    let Some(mut told) = tell_whole(alloc, trial, options) else {
+        return Some(Wrong::Told);
+    };
+    told.answered = told.opened;
+    told.opened = Calls { log: 0, db: 0 };
+    let mut judged = Vec::new(alloc);
+    wrong_stop(alloc, &told, &trial.request, options, &mut judged)
+}
+
+#[test]
+fn an_opening_that_is_stopped(rt: HostRuntime) {
+    assert_eq!(rt; wrong_opening(rt.alloc(), &ACTIVATION, NARROW), None);
+}
+
+#[test]
+fn an_activation_that_is_stopped(rt: HostRuntime) {
+    assert_eq!(rt; first_wrong(rt.alloc(), &ACTIVATION), None);
+}
+
+#[test]
+fn a_last_acknowledgement_that_is_stopped(rt: HostRuntime) {
+    assert_eq!(rt; first_wrong(rt.alloc(), &ACKNOWLEDGEMENT), None);
+}
+
+#[test]
+fn a_donation_that_is_stopped(rt: HostRuntime) {
+    assert_eq!(rt; first_wrong(rt.alloc(), &DONATION), None);
+}
+
+#[test]
+fn an_assignment_that_is_stopped(rt: HostRuntime) {
+    assert_eq!(rt; first_wrong(rt.alloc(), &ASSIGNMENT), None);
+}
+
+#[test]
+fn a_jump_of_the_clock_that_is_stopped(rt: HostRuntime) {
+    assert_eq!(rt; first_wrong(rt.alloc(), &JUMP), None);
+}
+
+#[test]
+fn a_newcomer_that_is_stopped(rt: HostRuntime) {
+    assert_eq!(rt; first_wrong(rt.alloc(), &NEWCOMER), None);
+}

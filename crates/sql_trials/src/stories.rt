@@ -1,0 +1,194 @@
+//! What is told to a register before it is stopped, and the request in which it is.
+use crate::said::Said;
+
+/// Messages, one after the other.
+pub type Story<'a> = &'a [Said<'a>];
+
+/// A request in which the files stop.
+#[derive(Clone, Copy)]
+pub struct Trial<'a> {
+    /// What is told before, behind what opens each story.
+    pub stories: &'a [Story<'a>],
+    /// What the request does first, each in a commit of its own: asked one by one, these do the
+    /// same.
+    pub steps: Story<'a>,
+    pub request: Said<'a>,
+}
+
+/// Three carriers, each with a routing number, and a code that BBBB holds.
+pub const OPENING: Story<'static> = &[
+    ("NPAC", "/carriers", r#"{"spid":"AAAA"}"#),
+    ("NPAC", "/carriers", r#"{"spid":"BBBB"}"#),
+    ("NPAC", "/carriers", r#"{"spid":"CCCC"}"#),
+    ("AAAA", "/lrns", r#"{"lrn":"2025440000"}"#),
+    ("BBBB", "/lrns", r#"{"lrn":"2025330000"}"#),
+    ("CCCC", "/lrns", r#"{"lrn":"2025550000"}"#),
+    ("NPAC", "/codes", r#"{"code":"202533","spid":"BBBB"}"#),
+];
+
+/// A port that both providers have created.
+pub const CREATED: Story<'static> = &[
+    (
+        "AAAA",
+        "/subscriptionVersionNewSP-Create",
+        r#"{"cic":"0288","due":0,"lrn":"2025440000","new":"AAAA","old":"BBBB","tn":"2025331234"}"#,
+    ),
+    (
+        "BBBB",
+        "/subscriptionVersionOldSP-Create",
+        r#"{"authorized":true,"due":0,"new":"AAAA","old":"BBBB","tn":"2025331234"}"#,
+    ),
+];
+
+/// The port is activated, and two of three carriers acknowledge it.
+pub const SENT: Story<'static> = &[
+    ("AAAA", "/subscriptionVersionActivate", r#"{"id":1}"#),
+    ("AAAA", "/downloads/acknowledge", r#"{"attempt":1,"id":1}"#),
+    ("CCCC", "/downloads/acknowledge", r#"{"attempt":1,"id":1}"#),
+];
+
+/// A block is donated of which one number is in use, and each carrier acknowledges that number.
+pub const DONATED: Story<'static> = &[
+    (
+        "BBBB",
+        "/blocks/donate",
+        r#"{"block":"2025337","lrn":"2025330000","used":["001"]}"#,
+    ),
+    ("AAAA", "/downloads/acknowledge", r#"{"attempt":1,"id":1}"#),
+    ("BBBB", "/downloads/acknowledge", r#"{"attempt":1,"id":1}"#),
+    ("CCCC", "/downloads/acknowledge", r#"{"attempt":1,"id":1}"#),
+];
+
+// By themselves end: the second version's broadcast, which AAAA alone has acknowledged, at 15; the
+// fifth's, which nobody has, at 20; the first, with the old provider's create alone, when both
+// concurrence windows have, at 120; the fourth, which nobody activates, 500 minutes after its due
+// minute, at 600; and the conflict of the third at 1000.
+const WINDOWED: Story<'static> = &[
+    (
+        "BBBB",
+        "/subscriptionVersionOldSP-Create",
+        r#"{"authorized":true,"due":300,"new":"AAAA","old":"BBBB","tn":"2025331001"}"#,
+    ),
+    (
+        "AAAA",
+        "/subscriptionVersionNewSP-Create",
+        r#"{"due":0,"lrn":"2025440000","new":"AAAA","old":"BBBB","tn":"2025331002"}"#,
+    ),
+    (
+        "BBBB",
+        "/subscriptionVersionOldSP-Create",
+        r#"{"authorized":true,"due":0,"new":"AAAA","old":"BBBB","tn":"2025331002"}"#,
+    ),
+    ("AAAA", "/subscriptionVersionActivate", r#"{"id":2}"#),
+    ("AAAA", "/downloads/acknowledge", r#"{"attempt":1,"id":2}"#),
+    (
+        "CCCC",
+        "/subscriptionVersionNewSP-Create",
+        r#"{"due":500,"lrn":"2025550000","new":"CCCC","old":"BBBB","tn":"2025331003"}"#,
+    ),
+    (
+        "BBBB",
+        "/subscriptionVersionOldSP-Create",
+        r#"{"authorized":true,"due":500,"new":"CCCC","old":"BBBB","tn":"2025331003"}"#,
+    ),
+    ("BBBB", "/subscriptionVersionConflict", r#"{"id":3}"#),
+    (
+        "CCCC",
+        "/subscriptionVersionNewSP-Create",
+        r#"{"due":100,"lrn":"2025550000","new":"CCCC","old":"BBBB","tn":"2025331004"}"#,
+    ),
+    (
+        "BBBB",
+        "/subscriptionVersionOldSP-Create",
+        r#"{"authorized":true,"due":100,"new":"CCCC","old":"BBBB","tn":"2025331004"}"#,
+    ),
+    ("NPAC", "/clock", r#"{"minute":5}"#),
+    (
+        "AAAA",
+        "/subscriptionVersionNewSP-Create",
+        r#"{"due":5,"lrn":"2025440000","new":"AAAA","old":"BBBB","tn":"2025331005"}"#,
+    ),
+    (
+        "BBBB",
+        "/subscriptionVersionOldSP-Create",
+        r#"{"authorized":true,"due":5,"new":"AAAA","old":"BBBB","tn":"2025331005"}"#,
+    ),
+    ("AAAA", "/subscriptionVersionActivate", r#"{"id":5}"#),
+];
+
+const JUMPED: Said<'static> = ("NPAC", "/clock", r#"{"minute":2000}"#);
+
+// After the jump a sixth port is sent, so that a newcomer has to acknowledge it too.
+const SENT_AFTERWARDS: Story<'static> = &[
+    JUMPED,
+    (
+        "AAAA",
+        "/subscriptionVersionNewSP-Create",
+        r#"{"due":2000,"lrn":"2025440000","new":"AAAA","old":"BBBB","tn":"2025331006"}"#,
+    ),
+    (
+        "BBBB",
+        "/subscriptionVersionOldSP-Create",
+        r#"{"authorized":true,"due":2000,"new":"AAAA","old":"BBBB","tn":"2025331006"}"#,
+    ),
+    ("AAAA", "/subscriptionVersionActivate", r#"{"id":6}"#),
+];
+
+// A question about each version of which a window has ended, the earliest first.
+const SETTLED: Story<'static> = &[
+    ("NPAC", "/versions/2", ""),
+    ("NPAC", "/versions/5", ""),
+    ("NPAC", "/versions/1", ""),
+    ("NPAC", "/versions/4", ""),
+    ("NPAC", "/versions/3", ""),
+];
+
+/// A download is sent to each of three carriers.
+pub const ACTIVATION: Trial<'static> = Trial {
+    stories: &[CREATED],
+    steps: &[],
+    request: ("AAAA", "/subscriptionVersionActivate", r#"{"id":1}"#),
+};
+
+/// The last acknowledgement closes a broadcast.
+pub const ACKNOWLEDGEMENT: Trial<'static> = Trial {
+    stories: &[CREATED, SENT],
+    steps: &[],
+    request: ("BBBB", "/downloads/acknowledge", r#"{"attempt":1,"id":1}"#),
+};
+
+/// Three numbers of a block are in use: each is made a version, and sent to each carrier.
+pub const DONATION: Trial<'static> = Trial {
+    stories: &[],
+    steps: &[],
+    request: (
+        "BBBB",
+        "/blocks/donate",
+        r#"{"block":"2025337","lrn":"2025330000","used":["001","002","003"]}"#,
+    ),
+};
+
+/// A donated block is given to a carrier.
+pub const ASSIGNMENT: Trial<'static> = Trial {
+    stories: &[DONATED],
+    steps: &[],
+    request: (
+        "NPAC",
+        "/blocks/assign",
+        r#"{"block":"2025337","holder":"CCCC","lrn":"2025550000"}"#,
+    ),
+};
+
+/// The clock jumps over the ends of five windows.
+pub const JUMP: Trial<'static> = Trial {
+    stories: &[WINDOWED],
+    steps: &[],
+    request: JUMPED,
+};
+
+/// A newcomer finds five windows that have ended.
+pub const NEWCOMER: Trial<'static> = Trial {
+    stories: &[WINDOWED, SENT_AFTERWARDS],
+    steps: SETTLED,
+    request: ("NPAC", "/carriers", r#"{"spid":"DDDD"}"#),
+};
