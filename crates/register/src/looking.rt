@@ -28,7 +28,7 @@ pub fn look_up<S: Store>(store: &mut S, is_known: bool, id: u64) -> Result<Looke
         found.row) }
     ensures refused { S.IsUsable store.new
         → IfErr result (IsLookedUpInVain (S.content store.old) is_known id) }
-    ensures reads { Reads S.IsUsable S.IsHonest S.content S.failed store.old store.new
+    ensures reads { Reads S.IsUsable S.IsHonest S.MayLeave S.content S.failed store.old store.new
         (IsAnswered result) (S.IsUsable store.new × (is_some (S.content store.old).clock ≡ true)
         × (result ≡ Err Refusal.Storage)) }
 {
@@ -49,7 +49,7 @@ pub fn is_lrn_of<S: Store>(store: &mut S, lrn: Lrn, carrier: Spid) -> Result<boo
     ensures value { S.IsUsable store.new
         → IfOk result (λ good. good
         ≡ is_the carrier.number (get (S.content store.old).lrns lrn.number)) }
-    ensures reads { Reads S.IsUsable S.IsHonest S.content S.failed store.old store.new
+    ensures reads { Reads S.IsUsable S.IsHonest S.MayLeave S.content S.failed store.old store.new
         (IsAnswer result) (result ≡ Err StoreFault.Storage) }
 {
     match store.lrn(lrn)? {

@@ -1,5 +1,5 @@
 //! Commands on blocks.
-ghost use Rattle.settle.specs.Owing.{IsAnswer, IsAnswered, Owes, Reads};
+ghost use Rattle.settle.specs.Owing.{IsAnswer, IsAnswered, Leaves, Owes, Reads};
 ghost use Rattle.std.specs.Prelude.{◌≡◌, ◌+◌, ◌≤◌, ◌==◌, ◌||◌, ℕ, Err, Some, IfOk, OnOk, OnErr, map, length, is_some, vec_len};
 ghost use Rattle.std.specs.FinMap.{get, keys};
 ghost use Rattle.meaning.specs.declared.words.Action.TheVariants.{Create};
@@ -13,6 +13,7 @@ ghost use Rattle.version.specs.Views.{windows_of};
 ghost use Rattle.pool.specs.Assignments.{command_of as assignment_of};
 ghost use Rattle.pool.specs.Donations.{command_of as donation_of};
 ghost use Rattle.calls.specs.Calls.{view_of, replied};
+ghost use Rattle.register.specs.Crashes.{ComesSettled};
 ghost use Rattle.register.specs.Settling.{AnswersSettled, SaysOnceSettled};
 ghost use Rattle.settle.specs.Changes.{IsChanged};
 ghost use Rattle.settle.specs.Sending.{begun_of, sending_each};
@@ -60,6 +61,15 @@ fn commit_made<S: Store>(
         (record (clock_row_of clock.now) { next_id = clock.now.next_id + length made.now }))
         (S.content store.old) (S.content store.new)) }
     ensures back { OnErr result (S.IsUsable store.new → S.content store.new ≡ S.content store.old) }
+    ensures left { Leaves S.IsHonest S.MayLeave store.old store.new (λ m. S.IsUsable store.old
+        × (clock.now.next_id + length made.now ≤ limit
+        → IsChanged
+        (pooling
+        (sending_each (windows_of clock.now.windows) clock.now.minute.number Create
+        (map begun_of made.now) (keys (S.content store.old).carriers))
+        (Some (block_of block.0, block_row_of block.1))
+        (record (clock_row_of clock.now) { next_id = clock.now.next_id + length made.now }))
+        (S.content store.old) m)) }
     ensures owes { Owes S.IsUsable S.IsHonest S.failed store.old store.new
         (IsAnswer result) (result ≡ Err StoreFault.Storage) }
 {
@@ -91,7 +101,7 @@ fn ids_of(alloc: Global, made: &[(u64, Version)]) -> Result<Vec<u64>, AllocError
 fn may_release<S: Store>(store: &mut S, caller: Spid) -> Result<bool, StoreFault>
     ensures value { S.IsUsable store.new → IfOk result (λ known. known
         ≡ ((caller.number == npac) || is_some (get (S.content store.old).carriers caller.number))) }
-    ensures reads { Reads S.IsUsable S.IsHonest S.content S.failed store.old store.new
+    ensures reads { Reads S.IsUsable S.IsHonest S.MayLeave S.content S.failed store.old store.new
         (IsAnswer result) (result ≡ Err StoreFault.Storage) }
 {
     if caller.number == Spid::NPAC.number {
@@ -112,6 +122,8 @@ pub fn donate<S: Store>(
         → AnswersSettled (S.content store.old) (S.content store.new)
         (Requests caller.number (Commands (donation_of donation.now)))
         (replied (λ ids. Donated donation.now.block.number ids.items) result) }
+    ensures left { Leaves S.IsHonest S.MayLeave store.old store.new
+        (λ m. S.IsUsable store.old × ComesSettled (S.content store.old) (Requests caller.number (Commands (donation_of donation.now))) m) }
     ensures owes { Owes S.IsUsable S.IsHonest S.failed store.old store.new
         (IsAnswered result) (SaysOnceSettled (S.IsUsable store.new) (S.content store.old)
         (Requests caller.number (Commands (donation_of donation.now)))
@@ -144,6 +156,8 @@ pub fn assign<S: Store>(
         → AnswersSettled (S.content store.old) (S.content store.new)
         (Requests caller.number (Commands (assignment_of assignment.now)))
         (replied (λ view. Shown (Some (view_of view))) result) }
+    ensures left { Leaves S.IsHonest S.MayLeave store.old store.new
+        (λ m. S.IsUsable store.old × ComesSettled (S.content store.old) (Requests caller.number (Commands (assignment_of assignment.now))) m) }
     ensures owes { Owes S.IsUsable S.IsHonest S.failed store.old store.new
         (IsAnswered result) (SaysOnceSettled (S.IsUsable store.new) (S.content store.old)
         (Requests caller.number (Commands (assignment_of assignment.now)))
@@ -182,6 +196,8 @@ pub fn release<S: Store>(
         → AnswersSettled (S.content store.old) (S.content store.new)
         (Requests caller.number (Commands (Release block.number)))
         (replied (λ view. Shown (Some (view_of view))) result) }
+    ensures left { Leaves S.IsHonest S.MayLeave store.old store.new
+        (λ m. S.IsUsable store.old × ComesSettled (S.content store.old) (Requests caller.number (Commands (Release block.number))) m) }
     ensures owes { Owes S.IsUsable S.IsHonest S.failed store.old store.new
         (IsAnswered result) (SaysOnceSettled (S.IsUsable store.new) (S.content store.old)
         (Requests caller.number (Commands (Release block.number)))

@@ -1,5 +1,11 @@
 -- What the texts mean.
-use Rattle.std.proofs.Common.{◌≡◌, false, refl}
+use Rattle.std.proofs.Common.{◌≡◌, false, refl, Ok, Err}
+use Rattle.std.specs.Prelude.{⊤}
+use Rattle.sqlite_ast.specs.declared.Statement.{Statement}
+use Rattle.sqlite_ast.specs.declared.Statement.TheVariants as written
+use Rattle.sqlite_syntax.specs.declared.statement.Parsed.{Parsed}
+use Rattle.sqlite_resolve.specs.Lowering.{Checked}
+use Rattle.sqlite_resolve.specs.Compile.{first}
 use Rattle.sqlite.specs.Listing.{understood, reads_listing}
 use Rattle.sqlite.proofs.Callers.{IsPlain, command_of}
 use Rattle.sqlite_tied.specs.Compute.{everything}
@@ -9,6 +15,15 @@ use Rattle.sql_rows.specs.declared.statement.Table.{Table}
 use Rattle.sql_rows.specs.declared.statement.Table.TheVariants.{Carrier, Lrn, Code, Block, Version, Broadcast, Wait, Clock}
 use Rattle.sql_rows.specs.declared.statement.Query.{Query}
 use Rattle.sql_rows.specs.declared.statement.Query.TheVariants.{CarrierNamed, LrnNumbered, CodeNumbered, BlockNumbered, ClockNumbered, VersionNumbered, VersionInForce, VersionOpen, VersionDue, BroadcastKeyed, All, BroadcastsByOpen, WaitsAbout, WaitsFor, WaitsOf, InForceAmong, OpenAmong}
+
+-- the text begins with a query
+abbrev pub IsSelect : Statement → Type 0
+IsSelect (written.Select s) = ⊤
+IsSelect _ = ⊥
+
+abbrev pub Selects : Checked Parsed → Type 0
+Selects (Ok p) = IsSelect p.statement
+Selects (Err e) = ⊤
 
 pub query_is : (q : Query) → command_of (understood the_schema (query_text q)) ≡ query_command q
 unfolding understood everything
@@ -90,6 +105,34 @@ query_unlisted WaitsFor = refl
 query_unlisted WaitsOf = refl
 query_unlisted InForceAmong = refl
 query_unlisted OpenAmong = refl
+
+-- each is a query, whatever tables there are
+pub query_selects : (q : Query) → Selects (first (query_text q))
+unfolding first everything
+query_selects CarrierNamed = tt
+query_selects LrnNumbered = tt
+query_selects CodeNumbered = tt
+query_selects BlockNumbered = tt
+query_selects ClockNumbered = tt
+query_selects VersionNumbered = tt
+query_selects VersionInForce = tt
+query_selects VersionOpen = tt
+query_selects VersionDue = tt
+query_selects BroadcastKeyed = tt
+query_selects (All Carrier) = tt
+query_selects (All Lrn) = tt
+query_selects (All Code) = tt
+query_selects (All Block) = tt
+query_selects (All Version) = tt
+query_selects (All Broadcast) = tt
+query_selects (All Wait) = tt
+query_selects (All Clock) = tt
+query_selects BroadcastsByOpen = tt
+query_selects WaitsAbout = tt
+query_selects WaitsFor = tt
+query_selects WaitsOf = tt
+query_selects InForceAmong = tt
+query_selects OpenAmong = tt
 
 pub delete_is : (t : Table) → command_of (understood the_schema (delete_text t)) ≡ delete_command t
 unfolding understood everything

@@ -12,7 +12,8 @@ use Rattle.sqlite.specs.Clock.{timed}
 use Rattle.sqlite.specs.Store.{Ghosts}
 use Rattle.sqlite.specs.Held.{Held, state}
 use Rattle.sqlite.specs.State.{State, HasCleanDisk, IsUnchanged, IsRolledBack, Survives, Shown, ShowsRows, FailsToQuery, FailsToShow, IsNotRun, CommitsShowing, ExecutesInside, Executes, Shows}
-use Rattle.sqlite.proofs.Callers.{IsPlain, never_commits, survives_begin, reads_as}
+use Rattle.sqlite_resolve.specs.Compile.{first}
+use Rattle.sqlite.proofs.Callers.{IsPlain, survives_begin, reads_as}
 use Rattle.sqlite.proofs.StateLemmas.{survives_then, survives_weaker}
 use Rattle.sqlite.specs.Query.{IsAnswer}
 use Rattle.sqlite.specs.declared.types.Value.TheVariants.{Null}
@@ -25,7 +26,8 @@ use Rattle.sql_rows.specs.declared.statement.Query.{Query}
 use Rattle.sql_rows.specs.Written.{Removed, AddedBy, Replaced}
 use Rattle.sql_rows.specs.declared.statement.Table.{Table}
 use Rattle.sql_rows.proofs.TableLemmas.{removed_shaped}
-use Rattle.sql_rows.proofs.StatementLemmas.{query_is, query_plain, query_unlisted}
+use Rattle.sql_rows.proofs.StatementLemmas.{Selects, query_is, query_plain, query_selects, query_unlisted}
+use Rattle.sql_store.proofs.Showing.{never_shows}
 use Rattle.sql_store.specs.Store.{settled, content_at, IsOurs, IsSame, Looked, Turned, IsInside, Stepped, Kept, Makes, Goes, Writes}
 
 module _ (sql : List ℕ) (params : Row) (old new : State) where
@@ -70,8 +72,8 @@ module _ (sql : List ℕ) (params : Row) (old new : State) where
     pub query_err_leaves : (e : Error) → IsTrue new.is_open → FailsToQuery sql params old new e → IsSame old new
     query_err_leaves e is_open h = let was = fails_open e is_open h in same_of is_open (ours was) (fails_same e (plain was) h)
 
-  pub query_commits_nothing : IsPlain (understood old.now.schema sql) → Survives old new (CommitsShowing sql params old) → Survives old new (λ _. ⊥)
-  query_commits_nothing plain = survives_weaker old new _ _ (λ _ db. never_commits sql params old db plain)
+  pub query_commits_nothing : Selects (first sql) → Survives old new (CommitsShowing sql params old) → Survives old new (λ _. ⊥)
+  query_commits_nothing selects = survives_weaker old new _ _ (λ _ db. never_shows sql params old db selects)
 
 -- ---- queries
 
@@ -82,17 +84,19 @@ module _ (query : Query) (params : Row) (old new : State) (ours : IsTrue old.is_
   pub looked_ok : (rows : List Row) → (IsTrue new.is_open → HasCleanDisk new) → (HasCleanDisk new → Shown (query_text query) params old new rows) → Survives old new (CommitsShowing (query_text query) params old) → Looked old new true
   looked_ok rows clean shown survives = record {
     same = λ up. query_leaves (query_text query) params old new ours plain rows up (shown (clean up));
-    stays = λ ok was done. (shown_same (query_text query) params old new rows (plain was) (shown done)).0.is_open;
+    stays = λ ok done.
+        let was = shown_open (query_text query) params old new rows (shown done) in
+        (shown_same (query_text query) params old new rows (plain was) (shown done)).0.is_open;
     honest = λ done. omega (arith, survives.clean, done);
-    survives = λ was done. query_commits_nothing (query_text query) params old new (plain was) survives;
+    survives = query_commits_nothing (query_text query) params old new (query_selects query) survives;
   }
 
   pub looked_err : (e : Error) → (IsTrue new.is_open → HasCleanDisk new) → (HasCleanDisk new → FailsToQuery (query_text query) params old new e) → Survives old new (CommitsShowing (query_text query) params old) → Looked old new false
   looked_err e clean fails survives = record {
     same = λ up. query_err_leaves (query_text query) params old new ours plain e up (fails (clean up));
-    stays = λ no was done. absurd (true≢false (sym no));
+    stays = λ no done. absurd (true≢false (sym no));
     honest = λ done. omega (arith, survives.clean, done);
-    survives = λ was done. query_commits_nothing (query_text query) params old new (plain was) survives;
+    survives = query_commits_nothing (query_text query) params old new (query_selects query) survives;
   }
 
   pub answers : (rows : List Row) → IsTrue old.is_open → Shown (query_text query) params old new rows → IsAnswer (query_of query) (overlay old.now.trees []) params rows
@@ -106,8 +110,8 @@ looked_then a b d answered one two = record {
       let sooner = one.same later.was_open in
       record { was_open = sooner.was_open; now = later.now ∙ sooner.now; committed = later.committed ∙ sooner.committed };
   honest = λ done. one.honest (two.honest done);
-  stays = λ ok was done. two.stays ok (one.stays refl was (two.honest done)) done;
-  survives = λ was done. survives_then a b d _ _ _ (λ _ db none. none) (λ _ db none. none) (one.survives was (two.honest done)) (two.survives (one.stays refl was (two.honest done)) done);
+  stays = two.stays;
+  survives = survives_then a b d _ _ _ (λ _ db none. none) (λ _ db none. none) one.survives two.survives;
 }
 
 -- a call in a transaction that was made was made in one that had not ended
@@ -355,10 +359,10 @@ module _ (old mid new : State) (change : Content → Content) (Becomes : Content
     }
 
 -- no read at all
-pub looked_still : (a : State) → Looked a a true
-looked_still a = record {
+pub looked_still : (a : State) → (HasCleanDisk a → IsTrue a.is_open) → Looked a a true
+looked_still a is_open = record {
   same = λ up. record { was_open = up; now = refl; committed = refl };
   honest = λ done. done;
-  stays = λ ok was done. was;
-  survives = λ was done. record { clean = omega arith; shield = λ s. s; counts = omega arith; limit = refl; closes = λ clean h. inl h; crash = λ clean db may. inl may };
+  stays = λ ok done. is_open done;
+  survives = record { clean = omega arith; shield = λ s. s; counts = omega arith; limit = refl; closes = λ clean h. inl h; crash = λ clean db may. inl may };
 }

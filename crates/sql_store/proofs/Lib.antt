@@ -1,3 +1,4 @@
+pub mod Showing
 pub mod CallLemmas
 pub mod LookupLemmas
 pub mod MadeLemmas

@@ -59,12 +59,12 @@ pub record IsSame (old new : State) : Type 0 where
   pub now : new.now ≡ old.now
   pub committed : new.committed ≡ old.committed
 
--- a call read, and answered or not
+-- a call read, and answered or not: a connection that is shut answers none
 pub record Looked (old new : State) (answered : Bool) : Type 0 where
   pub same : IsTrue new.is_open → IsSame old new
   pub honest : HasCleanDisk new → HasCleanDisk old
-  pub stays : IsTrue answered → IsTrue old.is_open → HasCleanDisk new → IsTrue new.is_open
-  pub survives : IsTrue old.is_open → HasCleanDisk new → Survives old new (λ _. ⊥)
+  pub stays : IsTrue answered → HasCleanDisk new → IsTrue new.is_open
+  pub survives : Survives old new (λ _. ⊥)
 
 -- a call committed this, or nothing
 pub record Turned (old new : State) (done : Bool) (Becomes : Content → Content → Type 0) : Type 0 where

@@ -124,6 +124,8 @@ pub(crate) fn version<S: Alter>(
     ensures idle { conn.new.in_transaction ≡ false }
 {
     if id >= 9_223_372_036_854_775_808 {
+        // No row has such an id. A connection that is shut says so at a look-up alone.
+        clock(conn)?;
         return Ok(None);
     }
     let found: Option<NumberedRow> = find(conn, Query::VersionNumbered, &[number(id)])?;
@@ -195,6 +197,8 @@ pub(crate) fn broadcast<S: Alter>(
     ensures idle { conn.new.in_transaction ≡ false }
 {
     if key.id >= 9_223_372_036_854_775_808 || key.attempt >= 9_223_372_036_854_775_808 {
+        // As above: no row has such a key.
+        clock(conn)?;
         return Ok(None);
     }
     let params = [number(key.id), number(key.attempt)];

@@ -1,6 +1,7 @@
 //! The front of a carrier's queue.
 ghost use Rattle.std.specs.Prelude.{◌≡◌, ◌++◌, false, IsTrue, IfOk, OnOk, is_ok, option_to_list};
 ghost use Rattle.sqlite.specs.Held.{state};
+ghost use Rattle.sqlite.specs.State.{HasCleanDisk};
 ghost use Rattle.settle.specs.Reads.{AreFirst};
 ghost use Rattle.settle.specs.Views.{spid_of};
 ghost use Rattle.sql_store.specs.Queues.{AreFirstTold, AreQueued, IsNext};
@@ -79,6 +80,7 @@ fn first_told<S: Alter>(
     many: usize,
 ) -> Result<Vec<Download>, Fault>
     requires ours { IsTrue (state S.Store conn.old).is_open → IsOurs (state S.Store conn.old) }
+    requires open { HasCleanDisk (state S.Store conn.old) → IsTrue (state S.Store conn.old).is_open }
     requires idle { conn.old.in_transaction ≡ false }
     ensures value { IsTrue (state S.Store conn.new).is_open
         → IfOk result (λ downloads. AreFirstTold (content_at (state S.Store conn.old)) many

@@ -31,4 +31,5 @@ returns-in_err-last-clause-reads g c = record {
       let a = c.code-2.ensures.reads.rises in let b = c.block.ensures.reads.rises in
       risen-since (g.S.Store.failed c.args.store.now) (g.S.Store.failed c.block.new.self) (g.S.Store.failed c.last_made.new.store) (omega arith) c.last_made.ensures.reads.rises
       (c.last_made.ensures.reads.storage (says.usable, there, said));
+  left = search rules;
 }

@@ -1,4 +1,4 @@
-use Rattle.std.proofs.Common.{rules, arith, ◌≡◌, ◌+◌, [], ◌∷◌, Some, Err, ap, sym, ◌∙◌, subst}
+use Rattle.std.proofs.Common.{rules, arith, ◌≡◌, ◌+◌, [], ◌∷◌, Some, Err, ap, sym, ◌∙◌, subst, inl, inr}
 use Rattle.std.specs.Prelude.{option_map, Result}
 use Rattle.std.specs.FinMap.{get, keys}
 use Rattle.numbers.specs.declared.cic.Cic.{Cic}
@@ -25,6 +25,9 @@ use Rattle.register.proofs.BlockCalled.{HasFound, answers_unfound, has_found, ho
 use Rattle.register.proofs.BlockCommands.{assigned_row}
 use Rattle.register.proofs.Composed.{answers_fault}
 use Rattle.register.proofs.Unfailing.{same_refusal, storage_by}
+use Rattle.register.specs.Crashes.{ComesSettled}
+use Rattle.register.proofs.Left.{comes, left_kept}
+use Rattle.register.proofs.Composed.{some_view}
 use Rattle.register.proofs.pooling.assign.Goals as goal
 
 pub returns-in_err-found-clause-answers : goal.returns-in_err-found-clause-answers
@@ -119,3 +122,47 @@ returns-clause-answers g c = λ usable.
     (λ room. subst (λ (m : Content). IsChanged (pooling (sending_each (windows_of clock.windows) clock.minute.number Create (begun_of (clock.next_id, c.in_ok-version.version) ∷ []) (keys (g.S.Store.content c.is_lrn_of.new.store).carriers))
     (assigned_row a.block.number c.in_ok-version.version.old_provider.number clock.next_id) (record (clock_row_of clock) { next_id = clock.next_id + 1 })) m (g.S.Store.content c.commit_made.new.store)) same
     (c.in_ok-commit_made.ensures.done usable room))
+
+pub returns-in_err-commit_made-clause-left : goal.returns-in_err-commit_made-clause-left
+returns-in_err-commit_made-clause-left g c = λ honest m may.
+    let third = c.commit_made.ensures.owes.honest honest in
+    let second = c.in_ok-is_lrn_good.ensures.reads.honest third in
+    let first = c.in_ok-found.ensures.reads.honest second in
+    let old = g.S.Store.content c.args.store.now in
+    let clock = c.in_ok-found.found.clock in
+    elim (c.commit_made.ensures.left honest m may) [
+      | inl before ↦ inl (c.in_ok-is_known.ensures.reads.left first m (c.in_ok-found.ensures.reads.left second m (c.in_ok-is_lrn_good.ensures.reads.left third m before)))
+      | inr (ready, changed) ↦
+          let at_found = c.in_ok-is_lrn_good.ensures.reads.same ready in
+          let at_carrier = c.in_ok-found.ensures.reads.same at_found.0 in
+          let at_start = c.in_ok-is_known.ensures.reads.same at_carrier.0 in
+          let same : g.S.Store.content c.is_lrn_of.new.store ≡ old = at_found.1 ∙ at_carrier.1 ∙ at_start.1 in
+          let a = c.args.assignment.now in
+          let has : HasFound old c.args.caller.number a.block.number (assignment_of a) (clock_row_of c.in_ok-found.found.clock) c.in_ok-found.found.read c.facts-facts.result =
+          has_found old (g.S.Store.content c.carrier.new.self) c.args.caller.number a.block.number (assignment_of a) (clock_row_of c.in_ok-found.found.clock) c.in_ok-found.found.read c.facts-facts.result
+          c.in_ok-is_known.is_known c.in_ok-is_lrn_good.is_lrn_good at_start.1 (c.in_ok-found.ensures.found at_found.0)
+          (λ st stands. holder_unknown st old c.args.caller.number a.block.number a.holder.number a.routing.lrn.number (option_map (λ (x : Cic). x.number) a.routing.cic)
+          stands c.in_ok-is_known.is_known (c.in_ok-is_known.ensures.value at_carrier.0))
+          (c.in_ok-is_lrn_good.ensures.value ready ∙ ap (λ (k : Content). is_the a.holder.number (get k.lrns a.routing.lrn.number)) (at_carrier.1 ∙ at_start.1))
+          c.facts-facts.ensures in
+          let view = some_view (clock_row_of clock) clock.next_id c.in_ok-version.version in
+          inr (
+            at_start.0,
+            comes old m (Requests c.args.caller.number (Commands (assignment_of c.args.assignment.now))) _
+                (answers_assigned old m c.args.caller.number a (clock_row_of clock) c.in_ok-found.found.read c.facts-facts.result has
+                c.in_ok-version.version (keys (g.S.Store.content c.is_lrn_of.new.store).carriers) view.0
+                c.in_ok-version.ensures.refusal c.in_ok-version.ensures.made (ap (λ (k : Content). keys k.carriers) same) view.1
+                (λ room. subst (λ (k : Content). IsChanged (pooling (sending_each (windows_of clock.windows) clock.minute.number Create (begun_of (clock.next_id, c.in_ok-version.version) ∷ []) (keys (g.S.Store.content c.is_lrn_of.new.store).carriers))
+                (assigned_row a.block.number c.in_ok-version.version.old_provider.number clock.next_id) (record (clock_row_of clock) { next_id = clock.next_id + 1 })) k m) same (changed room))),
+          )
+    ]
+
+pub returns-clause-left : goal.returns-clause-left
+returns-clause-left g c =
+    let old = c.args.store.now in
+    left_kept g.S.Store.IsUsable g.S.Store.IsHonest g.S.Store.content g.S.Store.MayLeave old old c.commit_made.new.store g.met.S.Store.leaves_content (ComesSettled (g.S.Store.content old) (Requests c.args.caller.number (Commands (assignment_of c.args.assignment.now))))
+    (λ honest.
+    let third = c.in_ok-commit_made.ensures.owes.honest honest in
+    c.in_ok-commit_made.ensures.owes.stays tt (c.in_ok-is_lrn_good.ensures.reads.stays tt (c.in_ok-found.ensures.open (c.in_ok-is_lrn_good.ensures.reads.honest third)) third) honest)
+    (λ used. search (rules, used))
+    (λ used. comes (g.S.Store.content old) (g.S.Store.content c.commit_made.new.store) (Requests c.args.caller.number (Commands (assignment_of c.args.assignment.now))) _ (returns-clause-answers g c used))

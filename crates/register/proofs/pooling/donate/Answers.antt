@@ -1,4 +1,4 @@
-use Rattle.std.proofs.Common.{rules, ◌≡◌, ◌+◌, ◌≤◌, map, length, ap, ◌∙◌, subst}
+use Rattle.std.proofs.Common.{rules, ◌≡◌, ◌+◌, ◌≤◌, map, length, ap, ◌∙◌, subst, inl, inr}
 use Rattle.std.specs.Prelude.{option_map}
 use Rattle.std.specs.FinMap.{get, keys}
 use Rattle.numbers.specs.declared.cic.Cic.{Cic}
@@ -18,6 +18,8 @@ use Rattle.register.proofs.BlockCalled.{HasFound, answers_unfound, donor_unknown
 use Rattle.register.proofs.BlockCommands.{donated_row}
 use Rattle.register.proofs.Composed.{answers_fault}
 use Rattle.register.proofs.Donated.{answers_donated, answers_donation_refused}
+use Rattle.register.specs.Crashes.{ComesSettled}
+use Rattle.register.proofs.Left.{comes, left_kept}
 use Rattle.register.proofs.pooling.donate.Goals as goal
 
 pub returns-in_err-found-clause-answers : goal.returns-in_err-found-clause-answers
@@ -91,3 +93,50 @@ returns-clause-answers g c = λ usable.
     (subst (λ es. clock.next_id + length es ≤ limit → IsChanged (pooling (sending_each (windows_of clock.windows) clock.minute.number Create (map begun_of es) (keys (g.S.Store.content c.is_lrn_of.new.store).carriers))
     (donated_row d.block.number c.args.caller.number) (record (clock_row_of clock) { next_id = clock.next_id + length es })) (g.S.Store.content c.is_lrn_of.new.store) (g.S.Store.content c.commit_made.new.store))
     c.deref-2.ensures.value (c.in_ok-commit_made.ensures.done usable) room))
+
+pub returns-in_err-commit_made-clause-left : goal.returns-in_err-commit_made-clause-left
+returns-in_err-commit_made-clause-left g c = λ honest m may.
+    let third = c.commit_made.ensures.owes.honest honest in
+    let second = c.in_ok-is_lrn_good.ensures.reads.honest third in
+    let first = c.in_ok-found.ensures.reads.honest second in
+    let old = g.S.Store.content c.args.store.now in
+    let clock = c.in_ok-found.found.clock in
+    elim (c.commit_made.ensures.left honest m may) [
+      | inl before ↦ inl (c.in_ok-is_known.ensures.reads.left first m (c.in_ok-found.ensures.reads.left second m (c.in_ok-is_lrn_good.ensures.reads.left third m before)))
+      | inr (ready, changed) ↦
+          let at_found = c.in_ok-is_lrn_good.ensures.reads.same ready in
+          let at_carrier = c.in_ok-found.ensures.reads.same at_found.0 in
+          let at_start = c.in_ok-is_known.ensures.reads.same at_carrier.0 in
+          let same : g.S.Store.content c.is_lrn_of.new.store ≡ old = at_found.1 ∙ at_carrier.1 ∙ at_start.1 in
+          let d = c.args.donation.now in
+          let everyone = keys (g.S.Store.content c.is_lrn_of.new.store).carriers in
+          let has : HasFound old c.args.caller.number d.block.number (donation_of d) (clock_row_of c.in_ok-found.found.clock) c.in_ok-found.found.read c.facts-facts.result =
+          has_found old (g.S.Store.content c.carrier.new.self) c.args.caller.number d.block.number (donation_of d) (clock_row_of c.in_ok-found.found.clock) c.in_ok-found.found.read c.facts-facts.result
+          c.in_ok-is_known.is_known c.in_ok-is_lrn_good.is_lrn_good at_start.1 (c.in_ok-found.ensures.found at_found.0)
+          (λ st stands. donor_unknown st old c.args.caller.number d.block.number (lines_of d.used.now) d.routing.lrn.number (option_map (λ (x : Cic). x.number) d.routing.cic)
+          stands c.in_ok-is_known.is_known (c.in_ok-is_known.ensures.value at_carrier.0))
+          (c.in_ok-is_lrn_good.ensures.value ready ∙ ap (λ (k : Content). is_the c.args.caller.number (get k.lrns d.routing.lrn.number)) (at_carrier.1 ∙ at_start.1))
+          c.facts-facts.ensures in
+          inr (
+            at_start.0,
+            comes old m (Requests c.args.caller.number (Commands (donation_of c.args.donation.now))) _
+                (answers_donated old m c.args.caller.number d (clock_row_of clock) c.in_ok-found.found.read c.facts-facts.result has
+                c.in_ok-plan.plan.versions.items c.in_ok-ids.ids.items everyone
+                c.in_ok-plan.ensures.accepted c.in_ok-plan.ensures.planned (c.in_ok-ids.ensures ∙ ap (map (λ e. e.0)) c.deref.ensures.value) (ap (λ (k : Content). keys k.carriers) same)
+                (λ room. subst (λ (k : Content). IsChanged (pooling (sending_each (windows_of clock.windows) clock.minute.number Create (map begun_of c.in_ok-plan.plan.versions.items) everyone)
+                (donated_row d.block.number c.args.caller.number) (record (clock_row_of clock) { next_id = clock.next_id + length c.in_ok-plan.plan.versions.items })) k m) same
+                (subst (λ es. clock.next_id + length es ≤ limit → IsChanged (pooling (sending_each (windows_of clock.windows) clock.minute.number Create (map begun_of es) everyone)
+                (donated_row d.block.number c.args.caller.number) (record (clock_row_of clock) { next_id = clock.next_id + length es })) (g.S.Store.content c.is_lrn_of.new.store) m)
+                c.deref-2.ensures.value changed room))),
+          )
+    ]
+
+pub returns-clause-left : goal.returns-clause-left
+returns-clause-left g c =
+    let old = c.args.store.now in
+    left_kept g.S.Store.IsUsable g.S.Store.IsHonest g.S.Store.content g.S.Store.MayLeave old old c.commit_made.new.store g.met.S.Store.leaves_content (ComesSettled (g.S.Store.content old) (Requests c.args.caller.number (Commands (donation_of c.args.donation.now))))
+    (λ honest.
+    let third = c.in_ok-commit_made.ensures.owes.honest honest in
+    c.in_ok-commit_made.ensures.owes.stays tt (c.in_ok-is_lrn_good.ensures.reads.stays tt (c.in_ok-found.ensures.open (c.in_ok-is_lrn_good.ensures.reads.honest third)) third) honest)
+    (λ used. search (rules, used))
+    (λ used. comes (g.S.Store.content old) (g.S.Store.content c.commit_made.new.store) (Requests c.args.caller.number (Commands (donation_of c.args.donation.now))) _ (returns-clause-answers g c used))

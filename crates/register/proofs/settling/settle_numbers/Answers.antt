@@ -1,6 +1,7 @@
 use Rattle.std.proofs.Common.{rules, ◌≡◌, ◌+◌, ◌∷◌, drop, subst, arith}
 use Rattle.settle.proofs.Rest.{rest_at}
 use Rattle.register.proofs.BlockSettled.{SettlesUpTo, next_kept, next_settled}
+use Rattle.register.proofs.Left.{left_settled, left_then}
 use Rattle.register.proofs.settling.settle_numbers.Goals as goal
 
 pub returns-in_err-settle_subject-clause-kept : goal.returns-in_err-settle_subject-clause-kept
@@ -25,4 +26,13 @@ loop-number-preserved g c = (
       next_settled c.args.numbers.now (drop (c.loop-number.number-index + 1) c.args.numbers.now) c.number-item.result (g.S.Store.content c.args.store.now) (g.S.Store.content c.loop-number.store) (g.S.Store.content c.settle_subject.new.store)
       (subst (λ rest. SettlesUpTo c.args.numbers.now rest (g.S.Store.content c.args.store.now) (g.S.Store.content c.loop-number.store)) left (c.loop-number.invariant.4 (c.settle_subject.ensures.owes.usable usable)))
       (c.settle_subject.ensures.kept usable) (c.settle_subject.ensures.elsewhere usable) (c.in_ok-settle_subject.ensures.settled usable),
+  left_then g.S.Store.IsUsable g.S.Store.IsHonest g.S.Store.content g.S.Store.MayLeave c.args.store.now c.loop-number.store c.settle_subject.new.store c.settle_subject.ensures.owes.honest
+      (λ usable. (c.loop-number.invariant.0 usable, λ st stands. (c.loop-number.invariant.4 usable st stands).stands)) c.loop-number.invariant.5
+      (left_settled g.S.Store.IsUsable g.S.Store.IsHonest g.S.Store.content g.S.Store.MayLeave c.loop-number.store c.loop-number.store c.settle_subject.new.store c.settle_subject.ensures.left),
 )
+
+pub returns-in_err-settle_subject-clause-left : goal.returns-in_err-settle_subject-clause-left
+returns-in_err-settle_subject-clause-left g c =
+    left_then g.S.Store.IsUsable g.S.Store.IsHonest g.S.Store.content g.S.Store.MayLeave c.args.store.now c.loop-number.store c.settle_subject.new.store c.settle_subject.ensures.owes.honest
+    (λ usable. (c.loop-number.invariant.0 usable, λ st stands. (c.loop-number.invariant.4 usable st stands).stands)) c.loop-number.invariant.5
+    (left_settled g.S.Store.IsUsable g.S.Store.IsHonest g.S.Store.content g.S.Store.MayLeave c.loop-number.store c.loop-number.store c.settle_subject.new.store c.settle_subject.ensures.left)

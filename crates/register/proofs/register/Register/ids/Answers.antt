@@ -3,6 +3,7 @@ use Rattle.meaning.specs.Machine.{Found}
 use Rattle.meaning.specs.Refusals.{Asks, Ids}
 use Rattle.calls.specs.Calls.{replied}
 use Rattle.register.proofs.Before.{answers_after, leaves_after}
+use Rattle.register.proofs.Composed.{fault_is_none}
 use Rattle.register.proofs.register.Register.ids.Goals as goal
 
 pub returns-clause-answers : goal.returns-clause-answers
@@ -21,7 +22,7 @@ pub returns-in_err-settle_number-clause-owes : goal.returns-in_err-settle_number
 returns-in_err-settle_number-clause-owes g c = record {
   usable = search rules;
   honest = search rules;
-  stays = search rules;
+  stays = λ answered. absurd (fault_is_none c.from_residual.result c.in_err-settle_number.field-0.0 (search rules) answered);
   rises = search rules;
   storage = search rules;
 }
