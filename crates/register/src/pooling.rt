@@ -123,7 +123,8 @@ pub fn donate<S: Store>(
         (Requests caller.number (Commands (donation_of donation.now)))
         (replied (λ ids. Donated donation.now.block.number ids.items) result) }
     ensures left { Leaves S.IsHonest S.MayLeave store.old store.new
-        (λ m. S.IsUsable store.old × ComesSettled (S.content store.old) (Requests caller.number (Commands (donation_of donation.now))) m) }
+        (λ m. S.IsUsable store.old × ComesSettled (S.content store.old)
+        (Requests caller.number (Commands (donation_of donation.now))) m) }
     ensures owes { Owes S.IsUsable S.IsHonest S.failed store.old store.new
         (IsAnswered result) (SaysOnceSettled (S.IsUsable store.new) (S.content store.old)
         (Requests caller.number (Commands (donation_of donation.now)))
@@ -157,7 +158,8 @@ pub fn assign<S: Store>(
         (Requests caller.number (Commands (assignment_of assignment.now)))
         (replied (λ view. Shown (Some (view_of view))) result) }
     ensures left { Leaves S.IsHonest S.MayLeave store.old store.new
-        (λ m. S.IsUsable store.old × ComesSettled (S.content store.old) (Requests caller.number (Commands (assignment_of assignment.now))) m) }
+        (λ m. S.IsUsable store.old × ComesSettled (S.content store.old)
+        (Requests caller.number (Commands (assignment_of assignment.now))) m) }
     ensures owes { Owes S.IsUsable S.IsHonest S.failed store.old store.new
         (IsAnswered result) (SaysOnceSettled (S.IsUsable store.new) (S.content store.old)
         (Requests caller.number (Commands (assignment_of assignment.now)))
@@ -197,7 +199,8 @@ pub fn release<S: Store>(
         (Requests caller.number (Commands (Release block.number)))
         (replied (λ view. Shown (Some (view_of view))) result) }
     ensures left { Leaves S.IsHonest S.MayLeave store.old store.new
-        (λ m. S.IsUsable store.old × ComesSettled (S.content store.old) (Requests caller.number (Commands (Release block.number))) m) }
+        (λ m. S.IsUsable store.old × ComesSettled (S.content store.old)
+        (Requests caller.number (Commands (Release block.number))) m) }
     ensures owes { Owes S.IsUsable S.IsHonest S.failed store.old store.new
         (IsAnswered result) (SaysOnceSettled (S.IsUsable store.new) (S.content store.old)
         (Requests caller.number (Commands (Release block.number)))

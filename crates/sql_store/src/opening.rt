@@ -224,8 +224,8 @@ impl<S: Alter + Drop> SqlStore<S> {
     ///
     /// # Errors
     ///
-    /// `Storage` where the schema is another, with the connection as it was; or where a row does not
-    /// read or the device failed, with the database and its last commit.
+    /// `Storage` where the schema is another, with the connection as it was; or where a row does
+    /// not read or the device failed, with the database and its last commit.
     pub fn adopt(
         alloc: Global,
         conn: Connection<S>,
@@ -268,8 +268,8 @@ impl<S: Alter + Drop> SqlStore<S> {
         }
     }
 
-    /// Takes a connection: one that lists nothing yet gets the tables and is an empty store, and any
-    /// other has to be of our tables, as `adopt` asks.
+    /// Takes a connection: one that lists nothing yet gets the tables and is an empty store, and
+    /// any other has to be of our tables, as `adopt` asks.
     ///
     /// # Errors
     ///
@@ -333,8 +333,8 @@ impl<S: Start> SqlStore<FileStore<FileFrom<S>>> {
     ///
     /// # Errors
     ///
-    /// `Storage` where the file cannot be opened as a database, is none of ours, has a row that does
-    /// not read, or the device failed. A file that is none of ours is left as it was.
+    /// `Storage` where the file cannot be opened as a database, is none of ours, has a row that
+    /// does not read, or the device failed. A file that is none of ours is left as it was.
     pub fn at(
         rt: &HostRuntime,
         path: &str,

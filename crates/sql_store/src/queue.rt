@@ -80,7 +80,8 @@ fn first_told<S: Alter>(
     many: usize,
 ) -> Result<Vec<Download>, Fault>
     requires ours { IsTrue (state S.Store conn.old).is_open → IsOurs (state S.Store conn.old) }
-    requires open { HasCleanDisk (state S.Store conn.old) → IsTrue (state S.Store conn.old).is_open }
+    requires open { HasCleanDisk (state S.Store conn.old)
+        → IsTrue (state S.Store conn.old).is_open }
     requires idle { conn.old.in_transaction ≡ false }
     ensures value { IsTrue (state S.Store conn.new).is_open
         → IfOk result (λ downloads. AreFirstTold (content_at (state S.Store conn.old)) many
