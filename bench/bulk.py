@@ -1,6 +1,7 @@
 """Bulk files and exports, and the time and memory that programs take for them."""
 import hashlib
 import os
+import shutil
 import subprocess
 import sys
 import tempfile
@@ -100,13 +101,12 @@ def best(programs, words, stdin, folder):
     return {program: (*min(runs[program]), *sums[program]) for program in programs}
 
 
-def beside(found, programs, subtract=None):
+def beside(found, programs):
     """The other program's processor time as a share of ours, ours of its memory, and whether they wrote the same."""
     if len(programs) < 2:
         return ""
     ours, other = (found[program] for program in programs)
-    less = subtract or {program: (0.0,) for program in programs}
-    share = (other[0] - less[programs[1]][0]) / (ours[0] - less[programs[0]][0])
+    share = other[0] / ours[0]
     same = "the same" if ours[5] == other[5] else "DIFFERENT"
     return f"; beside the other: speed {share:.2f}, memory {ours[2] / other[2]:.2f}, written {same}"
 
@@ -137,17 +137,53 @@ def room(programs, count, folder):
               f"{beside(found, programs)}", flush=True)
 
 
+def processor_time(process):
+    """Seconds of the processor that a process has had so far."""
+    with open(f"/proc/{process.pid}/schedstat", encoding="ascii") as spent:
+        return int(spent.read().split()[0]) / 1e9
+
+
+def exported(program, feed, folder):
+    """Seconds of the processor and on the clock of an export, and the peak memory in MiB with it and before it. The feed goes
+    through a pipe, and the export begins as the pipe takes its end: a feed takes many times as long as the export, so that a
+    difference of two runs would tell little."""
+    pipe, out = os.path.join(folder, "feed.pipe"), os.path.join(folder, "out")
+    os.mkfifo(pipe)
+    with open(out, "wb") as target:
+        words = [program, "export", "--feed", pipe, "--windows", WINDOWS]
+        process = subprocess.Popen(words, stdin=subprocess.DEVNULL, stdout=target)
+    with open(feed, "rb") as source, open(pipe, "wb") as sink:
+        shutil.copyfileobj(source, sink, 1 << 16)
+        sink.flush()
+        fed, begun, before = processor_time(process), time.monotonic(), high_water(process)
+    os.unlink(pipe)
+    peak, ended = before, 0
+    while not ended:
+        peak = max(peak, high_water(process))
+        ended, status, usage = os.wait4(process.pid, os.WNOHANG)
+        time.sleep(0 if ended else 0.002)
+    assert status == 0, (program, status)
+    return usage.ru_utime + usage.ru_stime - fed, time.monotonic() - begun, peak, before
+
+
 def exports(programs, count, folder):
-    """The time of an export beyond that of an empty bulk file over the same register."""
     feed = written(os.path.join(folder, "force.http"), in_force(count))
-    empty = written(os.path.join(folder, "empty.csv"), [HEADER])
-    fed = best(programs, ["bulk", "--feed", feed], empty, folder)
-    found = best(programs, ["export", "--feed", feed], empty, folder)
-    ours, before = found[programs[0]], fed[programs[0]]
-    assert ours[3] == count, ours
-    print(f"export of {count} subjects: {count / (ours[0] - before[0]):,.0f} rows/s of processor time, "
-          f"{count / (ours[1] - before[1]):,.0f} rows/s on the clock, peak {ours[2]:.1f} MiB, "
-          f"{before[2]:.1f} MiB before{beside(found, programs, fed)}", flush=True)
+    runs = {program: [] for program in programs}
+    sums = {}
+    for _ in range(ROUNDS):
+        for program in programs:
+            runs[program].append(exported(program, feed, folder))
+            sums[program] = told(os.path.join(folder, "out"))
+    found = {program: (*min(runs[program]), *sums[program]) for program in programs}
+    processor, wall, peak, before, lines, _, _ = found[programs[0]]
+    assert lines == count, found
+    shares = ""
+    if len(programs) > 1:
+        other = found[programs[1]]
+        same = "the same" if found[programs[0]][6] == other[6] else "DIFFERENT"
+        shares = f"; beside the other: speed {other[0] / processor:.2f}, memory {peak / other[2]:.2f}, written {same}"
+    print(f"export of {count} subjects: {count / processor:,.0f} rows/s of processor time, {count / wall:,.0f} rows/s on the clock, "
+          f"peak {peak:.1f} MiB, {before:.1f} MiB before{shares}", flush=True)
 
 
 def main():

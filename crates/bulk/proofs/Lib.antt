@@ -11,6 +11,7 @@ mod Compared
 pub mod FieldLemmas
 mod Filed
 pub mod Names
+mod Pairs
 mod Passing
 mod Ranging
 mod Runs

@@ -4,6 +4,7 @@
 mod asking;
 mod auditing;
 mod copy;
+mod digits;
 mod exporting;
 mod fault;
 mod fields;

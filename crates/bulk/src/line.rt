@@ -5,15 +5,17 @@ ghost use Rattle.bulk.specs.Report.{report_line};
 ghost use Rattle.std.specs.Io.KnownBytes.{Appends};
 ghost use Rattle.delivery.specs.Mirrors.{in_force_of};
 ghost use Rattle.messages.specs.Sending.{AppendsFront};
-ghost use Rattle.numbers.specs.Views.{routing_of};
+ghost use Rattle.numbers.specs.Texts.{subject_text};
+ghost use Rattle.numbers.specs.Views.{routing_of, subject_of};
 ghost use Rattle.bulk.specs.Exports.{in_force_line, routing_fields};
 ghost use Rattle.bulk.specs.Findings.{finding_line};
 
+use crate::digits::put_digits;
 use crate::fault::FaultKind;
 use crate::finding::Found;
 use crate::told::Told;
 use crate::writing::InLine;
-use bodies::{Failure, put, put_cic, put_lrn, put_number, put_subject};
+use bodies::{Failure, put, put_number};
 use delivery::RoutedRow;
 use messages::send_all;
 use numbers::{Routing, Subject, Tn};
@@ -30,6 +32,19 @@ pub struct Line {
     pub ghost room: { 128 ≤ string_capacity text },
 }
 
+fn put_subject(out: &mut String, subject: Subject)
+    requires { string_len out.old + 10 ≤ string_capacity out.old }
+    ensures bytes { string_bytes out.new
+        ≡ string_bytes out.old ++ subject_text (subject_of subject) }
+    ensures len { string_len out.new ≤ string_len out.old + 10 }
+    ensures capacity { string_capacity out.old ≤ string_capacity out.new }
+{
+    match subject {
+        Subject::Number(tn) => put_digits::<10>(out, tn.number),
+        Subject::Block(block) => put_digits::<7>(out, u64::from(block.number)),
+    }
+}
+
 fn put_routing(out: &mut String, routing: &Routing)
     requires { string_len out.old + 15 ≤ string_capacity out.old }
     ensures bytes { string_bytes out.new
@@ -37,10 +52,10 @@ fn put_routing(out: &mut String, routing: &Routing)
     ensures len { string_len out.new ≤ string_len out.old + 15 }
     ensures capacity { string_capacity out.old ≤ string_capacity out.new }
 {
-    put_lrn(out, routing.lrn);
+    put_digits::<10>(out, routing.lrn.number);
     put(out, ",");
     if let Some(cic) = routing.cic {
-        put_cic(out, cic);
+        put_digits::<4>(out, u64::from(cic.number));
     }
 }
 
