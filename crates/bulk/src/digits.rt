@@ -52,6 +52,7 @@ fn digits<const N: usize>(number: u64) -> [u8; N]
 }
 
 /// Appends the last so many decimal digits of a number.
+#[inline(always)]
 pub fn put_digits<const N: usize>(out: &mut String, number: u64)
     requires { string_len out.old + N ≤ string_capacity out.old }
     ensures bytes { string_bytes out.new ≡ string_bytes out.old ++ digits_of N number }

@@ -32,6 +32,7 @@ pub struct Line {
     pub ghost room: { 128 ≤ string_capacity text },
 }
 
+#[inline(always)]
 fn put_subject(out: &mut String, subject: Subject)
     requires { string_len out.old + 10 ≤ string_capacity out.old }
     ensures bytes { string_bytes out.new
