@@ -51,7 +51,8 @@ fn digits<const N: usize>(number: u64) -> [u8; N]
     digits
 }
 
-/// Appends the last so many decimal digits of a number.
+/// Appends the last so many decimal digits of a number. It stands in the place of its call, since a
+/// row of an export takes an eighth less so.
 #[inline(always)]
 pub fn put_digits<const N: usize>(out: &mut String, number: u64)
     requires { string_len out.old + N ≤ string_capacity out.old }

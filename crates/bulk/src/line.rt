@@ -32,6 +32,7 @@ pub struct Line {
     pub ghost room: { 128 ≤ string_capacity text },
 }
 
+// In the place of its call too, as each row has one.
 #[inline(always)]
 fn put_subject(out: &mut String, subject: Subject)
     requires { string_len out.old + 10 ≤ string_capacity out.old }
