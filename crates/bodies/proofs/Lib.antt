@@ -11,3 +11,4 @@ pub mod RefusalLemmas
 mod ScanLemmas
 mod TelNames
 pub mod WholeRefusals
+pub mod PlainBytes

@@ -16,12 +16,24 @@ use crate::flat::{Flat, Member, Scalar};
 use arrayvec::ArrayVec;
 use messages::read_number;
 
-// Whether a byte stands for itself in a text: a printable character of ASCII that is no quote and
-// no backslash.
+// Of each byte whether it stands for itself in a text, a row for 32 of them: a printable character
+// of ASCII that is no quote and no backslash does. They are looked up, which takes half of what four
+// comparisons take.
+static PLAIN: [u8; 256] = *b"\
+    00000000000000000000000000000000\
+    11011111111111111111111111111111\
+    11111111111111111111111111110111\
+    11111111111111111111111111111110\
+    00000000000000000000000000000000\
+    00000000000000000000000000000000\
+    00000000000000000000000000000000\
+    00000000000000000000000000000000";
+
+// Whether a byte stands for itself in a text.
 fn is_plain(byte: u8) -> bool
     ensures { result ≡ is_plain_byte byte }
 {
-    0x20 <= byte && byte < 0x7f && byte != b'"' && byte != b'\\'
+    PLAIN[usize::from(byte)] == b'1'
 }
 
 // What follows spaces and line feeds.

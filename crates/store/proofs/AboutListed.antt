@@ -23,6 +23,7 @@ use Rattle.delivery.specs.declared.download.DownloadKey.{DownloadKey}
 use Rattle.settle.specs.Views.{spid_of}
 use Rattle.settle.specs.Reads.{AreWaitsAbout, IsWaiting, download_cmp as queue_cmp}
 use Rattle.store.specs.Lists.{is_subject}
+use Rattle.store.specs.Ranks.{rank_key}
 use Rattle.store.specs.WaitRows.{Download, download_key_of, download_cmp, Waiting, waiting_of, rows_of, about_of, waits_of, awaited, listed_about, is_for, download_in, IsDownload, SubjectDownload, subject_download_of, subject_download_cmp, key_about, AreAbout}
 use Rattle.store.specs.declared.keys.SubjectDownload.{SubjectDownload as SubjectDownloadCode}
 use Rattle.store.specs.declared.waiting.Waiting.{Waiting as WaitingCode}
@@ -80,10 +81,10 @@ module _ (rows : BTreeMap DownloadKey WaitingCode) (carrier : Spid) (subject : S
   row-of : (b : DownloadKey) → get (rows_of rows) (download_key_of b) ≡ option_map waiting_of (tree.get (on download_key_of download_cmp) rows b)
   row-of b = get-map_of download_key_of waiting_of download_total download_exact rows b
 
-  listed-is : (k : SubjectDownloadCode) (d : DownloadKey) → listed_about rows carrier subject k ≡ Some d → (key_of k.subject ≡ key_of subject) × Waits k.minute.number k.id k.attempt × (download_in k ≡ d)
+  listed-is : (k : SubjectDownloadCode) (d : DownloadKey) → listed_about rows carrier subject k ≡ Some d → (rank_key k.rank ≡ key_of subject) × Waits k.minute.number k.id k.attempt × (download_in k ≡ d)
   listed-is k d e =
-      let r = two (key_of k.subject == key_of subject) (is_for rows (download_in k) carrier subject) (download_in k) d e in (
-        equal_number (key_of k.subject) (key_of subject) r.0,
+      let r = two (rank_key k.rank == key_of subject) (is_for rows (download_in k) carrier subject) (download_in k) d e in (
+        equal_number (rank_key k.rank) (key_of subject) r.0,
         get-waits_of (rows_of rows) (record { carrier = carrier.number; minute = k.minute.number; id = k.id; attempt = k.attempt })
             ∙ ap (λ o. awaited o carrier.number) (row-of (download_in k)) ∙ is-subject (subject_of subject) _ r.1,
         r.2,
@@ -148,5 +149,5 @@ module _ (rows : BTreeMap DownloadKey WaitingCode) (carrier : Spid) (subject : S
       rise x y a b p q less =
           let ra = listed-is x a (in_part (between x) (listed_about rows carrier subject x) a p) in
           let rb = listed-is y b (in_part (between y) (listed_about rows carrier subject y) b q) in
-          let s : nat_cmp (key_of x.subject) (key_of y.subject) ≡ Equal = equal_cmp (key_of x.subject) (key_of y.subject) (ra.0 ∙ sym rb.0) in
+          let s : nat_cmp (rank_key x.rank) (rank_key y.rank) ≡ Equal = equal_cmp (rank_key x.rank) (rank_key y.rank) (ra.0 ∙ sym rb.0) in
           (λ i. queue_cmp (sym ra.2 i) (sym rb.2 i)) ∙ sym (λ i. ordering_then (s i) (queue_cmp (download_in x) (download_in y))) ∙ less

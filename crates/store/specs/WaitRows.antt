@@ -17,6 +17,7 @@ use Rattle.delivery.specs.declared.download.DownloadKey.{DownloadKey as Download
 use Rattle.settle.specs.Views.{spid_of}
 use Rattle.store.specs.Lists.{is_subject}
 use Rattle.store.specs.Maps.{map_of}
+use Rattle.store.specs.Ranks.{subject_at, rank_key}
 use Rattle.store.specs.declared.keys.SubjectDownload.{SubjectDownload as SubjectDownloadCode}
 use Rattle.store.specs.declared.waiting.Waiting.{Waiting as WaitingCode}
 
@@ -80,7 +81,7 @@ subject_download_cmp a b =
     ordering_then (nat_cmp (subject_key a.subject) (subject_key b.subject)) (ordering_then (nat_cmp a.minute b.minute) (ordering_then (nat_cmp a.id b.id) (nat_cmp a.attempt b.attempt)))
 
 abbrev pub subject_download_of : SubjectDownloadCode → SubjectDownload
-subject_download_of k = record { subject = subject_of k.subject; minute = k.minute.number; id = k.id; attempt = k.attempt }
+subject_download_of k = record { subject = subject_at k.rank; minute = k.minute.number; id = k.id; attempt = k.attempt }
 
 abbrev pub about_of : BTreeMap SubjectDownloadCode (Unit {0}) → FinMap subject_download_cmp (Unit {0})
 about_of m = map_of subject_download_of (λ u. u) m
@@ -157,4 +158,4 @@ is_for rows b carrier subject = is_subject (subject_of subject) (awaited (option
 
 -- a broadcast of the index, if it is about the subject and waits for the carrier
 abbrev pub listed_about : BTreeMap DownloadKeyCode WaitingCode → Spid → SubjectCode → SubjectDownloadCode → Option DownloadKeyCode
-listed_about rows carrier subject k = if (key_of k.subject == key_of subject) && is_for rows (download_in k) carrier subject then Some (download_in k) else None
+listed_about rows carrier subject k = if (rank_key k.rank == key_of subject) && is_for rows (download_in k) carrier subject then Some (download_in k) else None

@@ -27,20 +27,14 @@ pub struct Standing {
 fn lowest(block: BlockId) -> SubjectVersion
     ensures { subject_version_of result ≡ lowest block.number }
 {
-    SubjectVersion {
-        subject: Subject::Number(block.tn(Line { number: 0 })),
-        id: 0,
-    }
+    SubjectVersion::of(Subject::Number(block.tn(Line { number: 0 })), 0)
 }
 
 // The key that stands behind those of the block's numbers, if it is none of them.
 fn highest(block: BlockId) -> SubjectVersion
     ensures { subject_version_of result ≡ highest block.number }
 {
-    SubjectVersion {
-        subject: Subject::Number(block.tn(Line { number: 999 })),
-        id: u64::MAX,
-    }
+    SubjectVersion::of(Subject::Number(block.tn(Line { number: 999 })), u64::MAX)
 }
 
 // The number, if it is one of the block.

@@ -10,7 +10,7 @@ ghost use Rattle.settle.specs.Views.{spid_of, wait_key_of};
 ghost use Rattle.store.specs.Maps.{set};
 ghost use Rattle.store.specs.WaitRows.{download_key_of, download_of, wait_for, subject_download_of, key_about, is_for};
 
-use crate::keys::SubjectDownload;
+use crate::keys::{Rank, SubjectDownload};
 use crate::waiting::Waiting;
 use delivery::DownloadKey;
 use numbers::{Minute, Spid, Subject};
@@ -65,7 +65,7 @@ fn about(subject: Subject, download: DownloadKey) -> SubjectDownload
         ≡ key_about (subject_of subject) (download_key_of download) }
 {
     SubjectDownload {
-        subject,
+        rank: Rank::of(subject),
         minute: download.minute,
         id: download.id,
         attempt: download.attempt,
@@ -174,14 +174,15 @@ impl Waits {
             AreWaitsAbout (record empty_content { waits = self.now }) (spid_of carrier)
             (subject_of subject) downloads.items) }
     {
+        let rank = Rank::of(subject);
         let first = SubjectDownload {
-            subject,
+            rank,
             minute: Minute::ZERO,
             id: 0,
             attempt: 0,
         };
         let last = SubjectDownload {
-            subject,
+            rank,
             minute: Minute {
                 number: Minute::LIMIT - 1,
             },
@@ -195,7 +196,7 @@ impl Waits {
                 id: key.id,
                 attempt: key.attempt,
             };
-            if key.subject == subject && is_for(&self.rows, broadcast, carrier, subject) {
+            if key.rank == rank && is_for(&self.rows, broadcast, carrier, subject) {
                 found.push(broadcast)?;
             }
         }
