@@ -24,10 +24,11 @@ use Rattle.settle.specs.Views.{spid_of}
 use Rattle.settle.specs.Reads.{AreWaitsAbout, IsWaiting, download_cmp as queue_cmp}
 use Rattle.store.specs.Lists.{is_subject}
 use Rattle.store.specs.Ranks.{rank_key}
-use Rattle.store.specs.WaitRows.{Download, download_key_of, download_cmp, Waiting, waiting_of, rows_of, about_of, waits_of, awaited, listed_about, is_for, download_in, IsDownload, SubjectDownload, subject_download_of, subject_download_cmp, key_about, AreAbout}
+use Rattle.store.specs.WaitRows.{Download, row_key_of, row_key_in, row_in, Waiting, waiting_of, rows_of, about_of, waits_of, awaited, listed_about, is_for, download_in, IsDownload, SubjectDownload, subject_download_of, subject_download_cmp, key_about, AreAbout}
+use Rattle.store.specs.declared.keys.RowKey.{RowKey as RowKeyCode}
 use Rattle.store.specs.declared.keys.SubjectDownload.{SubjectDownload as SubjectDownloadCode}
 use Rattle.store.specs.declared.waiting.Waiting.{Waiting as WaitingCode}
-use Rattle.store.proofs.Maps.{get-map_of, entry-of}
+use Rattle.store.proofs.Maps.{get-seen, entry-of}
 use Rattle.store.proofs.Listed.{Among, contained, all-places, filter_map-filter, all-listed, listed-sorted, found-listed, equal_cmp}
 use Rattle.store.proofs.Found.{same_number, equal_number, both}
 use Rattle.store.proofs.RowsFlat.{download_total, download_exact, get-waits_of, tied}
@@ -71,15 +72,15 @@ awaited-is c s (Some w) e = (w, refl, go (list_any (λ k. c == k) w.1) e)
     go true f = let g : Some w.0 ≡ Some s = f in cc
     go false f = let g : None ≡ Some s = f in cc
 
-module _ (rows : BTreeMap DownloadKey WaitingCode) (carrier : Spid) (subject : SubjectCode) where
+module _ (rows : List (RowKeyCode × WaitingCode)) (carrier : Spid) (subject : SubjectCode) where
   abbrev content : Content
   content = record empty_content { waits = waits_of (rows_of rows) }
 
   abbrev Waits : (minute id attempt : ℕ) → Type 0
   Waits minute id attempt = IsWaiting content carrier.number (subject_of subject) minute id attempt
 
-  row-of : (b : DownloadKey) → get (rows_of rows) (download_key_of b) ≡ option_map waiting_of (tree.get (on download_key_of download_cmp) rows b)
-  row-of b = get-map_of download_key_of waiting_of download_total download_exact rows b
+  row-of : (b : DownloadKey) → get (rows_of rows) (row_key_of (row_key_in b)) ≡ option_map waiting_of (row_in rows (row_key_in b))
+  row-of b = get-seen row_key_of waiting_of download_total download_exact rows (row_key_in b)
 
   listed-is : (k : SubjectDownloadCode) (d : DownloadKey) → listed_about rows carrier subject k ≡ Some d → (rank_key k.rank ≡ key_of subject) × Waits k.minute.number k.id k.attempt × (download_in k ≡ d)
   listed-is k d e =
@@ -138,7 +139,7 @@ module _ (rows : BTreeMap DownloadKey WaitingCode) (carrier : Spid) (subject : S
 
       waits : (k : SubjectDownloadCode) (d : Download) → Waits d.minute d.id d.attempt → subject_download_of k ≡ key_about (subject_of subject) d → listed_about rows carrier subject k ≡ Some (download_in k)
       waits k d is same =
-          let held : awaited (option_map waiting_of (tree.get (on download_key_of download_cmp) rows (download_in k))) carrier.number ≡ Some (subject_of subject) =
+          let held : awaited (option_map waiting_of (row_in rows (row_key_in (download_in k)))) carrier.number ≡ Some (subject_of subject) =
           ap (λ o. awaited o carrier.number) (sym (row-of (download_in k)))
           ∙ ap (λ (v : SubjectDownload). awaited (get (rows_of rows) (record { minute = v.minute; id = v.id; attempt = v.attempt })) carrier.number) same
           ∙ sym (get-waits_of (rows_of rows) (record { carrier = carrier.number; minute = d.minute; id = d.id; attempt = d.attempt })) ∙ is in

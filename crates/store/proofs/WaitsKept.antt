@@ -1,54 +1,83 @@
 -- The downloads of the rows of the code, one of which is put or taken away.
 use Rattle.std.proofs.Common.{◌≡◌, ℕ, Bool, true, false, cond, List, [], ◌∷◌, length, Option, Some, None, refl, ap, sym, ◌∙◌, arith}
-use Rattle.std.specs.Prelude.{◌==◌, Result, Ok, Err, IfOk, OnOk, OnErr, IfSome, option_map}
+use Rattle.std.specs.Prelude.{◌==◌, ◌&&◌, Result, Ok, Err, IfOk, OnOk, OnErr, IfSome, option_map}
 use Rattle.std.specs.List.{list_any}
-use Rattle.std.specs.Ordering.{on, eq_by_cmp}
-use Rattle.std.specs.BTreeMap as tree
-use Rattle.std.specs.BTreeMap.{BTreeMap}
+use Rattle.std.specs.Ordering.{on, eq_by_cmp, is_eq, nat_cmp, ordering_then}
+use Rattle.std.specs.Map.{lookup}
+use Rattle.std.specs.BTreeMap.{BTreeMap, is_at}
+use Rattle.std.proofs.lemmas.Bool.Decides.{nat_tests}
 use Rattle.std.specs.FinMap.{FinMap, get, empty, get-empty, from_entries, same_map}
 use Rattle.numbers.specs.Subjects.{Subject}
 use Rattle.numbers.specs.Views.{subject_of}
 use Rattle.numbers.specs.declared.ported.Subject.{Subject as SubjectCode}
 use Rattle.meaning.specs.Content.{WaitKey, wait_cmp}
-use Rattle.delivery.specs.declared.download.DownloadKey.{DownloadKey as DownloadKeyCode}
 use Rattle.store.specs.Maps.{set, seen_entries, IsSet}
-use Rattle.store.specs.WaitRows.{Download, download_cmp, download_of, download_key_of, Waiting, waiting_of, rows_of, about_of, waits_of, awaited, subject_download_of, subject_download_cmp, SubjectDownload, IsFirst, IsAdded, IsWithout}
+use Rattle.store.specs.WaitRows.{Download, download_cmp, download_of, row_key_of, row_in, Waiting, waiting_of, rows_of, about_of, waits_of, awaited, subject_download_of, subject_download_cmp, SubjectDownload, IsFirst, IsAdded, IsWithout}
+use Rattle.store.specs.declared.keys.RowKey.{RowKey as RowKeyCode}
 use Rattle.store.specs.declared.keys.SubjectDownload.{SubjectDownload as SubjectDownloadCode}
 use Rattle.store.specs.declared.waiting.Waiting.{Waiting as WaitingCode}
-use Rattle.store.proofs.Maps.{get-map_of, set_map_of, get-set}
-use Rattle.store.proofs.Orders.{wait_total, wait_exact, no_entry, no_key}
+use Rattle.store.proofs.Maps.{get-seen, set_seen, set_map_of, get-set}
+use Rattle.store.proofs.Orders.{wait_total, wait_exact, no_key}
 use Rattle.store.proofs.RowsFlat.{download_total, download_exact, get-waits_of, tied}
 use Rattle.store.proofs.RowsChanged.{IsRow, IsKey, Agrees, row-changed, subject_download_total, subject_download_exact}
 
 -- ---- no rows
 
-pub none-agree : (rows : BTreeMap DownloadKeyCode WaitingCode) (about : BTreeMap SubjectDownloadCode (Unit {0})) → rows.entries ≡ [] → about.entries ≡ [] → Agrees (rows_of rows) (about_of about)
-none-agree rows about none empty_index =
-    (λ d w at. absurd (no_entry download_cmp download_key_of waiting_of rows none d w at), λ k stands. absurd (no_key subject_download_cmp subject_download_of about empty_index k stands))
+no_row : (rows : List (RowKeyCode × WaitingCode)) → rows ≡ [] → (d : Download) (w : Waiting) → get (rows_of rows) d ≡ Some w → ⊥
+no_row rows none d w at =
+    let no : None ≡ Some w = sym (ap (λ es. get (rows_of es) d) none ∙ get-empty download_cmp d) ∙ at in
+    cc
 
-pub none-wait : (rows : BTreeMap DownloadKeyCode WaitingCode) → rows.entries ≡ [] → waits_of (rows_of rows) ≡ empty
+pub none-agree : (rows : List (RowKeyCode × WaitingCode)) (about : BTreeMap SubjectDownloadCode (Unit {0})) → rows ≡ [] → about.entries ≡ [] → Agrees (rows_of rows) (about_of about)
+none-agree rows about none empty_index =
+    (λ d w at. absurd (no_row rows none d w at), λ k stands. absurd (no_key subject_download_cmp subject_download_of about empty_index k stands))
+
+pub none-wait : (rows : List (RowKeyCode × WaitingCode)) → rows ≡ [] → waits_of (rows_of rows) ≡ empty
 none-wait rows none = same_map wait_total wait_exact (waits_of (rows_of rows)) empty (λ q.
     get-waits_of (rows_of rows) q
-    ∙ ap (λ o. awaited o q.carrier) (ap (λ es. get (from_entries {R = download_cmp} (seen_entries download_key_of waiting_of es)) (download_of q)) none ∙ get-empty download_cmp (download_of q)) ∙ sym (get-empty wait_cmp q))
+    ∙ ap (λ o. awaited o q.carrier) (ap (λ es. get (from_entries {R = download_cmp} (seen_entries row_key_of waiting_of es)) (download_of q)) none ∙ get-empty download_cmp (download_of q)) ∙ sym (get-empty wait_cmp q))
+
+-- ---- a look-up by a hash finds what one in the order of queues would
+
+-- how two keys of the code are compared
+abbrev pub same_key : RowKeyCode → RowKeyCode → Bool
+same_key a b = (a.minute == b.minute) && ((a.id == b.id) && (a.attempt == b.attempt))
+
+by_numbers : (a b c d e f : ℕ) → ((a == b) && ((c == d) && (e == f))) ≡ is_eq (ordering_then (nat_cmp a b) (ordering_then (nat_cmp c d) (nat_cmp e f)))
+by_numbers a b c d e f = grind (arith, nat_tests)
+
+same-at : (a b : RowKeyCode) → same_key a b ≡ is_at (on row_key_of download_cmp a) b
+same-at a b = by_numbers a.minute b.minute a.id b.id a.attempt b.attempt
+
+pub hash-at : (rows : List (RowKeyCode × WaitingCode)) (b : RowKeyCode) → lookup (same_key b) rows ≡ row_in rows b
+hash-at [] b = refl
+hash-at (e ∷ es) b = λ i. cond (same-at b e.0 i) (Some e.1) (hash-at es b i)
+
+-- one row put, or taken away, by a hash
+abbrev pub IsPut : (old new : List (RowKeyCode × WaitingCode)) → RowKeyCode → Option WaitingCode → Type 0
+IsPut old new key w = (q : RowKeyCode) → lookup (same_key q) new ≡ cond (same_key key q) w (lookup (same_key q) old)
+
+by-order : (old new : List (RowKeyCode × WaitingCode)) (b : RowKeyCode) (w : Option WaitingCode) → IsPut old new b w → (q : RowKeyCode) → row_in new q ≡ cond (is_at (on row_key_of download_cmp b) q) w (row_in old q)
+by-order old new b w is q = sym (hash-at new q) ∙ is q ∙ (λ i. cond (same-at b q i) w (hash-at old q i))
 
 -- ---- a look-up
 
 -- the row of a download's broadcast
-pub row-at : (rows : BTreeMap DownloadKeyCode WaitingCode) (b : DownloadKeyCode) (k : WaitKey) (w : Option WaitingCode) → download_key_of b ≡ download_of k → tree.get (on download_key_of download_cmp) rows b ≡ w →
+pub row-at : (rows : List (RowKeyCode × WaitingCode)) (b : RowKeyCode) (k : WaitKey) (w : Option WaitingCode) → row_key_of b ≡ download_of k → row_in rows b ≡ w →
     get (rows_of rows) (download_of k) ≡ option_map waiting_of w
-row-at rows b k w e is = ap (get (rows_of rows)) (sym e) ∙ get-map_of download_key_of waiting_of download_total download_exact rows b ∙ ap (option_map waiting_of) is
+row-at rows b k w e is = ap (get (rows_of rows)) (sym e) ∙ get-seen row_key_of waiting_of download_total download_exact rows b ∙ ap (option_map waiting_of) is
 
-pub wait-at : (rows : BTreeMap DownloadKeyCode WaitingCode) (b : DownloadKeyCode) (k : WaitKey) (w : Option WaitingCode) → download_key_of b ≡ download_of k → tree.get (on download_key_of download_cmp) rows b ≡ w →
+pub wait-at : (rows : List (RowKeyCode × WaitingCode)) (b : RowKeyCode) (k : WaitKey) (w : Option WaitingCode) → row_key_of b ≡ download_of k → row_in rows b ≡ w →
     get (waits_of (rows_of rows)) k ≡ awaited (option_map waiting_of w) k.carrier
 wait-at rows b k w e is = get-waits_of (rows_of rows) k ∙ ap (λ o. awaited o k.carrier) (row-at rows b k w e is)
 
 -- ---- one row, or one key, of the code
 
-pub row-written : (old new : BTreeMap DownloadKeyCode WaitingCode) (b : DownloadKeyCode) (k : WaitKey) (w : Option WaitingCode) → download_key_of b ≡ download_of k → IsSet (on download_key_of download_cmp) old new b w →
+pub row-written : (old new : List (RowKeyCode × WaitingCode)) (b : RowKeyCode) (k : WaitKey) (w : Option WaitingCode) → row_key_of b ≡ download_of k → IsPut old new b w →
     IsRow (rows_of old) (rows_of new) (download_of k) (option_map waiting_of w)
 row-written old new b k w e is q =
-    ap (λ m. get m q) (set_map_of download_key_of waiting_of download_total download_exact old new b w is)
-    ∙ get-set download_total download_exact (rows_of old) (download_key_of b) (option_map waiting_of w) q
+    ap (λ m. get m q) (set_seen row_key_of waiting_of download_total download_exact old new b w (by-order old new b w is))
+    ∙ get-set download_total download_exact (rows_of old) (row_key_of b) (option_map waiting_of w) q
     ∙ ap (λ d. cond (eq_by_cmp download_cmp d q) (option_map waiting_of w) (get (rows_of old) q)) e
 
 pub key-written : (old new : BTreeMap SubjectDownloadCode (Unit {0})) (key : SubjectDownloadCode) (k : SubjectDownload) (v : Option (Unit {0})) → subject_download_of key ≡ k → IsSet (on subject_download_of subject_download_cmp) old new key v →

@@ -3,8 +3,8 @@ use Rattle.std.specs.Prelude.{◌≡◌, ℕ, Bool, true, List, [], ◌∷◌, �
 use Rattle.std.specs.List.{list_any}
 use Rattle.std.specs.declared.cmp.Ordering.{Ordering}
 use Rattle.std.specs.Ordering.{nat_cmp, ordering_then, on}
-use Rattle.std.specs.BTreeMap as tree
-use Rattle.std.specs.BTreeMap.{BTreeMap}
+use Rattle.std.specs.Map.{lookup}
+use Rattle.std.specs.BTreeMap.{BTreeMap, is_at}
 use Rattle.std.specs.FinMap.{FinMap, from_entries, entries, get, code}
 use mathlib.Core.Logic.{inl, inr}
 use Rattle.std.specs.Coded.{Coded, code_by, coded×, coded⊎, coded_ℕ}
@@ -16,8 +16,9 @@ use Rattle.meaning.specs.Content.{WaitKey, wait_cmp}
 use Rattle.delivery.specs.declared.download.DownloadKey.{DownloadKey as DownloadKeyCode}
 use Rattle.settle.specs.Views.{spid_of}
 use Rattle.store.specs.Lists.{is_subject}
-use Rattle.store.specs.Maps.{map_of}
+use Rattle.store.specs.Maps.{map_of, seen_entries}
 use Rattle.store.specs.Ranks.{subject_at, rank_key}
+use Rattle.store.specs.declared.keys.RowKey.{RowKey as RowKeyCode}
 use Rattle.store.specs.declared.keys.SubjectDownload.{SubjectDownload as SubjectDownloadCode}
 use Rattle.store.specs.declared.waiting.Waiting.{Waiting as WaitingCode}
 
@@ -58,14 +59,18 @@ awaited (Some w) carrier = cond (list_any (λ k. carrier == k) w.1) (Some w.0) N
 
 -- ---- the rows of the code
 
-abbrev pub download_key_of : DownloadKeyCode → Download
-download_key_of k = record { minute = k.minute.number; id = k.id; attempt = k.attempt }
+abbrev pub row_key_of : RowKeyCode → Download
+row_key_of k = record { minute = k.minute; id = k.id; attempt = k.attempt }
 
 abbrev pub waiting_of : WaitingCode → Waiting
 waiting_of w = (subject_of w.subject, map spid_of w.carriers.items)
 
-abbrev pub rows_of : BTreeMap DownloadKeyCode WaitingCode → FinMap download_cmp Waiting
-rows_of m = map_of download_key_of waiting_of m
+abbrev pub rows_of : List (RowKeyCode × WaitingCode) → FinMap download_cmp Waiting
+rows_of es = from_entries {R = download_cmp} (seen_entries row_key_of waiting_of es)
+
+-- the row at a key
+abbrev pub row_in : List (RowKeyCode × WaitingCode) → RowKeyCode → Option WaitingCode
+row_in es k = lookup (is_at (on row_key_of download_cmp k)) es
 
 -- ---- the index by subjects
 
@@ -153,9 +158,12 @@ abbrev pub download_in : SubjectDownloadCode → DownloadKeyCode
 download_in k = record { minute = k.minute; id = k.id; attempt = k.attempt }
 
 -- the broadcast waits for the carrier, under this subject
-abbrev pub is_for : BTreeMap DownloadKeyCode WaitingCode → DownloadKeyCode → Spid → SubjectCode → Bool
-is_for rows b carrier subject = is_subject (subject_of subject) (awaited (option_map waiting_of (tree.get (on download_key_of download_cmp) rows b)) carrier.number)
+abbrev pub row_key_in : DownloadKeyCode → RowKeyCode
+row_key_in b = record { minute = b.minute.number; id = b.id; attempt = b.attempt }
+
+abbrev pub is_for : List (RowKeyCode × WaitingCode) → DownloadKeyCode → Spid → SubjectCode → Bool
+is_for rows b carrier subject = is_subject (subject_of subject) (awaited (option_map waiting_of (row_in rows (row_key_in b))) carrier.number)
 
 -- a broadcast of the index, if it is about the subject and waits for the carrier
-abbrev pub listed_about : BTreeMap DownloadKeyCode WaitingCode → Spid → SubjectCode → SubjectDownloadCode → Option DownloadKeyCode
+abbrev pub listed_about : List (RowKeyCode × WaitingCode) → Spid → SubjectCode → SubjectDownloadCode → Option DownloadKeyCode
 listed_about rows carrier subject k = if (rank_key k.rank == key_of subject) && is_for rows (download_in k) carrier subject then Some (download_in k) else None

@@ -8,15 +8,15 @@ ghost use Rattle.meaning.specs.Content.{empty_content};
 ghost use Rattle.settle.specs.Reads.{AreWaitsAbout};
 ghost use Rattle.settle.specs.Views.{spid_of, wait_key_of};
 ghost use Rattle.store.specs.Maps.{set};
-ghost use Rattle.store.specs.WaitRows.{download_key_of, download_of, wait_for, subject_download_of, key_about, is_for};
+ghost use Rattle.store.specs.WaitRows.{row_key_of, download_of, wait_for, subject_download_of, key_about, is_for};
 
-use crate::keys::{Rank, SubjectDownload};
+use crate::keys::{Rank, RowKey, SubjectDownload};
 use crate::waiting::Waiting;
 use delivery::DownloadKey;
 use numbers::{Minute, Spid, Subject};
 use settle::WaitKey;
 use std::alloc::{AllocError, Global};
-use std::collections::BTreeMap;
+use std::collections::{BTreeMap, HashMap};
 use std::marker::Model;
 
 /// The downloads that wait: for each broadcast one row, its subject and the carriers for which it
@@ -27,7 +27,7 @@ use std::marker::Model;
 #[derive(Drop)]
 pub struct Waits {
     alloc: Global,
-    rows: BTreeMap<DownloadKey, Waiting>,
+    rows: HashMap<RowKey, Waiting>,
     about: BTreeMap<SubjectDownload, ()>,
 }
 
@@ -42,46 +42,51 @@ impl Model for Waits {
 
     ghost coded = { coded_waits };
 
-    ghost view = { λ w. waits_of (rows_of w.rows) };
+    ghost view = { λ w. waits_of (rows_of w.rows.entries) };
 
-    ghost invariant = { λ w. AreAbout (rows_of w.rows) (about_of w.about)
-        × AboutIsNeeded (rows_of w.rows) (about_of w.about) };
+    ghost invariant = { λ w. AreAbout (rows_of w.rows.entries) (about_of w.about)
+        × AboutIsNeeded (rows_of w.rows.entries) (about_of w.about) };
 }
 
-/// The broadcast of a download.
-pub fn broadcast_of(key: WaitKey) -> DownloadKey
-    ensures { download_key_of result ≡ download_of (wait_key_of key) }
+// The broadcast of a download.
+fn broadcast_of(key: WaitKey) -> RowKey
+    ensures { row_key_of result ≡ download_of (wait_key_of key) }
 {
-    DownloadKey {
+    RowKey {
+        minute: key.minute.number,
+        id: key.id,
+        attempt: key.attempt,
+    }
+}
+
+// The key under which a download's broadcast is found by its subject.
+fn about(subject: Subject, key: WaitKey) -> SubjectDownload
+    ensures { subject_download_of result
+        ≡ key_about (subject_of subject) (download_of (wait_key_of key)) }
+{
+    SubjectDownload {
+        rank: Rank::of(subject),
         minute: key.minute,
         id: key.id,
         attempt: key.attempt,
     }
 }
 
-// The key under which a broadcast is found by its subject.
-fn about(subject: Subject, download: DownloadKey) -> SubjectDownload
-    ensures { subject_download_of result
-        ≡ key_about (subject_of subject) (download_key_of download) }
-{
-    SubjectDownload {
-        rank: Rank::of(subject),
-        minute: download.minute,
-        id: download.id,
-        attempt: download.attempt,
-    }
-}
-
 // Whether the broadcast waits for the carrier, under this subject.
 fn is_for(
-    rows: &BTreeMap<DownloadKey, Waiting>,
+    rows: &HashMap<RowKey, Waiting>,
     broadcast: DownloadKey,
     carrier: Spid,
     subject: Subject,
 ) -> bool
-    ensures { result ≡ is_for rows.now broadcast carrier subject }
+    ensures { result ≡ is_for rows.now.entries broadcast carrier subject }
 {
-    match rows.get(&broadcast) {
+    let key = RowKey {
+        minute: broadcast.minute.number,
+        id: broadcast.id,
+        attempt: broadcast.attempt,
+    };
+    match rows.get(&key) {
         None => false,
         Some(row) => row.subject_for(carrier) == Some(subject),
     }
@@ -94,7 +99,7 @@ impl Waits {
     {
         Waits {
             alloc,
-            rows: BTreeMap::new(alloc),
+            rows: HashMap::new(alloc),
             about: BTreeMap::new(alloc),
         }
     }
@@ -134,11 +139,11 @@ impl Waits {
             return row.add(key.carrier, subject);
         }
         let row = Waiting::of(self.alloc, key.carrier, subject)?;
-        let _ = self.about.insert(about(subject, broadcast), ())?;
+        let _ = self.about.insert(about(subject, key), ())?;
         match self.rows.insert(broadcast, row) {
             Ok(_) => Ok(None),
             Err(_) => {
-                let _ = self.about.remove(&about(subject, broadcast));
+                let _ = self.about.remove(&about(subject, key));
                 Err(AllocError)
             }
         }
@@ -158,7 +163,7 @@ impl Waits {
         if row.carriers.is_empty() {
             let subject = row.subject;
             let _ = self.rows.remove(&broadcast);
-            let _ = self.about.remove(&about(subject, broadcast));
+            let _ = self.about.remove(&about(subject, key));
         }
         before
     }

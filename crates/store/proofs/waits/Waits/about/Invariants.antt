@@ -5,5 +5,5 @@ use Rattle.store.proofs.waits.Waits.about.Given as goal
 
 abbrev pub invariant-loop-key : goal.invariant-loop-key
 invariant-loop-key l =
-    l.found.items ++ filter_map (λ e. listed_about l.self-inside.rows l.carrier l.subject e.0) l.key-iterator
-    ≡ filter_map (λ e. listed_about l.self-inside.rows l.carrier l.subject e.0) l.initial.key-iterator
+    l.found.items ++ filter_map (λ e. listed_about l.self-inside.rows.entries l.carrier l.subject e.0) l.key-iterator
+    ≡ filter_map (λ e. listed_about l.self-inside.rows.entries l.carrier l.subject e.0) l.initial.key-iterator
