@@ -8,7 +8,7 @@ ghost use Rattle.bodies.specs.Texts.{looked_up, uri_text};
 ghost use Rattle.settle.specs.Owing.{Owes};
 ghost use Rattle.api.specs.Step.{Carries, AsksFor, ComesBack, told, IsReplied};
 
-use bodies::{Failure, Room, URI_ROOM, put_uri};
+use bodies::{Failure, Room, URI_ROOM, put_looked_up, put_uri};
 use calls::Answer;
 use meaning::Refusal;
 use numbers::{Spid, Tn};
@@ -50,10 +50,7 @@ fn put_routed(
 {
     match answer {
         Answer::Closed => put_text(room, text),
-        Answer::Open(routing) => {
-            let found = uri.answer(alloc, routing)?;
-            put_text(room, found.as_str())
-        }
+        Answer::Open(routing) => Ok(put_looked_up(alloc, room, uri, routing)?),
     }
 }
 

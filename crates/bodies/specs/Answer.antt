@@ -6,11 +6,15 @@ use Rattle.http.specs.StatusCode.{code_digits, reason_phrase}
 unfoldable pub phrase : ℕ → List ℕ
 phrase code = unwrap_or (reason_phrase code) []
 
+-- the status line and the two fields, up to the length
+abbrev pub head_start : ℕ → List ℕ
+head_start code =
+    codes "HTTP/1.1 " ++ code_digits code ++ codes " " ++ phrase code
+    ++ codes "\r\ncontent-type: application/json\r\ncontent-length: "
+
 -- The status line, the two fields and the empty line.
 abbrev pub head : ℕ → ℕ → List ℕ
-head code len =
-    codes "HTTP/1.1 " ++ code_digits code ++ codes " " ++ phrase code
-    ++ codes "\r\ncontent-type: application/json\r\ncontent-length: " ++ decimal len ++ codes "\r\n\r\n"
+head code len = head_start code ++ decimal len ++ codes "\r\n\r\n"
 
 -- the whole answer
 abbrev pub answer : ℕ → List ℕ → List ℕ

@@ -1,6 +1,6 @@
 //! Answers, written into room that was taken before.
 ghost use Rattle.std.specs.Prelude.{◌≡◌, ℕ, ◌+◌, ◌≤◌, ◌<◌, ◌^◌, ◌++◌, length, string_bytes, IfOk, OnOk, string_len, string_capacity};
-ghost use Rattle.bodies.specs.Answer.{answer, head, IsAnswered, phrase};
+ghost use Rattle.bodies.specs.Answer.{answer, head, head_start, IsAnswered, phrase};
 
 use crate::room::{put, put_number};
 use http::StatusCode;
@@ -28,12 +28,12 @@ fn phrase_of(status: StatusCode) -> &'static str
     status.canonical_reason().unwrap_or("")
 }
 
-// Appends the head of an answer with this status before a body of this length.
-fn put_head(out: &mut String, status: StatusCode, length: u64)
-    requires room { string_len out.old + 160 ≤ string_capacity out.old }
+// Appends the head of an answer with this status, up to the length of the body.
+fn put_status(out: &mut String, status: StatusCode)
+    requires room { string_len out.old + 136 ≤ string_capacity out.old }
     requires answered { IsAnswered status }
-    ensures bytes { string_bytes out.new ≡ string_bytes out.old ++ head status length }
-    ensures len { string_len out.new ≤ string_len out.old + 160 }
+    ensures bytes { string_bytes out.new ≡ string_bytes out.old ++ head_start status }
+    ensures len { string_len out.new ≤ string_len out.old + 136 }
     ensures capacity { string_capacity out.old ≤ string_capacity out.new }
 {
     put(out, "HTTP/1.1 ");
@@ -44,6 +44,48 @@ fn put_head(out: &mut String, status: StatusCode, length: u64)
         out,
         "\r\ncontent-type: application/json\r\ncontent-length: ",
     );
+}
+
+#[tactic(auto, unfolding(crate::specs::Answer::phrase))]
+fn put_success(out: &mut String)
+    requires room { string_len out.old + 136 ≤ string_capacity out.old }
+    ensures bytes { string_bytes out.new ≡ string_bytes out.old ++ head_start 200 }
+    ensures len { string_len out.new ≤ string_len out.old + 136 }
+    ensures capacity { string_capacity out.old ≤ string_capacity out.new }
+{
+    put(
+        out,
+        "HTTP/1.1 200 OK\r\ncontent-type: application/json\r\ncontent-length: ",
+    );
+}
+
+// The head up to the length of the body, in one piece where the answer is one of success, as almost
+// each is.
+fn put_start(out: &mut String, status: u16)
+    requires room { string_len out.old + 136 ≤ string_capacity out.old }
+    requires answered { IsAnswered status }
+    ensures bytes { string_bytes out.new ≡ string_bytes out.old ++ head_start status }
+    ensures len { string_len out.new ≤ string_len out.old + 136 }
+    ensures capacity { string_capacity out.old ≤ string_capacity out.new }
+{
+    if status == 200 {
+        return put_success(out);
+    }
+    match StatusCode::from_u16(status) {
+        Ok(status) => put_status(out, status),
+        Err(_) => unreachable!(),
+    }
+}
+
+// Appends the head of an answer with this status before a body of this length.
+fn put_head(out: &mut String, status: u16, length: u64)
+    requires room { string_len out.old + 160 ≤ string_capacity out.old }
+    requires answered { IsAnswered status }
+    ensures bytes { string_bytes out.new ≡ string_bytes out.old ++ head status length }
+    ensures len { string_len out.new ≤ string_len out.old + 160 }
+    ensures capacity { string_capacity out.old ≤ string_capacity out.new }
+{
+    put_start(out, status);
     put_number(out, length);
     put(out, "\r\n\r\n");
 }
@@ -86,6 +128,16 @@ impl Room {
         Ok(())
     }
 
+    /// Takes the room for the whole answer with the body that is written.
+    pub fn fit(&mut self) -> Result<(), AllocError>
+        requires empty { string_len self.old.text ≡ 0 }
+        ensures ok { OnOk result (IsWritten self.new) }
+        ensures body { string_bytes self.new.body ≡ string_bytes self.old.body }
+        ensures room { (n : ℕ) → HasRoom n self.old → HasRoom n self.new }
+    {
+        self.text.reserve(self.body.len() + HEAD_ROOM)
+    }
+
     /// Writes the whole text of an answer with this status and the body.
     pub fn finish(&mut self, status: u16)
         requires answered { IsAnswered status }
@@ -94,12 +146,7 @@ impl Room {
             ≡ string_bytes self.old.text ++ answer status (string_bytes self.old.body) }
         ensures room { (n : ℕ) → HasRoom n self.old → HasRoom n self.new }
     {
-        match StatusCode::from_u16(status) {
-            Ok(status) => {
-                put_head(&mut self.text, status, self.body.len() as u64);
-                put(&mut self.text, &self.body);
-            }
-            Err(_) => unreachable!(),
-        }
+        put_head(&mut self.text, status, self.body.len() as u64);
+        put(&mut self.text, &self.body);
     }
 }

@@ -20,6 +20,7 @@ pub use fields::Fields;
 pub use forms::{Asked, asked_of, body_asks_once};
 pub use reply::{
     DOWNLOAD_ROOM, ID_ROOM, ROW_ROOM, URI_ROOM, put_donated, put_downloads, put_failure, put_ids,
-    put_now, put_opened_code, put_registered, put_routing_number, put_uri, put_version,
+    put_looked_up, put_now, put_opened_code, put_registered, put_routing_number, put_uri,
+    put_version,
 };
 pub use room::{put, put_cic, put_lrn, put_number, put_subject};

@@ -1,5 +1,5 @@
 //! The bodies of answers.
-ghost use Rattle.std.specs.Prelude.{◌≡◌, ◌+◌, ◌*◌, ◌≤◌, ◌++◌, length, map, decimal, option_map, string_bytes, string_len, string_capacity};
+ghost use Rattle.std.specs.Prelude.{◌≡◌, ℕ, ◌+◌, ◌*◌, ◌≤◌, ◌++◌, OnOk, length, map, decimal, option_map, string_bytes, string_len, string_capacity};
 ghost use Rattle.numbers.specs.declared.cic.Cic.{Cic as CicSeen};
 ghost use Rattle.numbers.specs.declared.lrn.Lrn.{Lrn as LrnSeen};
 ghost use Rattle.numbers.specs.Views.{routing_of};
@@ -8,9 +8,13 @@ ghost use Rattle.meaning.specs.Reading.{release_of};
 ghost use Rattle.version.specs.Views.{routings_of, phase_seen};
 ghost use Rattle.calls.specs.Calls.{view_of, in_force_of, download_of};
 ghost use Rattle.bodies.specs.Answer.{refusal_body};
+ghost use Rattle.telnp.specs.Answer.{answer_text};
+ghost use Rattle.telnp.specs.Views.{uri_of};
 ghost use Rattle.bodies.specs.Failures.{failure_body};
+ghost use Rattle.bodies.specs.Rooms.{HasRoom, IsEmpty, IsWritten};
 ghost use Rattle.bodies.specs.Texts.{cic_value, lrn_value, number_value, phase_value, status_word, cic_in, lrn_in, counts_text, parties_text, times_text, standing_text, view_text, listed, row_text, registered_text, donated_text, action_word, sent_text, placed_text, download_text, downloads_text, routing_number_text, opened_code_text, ids_text, now_text, uri_text};
 
+use crate::answer::Room;
 use crate::fault::Failure;
 use crate::list::{Item, put_list};
 use crate::room::{
@@ -20,6 +24,8 @@ use calls::{Ids, VersionView};
 use delivery::{Download, RoutedRow};
 use meaning::{Action, Status};
 use numbers::{BlockId, Cic, CodeId, Lrn, Minute, Routing, Spid};
+use std::alloc::{AllocError, Global};
+use telnp::TelUri;
 use version::Phase;
 
 /// The most bytes that a version's body takes.
@@ -471,4 +477,26 @@ pub fn put_uri(out: &mut String, uri: &str)
     put(out, "{\"uri\":\"");
     put(out, uri);
     put(out, "\"}");
+}
+
+/// Writes the body that answers a query by a tel URI whose number was looked up, and takes the room
+/// for the whole answer. Where the URI has no parameters, it takes no memory that was not taken for
+/// an answer before.
+#[tactic(auto, unfolding(crate::specs::Texts::uri_text))]
+pub fn put_looked_up(
+    alloc: Global,
+    room: &mut Room,
+    uri: &TelUri<'_>,
+    routing: Option<Routing>,
+) -> Result<(), AllocError>
+    requires { IsEmpty room.old }
+    ensures ok { OnOk result (IsWritten room.new) }
+    ensures body { OnOk result (string_bytes room.new.body
+        ≡ uri_text (answer_text (uri_of uri.now) (option_map routing_of routing))) }
+    ensures room { (n : ℕ) → HasRoom n room.old → HasRoom n room.new }
+{
+    room.body.push_str("{\"uri\":\"")?;
+    uri.write_answer(alloc, routing, &mut room.body)?;
+    room.body.push_str("\"}")?;
+    room.fit()
 }

@@ -1,3 +1,4 @@
+pub mod Added
 pub mod Cuts
 pub mod Places
 pub mod Wholes

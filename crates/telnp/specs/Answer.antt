@@ -1,5 +1,5 @@
 -- The text that answers a query.
-use Rattle.std.specs.Prelude.{ℕ, Bool, not, ◌||◌, if◌then◌else◌, List, [], ◌∷◌, ◌++◌, fold, codes, Option, Some, None}
+use Rattle.std.specs.Prelude.{◌≡◌, ℕ, Bool, not, ◌||◌, if◌then◌else◌, List, [], ◌∷◌, ◌++◌, fold, codes, Option, Some, None}
 use Rattle.std.specs.List.{filter}
 use Rattle.std.specs.Ordering.{nat_cmp, is_lt}
 use Rattle.std.specs.Cmp.Lexicographic.{slice_cmp}
@@ -76,3 +76,7 @@ abbrev pub answer_text : Uri → Option Routing → List ℕ
 answer_text uri routing =
     if has_name (codes "npdi") uri.parameters then uri.text
     else codes "tel:" ++ (uri.number ++ written (answer_parameters uri.parameters routing))
+
+-- the text is still there, and something may be appended to it
+abbrev pub Extends : List ℕ → List ℕ → Type 0
+Extends before after = (rest : List ℕ) × (after ≡ before ++ rest)

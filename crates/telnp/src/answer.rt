@@ -1,29 +1,29 @@
 //! The text that answers a query.
 
-ghost use Rattle.std.specs.Prelude.{◌≡◌, ◌≤◌, ◌++◌, OnOk, IfOk, length, position, string_bytes};
+ghost use Rattle.std.specs.Prelude.{◌≡◌, ◌≤◌, ◌++◌, [], OnOk, IfOk, codes, length, option_map, position, string_bytes, string_capacity};
 ghost use Rattle.std.specs.List.{position_or_len};
+ghost use Rattle.numbers.specs.declared.cic.Cic.{Cic as CicSeen};
+ghost use Rattle.numbers.specs.Texts.{lrn_text};
 ghost use Rattle.numbers.specs.Views.{routing_of};
-ghost use Rattle.telnp.specs.Answer.{goes_before, is_kept, kept, placed, all_placed, added, added_carrier, added_routing, answer_parameters, answer_text};
+ghost use Rattle.telnp.specs.Answer.{goes_before, is_kept, kept, placed, all_placed, added_carrier, answer_parameters, Extends};
 ghost use Rattle.telnp.specs.Faults.{parts};
 ghost use Rattle.telnp.specs.Laws.{AnswersAreInOrder};
 ghost use Rattle.telnp.specs.Uri.{written};
-ghost use Rattle.telnp.specs.Views.{part_text, part_texts, parts_in, uri_of};
+ghost use Rattle.telnp.specs.Views.{part_text, part_texts};
 
 use crate::parameter::name_of;
+use crate::parameters::has_name;
 use crate::part::Part;
 use crate::text::same_name;
 use crate::uri::TelUri;
-use numbers::Routing;
+use numbers::{Cic, Lrn, Routing};
 use std::alloc::{AllocError, Global};
 
-// How many bytes `;npdi`, `;rn=+1` with ten digits and `;cic=+1` with four have together.
-const ADDED: usize = 32;
-
 impl TelUri<'_> {
-    ghost use Rattle.std.specs.Prelude.{◌≡◌, IfOk, option_map, string_bytes};
+    ghost use Rattle.std.specs.Prelude.{◌≡◌, ◌≤◌, ◌++◌, OnOk, option_map, string_bytes, string_capacity};
     ghost use Rattle.numbers.specs.Views.{routing_of};
-    ghost use Rattle.telnp.specs.Answer.{answer_parameters, answer_text};
-    ghost use Rattle.telnp.specs.Views.{part_texts, uri_of};
+    ghost use Rattle.telnp.specs.Answer.{answer_text, Extends};
+    ghost use Rattle.telnp.specs.Views.{uri_of};
 
     /// The text that answers a query by this URI, after a look-up that found a routing or none.
     ///
@@ -34,55 +34,96 @@ impl TelUri<'_> {
     /// written. First come `ext`, `isub` and `phone-context`, and then all others by their names in
     /// lower case (RFC 3966, section 3).
     ///
-    /// The only fault is want of memory. The work takes a `Vec` of spans and the `String`.
-    pub fn answer(&self, alloc: Global, routing: Option<Routing>) -> Result<String, AllocError>
-        ensures { IfOk result (λ text. string_bytes text
-            ≡ answer_text (uri_of self.now) (option_map routing_of routing)) }
-    {
-        if self.has_npdi() {
-            return copy_of(alloc, self.text);
-        }
-        let parts = self.answer_parts(alloc, routing)?;
-        let mut out = String::with_capacity(alloc, self.text.len().saturating_add(ADDED))?;
-        out.push_str("tel:")?;
-        out.push_str(self.number)?;
-        write_parts(&mut out, parts.as_slice())?;
-        Ok(out)
-    }
-
-    // The parameters of the answer, in order.
-    fn answer_parts(
+    /// The answer is appended. The only fault is want of memory, and then a front of the answer may
+    /// have been appended. A text without parameters takes no memory but that of the `String`; any
+    /// other takes a `Vec` of spans.
+    pub fn write_answer(
         &self,
         alloc: Global,
         routing: Option<Routing>,
-    ) -> Result<Vec<Part<'_>>, AllocError>
-        ensures { IfOk result (λ parts. part_texts parts.items
-            ≡ answer_parameters (uri_of self.now).parameters
-            (option_map routing_of routing)) }
+        out: &mut String,
+    ) -> Result<(), AllocError>
+        ensures ok { OnOk result (string_bytes out.new
+            ≡ string_bytes out.old
+            ++ answer_text (uri_of self.now) (option_map routing_of routing)) }
+        ensures kept { Extends (string_bytes out.old) (string_bytes out.new) }
+        ensures capacity { string_capacity out.old ≤ string_capacity out.new }
     {
-        let mut sorted = Vec::new(alloc);
-        if let Some(parameters) = self.parameters {
-            place_kept(&mut sorted, parameters)?;
+        if self.has_npdi() {
+            return out.push_str(self.text);
         }
-        place(&mut sorted, Part::Npdi)?;
-        if let Some(routing) = routing {
-            place(&mut sorted, Part::RoutingNumber(routing.lrn))?;
-            if let Some(cic) = routing.cic
-                && !self.has_parameter("cic")
-            {
-                place(&mut sorted, Part::Carrier(cic))?;
+        out.push_str("tel:")?;
+        out.push_str(self.number)?;
+        match self.parameters {
+            None => write_added(routing, out),
+            Some(parameters) => {
+                let parts = answer_parts(alloc, parameters, routing)?;
+                write_parts(out, parts.as_slice())
             }
         }
-        Ok(sorted)
     }
 }
 
-fn copy_of(alloc: Global, text: &str) -> Result<String, AllocError>
-    ensures { IfOk result (λ copy. string_bytes copy ≡ text.now) }
+fn write_routing_number(lrn: Lrn, out: &mut String) -> Result<(), AllocError>
+    ensures ok { OnOk result (string_bytes out.new
+        ≡ string_bytes out.old ++ codes ";npdi;rn=+1" ++ lrn_text lrn.number) }
+    ensures kept { Extends (string_bytes out.old) (string_bytes out.new) }
+    ensures capacity { string_capacity out.old ≤ string_capacity out.new }
 {
-    let mut copy = String::with_capacity(alloc, text.len())?;
-    copy.push_str(text)?;
-    Ok(copy)
+    out.push_str(";npdi;rn=+1")?;
+    lrn.write(out)
+}
+
+fn write_carrier(cic: Option<Cic>, out: &mut String) -> Result<(), AllocError>
+    ensures ok { OnOk result (string_bytes out.new
+        ≡ string_bytes out.old
+        ++ written (added_carrier [] (option_map (λ (c : CicSeen). c.number) cic))) }
+    ensures kept { Extends (string_bytes out.old) (string_bytes out.new) }
+    ensures capacity { string_capacity out.old ≤ string_capacity out.new }
+{
+    let Some(cic) = cic else {
+        return Ok(());
+    };
+    out.push_str(";cic=+1")?;
+    cic.write(out)
+}
+
+// What is added, in order, where the text has no parameters.
+fn write_added(routing: Option<Routing>, out: &mut String) -> Result<(), AllocError>
+    ensures ok { OnOk result (string_bytes out.new
+        ≡ string_bytes out.old
+        ++ written (answer_parameters [] (option_map routing_of routing))) }
+    ensures kept { Extends (string_bytes out.old) (string_bytes out.new) }
+    ensures capacity { string_capacity out.old ≤ string_capacity out.new }
+{
+    let Some(routing) = routing else {
+        return out.push_str(";npdi");
+    };
+    write_carrier(routing.cic, out)?;
+    write_routing_number(routing.lrn, out)
+}
+
+// The parameters of the answer, in order, where the text has these.
+fn answer_parts<'a>(
+    alloc: Global,
+    parameters: &'a str,
+    routing: Option<Routing>,
+) -> Result<Vec<Part<'a>>, AllocError>
+    ensures { IfOk result (λ answered. part_texts answered.items
+        ≡ answer_parameters (parts 59 parameters.now) (option_map routing_of routing)) }
+{
+    let mut sorted = Vec::new(alloc);
+    place_kept(&mut sorted, parameters)?;
+    place(&mut sorted, Part::Npdi)?;
+    if let Some(routing) = routing {
+        place(&mut sorted, Part::RoutingNumber(routing.lrn))?;
+        if let Some(cic) = routing.cic
+            && !has_name("cic", parameters)
+        {
+            place(&mut sorted, Part::Carrier(cic))?;
+        }
+    }
+    Ok(sorted)
 }
 
 // Whether a query's parameter is kept: all are but `rn` and `rn-context`.
@@ -135,8 +176,10 @@ fn place<'a>(sorted: &mut Vec<Part<'a>>, part: Part<'a>) -> Result<(), AllocErro
 
 // Appends each parameter behind a `;`.
 fn write_parts(out: &mut String, parts: &[Part]) -> Result<(), AllocError>
-    ensures { OnOk result
+    ensures ok { OnOk result
         (string_bytes out.new ≡ string_bytes out.old ++ written (part_texts parts.now)) }
+    ensures kept { Extends (string_bytes out.old) (string_bytes out.new) }
+    ensures capacity { string_capacity out.old ≤ string_capacity out.new }
 {
     for part in parts {
         out.push(';')?;

@@ -22,8 +22,8 @@ pub enum Part<'a> {
 }
 
 impl<'a> Part<'a> {
-    ghost use Rattle.std.specs.Prelude.{◌≡◌, ◌++◌, OnOk, string_bytes};
-    ghost use Rattle.telnp.specs.Answer.{goes_before};
+    ghost use Rattle.std.specs.Prelude.{◌≡◌, ◌≤◌, ◌++◌, OnOk, string_bytes, string_capacity};
+    ghost use Rattle.telnp.specs.Answer.{goes_before, Extends};
     ghost use Rattle.telnp.specs.Grammar.{name_of};
     ghost use Rattle.telnp.specs.Views.{part_text};
 
@@ -46,9 +46,13 @@ impl<'a> Part<'a> {
         order_of(self.name(), other.name()) == Ordering::Less
     }
 
-    /// Appends the parameter without the `;` in front of it.
+    /// Appends the parameter without the `;` in front of it, or a front of it where there is no
+    /// memory.
     pub fn write(&self, out: &mut String) -> Result<(), AllocError>
-        ensures { OnOk result (string_bytes out.new ≡ string_bytes out.old ++ part_text self.now) }
+        ensures ok { OnOk result
+            (string_bytes out.new ≡ string_bytes out.old ++ part_text self.now) }
+        ensures kept { Extends (string_bytes out.old) (string_bytes out.new) }
+        ensures capacity { string_capacity out.old ≤ string_capacity out.new }
     {
         match self {
             Part::Written(text) => out.push_str(*text),

@@ -5,7 +5,8 @@ use telnp::{TelFault, TelUri};
 
 fn is_answered(alloc: Global, text: &str, routing: Option<Routing>, wanted: &str) -> Option<bool> {
     let uri = TelUri::read(text).ok()?;
-    let answer = uri.answer(alloc, routing).ok()?;
+    let mut answer = String::new(alloc);
+    uri.write_answer(alloc, routing, &mut answer).ok()?;
     Some(answer.as_str() == wanted)
 }
 

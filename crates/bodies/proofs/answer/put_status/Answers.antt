@@ -1,11 +1,9 @@
 use Rattle.std.proofs.Common.{append_assoc}
-use Rattle.bodies.proofs.answer.put_head.Goals as goal
+use Rattle.bodies.proofs.answer.put_status.Goals as goal
 
 pub returns-clause-bytes : goal.returns-clause-bytes
 returns-clause-bytes c =
     simp (
-      c.put-6.ensures.bytes,
-      c.put_number.ensures.bytes,
       c.put-5.ensures.bytes,
       c.put-4.ensures.bytes,
       c.put-3.ensures.bytes,
