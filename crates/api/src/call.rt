@@ -5,7 +5,7 @@ ghost use Rattle.register.specs.Answers.{Stands};
 ghost use Rattle.calls.specs.Calls.{called_of};
 ghost use Rattle.messages.specs.Table.{takes as takes_method, among_offered};
 ghost use Rattle.bodies.specs.Failures.{failure_text};
-ghost use Rattle.bodies.specs.Forms.{Asked as AskedSeen, Calling, asked_of as asked_seen};
+ghost use Rattle.bodies.specs.Forms.{Asked as AskedSeen, Calling, asked_of as asked_seen, json_of};
 ghost use Rattle.bodies.specs.Rooms.{HasRoom, IsEmpty, IsWritten};
 ghost use Rattle.api.specs.Counting.{HasRoomFor, IsCounted};
 ghost use Rattle.settle.specs.Owing.{IsAnswered, Owes};
@@ -13,7 +13,7 @@ ghost use Rattle.api.specs.Step.{Step, Meets, Calls, Admits, TurnsAway, BodyAsks
 
 use crate::query::query;
 use crate::reply::{Counted, put_refused, put_reply, put_success, take_counted};
-use bodies::{Asked, Failure, Room, asked_of, json};
+use bodies::{Asked, Failure, Fields, Flat, Room, asked_of, json};
 use calls::{Call, Command};
 use meaning::Refusal;
 use messages::{MessageFault, Request, Route, offered, takes};
@@ -193,6 +193,70 @@ fn answer<S: Store>(
     make(register, caller, call, room)
 }
 
+// Carries out what the members of a body ask on a path.
+fn carry_out_fields<S: Store, F: Fields>(
+    alloc: Global,
+    register: &mut Register<S>,
+    route: Route,
+    caller: Spid,
+    fields: &F,
+    room: &mut Room,
+) -> Result<(), Failure>
+    requires empty { IsEmpty room.old }
+    requires room { HasRoom 512 room.old }
+    ensures ok { OnOk result (IsWritten room.new) }
+    ensures room { HasRoom 512 room.new }
+    ensures owes { Owes S.IsUsable S.IsHonest S.failed register.old.store register.new.store
+        (IsReplied result) ⊥ }
+    ensures calls { S.IsUsable register.new.store → (body : List ℕ)
+        → json_of body ≡ Some (F.value fields.now) → (st : State)
+        → Stands (S.content register.old.store) st
+        → (after : State)
+        × Calls (S.failed register.old.store) (S.failed register.new.store) st
+        (BodyAsks route body) caller.number
+        (told result (string_bytes room.new.body)) after
+        × Stands (S.content register.new.store) after }
+{
+    match asked_of(alloc, route, fields) {
+        Ok(Some(Asked::Call(call))) => answer(register, caller, &call, room),
+        Ok(Some(Asked::Uri(uri))) => query(alloc, register, caller, uri, room),
+        Ok(None) => Err(Failure::Message(MessageFault::BadRequest)),
+        Err(_) => Err(Failure::Refused(Refusal::NoMemory)),
+    }
+}
+
+// Reads a body that is not written plainly as a tree, and carries out what it asks.
+#[cold]
+#[inline(never)]
+fn carry_out_tree<S: Store>(
+    alloc: Global,
+    register: &mut Register<S>,
+    route: Route,
+    caller: Spid,
+    body: &[u8],
+    room: &mut Room,
+) -> Result<(), Failure>
+    requires empty { IsEmpty room.old }
+    requires room { HasRoom 512 room.old }
+    ensures ok { OnOk result (IsWritten room.new) }
+    ensures room { HasRoom 512 room.new }
+    ensures owes { Owes S.IsUsable S.IsHonest S.failed register.old.store register.new.store
+        (IsReplied result) ⊥ }
+    ensures calls { S.IsUsable register.new.store → (st : State)
+        → Stands (S.content register.old.store) st
+        → (after : State)
+        × Calls (S.failed register.old.store) (S.failed register.new.store) st
+        (BodyAsks route body.now) caller.number
+        (told result (string_bytes room.new.body)) after
+        × Stands (S.content register.new.store) after }
+{
+    match json(alloc, body) {
+        Ok(Some(value)) => carry_out_fields(alloc, register, route, caller, &value, room),
+        Ok(None) => Err(Failure::Message(MessageFault::BadRequest)),
+        Err(refused) => Err(Failure::from(refused)),
+    }
+}
+
 // Reads the body of a message of a path, and carries out what it asks.
 fn carry_out_body<S: Store>(
     alloc: Global,
@@ -216,16 +280,11 @@ fn carry_out_body<S: Store>(
         (told result (string_bytes room.new.body)) after
         × Stands (S.content register.new.store) after }
 {
-    let value = match json(alloc, body) {
-        Ok(Some(value)) => value,
-        Ok(None) => return Err(Failure::Message(MessageFault::BadRequest)),
-        Err(_) => return Err(Failure::Refused(Refusal::NoMemory)),
-    };
-    match asked_of(alloc, route, &value) {
-        Ok(Some(Asked::Call(call))) => answer(register, caller, &call, room),
-        Ok(Some(Asked::Uri(uri))) => query(alloc, register, caller, uri, room),
-        Ok(None) => Err(Failure::Message(MessageFault::BadRequest)),
-        Err(_) => Err(Failure::Refused(Refusal::NoMemory)),
+    let mut flat = Flat::new();
+    if flat.read(body) {
+        carry_out_fields(alloc, register, route, caller, &flat, room)
+    } else {
+        carry_out_tree(alloc, register, route, caller, body, room)
     }
 }
 

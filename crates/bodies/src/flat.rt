@@ -1,15 +1,16 @@
 //! Objects in which no array and no object stands, held without a tree.
-ghost use Rattle.std.specs.Prelude.{◌≡◌, ◌++◌, ◌∷◌, [], Some, option_map, map, IfOk, IfSome, OnOk};
+ghost use Rattle.std.specs.Prelude.{◌≡◌, ◌++◌, ◌∷◌, [], true, Some, option_map, map, IfOk, IfSome, OnOk};
 ghost use Rattle.json.specs.Reads.{token_of};
 ghost use Rattle.serde_json.specs.Find.{get as get_in};
 ghost use Rattle.serde_json.specs.Read.{read as read_text};
 ghost use Rattle.serde_json.specs.Data.{no_members};
 ghost use Rattle.std.specs.List.{list_any, list_all};
 ghost use Rattle.std.specs.Str.{bytes_eq};
-ghost use Rattle.bodies.specs.Forms.{only_keys};
+ghost use Rattle.bodies.specs.Forms.{json_of, only_keys};
 ghost use Rattle.bodies.specs.Flat.{scalar_data, flat_data, members_upon, read_object, IsScalar};
 
 use crate::fields::{Fields, is_one_of};
+use crate::scan::read_members;
 use arrayvec::ArrayVec;
 use serde_json::Value;
 
@@ -41,7 +42,7 @@ impl Default for Member<'_> {
 }
 
 // No body has more keys.
-const MOST_MEMBERS: usize = 6;
+pub(crate) const MOST_MEMBERS: usize = 6;
 
 /// The members of an object, in the order in which they stand.
 #[derive(Drop)]
@@ -50,6 +51,30 @@ pub struct Flat<'a> {
 }
 
 impl<'a> Flat<'a> {
+    /// No members.
+    pub fn new() -> Flat<'a>
+        ensures { result.members.items ≡ [] }
+    {
+        Flat {
+            members: ArrayVec::new(),
+        }
+    }
+
+    /// Reads the object that a body is, in place of what was held, and tells whether it did. Its
+    /// texts are the body's: it takes no memory.
+    ///
+    /// `false` says nothing of the body: it may be no JSON, no object or one of other than plain
+    /// values, have more members than any body of a form, a text with an escape or with more than
+    /// ASCII, a number with a sign, a point, an exponent or more than 19 digits, or other blanks
+    /// than spaces and line feeds behind its marks. Every body of a form but a donation's is read
+    /// so where it is written plainly.
+    pub fn read(&mut self, body: &'a [u8]) -> bool
+        ensures { result ≡ true → json_of body.now ≡ Some (flat_data self.new.members.items) }
+    {
+        self.members.clear();
+        read_members(body, &mut self.members).is_some()
+    }
+
     // What stands under a key: the last, where it stands twice.
     fn get(&self, key: &str) -> Option<Scalar<'a>>
         ensures { option_map scalar_data result

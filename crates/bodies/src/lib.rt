@@ -14,9 +14,10 @@ mod scan;
 mod used;
 
 pub use answer::Room;
-pub use body::{Body, json};
+pub use body::json;
 pub use fault::Failure;
 pub use fields::Fields;
+pub use flat::Flat;
 pub use forms::{Asked, asked_of, body_asks_once};
 pub use reply::{
     DOWNLOAD_ROOM, ID_ROOM, ROW_ROOM, URI_ROOM, put_donated, put_downloads, put_failure, put_ids,

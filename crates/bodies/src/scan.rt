@@ -1,6 +1,6 @@
 //! The bytes of a body, gone over once: an object of plain values, with spaces and line feeds
 //! between its parts alone and no escapes in its texts.
-ghost use Rattle.std.specs.Prelude.{◌≡◌, ◌≤◌, ◌∷◌, ◌++◌, true, length, take, IfSome};
+ghost use Rattle.std.specs.Prelude.{◌≡◌, ◌≤◌, ◌∷◌, ◌++◌, [], true, length, take, Some, IfSome};
 ghost use Rattle.std.specs.List.{list_all};
 ghost use Rattle.std.specs.Char.{is_ascii_digit};
 ghost use Rattle.std.specs.Str.{IsUtf8};
@@ -12,7 +12,7 @@ ghost use Rattle.bodies.specs.Flat.{flat_data};
 ghost use Rattle.bodies.specs.Forms.{json_of};
 ghost use Rattle.bodies.specs.Scanned.{is_plain as is_plain_byte, IsBehindGap, IsScalarThen, IsMemberThen};
 
-use crate::flat::{Flat, Member, Scalar};
+use crate::flat::{MOST_MEMBERS, Member, Scalar};
 use arrayvec::ArrayVec;
 use messages::read_number;
 
@@ -139,14 +139,14 @@ fn member_at(bytes: &[u8]) -> Option<(Member<'_>, &[u8])>
     Some((Member { key, value }, rest))
 }
 
-/// The object that a body is. `None` says nothing of it: it may be no JSON, no object or one of
-/// other than plain values, have more members than any body of a form, a text with an escape or
-/// with more than ASCII, a number with a sign, a point, an exponent or more than 19 digits, or
-/// other blanks than spaces and line feeds behind its marks.
-pub fn read_flat(body: &[u8]) -> Option<Flat<'_>>
-    ensures { IfSome result (λ flat. json_of body.now ≡ Some (flat_data flat.members.items)) }
+/// Reads the members of the object that a body is. `None` says nothing of the body.
+pub(crate) fn read_members<'a>(
+    body: &'a [u8],
+    members: &mut ArrayVec<Member<'a>, MOST_MEMBERS>,
+) -> Option<()>
+    requires { members.old.items ≡ [] }
+    ensures { IfSome result (λ _. json_of body.now ≡ Some (flat_data members.new.items)) }
 {
-    let mut members = ArrayVec::new();
     let mut rest = behind(body, b'{')?;
     'members: loop {
         let (member, after) = member_at(rest)?;
@@ -157,7 +157,7 @@ pub fn read_flat(body: &[u8]) -> Option<Flat<'_>>
             rest = behind;
         } else {
             return match behind(behind_gap(after), b'}') {
-                Some([]) => Some(Flat { members }),
+                Some([]) => Some(()),
                 _ => None,
             };
         }

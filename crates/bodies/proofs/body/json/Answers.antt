@@ -1,4 +1,5 @@
-use Rattle.std.proofs.Common.{rules, ◌≡◌, ◌∙◌, List, ℕ, Bool, true, false, Some, None, Option, refl, ap, cond}
+use Rattle.std.proofs.Common.{rules, ◌≡◌, ◌∙◌, List, ℕ, Bool, true, false, Some, None, Option, refl, ap, cond, subst, option_map}
+use Rattle.std.specs.Prelude.{IfOk}
 use Rattle.std.proofs.lemmas.Str.{IsUtf8-from_is_utf8, is_utf8-from_IsUtf8}
 use Rattle.std.specs.Str.{is_utf8, IsUtf8}
 use Rattle.serde_json.specs.Data.{Data}
@@ -13,14 +14,13 @@ none_of body d false e never = refl
 some_of : (body text : List ℕ) (d : Option Data) → IsUtf8 body → text ≡ body → d ≡ read text → d ≡ cond (is_utf8 body) (read body) None
 some_of body text d utf8 same is = rw (is_utf8-from_IsUtf8 body utf8) (is ∙ ap read same)
 
-pub returns-in_default-from_utf8 : goal.returns-in_default-from_utf8
-returns-in_default-from_utf8 c =
+pub returns-in_default : goal.returns-in_default
+returns-in_default c =
     let never : IsUtf8 c.args.body.now → ⊥ = search rules in
     none_of c.args.body.now _ _ refl never
 
-pub returns-in-Some-2 : goal.returns-in-Some-2
-returns-in-Some-2 c =
+pub returns : goal.returns
+returns c =
     let utf8 : IsUtf8 c.args.body.now = search rules in
     let same : c.in-Ok.text.now ≡ c.args.body.now = search rules in
-    let found : Some (view c.in-Some-2.value) ≡ read c.in-Ok.text.now = search rules in
-    some_of c.args.body.now c.in-Ok.text.now (Some (view c.in-Some-2.value)) utf8 same found
+    subst (λ d. IfOk c.tree.result (λ found. option_map view found ≡ d)) (some_of c.args.body.now c.in-Ok.text.now (read c.in-Ok.text.now) utf8 same refl) c.tree.ensures

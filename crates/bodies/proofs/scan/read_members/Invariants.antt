@@ -1,6 +1,6 @@
 use Rattle.std.proofs.Common.{length}
 use Rattle.bodies.proofs.ScanLemmas.{IsBefore}
-use Rattle.bodies.proofs.scan.read_flat.Given as goal
+use Rattle.bodies.proofs.scan.read_members.Given as goal
 
 -- a member comes next, behind what was read so far
 abbrev pub invariant-members : goal.invariant-members

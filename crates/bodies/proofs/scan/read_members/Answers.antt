@@ -1,9 +1,9 @@
 use Rattle.std.proofs.Common.{◌≡◌, ◌≤◌, [], ◌∷◌, ◌++◌, length, ap, sym, ◌∙◌, subst, arith}
 use Rattle.bodies.proofs.ScanLemmas.{IsBefore, IsAfter, before_first, with_member, with_comma, whole, shorter, empty_of}
-use Rattle.bodies.proofs.scan.read_flat.Goals as goal
+use Rattle.bodies.proofs.scan.read_members.Goals as goal
 
 pub members-init : goal.members-init
-members-init c = subst (IsBefore c.args.body.now c.in_ok-rest.rest.now) (sym c.new-members.ensures) (before_first c.args.body.now c.in_ok-rest.rest.now c.in_ok-rest.ensures)
+members-init c = subst (IsBefore c.args.body.now c.in_ok-rest.rest.now) (sym c.requires) (before_first c.args.body.now c.in_ok-rest.rest.now c.in_ok-rest.ensures)
 
 pub members-preserved : goal.members-preserved
 members-preserved c =

@@ -1,0 +1,11 @@
+use Rattle.std.proofs.Common.{rules, ◌≡◌, ◌∙◌, ap, inl, inr, refl}
+use Rattle.meaning.specs.declared.refusal.Refusal.TheVariants.{NoMemory}
+use Rattle.bodies.specs.declared.fault.Failure.TheVariants.{Refused}
+use Rattle.bodies.specs.Failures.{failure_text}
+use Rattle.bodies.proofs.RefusalLemmas.{text_by_number}
+use Rattle.api.proofs.call.carry_out_tree.Goals as goal
+
+pub returns-in-Err-clause-calls : goal.returns-in-Err-clause-calls
+returns-in-Err-clause-calls g c =
+    let is : c.from.result ≡ Refused NoMemory = search rules in
+    λ u st s. (st, inl (inr (ap failure_text is ∙ text_by_number NoMemory), refl), s)
