@@ -1,0 +1,28 @@
+use Rattle.store.specs.Tables.{subject_version_of, due_version_of}
+use Rattle.store.proofs.Orders.{subject_version_total, subject_version_exact, due_version_total, due_version_exact}
+use Rattle.store.proofs.Standing.{have-standing, has-either, beside-all}
+use Rattle.std.proofs.lemmas.Result.{on_ok_weaker}
+use Rattle.store.proofs.indexes.put_row_keys.Goals as goal
+
+pub returns-clause-there : goal.returns-clause-there
+returns-clause-there c =
+    let old = c.args.tables.now in
+    let new = c.put_version_keys.new.tables in
+    let put = c.put_version_keys.ensures in
+    let stood = have-standing old c.args.id c.needed_keys-standing.result c.requires c.needed_keys-standing.ensures.own c.needed_keys-standing.ensures.without in
+    on_ok_weaker c.put_version_keys.result (λ there. record {
+      held = has-either subject_version_of subject_version_total subject_version_exact old.holds new.holds c.args.keys.held c.needed_keys-standing.result.held c.unneeded.result c.unneeded.ensures.own c.unneeded.ensures.rest there.held stood.held put.keeps.0;
+      opened = has-either subject_version_of subject_version_total subject_version_exact old.opens new.opens c.args.keys.opened c.needed_keys-standing.result.opened c.unneeded-2.result c.unneeded-2.ensures.own c.unneeded-2.ensures.rest there.opened stood.opened put.keeps.1;
+      due = has-either due_version_of due_version_total due_version_exact old.deadlines new.deadlines c.args.keys.due c.needed_keys-standing.result.due c.unneeded-3.result c.unneeded-3.ensures.own c.unneeded-3.ensures.rest there.due stood.due put.keeps.2;
+    })
+    put.there
+
+pub returns-clause-adds_keys : goal.returns-clause-adds_keys
+returns-clause-adds_keys c =
+    let old = c.args.tables.now in
+    let new = c.put_version_keys.new.tables in
+    let adds = c.put_version_keys.ensures.adds_keys in (
+      beside-all subject_version_of subject_version_total subject_version_exact new.holds old.holds c.args.keys.held c.unneeded.result c.unneeded.ensures.own adds.0,
+      beside-all subject_version_of subject_version_total subject_version_exact new.opens old.opens c.args.keys.opened c.unneeded-2.result c.unneeded-2.ensures.own adds.1,
+      beside-all due_version_of due_version_total due_version_exact new.deadlines old.deadlines c.args.keys.due c.unneeded-3.result c.unneeded-3.ensures.own adds.2,
+    )
