@@ -1,5 +1,8 @@
 -- The members of an object in which no array and no object stands.
-use Rattle.std.specs.Prelude.{◌≡◌, ℕ, length, List, [], ◌∷◌, Option, Some}
+use Rattle.std.specs.Prelude.{◌≡◌, ℕ, Bool, length, List, [], ◌∷◌, Option, Some}
+use Rattle.std.specs.Borrow.{Bor}
+use Rattle.std.specs.List.{list_any}
+use Rattle.std.specs.Str.{bytes_eq}
 use Rattle.json.specs.Token.{Token}
 use Rattle.json.specs.Json.{value, members}
 use Rattle.serde_json.specs.Data.{Data, Members, no_members, null, boolean, number, string, object, unsigned, put}
@@ -29,3 +32,7 @@ IsScalar token s = (depth : ℕ) (rest : List Token) → converted of_json (valu
 -- behind its brace, an object of a body
 abbrev pub read_object : List Token → Option (Members × List Token)
 read_object ts = converted (λ ms. of_members ms no_members) (members (value 126) (length ts) ts)
+
+-- the key is one of these
+abbrev pub is_among : List (Bor (List ℕ)) → List ℕ → Bool
+is_among keys k = list_any (λ (s : Bor (List ℕ)). bytes_eq k s.now) keys

@@ -1,13 +1,12 @@
 //! Objects in which no array and no object stands, held without a tree.
-ghost use Rattle.std.specs.Prelude.{◌≡◌, ◌++◌, ◌∷◌, [], true, Some, option_map, map, IfOk, IfSome, OnOk};
+ghost use Rattle.std.specs.Prelude.{◌≡◌, ◌<◌, length, ◌++◌, ◌∷◌, [], true, Some, option_map, map, IfOk, IfSome, OnOk};
 ghost use Rattle.json.specs.Reads.{token_of};
 ghost use Rattle.serde_json.specs.Find.{get as get_in};
 ghost use Rattle.serde_json.specs.Read.{read as read_text};
 ghost use Rattle.serde_json.specs.Data.{no_members};
-ghost use Rattle.std.specs.List.{list_any, list_all};
-ghost use Rattle.std.specs.Str.{bytes_eq};
+ghost use Rattle.std.specs.List.{list_all};
 ghost use Rattle.bodies.specs.Forms.{json_of, only_keys};
-ghost use Rattle.bodies.specs.Flat.{scalar_data, flat_data, members_upon, read_object, IsScalar};
+ghost use Rattle.bodies.specs.Flat.{scalar_data, flat_data, is_among, members_upon, read_object, IsScalar};
 
 use crate::fields::{Fields, is_one_of};
 use crate::scan::read_members;
@@ -92,12 +91,35 @@ impl<'a> Flat<'a> {
     }
 }
 
-// Whether each of the members has one of these keys.
-fn are_known(members: &[Member<'_>], allowed: &[&str]) -> bool
-    ensures { result ≡ list_all (λ m. list_any (λ s. bytes_eq m.key.now s.now) allowed.now)
-        members.now }
+// The place of a key among these, from a place on.
+fn place_from(first: usize, key: &str, keys: &[&str]) -> Option<usize>
+    ensures { IfSome result (λ place. (place < length keys.now)
+        × (is_among keys.now key.now ≡ true)) }
 {
-    members.iter().all(|member| is_one_of(member.key, allowed))
+    let mut place = first;
+    'keys: while place < keys.len() {
+        if key == keys[place] {
+            return Some(place);
+        }
+        place += 1;
+    }
+    None
+}
+
+// Whether each of the members has one of these keys. As a rule they stand in the order of the keys,
+// so that each is found from the last one's place on.
+fn are_known(members: &[Member<'_>], allowed: &[&str]) -> bool
+    ensures { result ≡ list_all (λ m. is_among allowed.now m.key.now) members.now }
+{
+    let mut next = 0;
+    'members: for member in members {
+        match place_from(next, member.key, allowed) {
+            Some(place) => next = place + 1,
+            None if is_one_of(member.key, allowed) => {}
+            None => return false,
+        }
+    }
+    true
 }
 
 impl Fields for Flat<'_> {

@@ -1,5 +1,5 @@
 //! Writing into room that was taken before, which cannot fail.
-ghost use Rattle.std.specs.Prelude.{◌≡◌, ◌+◌, ◌≤◌, ◌++◌, length, decimal, string_bytes, string_len, string_capacity};
+ghost use Rattle.std.specs.Prelude.{◌≡◌, ◌+◌, ◌<◌, ◌≤◌, ◌++◌, length, decimal, string_bytes, string_len, string_capacity};
 ghost use Rattle.numbers.specs.Texts.{block_text, digits_of, spid_text, subject_text};
 ghost use Rattle.numbers.specs.Views.{subject_of};
 
@@ -18,6 +18,20 @@ pub fn put(out: &mut String, text: &str)
     }
 }
 
+// Appends a number of one digit.
+fn put_digit(out: &mut String, digit: u8)
+    requires digit { digit < 10 }
+    requires room { string_len out.old + 20 ≤ string_capacity out.old }
+    ensures bytes { string_bytes out.new ≡ string_bytes out.old ++ decimal digit }
+    ensures len { string_len out.new ≤ string_len out.old + 20 }
+    ensures capacity { string_capacity out.old ≤ string_capacity out.new }
+{
+    match out.push(char::from(b'0' + digit)) {
+        Ok(()) => {}
+        Err(_) => unreachable!(),
+    }
+}
+
 /// Appends a whole number in decimal: at most twenty digits.
 pub fn put_number(out: &mut String, number: u64)
     requires { string_len out.old + 20 ≤ string_capacity out.old }
@@ -25,6 +39,10 @@ pub fn put_number(out: &mut String, number: u64)
     ensures len { string_len out.new ≤ string_len out.old + 20 }
     ensures capacity { string_capacity out.old ≤ string_capacity out.new }
 {
+    // as most are
+    if number < 10 {
+        return put_digit(out, number as u8);
+    }
     put(out, itoa::Buffer::new().format(number))
 }
 

@@ -1,6 +1,6 @@
 //! The head of a message.
 
-ghost use Rattle.std.specs.Prelude.{◌≡◌, ℕ, ◌≤◌, ◌<◌, List, length, drop, map, IfSome, ◌==◌, ◌++◌};
+ghost use Rattle.std.specs.Prelude.{◌≡◌, ℕ, ◌≤◌, ◌<◌, List, length, drop, map, IfSome, IsTrue, ◌↔◌, ◌==◌, ◌++◌};
 ghost use Rattle.std.specs.List.{list_any};
 ghost use Rattle.std.specs.Prelude.{All};
 ghost use Rattle.std.specs.Str.{bytes_eq};
@@ -43,6 +43,18 @@ pub fn look_at(buf: &[u8], headers: &mut [HeaderSpan]) -> Look
     }
 }
 
+// Whether a field has this name, in letters of either case. As a rule it is written in small ones,
+// and those are compared many at once.
+fn is_name(own: &[u8], name: &[u8]) -> bool
+    requires { lower name.now ≡ name.now }
+    ensures { IsTrue result ↔ (lower own.now ≡ name.now) }
+{
+    if own.len() != name.len() {
+        return false;
+    }
+    own.starts_with(name) || own.eq_ignore_ascii_case(name)
+}
+
 /// How often a field of this name is there.
 #[tactic(auto, using(crate::proofs::FieldLemmas::found_within))]
 pub fn find(buf: &[u8], headers: &[HeaderSpan], name: &[u8]) -> Found
@@ -54,7 +66,7 @@ pub fn find(buf: &[u8], headers: &[HeaderSpan], name: &[u8]) -> Found
 {
     let mut found = Found::Absent;
     for header in headers {
-        if header.name.of(buf).eq_ignore_ascii_case(name) {
+        if is_name(header.name.of(buf), name) {
             found = match found {
                 Found::Absent => Found::Once(header.value),
                 _ => Found::Twice,

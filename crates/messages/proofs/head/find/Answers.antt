@@ -4,7 +4,7 @@ use Rattle.httparse.specs.declared.spans.HeaderSpan.{HeaderSpan}
 use Rattle.httparse.specs.Spans.{header_bytes, IsHeaderWithin}
 use Rattle.messages.specs.Fields.{values_in, lower}
 use Rattle.messages.proofs.FieldLemmas.{values_more, one_value, no_value, found_first, found_again}
-use Rattle.messages.proofs.head.find.Goals.{then-eq_ignore_ascii_case+in-Absent, then-eq_ignore_ascii_case+in_default, else-eq_ignore_ascii_case}
+use Rattle.messages.proofs.head.find.Goals.{then-is_name+in-Absent, then-is_name+in_default, else-is_name}
 use Rattle.messages.proofs.head.find.Goals as goal
 
 eq_not_false : {b : Bool} → b ≡ true → b ≡ false → ⊥
@@ -21,15 +21,15 @@ loop-header-preserved c =
     let before : List (List ℕ) = values_in name (map (header_bytes buf) (take i hs)) in
     let more = values_more name buf hs i none c.loop-header-test.true in
     let text : lower (header_bytes buf h).0 ≡ lower c.of.result.now = ap lower (sym c.of.ensures) in
-    elim c.if-eq_ignore_ascii_case.branch [
-      | then-eq_ignore_ascii_case+in-Absent w ↦
-          let one = one_value name (header_bytes buf h) (text ∙ c.eq_ignore_ascii_case.ensures.test.0 w.if-eq_ignore_ascii_case.true ∙ c.requires.lower) in
+    elim c.if-is_name.branch [
+      | then-is_name+in-Absent w ↦
+          let one = one_value name (header_bytes buf h) (text ∙ c.is_name.ensures.0 w.if-is_name.true) in
           rw w.found-is (found_first buf c.loop-header.found before _ h.value w.in-Absent.is c.loop-header.invariant (more ∙ ap (λ (t : List (List ℕ)). before ++ t) one) (All-get_or (IsHeaderWithin (length buf)) hs i none c.loop-header-test.true c.requires.within).1)
-      | then-eq_ignore_ascii_case+in_default w ↦
-          let one = one_value name (header_bytes buf h) (text ∙ c.eq_ignore_ascii_case.ensures.test.0 w.if-eq_ignore_ascii_case.true ∙ c.requires.lower) in
+      | then-is_name+in_default w ↦
+          let one = one_value name (header_bytes buf h) (text ∙ c.is_name.ensures.0 w.if-is_name.true) in
           rw w.found-is (found_again buf c.loop-header.found before _ _ w.in_default.not-Absent c.loop-header.invariant (more ∙ ap (λ (t : List (List ℕ)). before ++ t) one))
-      | else-eq_ignore_ascii_case w ↦
-          let none_here = no_value name (header_bytes buf h) (λ e. eq_not_false (c.eq_ignore_ascii_case.ensures.test.1 (sym text ∙ e ∙ sym c.requires.lower)) w.if-eq_ignore_ascii_case.false) in
+      | else-is_name w ↦
+          let none_here = no_value name (header_bytes buf h) (λ e. eq_not_false (c.is_name.ensures.1 (sym text ∙ e)) w.if-is_name.false) in
           let same = more ∙ ap (λ (t : List (List ℕ)). before ++ t) none_here ∙ append-nil before in
           rw (w.found-is, same) c.loop-header.invariant
     ]

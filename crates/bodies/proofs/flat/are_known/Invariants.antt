@@ -1,0 +1,9 @@
+use Rattle.std.proofs.Common.{◌≡◌, drop}
+use Rattle.std.specs.List.{list_all}
+use Rattle.bodies.specs.declared.flat.Member.{Member}
+use Rattle.bodies.specs.Flat.{is_among}
+use Rattle.bodies.proofs.flat.are_known.Given as goal
+
+-- those that are left decide
+abbrev pub invariant-members : goal.invariant-members
+invariant-members l = list_all (λ (m : Member). is_among l.allowed m.key.now) (drop l.member-index l.members) ≡ list_all (λ (m : Member). is_among l.allowed m.key.now) l.members
