@@ -3,7 +3,7 @@
 //! A tel URI is the text of RFC 3966, as `tel:+1-201-555-0123`, here with a global number. RFC 4694
 //! adds the parameters of number portability: `npdi`, that the number has been looked up, `rn`, the
 //! routing number, and `cic`, a carrier's code. `TelUri::read` takes no memory, and what it answers
-//! are spans of the text; `TelUri::answer` writes the text with what a look-up has found.
+//! are spans of the text; `TelUri::write_answer` writes the text with what a look-up has found.
 #![tactic(auto)]
 
 mod answer;
