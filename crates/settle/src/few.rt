@@ -1,7 +1,9 @@
 //! Lists that are short as a rule.
-ghost use Rattle.std.specs.Prelude.{◌≡◌, ◌++◌};
+ghost use Rattle.std.specs.Prelude.{◌≡◌, ◌++◌, ◌∷◌, [], OnOk, OnErr};
 ghost use Rattle.std.specs.Option.{option_to_list};
 ghost use Rattle.settle.specs.Lists.{items_of};
+
+use std::alloc::{AllocError, Global};
 
 /// A list that takes no memory of its own while it has at most two items.
 #[derive(Debug, Drop)]
@@ -39,5 +41,28 @@ impl<T> Few<T> {
             Few::Two(items) => items.as_slice(),
             Few::Many(items) => items.as_slice(),
         }
+    }
+}
+
+impl<T: Copy + Drop> Few<T> {
+    /// Puts an item behind the others. For want of memory, which a third item is the first to ask
+    /// for, they stay as they are.
+    pub fn push(&mut self, alloc: Global, item: T) -> Result<(), AllocError>
+        ensures ok { OnOk result (items_of self.new ≡ items_of self.old ++ item ∷ []) }
+        ensures err { OnErr result (items_of self.new ≡ items_of self.old) }
+    {
+        match self {
+            Few::Empty => *self = Few::One([item]),
+            Few::One(items) => *self = Few::Two([items[0], item]),
+            Few::Two(items) => {
+                let mut all = Vec::with_capacity(alloc, 4)?;
+                all.push(items[0])?;
+                all.push(items[1])?;
+                all.push(item)?;
+                *self = Few::Many(all);
+            }
+            Few::Many(items) => items.push(item)?,
+        }
+        Ok(())
     }
 }

@@ -3,6 +3,7 @@ ghost use Rattle.std.specs.Prelude.{◌≡◌, ◌==◌, false, IsTrue, IfOk, fi
 ghost use Rattle.std.specs.List.{list_all};
 ghost use Rattle.sqlite.specs.Held.{state};
 ghost use Rattle.numbers.specs.Views.{subject_of};
+ghost use Rattle.settle.specs.Lists.{items_of};
 ghost use Rattle.settle.specs.Views.{broadcast_key_of, spid_of, wait_key_of};
 ghost use Rattle.std.specs.List.Sorted.{IsPermutation, IsStrictlySortedBy};
 ghost use Rattle.meaning.specs.Content.{broadcast_cmp};
@@ -14,7 +15,7 @@ use crate::order::put_in_order;
 use crate::select::find_all;
 use delivery::{Broadcast, DownloadKey};
 use numbers::{Minute, Spid, Subject};
-use settle::{BroadcastKey, WaitKey};
+use settle::{BroadcastKey, Few, WaitKey};
 use sql_rows::{
     Fault, KeyedBroadcast, KeyedWait, Query, Table, broadcast_key, spid_bytes, subject, text, truth,
 };
@@ -65,12 +66,12 @@ pub(crate) fn waits_about<S: Alter>(
     conn: &mut Connection<S>,
     spid: Spid,
     of: Subject,
-) -> Result<Vec<DownloadKey>, Fault>
+) -> Result<Few<DownloadKey>, Fault>
     requires ours { IsTrue (state S.Store conn.old).is_open → IsOurs (state S.Store conn.old) }
     requires idle { conn.old.in_transaction ≡ false }
     ensures value { IsTrue (state S.Store conn.new).is_open
         → IfOk result (λ downloads. AreWaitsAbout (content_at (state S.Store conn.old))
-        (spid_of spid) (subject_of of) downloads.items) }
+        (spid_of spid) (subject_of of) (items_of downloads)) }
     ensures looked { Looked (state S.Store conn.old) (state S.Store conn.new) (is_ok result) }
     ensures idle { conn.new.in_transaction ≡ false }
 {
@@ -79,7 +80,7 @@ pub(crate) fn waits_about<S: Alter>(
     let waits: Vec<KeyedWait> = find_all(conn, Query::WaitsAbout, &params)?;
     let mut downloads = downloads_of(*waits.allocator(), waits.as_slice())?;
     put_in_order(&mut downloads);
-    Ok(downloads)
+    Ok(Few::Many(downloads))
 }
 
 /// The subjects of which a download waits for a carrier, each once, rising.

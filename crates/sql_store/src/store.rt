@@ -8,7 +8,8 @@ use crate::{blocks, commit, lists, lookups, queue, routed};
 use delivery::{Broadcast, Download, DownloadKey, RoutedRow};
 use numbers::{BlockId, CodeId, Lrn, Minute, Spid, Subject};
 use settle::{
-    BlockRow, BroadcastKey, Changes, ClockRow, NumberedRow, Store, StoreFault, VersionRow, WaitKey,
+    BlockRow, BroadcastKey, Changes, ClockRow, Few, NumberedRow, Store, StoreFault, VersionRow,
+    WaitKey,
 };
 use sql_rows::Fault;
 use sqlite::{Alter, Connection};
@@ -113,7 +114,7 @@ impl<S: Alter> Store for SqlStore<S> {
         &mut self,
         spid: Spid,
         subject: Subject,
-    ) -> Result<Vec<DownloadKey>, StoreFault> {
+    ) -> Result<Few<DownloadKey>, StoreFault> {
         counted(
             &mut self.failures,
             lists::waits_about(&mut self.conn, spid, subject),

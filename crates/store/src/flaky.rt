@@ -6,7 +6,8 @@ ghost use Rattle.settle.specs.Reads.{HasRisen};
 use delivery::{Broadcast, Download, DownloadKey, RoutedRow};
 use numbers::{BlockId, CodeId, Lrn, Minute, Spid, Subject};
 use settle::{
-    BlockRow, BroadcastKey, Changes, ClockRow, NumberedRow, Store, StoreFault, VersionRow, WaitKey,
+    BlockRow, BroadcastKey, Changes, ClockRow, Few, NumberedRow, Store, StoreFault, VersionRow,
+    WaitKey,
 };
 use version::NumberInUse;
 
@@ -173,7 +174,7 @@ impl<S: Store> Store for Flaky<S> {
         &mut self,
         spid: Spid,
         subject: Subject,
-    ) -> Result<Vec<DownloadKey>, StoreFault> {
+    ) -> Result<Few<DownloadKey>, StoreFault> {
         self.meet()?;
         counted(&mut self.failures, self.store.waits_about(spid, subject))
     }

@@ -8,6 +8,7 @@ ghost use Rattle.numbers.specs.Views.{subject_of, key_of};
 ghost use Rattle.std.specs.Ordering.{on, nat_cmp};
 ghost use Rattle.std.specs.BTreeMap.{keys, IsOrdered};
 ghost use Rattle.meaning.specs.Content.{empty_content};
+ghost use Rattle.settle.specs.Lists.{items_of};
 ghost use Rattle.settle.specs.Reads.{AreAwaited, AreFirst, AreWaitsAbout};
 ghost use Rattle.settle.specs.Views.{broadcast_row_of, broadcast_key_of, spid_of, wait_key_of};
 ghost use Rattle.store.specs.Maps.{map_of, set};
@@ -16,7 +17,7 @@ ghost use Rattle.store.specs.QueueRows.{lowest, highest, told};
 use crate::waits::Waits;
 use delivery::{Broadcast, Download, DownloadKey};
 use numbers::{Minute, Spid, Subject};
-use settle::{BroadcastKey, WaitKey};
+use settle::{BroadcastKey, Few, WaitKey};
 use std::alloc::{AllocError, Global};
 use std::collections::BTreeMap;
 use std::marker::Model;
@@ -166,10 +167,10 @@ impl Queues {
         alloc: Global,
         carrier: Spid,
         subject: Subject,
-    ) -> Result<Vec<DownloadKey>, AllocError>
+    ) -> Result<Few<DownloadKey>, AllocError>
         ensures { IfOk result (λ downloads.
             AreWaitsAbout (record empty_content { waits = self.now }) (spid_of carrier)
-            (subject_of subject) downloads.items) }
+            (subject_of subject) (items_of downloads)) }
     {
         self.waits.about(alloc, carrier, subject)
     }

@@ -5,6 +5,7 @@ ghost use Rattle.std.specs.FinMap.{get, empty};
 ghost use Rattle.numbers.specs.Views.{subject_of};
 ghost use Rattle.numbers.specs.declared.spid.Spid.{Spid as SpidCode};
 ghost use Rattle.meaning.specs.Content.{empty_content};
+ghost use Rattle.settle.specs.Lists.{items_of};
 ghost use Rattle.settle.specs.Reads.{AreWaitsAbout};
 ghost use Rattle.settle.specs.Views.{spid_of, wait_key_of};
 ghost use Rattle.store.specs.Maps.{set};
@@ -14,7 +15,7 @@ use crate::keys::{Rank, RowKey, SubjectDownload};
 use crate::waiting::Waiting;
 use delivery::DownloadKey;
 use numbers::{Minute, Spid, Subject};
-use settle::WaitKey;
+use settle::{Few, WaitKey};
 use std::alloc::{AllocError, Global};
 use std::collections::{BTreeMap, HashMap};
 use std::marker::Model;
@@ -174,10 +175,10 @@ impl Waits {
         alloc: Global,
         carrier: Spid,
         subject: Subject,
-    ) -> Result<Vec<DownloadKey>, AllocError>
+    ) -> Result<Few<DownloadKey>, AllocError>
         ensures { IfOk result (λ downloads.
             AreWaitsAbout (record empty_content { waits = self.now }) (spid_of carrier)
-            (subject_of subject) downloads.items) }
+            (subject_of subject) (items_of downloads)) }
     {
         let rank = Rank::of(subject);
         let first = SubjectDownload {
@@ -194,7 +195,7 @@ impl Waits {
             id: u64::MAX,
             attempt: u64::MAX,
         };
-        let mut found = Vec::new(alloc);
+        let mut found = Few::Empty;
         for (key, _) in self.about.range(first..=last) {
             let broadcast = DownloadKey {
                 minute: key.minute,
@@ -202,7 +203,7 @@ impl Waits {
                 attempt: key.attempt,
             };
             if key.rank == rank && is_for(&self.rows, broadcast, carrier, subject) {
-                found.push(broadcast)?;
+                found.push(alloc, broadcast)?;
             }
         }
         Ok(found)

@@ -3,7 +3,8 @@
 use delivery::{Broadcast, Download, DownloadKey, RoutedRow};
 use numbers::{BlockId, CodeId, Lrn, Minute, Spid, Subject};
 use settle::{
-    BlockRow, BroadcastKey, Changes, ClockRow, NumberedRow, Store, StoreFault, VersionRow, WaitKey,
+    BlockRow, BroadcastKey, Changes, ClockRow, Few, NumberedRow, Store, StoreFault, VersionRow,
+    WaitKey,
 };
 use std::cell::Cell;
 use version::NumberInUse;
@@ -74,7 +75,7 @@ impl<S: Store> Store for Counted<'_, S> {
         &mut self,
         spid: Spid,
         subject: Subject,
-    ) -> Result<Vec<DownloadKey>, StoreFault> {
+    ) -> Result<Few<DownloadKey>, StoreFault> {
         self.store.waits_about(spid, subject)
     }
 

@@ -123,6 +123,7 @@ fn listed(store: &mut MemoryStore, sample: &Sample) -> Option<[usize; 8]> {
     let about = store
         .waits_about(sample.carrier, sample.subject)
         .ok()?
+        .as_slice()
         .len();
     let waits = store.waits(sample.carrier).ok()?.len();
     let front = store.front(sample.carrier, 10).ok()?.len();
@@ -224,4 +225,45 @@ fn is_least_found(alloc: Global) -> Option<bool> {
 #[test]
 fn the_least_deadline_is_found(rt: HostRuntime) {
     assert_eq!(rt; is_least_found(rt.alloc()), Some(true));
+}
+
+// Downloads of one subject, attempts of one version, in the order in which they are put.
+fn waits_of(alloc: Global, sample: &Sample, attempts: &[u64]) -> Option<Changes> {
+    let mut changes = Changes::none(alloc);
+    for attempt in attempts {
+        let wait = WaitKey {
+            carrier: sample.carrier,
+            minute: Minute::ZERO,
+            id: 1,
+            attempt: *attempt,
+        };
+        changes.waits.push((wait, sample.subject)).ok()?;
+    }
+    Some(changes)
+}
+
+// Whether as many are told as were put, from the first attempt on.
+fn are_told_in_order(alloc: Global, attempts: &[u64]) -> Option<bool> {
+    let sample = make_sample()?;
+    let changes = waits_of(alloc, &sample, attempts)?;
+    let mut store = MemoryStore::new(alloc);
+    let done = is_committed(&mut store, &changes);
+    let told = store.waits_about(sample.carrier, sample.subject).ok()?;
+    let mut next: u64 = 1;
+    for download in told.as_slice() {
+        if download.attempt != next {
+            return Some(false);
+        }
+        next = next.saturating_add(1);
+    }
+    let wanted = if done { attempts.len() } else { 0 };
+    Some(told.as_slice().len() == wanted)
+}
+
+#[test]
+fn downloads_about_a_subject_are_told_in_order(rt: HostRuntime) {
+    assert_eq!(rt; are_told_in_order(rt.alloc(), &[]), Some(true));
+    assert_eq!(rt; are_told_in_order(rt.alloc(), &[2, 1]), Some(true));
+    assert_eq!(rt; are_told_in_order(rt.alloc(), &[3, 1, 2]), Some(true));
+    assert_eq!(rt; are_told_in_order(rt.alloc(), &[5, 3, 1, 4, 2]), Some(true));
 }

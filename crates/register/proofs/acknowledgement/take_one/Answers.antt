@@ -1,19 +1,13 @@
-use Rattle.std.proofs.Common.{arith, rules, ◌≡◌, Some, None, false, ap, refl, sym, ◌∙◌, inl, inr, option_map}
-use Rattle.std.specs.Prelude.{Err}
+use Rattle.std.proofs.Common.{rules, None, false, ap, refl, sym, ◌∙◌, inl, inr, option_map}
 use Rattle.std.specs.FinMap.{get}
-use Rattle.meaning.specs.Content.{Content}
 use Rattle.meaning.specs.Reading.{View}
-use Rattle.settle.specs.Changes.{changes_of, IsChanged}
-use Rattle.settle.specs.Faults.{refusal_of}
-use Rattle.settle.specs.Reads.{is_last_wait}
+use Rattle.settle.specs.Changes.{changes_of}
 use Rattle.settle.specs.Views.{broadcast_row_of, clock_row_of, wait_key_of}
-use Rattle.settle.proofs.Risen.{risen-since}
 use Rattle.version.specs.Views.{windows_of}
 use Rattle.calls.specs.Calls.{view_of}
-use Rattle.register.specs.Acknowledging.{all_changes, IsTaken, Takes}
-use Rattle.register.proofs.Composed.{beyond_machine, changed_as, some_view, Views}
+use Rattle.register.specs.Acknowledging.{all_changes, Takes}
+use Rattle.register.proofs.Composed.{beyond_machine, changed_as, some_view}
 use Rattle.register.proofs.Left.{left_kept}
-use Rattle.register.proofs.Unfailing.{storage_by}
 use Rattle.register.proofs.acknowledgement.take_one.Goals as goal
 
 -- what a store has of the broadcast, read before the commit
