@@ -1,12 +1,17 @@
--- What the texts mean.
-use Rattle.std.proofs.Common.{◌≡◌, false, refl, Ok, Err}
+-- What the texts mean. Each is compiled once here, to its command where it has no RETURNING and does
+-- not read the time; all else that is known of it is read off that one computation.
+use Rattle.std.proofs.Common.{◌≡◌, ◌∙◌, ℕ, false, if◌then◌else◌, List, [], ◌∷◌, Option, None, Some, Result, Ok, Err, refl, ap, sym, subst}
 use Rattle.std.specs.Prelude.{⊤}
+use Rattle.std.proofs.lemmas.Option.{none-some, same_Some}
 use Rattle.sqlite_ast.specs.declared.Statement.{Statement}
 use Rattle.sqlite_ast.specs.declared.Statement.TheVariants as written
 use Rattle.sqlite_syntax.specs.declared.statement.Parsed.{Parsed}
+use Rattle.sqlite_schema.specs.declared.command.Command.{Command}
+use Rattle.sqlite_resolve.specs.declared.compiled.Compiled.{Compiled}
+use Rattle.sqlite_resolve.specs.declared.error.CompileError.{CompileError}
 use Rattle.sqlite_resolve.specs.Lowering.{Checked}
-use Rattle.sqlite_resolve.specs.Compile.{first}
-use Rattle.sqlite.specs.Listing.{understood, reads_listing}
+use Rattle.sqlite_resolve.specs.Compile.{compiled, first}
+use Rattle.sqlite.specs.Listing.{understood, reads_listing, misses_table, if_select, listing_schema}
 use Rattle.sqlite.proofs.Callers.{IsPlain, command_of}
 use Rattle.sqlite_tied.specs.Compute.{everything}
 use Rattle.sql_rows.specs.Tables.{the_schema}
@@ -16,6 +21,88 @@ use Rattle.sql_rows.specs.declared.statement.Table.TheVariants.{Carrier, Lrn, Co
 use Rattle.sql_rows.specs.declared.statement.Query.{Query}
 use Rattle.sql_rows.specs.declared.statement.Query.TheVariants.{CarrierNamed, LrnNumbered, CodeNumbered, BlockNumbered, ClockNumbered, VersionNumbered, VersionInForce, VersionOpen, VersionDue, BroadcastKeyed, All, BroadcastsByOpen, WaitsAbout, WaitsFor, WaitsOf, InForceAmong, OpenAmong}
 
+-- its command, where it has no RETURNING and does not read the time
+abbrev bare : {R F : Type 0} → Option R → List F → Command → Option Command
+bare None [] command = Some command
+bare _ _ command = None
+
+abbrev plain_command : Result Compiled CompileError → Option Command
+plain_command (Ok c) = bare c.returning c.formats c.command
+plain_command (Err e) = None
+
+bare_is : {R F : Type 0} (returning : Option R) (formats : List F) (found command : Command)
+    → bare returning formats found ≡ Some command
+    → (found ≡ command) × ((returning ≡ None) × (formats ≡ []))
+bare_is None [] found command is = (same_Some found command is, (refl, refl))
+bare_is None (f ∷ fs) found command is = absurd (none-some command is)
+bare_is (Some r) fs found command is = absurd (none-some command is)
+
+-- what is known of a text by the command that it compiles to
+module _ (text : List ℕ) (command : Command)
+    (compiles : plain_command (compiled the_schema text) ≡ Some command) where
+  unlisted : reads_listing the_schema text ≡ false
+  unlisted = go (compiled the_schema text) compiles where
+    go : (x : Result Compiled CompileError) → plain_command x ≡ Some command → misses_table x ≡ false
+    go (Ok c) is = refl
+    go (Err e) is = absurd (none-some command is)
+
+  same : understood the_schema text ≡ compiled the_schema text
+  unfolding understood
+  same = ap
+      (λ b. if b then if_select (compiled listing_schema text) else compiled the_schema text)
+      unlisted
+
+  means : command_of (understood the_schema text) ≡ command
+  means = ap command_of same ∙ go (compiled the_schema text) compiles where
+    go : (x : Result Compiled CompileError) → plain_command x ≡ Some command → command_of x ≡ command
+    go (Ok c) is = (bare_is c.returning c.formats c.command command is).0
+    go (Err e) is = absurd (none-some command is)
+
+  plain : IsPlain (understood the_schema text)
+  plain = subst IsPlain (sym same) (go (compiled the_schema text) compiles) where
+    go : (x : Result Compiled CompileError) → plain_command x ≡ Some command → IsPlain x
+    go (Ok c) is = (bare_is c.returning c.formats c.command command is).1
+    go (Err e) is = absurd (none-some command is)
+
+-- ---- queries
+
+query_compiles : (q : Query)
+    → plain_command (compiled the_schema (query_text q)) ≡ Some (query_command q)
+unfolding compiled everything
+query_compiles CarrierNamed = refl
+query_compiles LrnNumbered = refl
+query_compiles CodeNumbered = refl
+query_compiles BlockNumbered = refl
+query_compiles ClockNumbered = refl
+query_compiles VersionNumbered = refl
+query_compiles VersionInForce = refl
+query_compiles VersionOpen = refl
+query_compiles VersionDue = refl
+query_compiles BroadcastKeyed = refl
+query_compiles (All Carrier) = refl
+query_compiles (All Lrn) = refl
+query_compiles (All Code) = refl
+query_compiles (All Block) = refl
+query_compiles (All Version) = refl
+query_compiles (All Broadcast) = refl
+query_compiles (All Wait) = refl
+query_compiles (All Clock) = refl
+query_compiles BroadcastsByOpen = refl
+query_compiles WaitsAbout = refl
+query_compiles WaitsFor = refl
+query_compiles WaitsOf = refl
+query_compiles InForceAmong = refl
+query_compiles OpenAmong = refl
+
+pub query_is : (q : Query) → command_of (understood the_schema (query_text q)) ≡ query_command q
+query_is q = means (query_text q) (query_command q) (query_compiles q)
+
+pub query_plain : (q : Query) → IsPlain (understood the_schema (query_text q))
+query_plain q = plain (query_text q) (query_command q) (query_compiles q)
+
+pub query_unlisted : (q : Query) → reads_listing the_schema (query_text q) ≡ false
+query_unlisted q = unlisted (query_text q) (query_command q) (query_compiles q)
+
 -- the text begins with a query
 abbrev pub IsSelect : Statement → Type 0
 IsSelect (written.Select s) = ⊤
@@ -24,87 +111,6 @@ IsSelect _ = ⊥
 abbrev pub Selects : Checked Parsed → Type 0
 Selects (Ok p) = IsSelect p.statement
 Selects (Err e) = ⊤
-
-pub query_is : (q : Query) → command_of (understood the_schema (query_text q)) ≡ query_command q
-unfolding understood everything
-query_is CarrierNamed = refl
-query_is LrnNumbered = refl
-query_is CodeNumbered = refl
-query_is BlockNumbered = refl
-query_is ClockNumbered = refl
-query_is VersionNumbered = refl
-query_is VersionInForce = refl
-query_is VersionOpen = refl
-query_is VersionDue = refl
-query_is BroadcastKeyed = refl
-query_is (All Carrier) = refl
-query_is (All Lrn) = refl
-query_is (All Code) = refl
-query_is (All Block) = refl
-query_is (All Version) = refl
-query_is (All Broadcast) = refl
-query_is (All Wait) = refl
-query_is (All Clock) = refl
-query_is BroadcastsByOpen = refl
-query_is WaitsAbout = refl
-query_is WaitsFor = refl
-query_is WaitsOf = refl
-query_is InForceAmong = refl
-query_is OpenAmong = refl
-
-pub query_plain : (q : Query) → IsPlain (understood the_schema (query_text q))
-unfolding understood everything
-query_plain CarrierNamed = (refl, refl)
-query_plain LrnNumbered = (refl, refl)
-query_plain CodeNumbered = (refl, refl)
-query_plain BlockNumbered = (refl, refl)
-query_plain ClockNumbered = (refl, refl)
-query_plain VersionNumbered = (refl, refl)
-query_plain VersionInForce = (refl, refl)
-query_plain VersionOpen = (refl, refl)
-query_plain VersionDue = (refl, refl)
-query_plain BroadcastKeyed = (refl, refl)
-query_plain (All Carrier) = (refl, refl)
-query_plain (All Lrn) = (refl, refl)
-query_plain (All Code) = (refl, refl)
-query_plain (All Block) = (refl, refl)
-query_plain (All Version) = (refl, refl)
-query_plain (All Broadcast) = (refl, refl)
-query_plain (All Wait) = (refl, refl)
-query_plain (All Clock) = (refl, refl)
-query_plain BroadcastsByOpen = (refl, refl)
-query_plain WaitsAbout = (refl, refl)
-query_plain WaitsFor = (refl, refl)
-query_plain WaitsOf = (refl, refl)
-query_plain InForceAmong = (refl, refl)
-query_plain OpenAmong = (refl, refl)
-
-pub query_unlisted : (q : Query) → reads_listing the_schema (query_text q) ≡ false
-unfolding understood everything
-query_unlisted CarrierNamed = refl
-query_unlisted LrnNumbered = refl
-query_unlisted CodeNumbered = refl
-query_unlisted BlockNumbered = refl
-query_unlisted ClockNumbered = refl
-query_unlisted VersionNumbered = refl
-query_unlisted VersionInForce = refl
-query_unlisted VersionOpen = refl
-query_unlisted VersionDue = refl
-query_unlisted BroadcastKeyed = refl
-query_unlisted (All Carrier) = refl
-query_unlisted (All Lrn) = refl
-query_unlisted (All Code) = refl
-query_unlisted (All Block) = refl
-query_unlisted (All Version) = refl
-query_unlisted (All Broadcast) = refl
-query_unlisted (All Wait) = refl
-query_unlisted (All Clock) = refl
-query_unlisted BroadcastsByOpen = refl
-query_unlisted WaitsAbout = refl
-query_unlisted WaitsFor = refl
-query_unlisted WaitsOf = refl
-query_unlisted InForceAmong = refl
-query_unlisted OpenAmong = refl
 
 -- each is a query, whatever tables there are
 pub query_selects : (q : Query) → Selects (first (query_text q))
@@ -134,46 +140,40 @@ query_selects WaitsOf = tt
 query_selects InForceAmong = tt
 query_selects OpenAmong = tt
 
+-- ---- rows taken away, and put
+
+delete_compiles : (t : Table)
+    → plain_command (compiled the_schema (delete_text t)) ≡ Some (delete_command t)
+unfolding compiled everything
+delete_compiles Carrier = refl
+delete_compiles Lrn = refl
+delete_compiles Code = refl
+delete_compiles Block = refl
+delete_compiles Version = refl
+delete_compiles Broadcast = refl
+delete_compiles Wait = refl
+delete_compiles Clock = refl
+
 pub delete_is : (t : Table) → command_of (understood the_schema (delete_text t)) ≡ delete_command t
-unfolding understood everything
-delete_is Carrier = refl
-delete_is Lrn = refl
-delete_is Code = refl
-delete_is Block = refl
-delete_is Version = refl
-delete_is Broadcast = refl
-delete_is Wait = refl
-delete_is Clock = refl
+delete_is t = means (delete_text t) (delete_command t) (delete_compiles t)
 
 pub delete_plain : (t : Table) → IsPlain (understood the_schema (delete_text t))
-unfolding understood everything
-delete_plain Carrier = (refl, refl)
-delete_plain Lrn = (refl, refl)
-delete_plain Code = (refl, refl)
-delete_plain Block = (refl, refl)
-delete_plain Version = (refl, refl)
-delete_plain Broadcast = (refl, refl)
-delete_plain Wait = (refl, refl)
-delete_plain Clock = (refl, refl)
+delete_plain t = plain (delete_text t) (delete_command t) (delete_compiles t)
+
+insert_compiles : (t : Table)
+    → plain_command (compiled the_schema (insert_text t)) ≡ Some (insert_command t)
+unfolding compiled everything
+insert_compiles Carrier = refl
+insert_compiles Lrn = refl
+insert_compiles Code = refl
+insert_compiles Block = refl
+insert_compiles Version = refl
+insert_compiles Broadcast = refl
+insert_compiles Wait = refl
+insert_compiles Clock = refl
 
 pub insert_is : (t : Table) → command_of (understood the_schema (insert_text t)) ≡ insert_command t
-unfolding understood everything
-insert_is Carrier = refl
-insert_is Lrn = refl
-insert_is Code = refl
-insert_is Block = refl
-insert_is Version = refl
-insert_is Broadcast = refl
-insert_is Wait = refl
-insert_is Clock = refl
+insert_is t = means (insert_text t) (insert_command t) (insert_compiles t)
 
 pub insert_plain : (t : Table) → IsPlain (understood the_schema (insert_text t))
-unfolding understood everything
-insert_plain Carrier = (refl, refl)
-insert_plain Lrn = (refl, refl)
-insert_plain Code = (refl, refl)
-insert_plain Block = (refl, refl)
-insert_plain Version = (refl, refl)
-insert_plain Broadcast = (refl, refl)
-insert_plain Wait = (refl, refl)
-insert_plain Clock = (refl, refl)
+insert_plain t = plain (insert_text t) (insert_command t) (insert_compiles t)
