@@ -1,29 +1,11 @@
-//! The clearinghouse as a program.
+//! The clearinghouse as a program: the words, the input and the outputs of the process, handed to
+//! the library `npac`, which does all else. Its promises stand at these four.
 #![tactic(auto)]
 
-mod arguments;
-mod command;
-#[cfg(test)]
-mod command_lines;
-#[cfg(test)]
-mod connections;
-mod fault;
-#[cfg(test)]
-mod file_lines;
-mod listening;
-mod options;
-pub mod parse;
-#[cfg(test)]
-mod rows;
-mod running;
-mod telling;
-
-use arguments::words_of;
-pub use listening::{MachineMinutes, serve_next};
-pub use running::{feed, run};
+pub use npac::{feed, parse, run, serve_next};
+use npac::{tell_usage, words_of};
 use std::io;
 use std::process::ExitCode;
-use telling::tell_usage;
 
 fn main(rt: HostRuntime) -> ExitCode {
     let mut writer = io::writer(&rt);

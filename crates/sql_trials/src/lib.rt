@@ -1,9 +1,11 @@
-//! The proved tests of a register in a file: what a stop at each call of the files leaves, and
-//! which files are refused.
+//! The proved tests of a register in a file, what a stop at each call of the files leaves and which
+//! files are refused; and those of the program.
 #![tactic(auto)]
 
 #[cfg(test)]
 mod files;
+#[cfg(test)]
+mod program;
 #[cfg(test)]
 mod refused;
 #[cfg(test)]

@@ -17,7 +17,8 @@ pub fn windows_of(alloc: Global, text: &str) -> Option<Windows> {
     Windows::from_toml(alloc, text).ok()
 }
 
-fn message(alloc: Global, said: &Said<'_>) -> Result<String, AllocError> {
+/// The bytes of a message.
+pub fn message(alloc: Global, said: &Said<'_>) -> Result<String, AllocError> {
     let (caller, path, body) = *said;
     if body.is_empty() {
         return format!(in alloc; "GET {path} HTTP/1.1\r\nx-spid: {caller}\r\n\r\n");

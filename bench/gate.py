@@ -1,0 +1,110 @@
+"""What each crate takes of the processors while the gate runs, looked up in /proc twice a second."""
+import os
+import re
+import subprocess
+import sys
+import time
+from dataclasses import dataclass
+
+TICKS = os.sysconf("SC_CLK_TCK")
+PARTS = ("proof", "tests", "edits", "else")
+
+
+@dataclass
+class Process:
+    """A process under the gate, and what it has had of the processors, in seconds."""
+    words: str
+    folder: str
+    seconds: float = 0.0
+
+    def crate(self):
+        """The crate that it works for: the one that its line names, or in whose folder it runs."""
+        found = re.search(r"--crate-name (\w+)", self.words) or re.search(r"/crates/(\w+)", f"{self.folder} {self.words}")
+        return found[1] if found else "the gate itself"
+
+    def part(self):
+        """What it does for that crate."""
+        if not re.search(r"/rattle (build|check) ", self.words):
+            return "else"
+        if "rt-edit" in self.folder:
+            return "edits"
+        return "tests" if " --test" in self.words else "proof"
+
+
+def text_of(path):
+    try:
+        with open(path, encoding="utf-8", errors="replace") as file:
+            return file.read()
+    except OSError:
+        return ""
+
+
+def link_of(path):
+    try:
+        return os.readlink(path)
+    except OSError:
+        return ""
+
+
+def all_processes():
+    """Of each process that runs: its number, its parent's, when it began, and its seconds so far."""
+    for number in filter(str.isdigit, os.listdir("/proc")):
+        fields = text_of(f"/proc/{number}/stat").rpartition(")")[2].split()
+        if fields:
+            yield int(number), int(fields[1]), fields[19], (int(fields[11]) + int(fields[12])) / TICKS
+
+
+def look(root, seen):
+    """Notes the seconds of every process under the root."""
+    parents, told = {}, {}
+    for number, parent, begun, seconds in all_processes():
+        parents[number], told[number] = parent, (begun, seconds)
+    for number, (begun, seconds) in told.items():
+        above = number
+        while above not in (root, 0):
+            above = parents.get(above, 0)
+        if above == root:
+            key = number, begun
+            if key not in seen or not seen[key].words:
+                words = text_of(f"/proc/{number}/cmdline").replace("\0", " ")
+                seen[key] = Process(words, link_of(f"/proc/{number}/cwd"))
+            seen[key].seconds = seconds
+
+
+def busy():
+    """The seconds that all processors together were at work since the machine began."""
+    user, nice, system, _idle, _waits, *others = map(int, text_of("/proc/stat").split("\n")[0].split()[1:])
+    return (user + nice + system + sum(others[:3])) / TICKS
+
+
+def table_of(seen):
+    """The seconds of each crate, by part."""
+    table = {}
+    for process in seen.values():
+        row = table.setdefault(process.crate(), dict.fromkeys(PARTS, 0.0))
+        row[process.part()] += process.seconds
+    return table
+
+
+def show(table, wall, whole):
+    ours = sum(sum(row.values()) for row in table.values())
+    print("| Crate | " + " | ".join(PARTS) + " | together |\n|---|" + "---|" * (len(PARTS) + 1))
+    for crate, row in sorted(table.items(), key=lambda it: -sum(it[1].values())):
+        cells = [f"{row[part]:,.0f}" if row[part] >= 0.5 else "" for part in PARTS]
+        print(f"| `{crate}` | " + " | ".join(cells) + f" | {sum(row.values()):,.0f} |")
+    print(f"\n{ours / 60:.1f} processor minutes in {wall / 60:.1f} minutes on {os.cpu_count()} processors;"
+          f" other work had {max(whole - ours, 0) / 60:.1f} processor minutes of them meanwhile")
+
+
+def main():
+    began, before = time.monotonic(), busy()
+    gate, seen = subprocess.Popen(sys.argv[1:], stdin=subprocess.DEVNULL), {}
+    while gate.poll() is None:
+        look(gate.pid, seen)
+        time.sleep(0.5)
+    show(table_of(seen), time.monotonic() - began, busy() - before)
+    sys.exit(gate.returncode)
+
+
+if __name__ == "__main__":
+    main()
