@@ -39,20 +39,23 @@ fn subject(text: &str) -> Option<Subject> {
     }
 }
 
-// A store with these rows.
-fn stored(alloc: Global, rows: &[Row<'_>]) -> Option<MemoryStore> {
+fn versions_of(alloc: Global, rows: &[Row<'_>]) -> Option<Vec<(u64, VersionRow)>> {
     let mut versions = Vec::new(alloc);
     for (id, text, is_in_force, is_open) in rows {
         let row = row(subject(text)?, *is_in_force, *is_open)?;
         versions.push((*id, row)).ok()?;
     }
+    Some(versions)
+}
+
+// The store takes these rows.
+fn takes(alloc: Global, store: &mut MemoryStore, rows: &[Row<'_>]) -> Option<()> {
+    let versions = versions_of(alloc, rows)?;
     let changes = Changes {
         versions: Few::Many(versions),
         ..Changes::none(alloc)
     };
-    let mut store = MemoryStore::new(alloc);
-    store.commit(&changes).ok()?;
-    Some(store)
+    store.commit(&changes).ok()
 }
 
 fn number(text: &str, is_in_force: bool, is_open: bool) -> Option<NumberInUse> {
@@ -81,8 +84,12 @@ static ROWS: [Row<'static>; 9] = [
     (9, "2025331000", true, false),
 ];
 
-fn are_listed(alloc: Global) -> Option<[bool; 3]> {
-    let mut store = stored(alloc, &ROWS)?;
+// Whether the block has these numbers.
+fn are_in(store: &mut MemoryStore, block: &str, wanted: &[NumberInUse]) -> Option<bool> {
+    Some(in_block(store, block)?.as_slice() == wanted)
+}
+
+fn listed(store: &mut MemoryStore) -> Option<[bool; 3]> {
     let own = [
         number("2025331000", true, false)?,
         number("2025331234", false, true)?,
@@ -91,10 +98,20 @@ fn are_listed(alloc: Global) -> Option<[bool; 3]> {
     ];
     let next = [number("2025332000", true, true)?];
     Some([
-        in_block(&mut store, "2025331")?.as_slice() == own.as_slice(),
-        in_block(&mut store, "2025332")?.as_slice() == next.as_slice(),
-        in_block(&mut store, "2025333")?.is_empty(),
+        are_in(store, "2025331", &own)?,
+        are_in(store, "2025332", &next)?,
+        are_in(store, "2025333", &[])?,
     ])
+}
+
+fn are_listed_in(alloc: Global, store: &mut MemoryStore) -> Option<[bool; 3]> {
+    takes(alloc, store, &ROWS)?;
+    listed(store)
+}
+
+fn are_listed(alloc: Global) -> Option<[bool; 3]> {
+    let mut store = MemoryStore::new(alloc);
+    are_listed_in(alloc, &mut store)
 }
 
 #[test]

@@ -1,13 +1,21 @@
-//! Creates that the tests share.
+//! Commands that the tests share, and routings.
+use calls::Command;
 use numbers::{Lrn, Minute, Routing, Spid, Tn};
+use register::Register;
+use store::MemoryStore;
 use version::{Create, Creator};
+
+/// A routing number with no carrier code.
+pub fn routed_to(lrn: &str) -> Option<Routing> {
+    Some(Routing {
+        lrn: Lrn::read(lrn)?,
+        cic: None,
+    })
+}
 
 /// The routing of AAAA.
 pub fn routing() -> Option<Routing> {
-    Some(Routing {
-        lrn: Lrn::read("2025440000")?,
-        cic: None,
-    })
+    routed_to("2025440000")
 }
 
 /// A provider's create of the port of a number from BBBB to AAAA.
@@ -22,4 +30,12 @@ pub fn create_of(number: &str, due: Minute, creator: Creator) -> Option<Create> 
         due,
         creator,
     })
+}
+
+/// The register does what a caller commands.
+pub fn does(register: &mut Register<MemoryStore>, caller: Spid, command: Command) -> Option<()> {
+    match register.do_it(caller, &command) {
+        Ok(_) => Some(()),
+        Err(_) => None,
+    }
 }

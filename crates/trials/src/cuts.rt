@@ -1,22 +1,33 @@
 //! The first port, cut in two by the reader at every place. That stories are answered byte by byte
 //! as they are whole, their player shows.
 use crate::port::{FIRST_PORT, Texts, hears, new_register, stream_of, whole};
+use register::Register;
 use std::io::Read;
 use std::process::Abort;
+use store::MemoryStore;
 
-// A new register answers the two pieces as the whole.
-fn is_answered<T: Abort + AllocGlobal>(rt: &T, texts: &Texts, place: usize) -> Option<()> {
+// The register answers the two pieces as the whole.
+fn is_answered_in<T: Abort + AllocGlobal>(
+    rt: &T,
+    register: &mut Register<MemoryStore>,
+    texts: &Texts,
+    place: usize,
+) -> Option<()> {
     let (front, back) = texts.asked.as_bytes().split_at_checked(place)?;
-    let mut register = new_register(rt.alloc())?;
     let mut reader = front.chain(back);
     hears(
         rt,
-        &mut register,
+        register,
         &mut reader,
         texts.answered.as_str(),
         whole(11),
     );
     Some(())
+}
+
+fn is_answered<T: Abort + AllocGlobal>(rt: &T, texts: &Texts, place: usize) -> Option<()> {
+    let mut register = new_register(rt.alloc())?;
+    is_answered_in(rt, &mut register, texts, place)
 }
 
 fn are_answered<T: Abort + AllocGlobal>(rt: &T) -> Option<()> {

@@ -2,8 +2,8 @@
 //!
 //! What is done once for each open broadcast, or for each row of a commit, is done in loops: calls
 //! within calls would end this test by the depth of the stack.
-use crate::commands::{create_of, routing};
-use crate::port::{FIRST_PORT, Texts, asked, new_register, served, whole};
+use crate::commands::{create_of, does, routing};
+use crate::port::{FIRST_PORT, Texts, asked, is_served, new_register};
 use calls::Command;
 use meaning::{Action, Status};
 use numbers::{Minute, Spid};
@@ -28,11 +28,9 @@ fn ask_for_codes(alloc: Global, texts: &mut Texts) -> Result<(), AllocError> {
     Ok(())
 }
 
-fn opens_codes(alloc: Global, register: &mut Desk) -> Option<()> {
+fn opens_codes(alloc: Global, register: &mut Desk) -> bool {
     let mut texts = Texts::new(alloc);
-    ask_for_codes(alloc, &mut texts).ok()?;
-    let (_answers, ended) = served(alloc, register, &mut texts.asked.as_bytes());
-    if ended == whole(25) { Some(()) } else { None }
+    ask_for_codes(alloc, &mut texts).is_ok() && is_served(alloc, register, texts.asked.as_str(), 25)
 }
 
 // The port of a number is created from both sides.
@@ -43,23 +41,24 @@ fn creates(register: &mut Desk, number: &str) -> Option<()> {
         creator: Creator::OldProvider { authorized: true },
         ..create
     };
-    let (first, second) = (Command::Create(create), Command::Create(concur));
-    register.do_it(create.new_provider, &first).ok()?;
-    register.do_it(create.old_provider, &second).ok()?;
-    Some(())
+    does(register, create.new_provider, Command::Create(create))?;
+    does(register, create.old_provider, Command::Create(concur))
 }
 
-// Version after version is created and activated.
+// A version is created and activated.
+fn sends(alloc: Global, register: &mut Desk, caller: Spid, id: u64) -> Option<()> {
+    let line = id.saturating_add(399_999);
+    let number = format!(in alloc; "2025{line}").ok()?;
+    creates(register, number.as_str())?;
+    let command = VersionCommand::Activate;
+    does(register, caller, Command::OnVersion { id, command })
+}
+
+// Version after version.
 fn sends_all(alloc: Global, register: &mut Desk) -> Option<()> {
     let caller = Spid::read("AAAA")?;
     for id in 1..=COUNT {
-        let line = id.saturating_add(399_999);
-        let number = format!(in alloc; "2025{line}").ok()?;
-        creates(register, number.as_str())?;
-        let command = VersionCommand::Activate;
-        register
-            .do_it(caller, &Command::OnVersion { id, command })
-            .ok()?;
+        sends(alloc, register, caller, id)?;
     }
     Some(())
 }
@@ -79,10 +78,12 @@ fn acknowledges_all(register: &mut Desk, caller: Spid) -> Option<u64> {
 // How many versions a newcomer acknowledges that is registered after all of them were sent.
 fn acknowledged_in(alloc: Global, register: &mut Desk) -> Option<u64> {
     let newcomer = Spid::read("CCCC")?;
-    opens_codes(alloc, register)?;
+    if !opens_codes(alloc, register) {
+        return None;
+    }
     sends_all(alloc, register)?;
     let command = Command::RegisterCarrier { spid: newcomer };
-    register.do_it(Spid::NPAC, &command).ok()?;
+    does(register, Spid::NPAC, command)?;
     acknowledges_all(register, newcomer)
 }
 

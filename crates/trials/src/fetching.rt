@@ -1,6 +1,6 @@
 //! What a carrier fetches.
 use crate::commands::routing;
-use crate::port::{FIRST_PORT, Said, Texts, new_register, served, whole};
+use crate::port::{FIRST_PORT, Said, Texts, is_served, new_register};
 use calls::{Command, Reply};
 use delivery::{Download, Mirror};
 use meaning::{Action, Refusal};
@@ -14,11 +14,7 @@ type Desk = Register<MemoryStore>;
 // The register is told these, so many.
 fn is_told(alloc: Global, register: &mut Desk, rows: &[Said<'_>], count: u64) -> bool {
     let mut texts = Texts::new(alloc);
-    if texts.add_rows(alloc, rows).is_err() {
-        return false;
-    }
-    let (_answers, ended) = served(alloc, register, &mut texts.asked.as_bytes());
-    ended == whole(count)
+    texts.add_rows(alloc, rows).is_ok() && is_served(alloc, register, texts.asked.as_str(), count)
 }
 
 // The first port, as far as its activation: eight messages.
@@ -37,25 +33,27 @@ fn download() -> Option<Download> {
     })
 }
 
+// Whether a carrier that asks for so many downloads fetches these.
+fn fetches(register: &mut Desk, caller: Spid, many: usize, wanted: &[Download]) -> Option<bool> {
+    Some(register.fetch(caller, many).ok()?.as_slice() == wanted)
+}
+
+// Whether a copy has what it is told.
+fn is_copied(alloc: Global, download: &Download) -> bool {
+    let mut copy = Mirror::new(alloc);
+    copy.apply(download).is_ok() && copy.get(download.subject) == download.routing
+}
+
 // What the old provider fetches before it acknowledges, none of it, and afterwards; and whether its
 // copy follows.
 fn fetched(alloc: Global, register: &mut Desk) -> Option<[bool; 4]> {
     let caller = Spid::read("BBBB")?;
     let wanted = download()?;
-    let first = register.fetch(caller, 10).ok()?;
-    let none = register.fetch(caller, 0).ok()?;
-    let mut copy = Mirror::new(alloc);
-    for each in first.iter() {
-        copy.apply(each).ok()?;
-    }
+    let first = fetches(register, caller, 10, &[wanted])?;
+    let none = fetches(register, caller, 0, &[])?;
     register.acknowledge(caller, 1, 1).ok()?;
-    let after = register.fetch(caller, 10).ok()?;
-    Some([
-        first.as_slice() == [wanted].as_slice(),
-        none.is_empty(),
-        after.is_empty(),
-        copy.get(wanted.subject) == wanted.routing,
-    ])
+    let after = fetches(register, caller, 10, &[])?;
+    Some([first, none, after, is_copied(alloc, &wanted)])
 }
 
 // And who has no queue.
@@ -66,13 +64,16 @@ fn refused(register: &mut Desk) -> bool {
     }
 }
 
-fn seen(alloc: Global) -> Option<([bool; 4], bool)> {
-    let mut register = new_register(alloc)?;
-    if !is_sent(alloc, &mut register) {
+fn seen_in(alloc: Global, register: &mut Desk) -> Option<([bool; 4], bool)> {
+    if !is_sent(alloc, register) {
         return None;
     }
-    let fetched = fetched(alloc, &mut register)?;
-    Some((fetched, refused(&mut register)))
+    Some((fetched(alloc, register)?, refused(register)))
+}
+
+fn seen(alloc: Global) -> Option<([bool; 4], bool)> {
+    let mut register = new_register(alloc)?;
+    seen_in(alloc, &mut register)
 }
 
 #[test]
@@ -117,54 +118,66 @@ fn followed(register: &mut Desk, caller: Spid, copy: &mut Mirror) -> Option<Opti
     Some(copy.get(next.subject))
 }
 
-// A newcomer's copy: it is started with what is in force.
-fn started(alloc: Global, register: &mut Desk, spid: Spid) -> Option<Mirror> {
+// The same of its next two downloads, one after the other.
+fn followed_twice(
+    register: &mut Desk,
+    caller: Spid,
+    copy: &mut Mirror,
+) -> Option<[Option<Routing>; 2]> {
+    Some([
+        followed(register, caller, copy)?,
+        followed(register, caller, copy)?,
+    ])
+}
+
+// A newcomer's copy is started with what is in force.
+fn starts(register: &mut Desk, spid: Spid, copy: &mut Mirror) -> Option<()> {
     let command = Command::RegisterCarrier { spid };
-    let Reply::Registered { spid: _, rows } = register.do_it(Spid::NPAC, &command).ok()? else {
-        return None;
-    };
-    let mut copy = Mirror::new(alloc);
-    copy.start(&rows).ok()?;
-    Some(copy)
+    match register.do_it(Spid::NPAC, &command).ok()? {
+        Reply::Registered { spid: _, rows } => copy.start(&rows).ok(),
+        _ => None,
+    }
 }
 
 // What the copies of the old provider and of a newcomer have of the number: as it is ported, given
 // back, and ported again.
 type Followed = [[Option<Routing>; 3]; 2];
 
-fn copies(alloc: Global, register: &mut Desk) -> Option<Followed> {
+fn copies(
+    alloc: Global,
+    register: &mut Desk,
+    olds: &mut Mirror,
+    newcomers: &mut Mirror,
+) -> Option<Followed> {
     let [old, new, newcomer] = [
         Spid::read("BBBB")?,
         Spid::read("AAAA")?,
         Spid::read("CCCC")?,
     ];
     register.acknowledge(new, 1, 1).ok()?;
-    let mut olds = Mirror::new(alloc);
-    let ported = followed(register, old, &mut olds)?;
-    let mut newcomers = started(alloc, register, newcomer)?;
+    let ported = followed(register, old, olds)?;
+    starts(register, newcomer, newcomers)?;
     let begun = newcomers.get(download()?.subject);
     if !is_told(alloc, register, &GIVEN_BACK, 7) {
         return None;
     }
-    let olds = [
-        ported,
-        followed(register, old, &mut olds)?,
-        followed(register, old, &mut olds)?,
-    ];
-    let newcomers = [
-        begun,
-        followed(register, newcomer, &mut newcomers)?,
-        followed(register, newcomer, &mut newcomers)?,
-    ];
-    Some([olds, newcomers])
+    let [given_back, again] = followed_twice(register, old, olds)?;
+    let [taken_away, back] = followed_twice(register, newcomer, newcomers)?;
+    Some([[ported, given_back, again], [begun, taken_away, back]])
+}
+
+fn walked_in(alloc: Global, register: &mut Desk) -> Option<Followed> {
+    if !is_sent(alloc, register) {
+        return None;
+    }
+    let mut olds = Mirror::new(alloc);
+    let mut newcomers = Mirror::new(alloc);
+    copies(alloc, register, &mut olds, &mut newcomers)
 }
 
 fn walked(alloc: Global) -> Option<Followed> {
     let mut register = new_register(alloc)?;
-    if !is_sent(alloc, &mut register) {
-        return None;
-    }
-    copies(alloc, &mut register)
+    walked_in(alloc, &mut register)
 }
 
 #[test]
@@ -180,31 +193,39 @@ fn waits_for(register: &mut Desk, caller: Spid, subject: Subject) -> Option<bool
 }
 
 // As the first port is sent, once that is acknowledged, and when two downloads of the number wait.
-fn awaited(alloc: Global) -> Option<[bool; 4]> {
-    let mut register = new_register(alloc)?;
-    if !is_sent(alloc, &mut register) {
+fn awaited_in(alloc: Global, register: &mut Desk) -> Option<[bool; 4]> {
+    if !is_sent(alloc, register) {
         return None;
     }
     let [old, new] = [Spid::read("BBBB")?, Spid::read("AAAA")?];
     let subject = download()?.subject;
-    let sent = waits_for(&mut register, old, subject)?;
+    let sent = waits_for(register, old, subject)?;
     register.acknowledge(old, 1, 1).ok()?;
     register.acknowledge(new, 1, 1).ok()?;
     let none = register.waiting(old).ok()?.is_empty();
-    if !is_told(alloc, &mut register, &GIVEN_BACK, 7) {
+    if !is_told(alloc, register, &GIVEN_BACK, 7) {
         return None;
     }
     let both = register.fetch(old, 10).ok()?.len() == 2;
-    let again = waits_for(&mut register, old, subject)?;
+    let again = waits_for(register, old, subject)?;
     Some([sent, none, both, again])
+}
+
+fn awaited(alloc: Global) -> Option<[bool; 4]> {
+    let mut register = new_register(alloc)?;
+    awaited_in(alloc, &mut register)
+}
+
+fn has_no_queue_in(register: &mut Desk) -> bool {
+    match register.waiting(Spid::NPAC) {
+        Err(refusal) => refusal == Refusal::UnknownCarrier,
+        Ok(_) => false,
+    }
 }
 
 fn has_no_queue(alloc: Global) -> Option<bool> {
     let mut register = new_register(alloc)?;
-    match register.waiting(Spid::NPAC) {
-        Err(refusal) => Some(refusal == Refusal::UnknownCarrier),
-        Ok(_) => Some(false),
-    }
+    Some(has_no_queue_in(&mut register))
 }
 
 #[test]

@@ -1,11 +1,13 @@
 //! A reader and a writer that are interrupted before each of their bytes: the answers are those of
 //! ones that are not.
-use crate::failing::story_of_first_port;
+use crate::failing::{Story, story_of_first_port};
 use crate::port::{is_so, new_register, whole};
 use api::{NoTicks, Options, serve};
+use register::Register;
 use std::io;
 use std::io::{ErrorKind, Read, Write};
 use std::process::Abort;
+use store::MemoryStore;
 
 // Hands out one byte at every other call.
 #[derive(Drop)]
@@ -52,9 +54,12 @@ impl Write for HaltingWriter {
     }
 }
 
-fn is_answered<T: Abort + AllocGlobal>(rt: &T) -> Option<()> {
-    let story = story_of_first_port(rt.alloc())?;
-    let mut register = new_register(rt.alloc())?;
+// The register answers the story so.
+fn is_answered_in<T: Abort + AllocGlobal>(
+    rt: &T,
+    register: &mut Register<MemoryStore>,
+    story: &Story,
+) {
     let mut reader = HaltingReader {
         rest: story.texts.asked.as_bytes(),
         is_ready: true,
@@ -66,7 +71,7 @@ fn is_answered<T: Abort + AllocGlobal>(rt: &T) -> Option<()> {
     let options = Options { clock_route: true };
     let ended = serve(
         rt.alloc(),
-        &mut register,
+        register,
         &mut NoTicks,
         &options,
         &mut reader,
@@ -79,6 +84,12 @@ fn is_answered<T: Abort + AllocGlobal>(rt: &T) -> Option<()> {
         ended,
         whole(11),
     );
+}
+
+fn is_answered<T: Abort + AllocGlobal>(rt: &T) -> Option<()> {
+    let story = story_of_first_port(rt.alloc())?;
+    let mut register = new_register(rt.alloc())?;
+    is_answered_in(rt, &mut register, &story);
     Some(())
 }
 

@@ -113,14 +113,19 @@ fn protective(tn: Tn, routing: Routing) -> Option<Version> {
     })
 }
 
+// Whether the version is that of a line.
+fn is_protective(version: &Version, line: u64) -> Option<bool> {
+    Some(*version == protective(tn_of(line)?, routing()?)?)
+}
+
 // Whether the versions are those of these lines, in their order, each behind its id.
-fn are_protective(plan: &Plan, lines: &[(u64, u64)]) -> Option<bool> {
-    for (version, (id, line)) in plan.versions.iter().zip(lines) {
-        if *version != (*id, protective(tn_of(*line)?, routing()?)?) {
-            return Some(false);
+fn are_protective(versions: &[(u64, Version)], lines: &[(u64, u64)]) -> bool {
+    for ((id, version), (wanted, line)) in versions.iter().zip(lines) {
+        if id != wanted || is_protective(version, *line) != Some(true) {
+            return false;
         }
     }
-    Some(plan.versions.len() == lines.len())
+    versions.len() == lines.len()
 }
 
 // How many versions a plan has, and the line of the first.
@@ -160,17 +165,19 @@ static NAMED: [Named; 11] = [
     (100, &[], &[(0, true, true)], Ok((99, Some(1)))),
 ];
 
-fn plan_of(alloc: Global, row: &Named) -> Option<Result<Plan, Refusal>> {
+fn size_of(alloc: Global, row: &Named) -> Option<Result<Size, Refusal>> {
     let lines = lines(alloc, row.0, row.1)?;
     let numbers = numbers(alloc, row.2)?;
-    planned(alloc, "BBBB", &lines, &facts(&OWN, None, &numbers))
+    match planned(alloc, "BBBB", &lines, &facts(&OWN, None, &numbers))? {
+        Ok(plan) => Some(Ok(size(&plan))),
+        Err(refusal) => Some(Err(refusal)),
+    }
 }
 
 // The first row that is planned otherwise.
 fn planned_otherwise(alloc: Global) -> Option<usize> {
     for (at, row) in NAMED.iter().enumerate() {
-        let size = plan_of(alloc, row).map(|plan| plan.map(|plan| size(&plan)));
-        if size != Some(row.3) {
+        if size_of(alloc, row) != Some(row.3) {
             return Some(at);
         }
     }
@@ -186,18 +193,23 @@ fn a_donation_counts_each_number_once(rt: HostRuntime) {
 fn are_whole(alloc: Global) -> Option<bool> {
     let lines = lines(alloc, 0, &[7, 3, 5, 3])?;
     let plan = planned(alloc, "BBBB", &lines, &facts(&OWN, None, &[]))?.ok()?;
-    are_protective(&plan, &[(41, 3), (42, 5), (43, 7)])
+    Some(are_protective(&plan.versions, &[(41, 3), (42, 5), (43, 7)]))
+}
+
+// The ids and the lines of the first and of the last version.
+fn ends_of(versions: &[(u64, Version)]) -> Option<[(u64, Option<u64>); 2]> {
+    let (first, last) = (versions.first()?, versions.last()?);
+    Some([
+        (first.0, line_of(first.1.subject)),
+        (last.0, line_of(last.1.subject)),
+    ])
 }
 
 // The first and the last of a hundred.
 fn ends_of_a_hundred(alloc: Global) -> Option<[(u64, Option<u64>); 2]> {
     let lines = lines(alloc, 100, &[])?;
     let plan = planned(alloc, "BBBB", &lines, &facts(&OWN, None, &[]))?.ok()?;
-    let (first, last) = (plan.versions.first()?, plan.versions.last()?);
-    Some([
-        (first.0, line_of(first.1.subject)),
-        (last.0, line_of(last.1.subject)),
-    ])
+    ends_of(&plan.versions)
 }
 
 #[test]

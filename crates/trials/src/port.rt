@@ -173,6 +173,28 @@ pub fn served<S: Store, R: Read>(
     (bytes, ended)
 }
 
+/// Whether these messages, so many, are served to their end.
+pub fn is_served<S: Store>(
+    alloc: Global,
+    register: &mut Register<S>,
+    asked: &str,
+    count: u64,
+) -> bool {
+    let (_answers, ended) = served(alloc, register, &mut asked.as_bytes());
+    ended == whole(count)
+}
+
+/// Whether a message is answered so.
+pub fn is_answered<S: Store>(
+    alloc: Global,
+    register: &mut Register<S>,
+    asked: &str,
+    answered: &str,
+) -> bool {
+    let (answers, ended) = served(alloc, register, &mut asked.as_bytes());
+    answers.as_slice() == answered.as_bytes() && ended == whole(1)
+}
+
 /// The answers as a text.
 fn text_of(bytes: &[u8]) -> &str {
     str::from_utf8(bytes).unwrap_or("no UTF-8")
@@ -210,17 +232,16 @@ pub fn whole(count: u64) -> Result<Served, Fault> {
     })
 }
 
-fn says_first_port(alloc: Global, register: &mut Register<MemoryStore>) -> Option<()> {
+fn says_first_port(alloc: Global, register: &mut Register<MemoryStore>) -> Option<bool> {
     let texts = stream_of(alloc, &FIRST_PORT)?;
-    let (_answers, ended) = served(alloc, register, &mut texts.asked.as_bytes());
-    if ended == whole(11) { Some(()) } else { None }
+    Some(is_served(alloc, register, texts.asked.as_str(), 11))
 }
 
 /// A register after the first port.
 pub fn after_the_first_port(alloc: Global) -> Option<Register<MemoryStore>> {
     let mut register = new_register(alloc)?;
     match says_first_port(alloc, &mut register) {
-        Some(()) => Some(register),
-        None => None,
+        Some(true) => Some(register),
+        _ => None,
     }
 }

@@ -109,14 +109,19 @@ fn has_waits(changes: &Changes) -> Option<bool> {
     Some(changes.waits.as_slice() == wanted.as_slice())
 }
 
+// What the changes of these versions have: their rows, their broadcasts, and who waits for these.
+fn has_all(changes: &Changes, versions: &[(u64, Version)]) -> Option<[bool; 3]> {
+    Some([
+        has_rows(changes, versions),
+        has_broadcasts(changes)?,
+        has_waits(changes)?,
+    ])
+}
+
 fn are_begun(alloc: Global) -> Option<[bool; 3]> {
     let versions = versions()?;
     let changes = begun(alloc, &versions)?;
-    Some([
-        has_rows(&changes, &versions),
-        has_broadcasts(&changes)?,
-        has_waits(&changes)?,
-    ])
+    has_all(&changes, &versions)
 }
 
 #[test]

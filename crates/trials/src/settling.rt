@@ -1,13 +1,11 @@
 //! What a call settles: the subjects that it reads, and no other.
 use crate::counted::Counted;
-use crate::port::{FIRST_PORT, Said, Texts, answer, asked, hears, opened, served, whole};
+use crate::port::{FIRST_PORT, Said, Texts, answer, asked, is_answered, is_served, opened};
 use register::Register;
+use settle::Store;
 use std::alloc::{AllocError, Global};
 use std::cell::Cell;
-use std::process::Abort;
 use store::MemoryStore;
-
-type Desk<'a> = Register<Counted<'a, MemoryStore>>;
 
 // The old provider's create of a number, due at 300.
 fn offer(alloc: Global, line: u64, out: &mut String) -> Result<(), AllocError> {
@@ -32,11 +30,10 @@ fn ask_until_120(alloc: Global, texts: &mut Texts) -> Result<(), AllocError> {
     texts.asked.push_str(clock.as_str())
 }
 
-fn until_120(alloc: Global, register: &mut Desk<'_>) -> Option<()> {
+fn is_told_until_120<S: Store>(alloc: Global, register: &mut Register<S>) -> bool {
     let mut texts = Texts::new(alloc);
-    ask_until_120(alloc, &mut texts).ok()?;
-    let (_answers, ended) = served(alloc, register, &mut texts.asked.as_bytes());
-    if ended == whole(1006) { Some(()) } else { None }
+    ask_until_120(alloc, &mut texts).is_ok()
+        && is_served(alloc, register, texts.asked.as_str(), 1006)
 }
 
 // What is said, the answer's status, and how often the store is asked for a commit.
@@ -101,52 +98,49 @@ static STEPS: [Step; 6] = [
     ),
 ];
 
-fn takes<T: Abort + AllocGlobal>(rt: &T, register: &mut Desk<'_>, step: &Step) -> Option<()> {
-    let text = asked(rt.alloc(), &step.0).ok()?;
-    let wanted = answer(rt.alloc(), step.1, step.0.3).ok()?;
-    hears(
-        rt,
-        register,
-        &mut text.as_bytes(),
-        wanted.as_str(),
-        whole(1),
-    );
-    Some(())
+fn takes<S: Store>(alloc: Global, register: &mut Register<S>, step: &Step) -> Option<bool> {
+    let text = asked(alloc, &step.0).ok()?;
+    let wanted = answer(alloc, step.1, step.0.3).ok()?;
+    Some(is_answered(alloc, register, text.as_str(), wanted.as_str()))
 }
 
-fn takes_each<T: Abort + AllocGlobal>(
-    rt: &T,
-    register: &mut Desk<'_>,
+// The first step that is answered otherwise, or with other commits.
+fn taken_otherwise<S: Store>(
+    alloc: Global,
+    register: &mut Register<S>,
     commits: &Cell<u64>,
-) -> Option<()> {
-    for step in &STEPS {
+) -> Option<usize> {
+    for (at, step) in STEPS.iter().enumerate() {
         commits.set(0);
-        takes(rt, register, step)?;
-        assert_eq!(rt; commits.get(), step.2);
+        if takes(alloc, register, step) != Some(true) || commits.get() != step.2 {
+            return Some(at);
+        }
     }
-    Some(())
+    None
 }
 
-fn is_settled_in<T: Abort + AllocGlobal>(
-    rt: &T,
-    register: &mut Desk<'_>,
+fn settled_otherwise_in<S: Store>(
+    alloc: Global,
+    register: &mut Register<S>,
     commits: &Cell<u64>,
-) -> Option<()> {
-    until_120(rt.alloc(), register)?;
-    takes_each(rt, register, commits)
+) -> Option<Option<usize>> {
+    if !is_told_until_120(alloc, register) {
+        return None;
+    }
+    Some(taken_otherwise(alloc, register, commits))
 }
 
-fn is_settled<T: Abort + AllocGlobal>(rt: &T, commits: &Cell<u64>) -> Option<()> {
+fn settled_otherwise(alloc: Global, commits: &Cell<u64>) -> Option<Option<usize>> {
     let store = Counted {
-        store: MemoryStore::new(rt.alloc()),
+        store: MemoryStore::new(alloc),
         commits,
     };
-    let mut register = opened(rt.alloc(), store)?;
-    is_settled_in(rt, &mut register, commits)
+    let mut register = opened(alloc, store)?;
+    settled_otherwise_in(alloc, &mut register, commits)
 }
 
 #[test]
 fn a_call_settles_what_it_reads_alone(rt: HostRuntime) {
     let commits = Cell::new(0);
-    assert!(rt; is_settled(&rt, &commits).is_some());
+    assert_eq!(rt; settled_otherwise(rt.alloc(), &commits), Some(None));
 }

@@ -1,6 +1,6 @@
 //! A commit and each read. The same tests run with each allocation refused in turn: a commit that
 //! is refused leaves every read as it was.
-use delivery::Broadcast;
+use delivery::{Broadcast, DownloadKey};
 use meaning::{Action, Status};
 use numbers::{BlockId, CodeId, Lrn, Minute, Routing, Spid, Subject, Tn};
 use settle::{BlockRow, BroadcastKey, Changes, Few, Store, VersionRow, WaitKey};
@@ -118,23 +118,28 @@ fn ported(store: &mut MemoryStore, sample: &Sample) -> Option<[bool; 5]> {
     ])
 }
 
-// How many rows each list has.
-fn listed(store: &mut MemoryStore, sample: &Sample) -> Option<[usize; 8]> {
-    let about = store
-        .waits_about(sample.carrier, sample.subject)
-        .ok()?
-        .as_slice()
-        .len();
+// How many downloads of the sample wait for its carrier.
+fn about(store: &mut MemoryStore, sample: &Sample) -> Option<usize> {
+    let about = store.waits_about(sample.carrier, sample.subject).ok()?;
+    Some(about.as_slice().len())
+}
+
+// How many rows each list has that is one carrier's or one broadcast's.
+fn waiting(store: &mut MemoryStore, sample: &Sample) -> Option<[usize; 4]> {
     let waits = store.waits(sample.carrier).ok()?.len();
     let front = store.front(sample.carrier, 10).ok()?.len();
     let waiters = store.waiters(Minute::ZERO, KEY).ok()?.len();
+    Some([about(store, sample)?, waits, front, waiters])
+}
+
+// And each other one.
+fn listed(store: &mut MemoryStore) -> Option<[usize; 4]> {
+    let block = BlockId::read("2025331")?;
     let carriers = store.carriers().ok()?.len();
     let broadcasts = store.open_broadcasts().ok()?.len();
     let in_force = store.in_force().ok()?.len();
-    let in_block = store.in_block(BlockId::read("2025331")?).ok()?.len();
-    Some([
-        about, waits, front, waiters, carriers, broadcasts, in_force, in_block,
-    ])
+    let in_block = store.in_block(block).ok()?.len();
+    Some([carriers, broadcasts, in_force, in_block])
 }
 
 fn is_committed(store: &mut MemoryStore, changes: &Changes) -> bool {
@@ -145,10 +150,11 @@ fn is_committed(store: &mut MemoryStore, changes: &Changes) -> bool {
 fn is_read(store: &mut MemoryStore, sample: &Sample, done: bool) -> Option<bool> {
     let registered = registered(store, sample)?;
     let ported = ported(store, sample)?;
-    let lists = listed(store, sample)?;
+    let lists = [waiting(store, sample)?, listed(store)?];
     let are_rows = registered == [false, done, done, done, done];
     let are_versions = ported == [done, done, false, done, !done];
-    Some(are_rows && are_versions && lists == [usize::from(done); 8] && store.failures() == 0)
+    let are_lists = lists == [[usize::from(done); 4]; 2];
+    Some(are_rows && are_versions && are_lists && store.failures() == 0)
 }
 
 fn is_found(alloc: Global) -> Option<bool> {
@@ -228,8 +234,7 @@ fn the_least_deadline_is_found(rt: HostRuntime) {
 }
 
 // Downloads of one subject, attempts of one version, in the order in which they are put.
-fn waits_of(alloc: Global, sample: &Sample, attempts: &[u64]) -> Option<Changes> {
-    let mut changes = Changes::none(alloc);
+fn add_waits(changes: &mut Changes, sample: &Sample, attempts: &[u64]) -> Option<()> {
     for attempt in attempts {
         let wait = WaitKey {
             carrier: sample.carrier,
@@ -239,31 +244,59 @@ fn waits_of(alloc: Global, sample: &Sample, attempts: &[u64]) -> Option<Changes>
         };
         changes.waits.push((wait, sample.subject)).ok()?;
     }
+    Some(())
+}
+
+fn waits_of(alloc: Global, sample: &Sample, attempts: &[u64]) -> Option<Changes> {
+    let mut changes = Changes::none(alloc);
+    add_waits(&mut changes, sample, attempts)?;
     Some(changes)
 }
 
-// Whether as many are told as were put, from the first attempt on.
+// Whether the attempts are those from the first on.
+fn rise(downloads: &[DownloadKey]) -> bool {
+    let mut next: u64 = 1;
+    for download in downloads {
+        if download.attempt != next {
+            return false;
+        }
+        next = next.saturating_add(1);
+    }
+    true
+}
+
+// Whether so many are told, from the first attempt on.
+fn are_told(store: &mut MemoryStore, sample: &Sample, many: usize) -> Option<bool> {
+    let told = store.waits_about(sample.carrier, sample.subject).ok()?;
+    Some(told.as_slice().len() == many && rise(told.as_slice()))
+}
+
+// Whether as many are told as were put.
+fn are_put_and_told(store: &mut MemoryStore, sample: &Sample, changes: &Changes) -> Option<bool> {
+    let done = is_committed(store, changes);
+    are_told(store, sample, if done { changes.waits.len() } else { 0 })
+}
+
 fn are_told_in_order(alloc: Global, attempts: &[u64]) -> Option<bool> {
     let sample = make_sample()?;
     let changes = waits_of(alloc, &sample, attempts)?;
     let mut store = MemoryStore::new(alloc);
-    let done = is_committed(&mut store, &changes);
-    let told = store.waits_about(sample.carrier, sample.subject).ok()?;
-    let mut next: u64 = 1;
-    for download in told.as_slice() {
-        if download.attempt != next {
-            return Some(false);
+    are_put_and_told(&mut store, &sample, &changes)
+}
+
+static ATTEMPTS: [&[u64]; 4] = [&[], &[2, 1], &[3, 1, 2], &[5, 3, 1, 4, 2]];
+
+// The first row whose downloads are told otherwise.
+fn told_otherwise(alloc: Global) -> Option<usize> {
+    for (at, attempts) in ATTEMPTS.iter().enumerate() {
+        if are_told_in_order(alloc, attempts) != Some(true) {
+            return Some(at);
         }
-        next = next.saturating_add(1);
     }
-    let wanted = if done { attempts.len() } else { 0 };
-    Some(told.as_slice().len() == wanted)
+    None
 }
 
 #[test]
 fn downloads_about_a_subject_are_told_in_order(rt: HostRuntime) {
-    assert_eq!(rt; are_told_in_order(rt.alloc(), &[]), Some(true));
-    assert_eq!(rt; are_told_in_order(rt.alloc(), &[2, 1]), Some(true));
-    assert_eq!(rt; are_told_in_order(rt.alloc(), &[3, 1, 2]), Some(true));
-    assert_eq!(rt; are_told_in_order(rt.alloc(), &[5, 3, 1, 4, 2]), Some(true));
+    assert_eq!(rt; told_otherwise(rt.alloc()), None);
 }

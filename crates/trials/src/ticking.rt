@@ -111,9 +111,10 @@ fn are_answered<T: Abort + AllocGlobal>(
 }
 
 fn is_moved<T: Abort + AllocGlobal>(rt: &T) -> Option<()> {
+    let ticks = ticks()?;
     let mut texts = Texts::new(rt.alloc());
     add_all(rt.alloc(), &mut texts).ok()?;
-    are_answered(rt, &ticks()?, &texts)
+    are_answered(rt, &ticks, &texts)
 }
 
 // A minute ends the first window, one that has passed is dropped, none changes nothing, and one

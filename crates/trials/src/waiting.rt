@@ -59,7 +59,7 @@ impl Write for Noting<'_> {
 }
 
 // The client is answered so; how often the answers were flushed.
-fn is_served<T: Abort + AllocGlobal>(
+fn flushes_to<T: Abort + AllocGlobal>(
     rt: &T,
     register: &mut Register<MemoryStore>,
     client: &mut Client<'_>,
@@ -78,8 +78,13 @@ fn is_served<T: Abort + AllocGlobal>(
     flushes.get()
 }
 
-// How often a new register flushes its answers to a client that sends the first port cut there.
-fn flushes_at<T: Abort + AllocGlobal>(rt: &T, story: &Story, place: usize) -> Option<u64> {
+// How often a register flushes its answers to a client that sends the first port cut there.
+fn flushes_in<T: Abort + AllocGlobal>(
+    rt: &T,
+    register: &mut Register<MemoryStore>,
+    story: &Story,
+    place: usize,
+) -> Option<u64> {
     let (first, second) = story.texts.asked.as_bytes().split_at_checked(place)?;
     let flushed = Cell::new(0);
     let mut client = Client {
@@ -89,9 +94,13 @@ fn flushes_at<T: Abort + AllocGlobal>(rt: &T, story: &Story, place: usize) -> Op
         owed_for_both: story.texts.answered.len(),
         flushed: &flushed,
     };
-    let mut register = new_register(rt.alloc())?;
     let answered = story.texts.answered.as_str();
-    Some(is_served(rt, &mut register, &mut client, answered))
+    Some(flushes_to(rt, register, &mut client, answered))
+}
+
+fn flushes_at<T: Abort + AllocGlobal>(rt: &T, story: &Story, place: usize) -> Option<u64> {
+    let mut register = new_register(rt.alloc())?;
+    flushes_in(rt, &mut register, story, place)
 }
 
 fn is_answered_in_time<T: Abort + AllocGlobal>(rt: &T) -> Option<()> {
