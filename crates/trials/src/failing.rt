@@ -1,49 +1,11 @@
 //! Readers and writers that fail in mid-stream: what was answered, and what is left then.
+use crate::faulty::{Filling, MUCH, Piecewise};
 use crate::port::{FIRST_PORT, Texts, hears, is_so, new_register, texts_of, whole};
 use api::{Fault, NoTicks, Options, Served, serve};
 use register::Register;
 use std::alloc::{AllocError, Global};
-use std::io;
-use std::io::{ErrorKind, Read, Write};
 use std::process::Abort;
 use store::MemoryStore;
-
-// Hands out its bytes, and then fails.
-#[derive(Drop)]
-struct Breaking<'a> {
-    rest: &'a [u8],
-}
-
-impl Read for Breaking<'_> {
-    fn read(&mut self, buf: &mut [u8]) -> io::Result<usize> {
-        if self.rest.is_empty() {
-            return Err(ErrorKind::ConnectionReset.into());
-        }
-        self.rest.read(buf)
-    }
-}
-
-// Takes so many bytes, and then fails.
-#[derive(Drop)]
-struct Filling {
-    bytes: Vec<u8>,
-    room: usize,
-}
-
-impl Write for Filling {
-    fn write(&mut self, buf: &[u8]) -> io::Result<usize> {
-        let count = buf.len().min(self.room);
-        if count == 0 {
-            return Err(ErrorKind::StorageFull.into());
-        }
-        self.room -= count;
-        self.bytes.write(&buf[..count])
-    }
-
-    fn flush(&mut self) -> io::Result<()> {
-        Ok(())
-    }
-}
 
 /// What is asked and answered in the first port, and where its messages and its answers end.
 #[derive(Drop)]
@@ -109,9 +71,13 @@ impl Story {
     ) -> Option<()> {
         let made = reached(&self.asked, place);
         let written = self.texts.answered.get(..end_of(&self.answered, made))?;
-        let rest = self.texts.asked.as_bytes().get(..place)?;
+        let mut reader = Piecewise {
+            rest: self.texts.asked.as_bytes().get(..place)?,
+            most: MUCH,
+            fails: true,
+        };
         let fault = Err(Fault::Read(made as u64));
-        hears(rt, register, &mut Breaking { rest }, written, fault);
+        hears(rt, register, &mut reader, written, fault);
         self.goes_on(rt, register, made)
     }
 

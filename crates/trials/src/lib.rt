@@ -18,7 +18,11 @@ mod delivery_trials;
 #[cfg(test)]
 mod failing;
 #[cfg(test)]
+mod faulty;
+#[cfg(test)]
 mod fetching;
+#[cfg(test)]
+mod files;
 #[cfg(test)]
 mod interrupted;
 #[cfg(test)]

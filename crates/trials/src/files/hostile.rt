@@ -1,7 +1,7 @@
 //! Files of commands with bytes that no row should have, cut after each of their bytes.
-use crate::failing::{MUCH, Piecewise};
-use crate::started::started;
-use bulk::{BulkFault, FaultKind, run_file};
+use crate::faulty::{MUCH, Piecewise};
+use crate::files::started::is_run;
+use bulk::{BulkFault, FaultKind};
 use std::alloc::Global;
 
 const HEADER: &str = "caller,action,subject,old,new,due,lrn,cic,flag\n";
@@ -75,31 +75,39 @@ fn file_of(alloc: Global, hostile: &Hostile<'_>) -> Option<Vec<u8>> {
     Some(file)
 }
 
-// A new register runs so what a reader gives in parts of so many bytes.
-fn is_run(alloc: Global, rest: &[u8], most: usize, wanted: &Wanted) -> Option<bool> {
+// Whether a file is run so that is given in parts of so many bytes.
+fn is_run_by(alloc: Global, rest: &[u8], most: usize, wanted: &Wanted) -> bool {
     let reader = Piecewise {
         rest,
         most,
         fails: false,
     };
-    let mut register = started(alloc)?;
-    let mut written = Vec::new(alloc);
-    let ran = run_file(alloc, &mut register, reader, &mut written);
-    Some(ran == wanted.1 && written.as_slice() == wanted.0.as_bytes())
+    is_run(alloc, reader, wanted.0, wanted.1) == Some(true)
 }
 
-// The first place at which the file is run otherwise where it ends there.
-fn first_wrong_cut(alloc: Global, hostile: &Hostile<'_>) -> Option<usize> {
-    let file = file_of(alloc, hostile)?;
-    let bad = HEADER.len();
-    let behind = bad.saturating_add(hostile.bad.len());
+// The first place at which a file of three parts is run otherwise where it ends there.
+fn cut_otherwise(alloc: Global, file: &[u8], bad: usize, behind: usize) -> Option<usize> {
     for place in 0..=file.len() {
         let front = file.get(..place)?;
         let wanted = wanted_at(bad, behind, file.len(), place);
-        let whole = is_run(alloc, front, MUCH, &wanted) == Some(true);
-        let by_bytes = is_run(alloc, front, 1, &wanted) == Some(true);
-        if !whole || !by_bytes {
+        if !is_run_by(alloc, front, MUCH, &wanted) || !is_run_by(alloc, front, 1, &wanted) {
             return Some(place);
+        }
+    }
+    None
+}
+
+fn is_run_at_each_cut(alloc: Global, hostile: &Hostile<'_>) -> Option<bool> {
+    let file = file_of(alloc, hostile)?;
+    let behind = HEADER.len().saturating_add(hostile.bad.len());
+    Some(cut_otherwise(alloc, &file, HEADER.len(), behind).is_none())
+}
+
+// The first file that is run otherwise.
+fn run_otherwise(alloc: Global) -> Option<usize> {
+    for (at, hostile) in FILES.iter().enumerate() {
+        if is_run_at_each_cut(alloc, hostile) != Some(true) {
+            return Some(at);
         }
     }
     None
@@ -107,7 +115,5 @@ fn first_wrong_cut(alloc: Global, hostile: &Hostile<'_>) -> Option<usize> {
 
 #[test]
 fn hostile_files_are_run_up_to_where_they_end(rt: HostRuntime) {
-    for hostile in &FILES {
-        assert!(rt; first_wrong_cut(rt.alloc(), hostile) == None);
-    }
+    assert_eq!(rt; run_otherwise(rt.alloc()), None);
 }

@@ -1,9 +1,6 @@
 //! Each of the nine actions of a bulk file accepted and refused, and which version it takes.
-use crate::started::{acknowledge_all, started};
-use bulk::run_file;
-use register::Register;
+use crate::files::started::{Desk, acknowledge_all, runs, started};
 use std::alloc::Global;
-use store::MemoryStore;
 
 // At minute 0. The first number's port is created, disputed and cancelled by the new provider, the
 // second's is cancelled by the old one, the third's is activated.
@@ -30,19 +27,16 @@ const ONCE_RUN: &str =
 const TWICE_RUN: &str =
     "row,subject,result,id\n1,2025331234,busy,\n2,2025331234,busy,\n3,2025331234,busy,\n";
 
-// The register runs the file so.
-fn runs(alloc: Global, register: &mut Register<MemoryStore>, file: &str, report: &str) -> bool {
-    let mut written = Vec::new(alloc);
-    let ran = run_file(alloc, register, file.as_bytes(), &mut written);
-    ran.is_ok() && written.as_slice() == report.as_bytes()
+fn are_answered_in(alloc: Global, register: &mut Desk) -> Option<bool> {
+    let ported = runs(alloc, register, PORTS.as_bytes(), PORTED, Ok(22));
+    acknowledge_all(register, 3, 1)?;
+    let returned = runs(alloc, register, RETURNS.as_bytes(), RETURNED, Ok(6));
+    Some(ported && returned)
 }
 
 fn are_answered(alloc: Global) -> Option<bool> {
     let mut register = started(alloc)?;
-    let ported = runs(alloc, &mut register, PORTS, PORTED);
-    acknowledge_all(&mut register, 3, 1)?;
-    let returned = runs(alloc, &mut register, RETURNS, RETURNED);
-    Some(ported && returned)
+    are_answered_in(alloc, &mut register)
 }
 
 #[test]
@@ -52,8 +46,8 @@ fn each_action_is_accepted_and_refused(rt: HostRuntime) {
 
 fn is_busy_again(alloc: Global) -> Option<bool> {
     let mut register = started(alloc)?;
-    let once = runs(alloc, &mut register, TWICE, ONCE_RUN);
-    let twice = runs(alloc, &mut register, TWICE, TWICE_RUN);
+    let once = runs(alloc, &mut register, TWICE.as_bytes(), ONCE_RUN, Ok(3));
+    let twice = runs(alloc, &mut register, TWICE.as_bytes(), TWICE_RUN, Ok(3));
     Some(once && twice)
 }
 

@@ -1,7 +1,7 @@
 //! Bulk files and exports over memory: worked files with their reports, each kind of bad row, and
 //! what is in force afterwards.
-use crate::started::{acknowledge_all, started};
-use bulk::{BulkFault, FaultKind, export, run_file};
+use crate::files::started::{Desk, PORTED, acknowledge_all, exports, is_run, runs, started};
+use bulk::{BulkFault, FaultKind, run_file};
 use std::alloc::Global;
 
 /// A file, its report, and what the run answers.
@@ -67,20 +67,19 @@ static ROWS: [Row<'static>; 12] = [
     ),
 ];
 
-// A new register runs the file so.
-fn is_run(alloc: Global, row: &Row<'_>) -> Option<bool> {
-    let (file, report, result) = *row;
-    let mut register = started(alloc)?;
-    let mut written = Vec::new(alloc);
-    let answered = run_file(alloc, &mut register, file.as_bytes(), &mut written);
-    Some(answered == result && written.as_slice() == report.as_bytes())
+// The first row whose file is run otherwise.
+fn run_otherwise(alloc: Global) -> Option<usize> {
+    for (at, (file, report, wanted)) in ROWS.iter().enumerate() {
+        if is_run(alloc, file.as_bytes(), report, *wanted) != Some(true) {
+            return Some(at);
+        }
+    }
+    None
 }
 
 #[test]
 fn files_are_run_and_reported(rt: HostRuntime) {
-    for row in &ROWS {
-        assert!(rt; is_run(rt.alloc(), row) == Some(true));
-    }
+    assert_eq!(rt; run_otherwise(rt.alloc()), None);
 }
 
 const NOT_UTF_8: &[u8] =
@@ -89,16 +88,10 @@ const NOT_UTF_8: &[u8] =
 const NOT_UTF_8_REPORT: &str =
     "row,subject,result,id\n1,,bad_row,\n2,2025331234,unknown_carrier,\n";
 
-fn is_bad_row(alloc: Global) -> Option<bool> {
-    let mut register = started(alloc)?;
-    let mut written = Vec::new(alloc);
-    let answered = run_file(alloc, &mut register, NOT_UTF_8, &mut written);
-    Some(answered == Ok(2) && written.as_slice() == NOT_UTF_8_REPORT.as_bytes())
-}
-
 #[test]
 fn bytes_that_are_no_text_are_a_bad_row(rt: HostRuntime) {
-    assert!(rt; is_bad_row(rt.alloc()) == Some(true));
+    let is_run = is_run(rt.alloc(), NOT_UTF_8, NOT_UTF_8_REPORT, Ok(2));
+    assert_eq!(rt; is_run, Some(true));
 }
 
 const RANGE: &str =
@@ -112,17 +105,23 @@ fn are_of_one_row(report: &str) -> bool {
         .all(|line| line.starts_with("1,2025331"))
 }
 
+// The front, the end and each line of the report.
+fn is_of_the_range(report: &str) -> bool {
+    report.starts_with("row,subject,result,id\n1,2025331000,ok,1\n1,2025331001,ok,2\n")
+        && report.ends_with("1,2025331998,ok,999\n1,2025331999,ok,1000\n")
+        && are_of_one_row(report)
+}
+
+fn is_range_run_in(alloc: Global, register: &mut Desk) -> Option<bool> {
+    let mut written = Vec::new(alloc);
+    let ran = run_file(alloc, register, RANGE.as_bytes(), &mut written);
+    let report = str::from_utf8(written.as_slice()).ok()?;
+    Some(ran == Ok(1000) && is_of_the_range(report))
+}
+
 fn is_range_run(alloc: Global) -> Option<bool> {
     let mut register = started(alloc)?;
-    let mut written = Vec::new(alloc);
-    let answered = run_file(alloc, &mut register, RANGE.as_bytes(), &mut written);
-    let text = str::from_utf8(written.as_slice()).ok()?;
-    Some(
-        answered == Ok(1000)
-            && are_of_one_row(text)
-            && text.starts_with("row,subject,result,id\n1,2025331000,ok,1\n1,2025331001,ok,2\n")
-            && text.ends_with("1,2025331998,ok,999\n1,2025331999,ok,1000\n"),
-    )
+    is_range_run_in(alloc, &mut register)
 }
 
 #[test]
@@ -134,25 +133,20 @@ const PORT: &str =
     "caller,action,subject,old,new,due,lrn,cic,flag\nAAAA,subscriptionVersionNewSP-Create,2025331234,BBBB,AAAA,0,2025440000,0288,\nBBBB,subscriptionVersionOldSP-Create,2025331234,BBBB,AAAA,0,,,yes\nAAAA,subscriptionVersionActivate,2025331234,,,,,,\n";
 
 // What is in force before a port and after it, when each carrier has acknowledged.
-fn is_exported(alloc: Global) -> Option<bool> {
+fn is_exported_in(alloc: Global, register: &mut Desk) -> Option<[bool; 3]> {
+    let none = exports(alloc, register, "subject,lrn,cic\n", 0);
+    let ran = runs(alloc, register, PORT.as_bytes(), PORTED, Ok(3));
+    acknowledge_all(register, 1, 1)?;
+    let rows = "subject,lrn,cic\n2025331234,2025440000,0288\n";
+    Some([none, ran, exports(alloc, register, rows, 1)])
+}
+
+fn is_exported(alloc: Global) -> Option<[bool; 3]> {
     let mut register = started(alloc)?;
-    let mut before = Vec::new(alloc);
-    let none = export(alloc, &mut register, &mut before);
-    let mut report = Vec::new(alloc);
-    let ran = run_file(alloc, &mut register, PORT.as_bytes(), &mut report);
-    acknowledge_all(&mut register, 1, 1)?;
-    let mut after = Vec::new(alloc);
-    let one = export(alloc, &mut register, &mut after);
-    Some(
-        none == Ok(0)
-            && before.as_slice() == b"subject,lrn,cic\n".as_slice()
-            && ran == Ok(3)
-            && one == Ok(1)
-            && after.as_slice() == b"subject,lrn,cic\n2025331234,2025440000,0288\n".as_slice(),
-    )
+    is_exported_in(alloc, &mut register)
 }
 
 #[test]
 fn what_is_in_force_is_exported(rt: HostRuntime) {
-    assert!(rt; is_exported(rt.alloc()) == Some(true));
+    assert_eq!(rt; is_exported(rt.alloc()), Some([true; 3]));
 }

@@ -1,12 +1,10 @@
 //! Memory that is refused. The same tests run with each allocation refused in turn: a run that met
 //! it is told so, its lines are whole, the commands of these were made and no others, and it goes
 //! on from there; an export and an audit that met it wrote nothing, and the next is whole.
-use crate::started::{add_port, started};
+use crate::files::started::{Desk, ported, started};
 use bulk::{BulkFault, FaultKind, audit, export, run_file};
 use numbers::Spid;
-use register::Register;
 use std::alloc::{AllocError, Global};
-use store::MemoryStore;
 
 // What came of a file, of which at most one allocation is refused.
 #[derive(Clone, Copy, Debug, PartialEq, Eq)]
@@ -26,10 +24,18 @@ fn page(alloc: Global) -> Result<Vec<u8>, AllocError> {
     }
 }
 
-fn ported(alloc: Global) -> Option<Register<MemoryStore>> {
-    let mut register = started(alloc)?;
-    add_port(alloc, &mut register)?;
-    Some(register)
+fn ported_at_last(alloc: Global) -> Option<Desk> {
+    match ported(alloc) {
+        Some(register) => Some(register),
+        None => ported(alloc),
+    }
+}
+
+fn started_at_last(alloc: Global) -> Option<Desk> {
+    match started(alloc) {
+        Some(register) => Some(register),
+        None => started(alloc),
+    }
 }
 
 // What came of a file of which nothing is written where memory is refused.
@@ -48,17 +54,17 @@ const NO_MEMORY: Result<u64, BulkFault> = Err(BulkFault {
     rows: 0,
 });
 
-fn export_once(alloc: Global, register: &mut Register<MemoryStore>) -> Option<Outcome> {
+fn export_once(alloc: Global, register: &mut Desk) -> Option<Outcome> {
     let mut page = page(alloc).ok()?;
     let ran = export(alloc, register, &mut page);
     let text = "subject,lrn,cic\n2025331234,2025440000,\n";
     Some(outcome_of(ran, page.as_slice(), 1, text))
 }
 
-fn audit_once(alloc: Global, register: &mut Register<MemoryStore>) -> Option<Outcome> {
+fn audit_once(alloc: Global, register: &mut Desk) -> Option<Outcome> {
+    let carrier = Spid::read("AAAA")?;
     let mut page = page(alloc).ok()?;
     let copy = "subject,lrn,cic\n2025331234,2025550000,\n2025339999,2025330000,\n";
-    let carrier = Spid::read("AAAA")?;
     let ran = audit(alloc, register, carrier, copy.as_bytes(), &mut page);
     let text = "subject,finding\n2025331234,different\n2025339999,extra\n";
     Some(outcome_of(ran, page.as_slice(), 2, text))
@@ -73,14 +79,15 @@ fn ends_well(first: Outcome, next: Outcome) -> bool {
     }
 }
 
-fn is_exported_at_last(alloc: Global) -> Option<bool> {
-    let mut register = match ported(alloc) {
-        Some(register) => register,
-        None => ported(alloc)?,
-    };
-    let first = export_once(alloc, &mut register)?;
-    let next = export_once(alloc, &mut register)?;
+fn is_exported_in(alloc: Global, register: &mut Desk) -> Option<bool> {
+    let first = export_once(alloc, register)?;
+    let next = export_once(alloc, register)?;
     Some(ends_well(first, next))
+}
+
+fn is_exported_at_last(alloc: Global) -> Option<bool> {
+    let mut register = ported_at_last(alloc)?;
+    is_exported_in(alloc, &mut register)
 }
 
 #[test]
@@ -88,14 +95,15 @@ fn an_export_that_meets_no_memory(rt: HostRuntime) {
     assert!(rt; is_exported_at_last(rt.alloc()) == Some(true));
 }
 
-fn is_audited_at_last(alloc: Global) -> Option<bool> {
-    let mut register = match ported(alloc) {
-        Some(register) => register,
-        None => ported(alloc)?,
-    };
-    let first = audit_once(alloc, &mut register)?;
-    let next = audit_once(alloc, &mut register)?;
+fn is_audited_in(alloc: Global, register: &mut Desk) -> Option<bool> {
+    let first = audit_once(alloc, register)?;
+    let next = audit_once(alloc, register)?;
     Some(ends_well(first, next))
+}
+
+fn is_audited_at_last(alloc: Global) -> Option<bool> {
+    let mut register = ported_at_last(alloc)?;
+    is_audited_in(alloc, &mut register)
 }
 
 #[test]
@@ -138,7 +146,7 @@ fn count_of(ran: Result<u64, BulkFault>) -> Option<usize> {
 }
 
 // Runs the file, and says how many of its commands were made, where its report is that of so many.
-fn run_once(alloc: Global, register: &mut Register<MemoryStore>) -> Option<usize> {
+fn run_once(alloc: Global, register: &mut Desk) -> Option<usize> {
     let mut page = page(alloc).ok()?;
     let ran = run_file(alloc, register, FILE.as_bytes(), &mut page);
     let made = count_of(ran)?;
@@ -151,20 +159,21 @@ fn run_once(alloc: Global, register: &mut Register<MemoryStore>) -> Option<usize
 }
 
 // Runs the file again, after so many of its commands.
-fn is_run_on(alloc: Global, register: &mut Register<MemoryStore>, made: usize) -> Option<bool> {
+fn is_run_on(alloc: Global, register: &mut Desk, made: usize) -> Option<bool> {
     let mut page = page(alloc).ok()?;
     let ran = run_file(alloc, register, FILE.as_bytes(), &mut page);
     let is_whole = ran == Ok(3) && page.as_slice() == REPORTS.get(made)?.1.as_bytes();
     Some(is_whole || (made == 3 && count_of(ran).is_some()))
 }
 
+fn is_run_in(alloc: Global, register: &mut Desk) -> Option<bool> {
+    let made = run_once(alloc, register)?;
+    is_run_on(alloc, register, made)
+}
+
 fn is_run_at_last(alloc: Global) -> Option<bool> {
-    let mut register = match started(alloc) {
-        Some(register) => register,
-        None => started(alloc)?,
-    };
-    let made = run_once(alloc, &mut register)?;
-    is_run_on(alloc, &mut register, made)
+    let mut register = started_at_last(alloc)?;
+    is_run_in(alloc, &mut register)
 }
 
 #[test]

@@ -1,4 +1,4 @@
-//! Readers and writers that fail, and what is whole before they do.
+//! Readers and writers that fail.
 use std::io;
 use std::io::{ErrorKind, Read, Write};
 
@@ -43,18 +43,4 @@ impl Write for Filling {
     fn flush(&mut self) -> io::Result<()> {
         Ok(())
     }
-}
-
-/// How many of the lines, behind a first line, end at or before a place.
-pub fn whole_within(first: usize, lines: &[&str], place: usize) -> usize {
-    let mut end = first;
-    let mut count = 0;
-    for line in lines {
-        end = end.saturating_add(line.len());
-        if end > place {
-            return count;
-        }
-        count = count.saturating_add(1);
-    }
-    count
 }

@@ -1,11 +1,9 @@
 //! Files that are cut, readers and writers that fail in mid-file, and readers that give a byte at a
 //! time.
-use crate::failing::{Filling, MUCH, Piecewise, whole_within};
-use crate::started::{add_port, started};
+use crate::faulty::{Filling, MUCH, Piecewise};
+use crate::files::started::{Desk, is_run, ported, runs, started, whole_within};
 use bulk::{BulkFault, FaultKind, export, run_file};
-use register::Register;
 use std::alloc::Global;
-use store::MemoryStore;
 
 const HEADER: &str = "caller,action,subject,old,new,due,lrn,cic,flag\n";
 
@@ -121,21 +119,14 @@ fn wanted_of_read(alloc: Global, place: usize) -> Option<Wanted> {
     })
 }
 
-// A new register runs what the reader gives so.
-fn is_run(alloc: Global, reader: Piecewise<'_>, wanted: &Wanted) -> Option<bool> {
-    let mut register = started(alloc)?;
-    let mut written = Vec::new(alloc);
-    let ran = run_file(alloc, &mut register, reader, &mut written);
-    Some(ran == wanted.ran && written.as_slice() == wanted.text.as_bytes())
-}
-
 fn is_cut_so(alloc: Global, file: &[u8], place: usize, most: usize) -> Option<bool> {
     let reader = Piecewise {
         rest: file.get(..place)?,
         most,
         fails: false,
     };
-    is_run(alloc, reader, &wanted_of_cut(alloc, place)?)
+    let wanted = wanted_of_cut(alloc, place)?;
+    is_run(alloc, reader, wanted.text.as_str(), wanted.ran)
 }
 
 fn is_read_so(alloc: Global, file: &[u8], place: usize) -> Option<bool> {
@@ -144,17 +135,16 @@ fn is_read_so(alloc: Global, file: &[u8], place: usize) -> Option<bool> {
         most: MUCH,
         fails: true,
     };
-    is_run(alloc, reader, &wanted_of_read(alloc, place)?)
+    let wanted = wanted_of_read(alloc, place)?;
+    is_run(alloc, reader, wanted.text.as_str(), wanted.ran)
 }
 
 // The first place at which a file that is cut there, or whose reader fails there, is run otherwise.
-fn first_wrong_read(alloc: Global) -> Option<usize> {
-    let file = text_of(alloc, HEADER, &ROWS)?;
+fn read_otherwise_in(alloc: Global, file: &[u8]) -> Option<usize> {
     for place in 0..=file.len() {
-        let bytes = file.as_bytes();
-        let whole = is_cut_so(alloc, bytes, place, MUCH) == Some(true);
-        let by_bytes = is_cut_so(alloc, bytes, place, 1) == Some(true);
-        let broken = is_read_so(alloc, bytes, place) == Some(true);
+        let whole = is_cut_so(alloc, file, place, MUCH) == Some(true);
+        let by_bytes = is_cut_so(alloc, file, place, 1) == Some(true);
+        let broken = is_read_so(alloc, file, place) == Some(true);
         if !whole || !by_bytes || !broken {
             return Some(place);
         }
@@ -162,9 +152,14 @@ fn first_wrong_read(alloc: Global) -> Option<usize> {
     None
 }
 
+fn read_otherwise(alloc: Global) -> Option<Option<usize>> {
+    let file = text_of(alloc, HEADER, &ROWS)?;
+    Some(read_otherwise_in(alloc, file.as_bytes()))
+}
+
 #[test]
 fn files_that_are_cut_are_run_up_to_there(rt: HostRuntime) {
-    assert!(rt; first_wrong_read(rt.alloc()) == None);
+    assert!(rt; read_otherwise(rt.alloc()) == Some(None));
 }
 
 // What a run says whose writer has so much room, and how many of its commands are made.
@@ -180,47 +175,59 @@ fn ended_within(room: usize) -> (Result<u64, BulkFault>, usize) {
 }
 
 // The register reports another run of the file so, after so many of its commands.
-fn goes_on(
-    alloc: Global,
-    register: &mut Register<MemoryStore>,
-    file: &[u8],
-    made: usize,
-) -> Option<bool> {
+fn goes_on(alloc: Global, register: &mut Desk, file: &[u8], made: usize) -> Option<bool> {
     let wanted = text_of(alloc, REPORT_HEADER, LATER.get(made)?)?;
-    let mut again = Vec::new(alloc);
-    let ran = run_file(alloc, register, file, &mut again);
-    Some(ran == Ok(3) && again.as_slice() == wanted.as_bytes())
+    Some(runs(alloc, register, file, wanted.as_str(), Ok(3)))
 }
 
-// A writer with so much room has the report's front, and one command more was made than it has
-// whole lines.
-fn is_written_so(alloc: Global, file: &[u8], report: &[u8], room: usize) -> Option<bool> {
-    let (wanted, made) = ended_within(room);
-    let mut register = started(alloc)?;
+// A writer with so much room has the report's front, and the run says so.
+fn is_front_written(
+    alloc: Global,
+    register: &mut Desk,
+    file: &[u8],
+    front: &[u8],
+    wanted: Result<u64, BulkFault>,
+) -> bool {
     let mut writer = Filling {
         bytes: Vec::new(alloc),
-        room,
+        room: front.len(),
     };
-    let ran = run_file(alloc, &mut register, file, &mut writer);
-    let is_front = ran == wanted && Some(writer.bytes.as_slice()) == report.get(..room);
-    Some(is_front && goes_on(alloc, &mut register, file, made)?)
+    let ran = run_file(alloc, register, file, &mut writer);
+    ran == wanted && writer.bytes.as_slice() == front
+}
+
+// And one command more was made than it has whole lines.
+fn is_written_in(alloc: Global, register: &mut Desk, file: &[u8], front: &[u8]) -> Option<bool> {
+    let (wanted, made) = ended_within(front.len());
+    let is_front = is_front_written(alloc, register, file, front, wanted);
+    Some(is_front && goes_on(alloc, register, file, made)?)
+}
+
+fn is_written_so(alloc: Global, file: &[u8], report: &[u8], room: usize) -> Option<bool> {
+    let front = report.get(..room)?;
+    let mut register = started(alloc)?;
+    is_written_in(alloc, &mut register, file, front)
 }
 
 // The first room in which a report is written otherwise.
-fn first_wrong_room(alloc: Global) -> Option<usize> {
-    let file = text_of(alloc, HEADER, &ROWS)?;
-    let report = text_of(alloc, REPORT_HEADER, &LINES)?;
+fn written_otherwise_in(alloc: Global, file: &[u8], report: &[u8]) -> Option<usize> {
     for room in 0..=report.len() {
-        if is_written_so(alloc, file.as_bytes(), report.as_bytes(), room) != Some(true) {
+        if is_written_so(alloc, file, report, room) != Some(true) {
             return Some(room);
         }
     }
     None
 }
 
+fn written_otherwise(alloc: Global) -> Option<Option<usize>> {
+    let file = text_of(alloc, HEADER, &ROWS)?;
+    let report = text_of(alloc, REPORT_HEADER, &LINES)?;
+    Some(written_otherwise_in(alloc, file.as_bytes(), report.as_bytes()))
+}
+
 #[test]
 fn a_writer_that_fails_leaves_whole_lines(rt: HostRuntime) {
-    assert!(rt; first_wrong_room(rt.alloc()) == None);
+    assert!(rt; written_otherwise(rt.alloc()) == Some(None));
 }
 
 const EXPORT_HEADER: &str = "subject,lrn,cic\n";
@@ -230,9 +237,7 @@ static EXPORT_ROWS: [&str; 1] = ["2025331234,2025440000,\n"];
 const EXPORTED: &str = "subject,lrn,cic\n2025331234,2025440000,\n";
 
 // A writer with so much room has the front of what is in force.
-fn is_exported_so(alloc: Global, room: usize) -> Option<bool> {
-    let mut register = started(alloc)?;
-    add_port(alloc, &mut register)?;
+fn is_exported_in(alloc: Global, register: &mut Desk, room: usize) -> bool {
     let mut writer = Filling {
         bytes: Vec::new(alloc),
         room,
@@ -243,8 +248,13 @@ fn is_exported_so(alloc: Global, room: usize) -> Option<bool> {
     } else {
         Ok(whole as u64)
     };
-    let exported = export(alloc, &mut register, &mut writer);
-    Some(exported == wanted && Some(writer.bytes.as_slice()) == EXPORTED.as_bytes().get(..room))
+    let exported = export(alloc, register, &mut writer);
+    exported == wanted && Some(writer.bytes.as_slice()) == EXPORTED.as_bytes().get(..room)
+}
+
+fn is_exported_so(alloc: Global, room: usize) -> Option<bool> {
+    let mut register = ported(alloc)?;
+    Some(is_exported_in(alloc, &mut register, room))
 }
 
 // The first room in which what is in force is written otherwise.

@@ -1,13 +1,12 @@
 //! Copies that are compared with the register, and what pooled numbers export.
-use crate::failing::{Filling, MUCH, Piecewise, whole_within};
-use crate::started::{acknowledge_all, add_port, started};
-use bulk::{BulkFault, FaultKind, audit, export, run_file};
+use crate::commands::{does, routed_to};
+use crate::faulty::{Filling, MUCH, Piecewise};
+use crate::files::started::{Desk, acknowledge_all, exports, ported, runs, started, whole_within};
+use bulk::{BulkFault, FaultKind, audit};
 use calls::Command;
-use numbers::{BlockId, Line, Lrn, Minute, Routing, Spid};
+use numbers::{BlockId, Line, Minute, Spid};
 use pool::Assignment;
-use register::Register;
 use std::alloc::Global;
-use store::MemoryStore;
 
 /// A carrier, its copy, the findings, and what the audit answers.
 type Row<'a> = (&'a str, &'a str, &'a str, Result<u64, BulkFault>);
@@ -131,7 +130,7 @@ static ROWS: [Row<'static>; 20] = [
     ),
 ];
 
-fn is_audited(alloc: Global, register: &mut Register<MemoryStore>, row: &Row<'_>) -> Option<bool> {
+fn is_audited(alloc: Global, register: &mut Desk, row: &Row<'_>) -> Option<bool> {
     let (name, copy, findings, result) = *row;
     let carrier = Spid::read(name)?;
     let mut written = Vec::new(alloc);
@@ -140,25 +139,23 @@ fn is_audited(alloc: Global, register: &mut Register<MemoryStore>, row: &Row<'_>
 }
 
 // The first copy that is compared otherwise.
-fn first_wrong(alloc: Global) -> Option<&'static str> {
-    let mut register = match started(alloc) {
-        Some(register) => register,
-        None => return Some("no register"),
-    };
-    if add_port(alloc, &mut register).is_none() {
-        return Some("no port");
-    }
+fn audited_otherwise_in(alloc: Global, register: &mut Desk) -> Option<&'static str> {
     for row in &ROWS {
-        if is_audited(alloc, &mut register, row) != Some(true) {
+        if is_audited(alloc, register, row) != Some(true) {
             return Some(row.1);
         }
     }
     None
 }
 
+fn audited_otherwise(alloc: Global) -> Option<Option<&'static str>> {
+    let mut register = ported(alloc)?;
+    Some(audited_otherwise_in(alloc, &mut register))
+}
+
 #[test]
 fn copies_are_compared(rt: HostRuntime) {
-    assert_eq!(rt; first_wrong(rt.alloc()), None);
+    assert_eq!(rt; audited_otherwise(rt.alloc()), Some(None));
 }
 
 const COPY: &str = "subject,lrn,cic\n2025331234,2025550000,\n2025339999,2025330000,\n";
@@ -174,9 +171,9 @@ fn audit_of_port(
     reader: Piecewise<'_>,
     writer: &mut Filling,
 ) -> Option<Result<u64, BulkFault>> {
-    let mut register = started(alloc)?;
-    add_port(alloc, &mut register)?;
-    Some(audit(alloc, &mut register, Spid::read("AAAA")?, reader, writer))
+    let carrier = Spid::read("AAAA")?;
+    let mut register = ported(alloc)?;
+    Some(audit(alloc, &mut register, carrier, reader, writer))
 }
 
 // The reader fails at a place: nothing is written.
@@ -242,46 +239,49 @@ fn an_audit_that_breaks_off(rt: HostRuntime) {
     assert!(rt; first_wrong_place(rt.alloc()) == None);
 }
 
-fn donate(alloc: Global, register: &mut Register<MemoryStore>) -> Option<()> {
+// The lines of the block that are in use.
+fn used(alloc: Global) -> Option<Vec<Line>> {
     let mut used = Vec::new(alloc);
     used.push(Line::read("001")?).ok()?;
     used.push(Line::read("002")?).ok()?;
+    Some(used)
+}
+
+fn donate(alloc: Global, register: &mut Desk) -> Option<()> {
+    let donor = Spid::read("BBBB")?;
+    let block = BlockId::read("2025337")?;
+    let routing = routed_to("2025330000")?;
+    let used = used(alloc)?;
     let donation = Command::Donate {
-        block: BlockId::read("2025337")?,
+        block,
         used,
-        routing: routed_to("2025330000")?,
+        routing,
     };
-    register.do_it(Spid::read("BBBB")?, &donation).ok()?;
-    Some(())
+    does(register, donor, donation)
 }
 
-fn routed_to(lrn: &str) -> Option<Routing> {
-    Some(Routing {
-        lrn: Lrn::read(lrn)?,
-        cic: None,
-    })
-}
-
-fn assign(register: &mut Register<MemoryStore>) -> Option<()> {
+fn assign(register: &mut Desk) -> Option<()> {
     let assignment = Command::Assign(Assignment {
         block: BlockId::read("2025337")?,
         holder: Spid::read("CCCC")?,
         routing: routed_to("2025550000")?,
     });
-    register.do_it(Spid::NPAC, &assignment).ok()?;
-    Some(())
+    does(register, Spid::NPAC, assignment)
 }
 
 const AGAIN: &str =
     "caller,action,subject,old,new,due,lrn,cic,flag\nBBBB,subscriptionVersionActivate,2025337002,,,,,,\n";
 
+const SENT_AGAIN: &str = "row,subject,result,id\n1,2025337002,ok,2\n";
+
 // A block with two numbers in use, the second of which is sent again when nobody acknowledged it.
-fn pool_block(alloc: Global, register: &mut Register<MemoryStore>) -> Option<()> {
+fn pool_block(alloc: Global, register: &mut Desk) -> Option<()> {
     donate(alloc, register)?;
     acknowledge_all(register, 1, 1)?;
     register.clock(Minute::new(20)?).ok()?;
-    let mut report = Vec::new(alloc);
-    run_file(alloc, register, AGAIN.as_bytes(), &mut report).ok()?;
+    if !runs(alloc, register, AGAIN.as_bytes(), SENT_AGAIN, Ok(1)) {
+        return None;
+    }
     acknowledge_all(register, 2, 2)?;
     assign(register)?;
     acknowledge_all(register, 3, 1)
@@ -290,12 +290,14 @@ fn pool_block(alloc: Global, register: &mut Register<MemoryStore>) -> Option<()>
 const POOLED: &str =
     "subject,lrn,cic\n2025337,2025550000,\n2025337001,2025330000,\n2025337002,2025330000,\n";
 
+fn is_pool_exported_in(alloc: Global, register: &mut Desk) -> Option<bool> {
+    pool_block(alloc, register)?;
+    Some(exports(alloc, register, POOLED, 3))
+}
+
 fn is_pool_exported(alloc: Global) -> Option<bool> {
     let mut register = started(alloc)?;
-    pool_block(alloc, &mut register)?;
-    let mut written = Vec::new(alloc);
-    let exported = export(alloc, &mut register, &mut written);
-    Some(exported == Ok(3) && written.as_slice() == POOLED.as_bytes())
+    is_pool_exported_in(alloc, &mut register)
 }
 
 #[test]
