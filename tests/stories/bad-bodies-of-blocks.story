@@ -40,6 +40,8 @@ BBBB /blocks/donate donation used=001,0002
      400 bad_request 41
 BBBB /blocks/donate donation used=00a
      400 bad_request 41
+BBBB /blocks/donate donation used=00a,001
+     400 bad_request 41
 BBBB /blocks/donate donation used=+01
      400 bad_request 41
 BBBB /blocks/donate donation used=[""]
@@ -60,6 +62,8 @@ BBBB /blocks/donate donation lrn=null
      400 bad_request 41
 BBBB /blocks/donate donation cic=288
      400 bad_request 41
+BBBB /blocks/donate donation cic=["0288"]
+     400 bad_request 41
 BBBB /blocks/donate {"block":"2025337","cic":288,"lrn":"2025330000","used":[]}
      400 bad_request 41
 
@@ -75,6 +79,8 @@ NPAC /blocks/assign holder=CCCC lrn=2025550000
 NPAC /blocks/assign assignment used=001
      400 bad_request 41
 NPAC /blocks/assign assignment holder=cccc
+     400 bad_request 41
+NPAC /blocks/assign assignment holder=CC
      400 bad_request 41
 NPAC /blocks/assign assignment holder=null
      400 bad_request 41
@@ -92,7 +98,11 @@ CCCC /blocks/release block=null
      400 bad_request 41
 CCCC /blocks/release block=2025337 id=3
      400 bad_request 41
+CCCC /blocks/release block=2025337 lrn=2025550000
+     400 bad_request 41
 CCCC /blocks/release {"block":2025337}
+     400 bad_request 41
+CCCC /blocks/release block=["2025337"]
      400 bad_request 41
 CCCC /blocks/release ["2025337"]
      400 bad_request 41
@@ -128,3 +138,15 @@ CCCC /versions/1
      200 first subject=2025338001
 NPAC /blocks/assign assignment cic=null
      200 held due=0 id=2 since=0
+
+# blanks, escapes and another order of the keys say the same
+BBBB /blocks/donate {"used": ["999", "00\u0030" ], "lrn":"2025330000","cic":"0288" ,"block":"2025339"}
+     200 block=2025339 ids=3,4
+CCCC /versions/3
+     200 first cic=0288 id=3 subject=2025339000
+CCCC /versions/4
+     200 first cic=0288 id=4 subject=2025339999
+BBBB /blocks/donate donation block=2025336 used=[]
+     200 block=2025336 ids=[]
+NPAC /blocks/assign {"holder":"CCCC","lrn":"2025550000","cic":"0288","block":"2025336"}
+     200 held cic=0288 due=0 id=5 since=0 subject=2025336

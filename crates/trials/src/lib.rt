@@ -2,8 +2,6 @@
 #![tactic(auto)]
 
 #[cfg(test)]
-mod block_bodies;
-#[cfg(test)]
 mod blocks;
 #[cfg(test)]
 mod commands;
