@@ -96,6 +96,9 @@ where
 
 /// Serves so many connections, or without end, one after the other. What becomes of one is its own:
 /// one that could not be accepted, or was cut, counts, and the next is served.
+///
+/// The rows stand afterwards for a state that some list of the machine's inputs leads to. How many
+/// were served no clause says.
 pub fn serve_connections<L: OpenListener, S: Store, T: Ticks>(
     alloc: Global,
     listener: &L,
@@ -105,6 +108,11 @@ pub fn serve_connections<L: OpenListener, S: Store, T: Ticks>(
 )
 where
     L::Stream: Read + Write + OpenStream + Drop,
+    ensures state { S.IsUsable register.new.store → (st : State)
+        → Stands (S.content register.old.store) st
+        → Follows st (S.content register.new.store) }
+    ensures usable { S.IsUsable register.new.store → S.IsUsable register.old.store }
+    ensures rises { S.failed register.old.store ≤ S.failed register.new.store }
 {
     let mut left = connections;
     for _ in 0..u64::MAX {
