@@ -1,16 +1,12 @@
 //! A database file and its log in memory, each of which may be made to stop.
-use crate::said::{WINDOWS, windows_of};
-use register::Register;
-use sql_store::SqlStore;
-use sqlite::{Connection, FileStore, Files, Options};
+use crate::deeds::{Deed, PLAIN, Rows, Tell, over};
+use crate::said::Story;
+use sqlite::{Files, Options};
 use sqlite_disk::{Disk, Fuse, Memory};
 use std::alloc::Global;
 
 /// A file in memory that passes so many calls on, and fails each one after.
 pub type Fused = Fuse<Memory>;
-
-/// A register in such files.
-pub type FileRegister = Register<SqlStore<FileStore<Fused>>>;
 
 /// The bytes of a database file and of its log.
 #[derive(Drop)]
@@ -30,22 +26,6 @@ pub struct Calls {
 pub const ENDLESS: Calls = Calls {
     log: u64::MAX,
     db: u64::MAX,
-};
-
-/// The log is not copied into the database file while a request is carried out.
-pub const PLAIN: Options = Options {
-    cache_pages: 2000,
-    spill_pages: 2000,
-    checkpoint_frames: 1000,
-    seed: 7,
-};
-
-/// The log is copied into the database file after each commit, and written before it.
-pub const NARROW: Options = Options {
-    cache_pages: 2,
-    spill_pages: 2,
-    checkpoint_frames: 1,
-    seed: 7,
 };
 
 /// Bytes of their own.
@@ -89,59 +69,25 @@ pub fn files_with(alloc: Global, held: &Held, calls: Calls) -> Option<Files<Fuse
     })
 }
 
-/// A connection over files, or the files where they are refused or stop.
-pub fn connect(
+/// What comes of a deed that is done with a database in these bytes, and the bytes then.
+pub fn done_in<D: Deed>(
     alloc: Global,
-    files: Files<Fused>,
+    held: &Held,
     options: Options,
-) -> Result<Connection<FileStore<Fused>>, Files<Fused>> {
-    if !files.log.may_be_used() || !files.db.may_be_used() {
-        return Err(files);
-    }
-    match Connection::open_files(alloc, files, options) {
-        Ok(conn) => Ok(conn),
-        Err((_error, left)) => Err(left.into_files()),
-    }
+    deed: D,
+) -> Option<(D::Made, Held)> {
+    let (made, files) = over(alloc, files_with(alloc, held, ENDLESS)?, options, deed);
+    Some((made?, held_in(alloc, &files)?))
 }
 
-fn adopt(
-    alloc: Global,
-    conn: Connection<FileStore<Fused>>,
-) -> Result<SqlStore<FileStore<Fused>>, Files<Fused>> {
-    match SqlStore::open(alloc, conn) {
-        Ok(store) => Ok(store),
-        Err((_fault, refused)) => Err(refused.into_store().close()),
-    }
+/// What stands in these bytes: every row, and what is listed.
+pub fn rows_in(alloc: Global, held: &Held) -> Option<Vec<u8>> {
+    let (rows, _held) = done_in(alloc, held, PLAIN, Rows)?;
+    Some(rows)
 }
 
-/// The files under a store, with no call of them.
-pub fn files_under(store: SqlStore<FileStore<Fused>>) -> Files<Fused> {
-    store.into_connection().into_store().close()
-}
-
-fn begin(alloc: Global, store: SqlStore<FileStore<Fused>>) -> Result<FileRegister, Files<Fused>> {
-    let Some(windows) = windows_of(alloc, WINDOWS) else {
-        return Err(files_under(store));
-    };
-    match Register::open(alloc, store, &windows) {
-        Ok(register) => Ok(register),
-        Err((store, _fault)) => Err(files_under(store)),
-    }
-}
-
-/// A register over a connection, or the files where they are refused or stop.
-pub fn register_over(
-    alloc: Global,
-    conn: Connection<FileStore<Fused>>,
-) -> Result<FileRegister, Files<Fused>> {
-    begin(alloc, adopt(alloc, conn)?)
-}
-
-/// A register over files, or the files where they are refused or stop.
-pub fn register_in(
-    alloc: Global,
-    files: Files<Fused>,
-    options: Options,
-) -> Result<FileRegister, Files<Fused>> {
-    register_over(alloc, connect(alloc, files, options)?)
+/// The bytes of a new register to which the stories were told.
+pub fn told_stories(alloc: Global, stories: &[Story<'_>], options: Options) -> Option<Held> {
+    let (_told, held) = done_in(alloc, &Held::nothing(alloc), options, Tell(stories))?;
+    Some(held)
 }

@@ -1,121 +1,48 @@
 //! Files that were changed by hand: which are refused, and that a refusal changes nothing.
-use crate::files::{
-    ENDLESS, Fused, Held, PLAIN, connect, files_under, files_with, held_in, register_in,
-};
-use crate::rows::{add_shown, rows_of};
-use crate::said::{Said, WINDOWS, answer, is_accepted, tell, windows_of};
-use crate::stories::{ACKNOWLEDGEMENT, CREATED, DONATION, OPENING, SENT};
-use register::{OpenFault, Register};
+use crate::deeds::{Ask, Begin, Offer, PLAIN, Run, Texts};
+use crate::files::{Held, done_in, rows_in, told_stories};
+use crate::said::{Said, WINDOWS, is_accepted, windows_of};
+use crate::stories::PORT;
+use register::OpenFault;
 use settle::StoreFault;
-use sql_store::SqlStore;
-use sqlite::{Alter, Connection, FileStore, Files};
 use std::alloc::Global;
-
-type FileConnection = Connection<FileStore<Fused>>;
-
-type FileSqlStore = SqlStore<FileStore<Fused>>;
-
-const LISTING: &str = "SELECT type, name, tbl_name, sql FROM sqlite_schema";
-
-// What the file lists, and every row.
-fn whole_of<S: Alter>(alloc: Global, conn: &mut Connection<S>) -> Option<Vec<u8>> {
-    let mut text = rows_of(alloc, conn)?;
-    add_shown(conn, LISTING, &mut text)?;
-    Some(text)
-}
-
-fn opened(alloc: Global, held: &Held) -> Option<FileConnection> {
-    connect(alloc, files_with(alloc, held, ENDLESS)?, PLAIN).ok()
-}
-
-fn closed(alloc: Global, conn: FileConnection) -> Option<Held> {
-    held_in(alloc, &conn.into_store().close())
-}
-
-fn whole_in(alloc: Global, held: &Held) -> Option<Vec<u8>> {
-    let mut conn = opened(alloc, held)?;
-    let text = whole_of(alloc, &mut conn);
-    drop(conn.into_store());
-    text
-}
-
-fn run<S: Alter>(conn: &mut Connection<S>, statements: &str) -> Option<()> {
-    conn.execute_batch(statements).ok()
-}
 
 // Files, and what stands in them.
 #[derive(Drop)]
 struct Shown {
     held: Held,
-    whole: Vec<u8>,
+    rows: Vec<u8>,
 }
 
 fn show(alloc: Global, held: Held) -> Option<Shown> {
-    let whole = whole_in(alloc, &held)?;
-    Some(Shown { held, whole })
+    let rows = rows_in(alloc, &held)?;
+    Some(Shown { held, rows })
 }
 
 // The files after statements that were carried out by hand.
-fn changed(alloc: Global, held: &Held, statements: &str) -> Option<Shown> {
-    let mut conn = opened(alloc, held)?;
-    let ran = run(&mut conn, statements);
-    let whole = whole_of(alloc, &mut conn);
-    let held = closed(alloc, conn);
-    ran?;
-    Some(Shown {
-        held: held?,
-        whole: whole?,
-    })
-}
-
-fn offer(alloc: Global, conn: FileConnection, opens: bool) -> (Option<StoreFault>, Files<Fused>) {
-    let offered = if opens {
-        SqlStore::open(alloc, conn)
-    } else {
-        SqlStore::adopt(alloc, conn)
-    };
-    match offered {
-        Ok(store) => (None, files_under(store)),
-        Err((fault, refused)) => (Some(fault), refused.into_store().close()),
-    }
+fn changed(alloc: Global, held: &Held, statements: &str) -> Option<Held> {
+    let (_ran, held) = done_in(alloc, held, PLAIN, Run(statements))?;
+    Some(held)
 }
 
 // Why the files are refused, if they are, and the files then.
-fn offered(alloc: Global, held: &Held, opens: bool) -> Option<(Option<StoreFault>, Held)> {
-    let (fault, files) = offer(alloc, opened(alloc, held)?, opens);
-    Some((fault, held_in(alloc, &files)?))
+fn offered(alloc: Global, held: &Held, offer: Offer) -> Option<(Option<StoreFault>, Held)> {
+    done_in(alloc, held, PLAIN, offer)
 }
 
 // Whether the files are answered so by `adopt` and by `open`, which change nothing.
 fn are_answered(alloc: Global, shown: &Shown, wanted: Option<StoreFault>) -> Option<bool> {
-    for opens in [false, true] {
-        let (fault, left) = offered(alloc, &shown.held, opens)?;
-        if fault != wanted || whole_in(alloc, &left)? != shown.whole {
+    for offer in [Offer::Adopt, Offer::Open] {
+        let (fault, left) = offered(alloc, &shown.held, offer)?;
+        if fault != wanted || rows_in(alloc, &left)? != shown.rows {
             return Some(false);
         }
     }
     Some(true)
 }
 
-fn tell_port(alloc: Global, register: &mut Register<FileSqlStore>) -> Option<()> {
-    for story in [OPENING, CREATED, SENT] {
-        tell(alloc, register, story)?;
-    }
-    tell(
-        alloc,
-        register,
-        &[ACKNOWLEDGEMENT.request, DONATION.request],
-    )
-}
-
-// A number in force with a carrier code, and a block of which three numbers are sent.
 fn port(alloc: Global) -> Option<Shown> {
-    let files = files_with(alloc, &Held::nothing(alloc), ENDLESS)?;
-    let mut register = register_in(alloc, files, PLAIN).ok()?;
-    let told = tell_port(alloc, &mut register);
-    let files = files_under(register.close());
-    told?;
-    show(alloc, held_in(alloc, &files)?)
+    show(alloc, told_stories(alloc, &PORT, PLAIN)?)
 }
 
 // Whether the port's files are answered so when the statements have changed something in them.
@@ -125,8 +52,8 @@ fn is_answered(
     statements: &str,
     wanted: Option<StoreFault>,
 ) -> Option<bool> {
-    let changed = changed(alloc, &port.held, statements)?;
-    let is_other = changed.whole != port.whole;
+    let changed = show(alloc, changed(alloc, &port.held, statements)?)?;
+    let is_other = changed.rows != port.rows;
     Some(is_other && are_answered(alloc, &changed, wanted)?)
 }
 
@@ -251,26 +178,11 @@ fn another_schema_is_refused(rt: HostRuntime) {
     assert_eq!(rt; first_other(rt.alloc(), &LISTED_OTHERWISE, wanted), None);
 }
 
-const TEXTS_LISTED: &str = "SELECT sql FROM sqlite_schema WHERE sql IS NOT NULL";
-
-fn texts_with<S: Alter>(alloc: Global, conn: &mut Connection<S>) -> Option<String> {
-    let rows = conn.query_all(TEXTS_LISTED, &[]).ok()?;
-    let mut texts = String::new(alloc);
-    for row in &rows {
-        let text: String = row.get(0).ok()?;
-        texts.push_str(text.as_str()).ok()?;
-        texts.push_str(";\n").ok()?;
-    }
-    Some(texts)
-}
-
 // What makes the tables and the indexes of a new file.
 fn texts(alloc: Global) -> Option<String> {
-    let (_fault, held) = offered(alloc, &Held::nothing(alloc), true)?;
-    let mut conn = opened(alloc, &held)?;
-    let texts = texts_with(alloc, &mut conn);
-    drop(conn.into_store());
-    texts
+    let (_fault, held) = offered(alloc, &Held::nothing(alloc), Offer::Open)?;
+    let (texts, _held) = done_in(alloc, &held, PLAIN, Texts)?;
+    Some(texts)
 }
 
 // One part of the texts is another.
@@ -287,8 +199,8 @@ fn is_made_so(
         return Some(false);
     }
     let edited = texts.replace(alloc, from, to).ok()?;
-    let changed = changed(alloc, &Held::nothing(alloc), edited.as_str())?;
-    are_answered(alloc, &changed, wanted)
+    let made = changed(alloc, &Held::nothing(alloc), edited.as_str())?;
+    are_answered(alloc, &show(alloc, made)?, wanted)
 }
 
 // A column of another type, or with another rule, and one more.
@@ -330,10 +242,10 @@ fn another_column_is_refused(rt: HostRuntime) {
 // that is taken, with no row.
 fn is_made(alloc: Global) -> Option<bool> {
     let nothing = Held::nothing(alloc);
-    let (refused, left) = offered(alloc, &nothing, false)?;
-    let (made, held) = offered(alloc, &left, true)?;
-    let (adopted, again) = offered(alloc, &held, false)?;
-    let is_same = whole_in(alloc, &again)? == whole_in(alloc, &held)?;
+    let (refused, left) = offered(alloc, &nothing, Offer::Adopt)?;
+    let (made, held) = offered(alloc, &left, Offer::Open)?;
+    let (adopted, again) = offered(alloc, &held, Offer::Adopt)?;
+    let is_same = rows_in(alloc, &again)? == rows_in(alloc, &held)?;
     let is_made = refused == Some(StoreFault::Storage) && made.is_none();
     Some(is_made && adopted.is_none() && is_same)
 }
@@ -343,33 +255,10 @@ fn an_empty_connection_is_made_a_store(rt: HostRuntime) {
     assert!(rt; is_made(rt.alloc()) == Some(true));
 }
 
-fn begun(
-    alloc: Global,
-    store: FileSqlStore,
-    windows: &str,
-) -> Option<(Option<OpenFault>, Files<Fused>)> {
-    let Some(windows) = windows_of(alloc, windows) else {
-        drop(files_under(store));
-        return None;
-    };
-    match Register::open(alloc, store, &windows) {
-        Ok(register) => Some((None, files_under(register.close()))),
-        Err((store, fault)) => Some((Some(fault), files_under(store))),
-    }
-}
-
 // Why a register is not opened over the files with these windows, if it is not, and the files then.
-fn begun_in(alloc: Global, held: &Held, windows: &str) -> Option<(Option<OpenFault>, Held)> {
-    match SqlStore::adopt(alloc, opened(alloc, held)?) {
-        Ok(store) => {
-            let (fault, files) = begun(alloc, store, windows)?;
-            Some((fault, held_in(alloc, &files)?))
-        }
-        Err((_fault, refused)) => {
-            drop(refused.into_store());
-            None
-        }
-    }
+fn begun(alloc: Global, held: &Held, windows: &str) -> Option<(Option<OpenFault>, Held)> {
+    let windows = windows_of(alloc, windows)?;
+    done_in(alloc, held, PLAIN, Begin(&windows))
 }
 
 // The windows of the tests, but for the broadcast's.
@@ -382,20 +271,17 @@ fn other_windows(alloc: Global) -> Option<String> {
 const QUESTION: Said<'static> = ("CCCC", "/query", r#"{"uri":"tel:+12025331234"}"#);
 
 fn goes_on(alloc: Global, held: &Held) -> Option<bool> {
-    let files = files_with(alloc, held, ENDLESS)?;
-    let mut register = register_in(alloc, files, PLAIN).ok()?;
-    let heard = answer(alloc, &mut register, &QUESTION);
-    drop(files_under(register.close()));
-    Some(is_accepted(&heard?))
+    let (heard, _held) = done_in(alloc, held, PLAIN, Ask(&QUESTION))?;
+    Some(is_accepted(&heard))
 }
 
 // Other windows are refused, and nothing changes; with its own the register goes on.
 fn are_other_windows_refused(alloc: Global) -> Option<bool> {
     let port = port(alloc)?;
     let windows = other_windows(alloc)?;
-    let (fault, left) = begun_in(alloc, &port.held, windows.as_str())?;
-    let is_same = whole_in(alloc, &left)? == port.whole;
-    let (none, _same) = begun_in(alloc, &left, WINDOWS)?;
+    let (fault, left) = begun(alloc, &port.held, windows.as_str())?;
+    let is_same = rows_in(alloc, &left)? == port.rows;
+    let (none, _same) = begun(alloc, &left, WINDOWS)?;
     let is_refused = fault == Some(OpenFault::WindowsDiffer) && none.is_none();
     Some(is_refused && is_same && goes_on(alloc, &left)?)
 }

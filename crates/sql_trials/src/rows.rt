@@ -1,11 +1,12 @@
-//! All rows of a register's tables, as a text.
+//! All rows of a register's tables, and what its file lists, as a text.
 use sqlite::types::ValueRef;
 use sqlite::{Alter, Connection, Row};
 use std::alloc::Global;
 use std::io::Write;
 
-// Each table, in the order of its key.
-static QUERIES: [&str; 8] = [
+// What the file lists, and each table in the order of its key.
+static QUERIES: [&str; 9] = [
+    "SELECT type, name, tbl_name, sql FROM sqlite_schema",
     "SELECT * FROM carrier ORDER BY spid",
     "SELECT * FROM lrn ORDER BY lrn",
     "SELECT * FROM code ORDER BY code",
@@ -40,12 +41,8 @@ fn add_row(row: &Row, text: &mut Vec<u8>) -> Option<()> {
     text.extend_from_slice(b"\n").ok()
 }
 
-/// Puts what a query shows behind a text, a line for each row.
-pub fn add_shown<S: Alter>(
-    conn: &mut Connection<S>,
-    query: &str,
-    text: &mut Vec<u8>,
-) -> Option<()> {
+// Puts what a query shows behind a text, a line for each row.
+fn add_shown<S: Alter>(conn: &mut Connection<S>, query: &str, text: &mut Vec<u8>) -> Option<()> {
     let rows = conn.query_all(query, &[]).ok()?;
     for row in &rows {
         add_row(row, text)?;
@@ -53,7 +50,7 @@ pub fn add_shown<S: Alter>(
     Some(())
 }
 
-/// Every row of every table.
+/// What is listed, and every row of every table.
 pub fn rows_of<S: Alter>(alloc: Global, conn: &mut Connection<S>) -> Option<Vec<u8>> {
     let mut text = Vec::new(alloc);
     for query in QUERIES {

@@ -1,14 +1,11 @@
 //! A stop at each call of the database file and of its log while a request is carried out: whatever
 //! the machine leaves of them, what is opened again is the register before the request or after it.
+use crate::deeds::{Ask, Deed, NARROW, PLAIN, Tell, over};
 use crate::files::{
-    Calls, ENDLESS, FileRegister, Fused, Held, NARROW, PLAIN, connect, copy_of, files_under,
-    files_with, held_in, register_in,
+    Calls, ENDLESS, Fused, Held, copy_of, done_in, files_with, held_in, rows_in, told_stories,
 };
-use crate::rows::rows_of;
-use crate::said::{Said, answer, is_accepted, is_unavailable, tell};
-use crate::stories::{
-    ACKNOWLEDGEMENT, ACTIVATION, ASSIGNMENT, DONATION, JUMP, NEWCOMER, OPENING, Story, Trial,
-};
+use crate::said::{Said, Story, is_accepted, is_unavailable};
+use crate::stories::{ACKNOWLEDGEMENT, ACTIVATION, ASSIGNMENT, DONATION, JUMP, NEWCOMER, Trial};
 use sqlite::{Files, Options};
 use sqlite_disk::{Crash, Disk};
 use std::alloc::Global;
@@ -40,93 +37,77 @@ struct Told {
     again: Vec<u8>,
 }
 
-// The rows that stand in these bytes.
-fn rows_in(alloc: Global, held: &Held) -> Option<Vec<u8>> {
-    let files = files_with(alloc, held, ENDLESS)?;
-    let mut conn = connect(alloc, files, PLAIN).ok()?;
-    let rows = rows_of(alloc, &mut conn);
-    drop(conn.into_store());
-    rows
-}
-
-// What a register answers, and its files.
-fn heard(
-    alloc: Global,
-    mut register: FileRegister,
-    said: &Said<'_>,
-) -> (Option<Vec<u8>>, Files<Fused>) {
-    let heard = answer(alloc, &mut register, said);
-    (heard, files_under(register.close()))
-}
-
 // What a message makes of a register that stands in these bytes.
-fn tell_once(alloc: Global, held: &Held, said: &Said<'_>, options: Options) -> Option<After> {
-    let files = files_with(alloc, held, ENDLESS)?;
-    let (answer, files) = heard(alloc, register_in(alloc, files, options).ok()?, said);
-    let held = held_in(alloc, &files)?;
-    Some(After {
-        answer: answer?,
-        rows: rows_in(alloc, &held)?,
-        held,
-    })
+fn tell_once(alloc: Global, held: &Held, said: &Said<'_>) -> Option<After> {
+    let (answer, held) = done_in(alloc, held, PLAIN, Ask(said))?;
+    let rows = rows_in(alloc, &held)?;
+    Some(After { answer, rows, held })
 }
 
-fn tell_all(alloc: Global, register: &mut FileRegister, stories: &[Story<'_>]) -> Option<()> {
-    tell(alloc, register, OPENING)?;
-    for story in stories {
-        tell(alloc, register, story)?;
+// What the request makes, and its answer once more, which changes nothing.
+fn tell_twice(alloc: Global, held: &Held, request: &Said<'_>) -> Option<(After, Vec<u8>)> {
+    let done = tell_once(alloc, held, request)?;
+    let again = tell_once(alloc, &done.held, request)?;
+    if is_accepted(&done.answer) && again.rows == done.rows {
+        Some((done, again.answer))
+    } else {
+        None
     }
-    Some(())
 }
 
-// The bytes of a new register to which the stories were told.
-fn told_stories(alloc: Global, stories: &[Story<'_>], options: Options) -> Option<Held> {
-    let files = files_with(alloc, &Held::nothing(alloc), ENDLESS)?;
-    let mut register = register_in(alloc, files, options).ok()?;
-    let told = tell_all(alloc, &mut register, stories);
-    let files = files_under(register.close());
-    told?;
-    held_in(alloc, &files)
+// Puts the rows after a step behind those that there are, and gives the bytes after it.
+fn add_step(
+    alloc: Global,
+    held: &Held,
+    step: &Said<'_>,
+    states: &mut Vec<Vec<u8>>,
+) -> Option<Held> {
+    let next = tell_once(alloc, held, step)?;
+    states.push(next.rows).ok()?;
+    Some(next.held)
 }
 
-// Puts the rows after each step behind those that there are.
+// Does so with each step.
 fn add_steps(
     alloc: Global,
     held: &Held,
     steps: Story<'_>,
     states: &mut Vec<Vec<u8>>,
 ) -> Option<()> {
-    let mut held = Held {
-        log: copy_of(alloc, &held.log)?,
-        db: copy_of(alloc, &held.db)?,
-    };
+    let mut held = pair(alloc, &held.log, &held.db)?;
     for step in steps {
-        let next = tell_once(alloc, &held, step, PLAIN)?;
-        states.push(next.rows).ok()?;
-        held = next.held;
+        held = add_step(alloc, &held, step, states)?;
     }
     Some(())
 }
 
-fn tell_whole(alloc: Global, trial: &Trial<'_>, options: Options) -> Option<Told> {
-    let held = told_stories(alloc, trial.stories, options)?;
+// The rows in these bytes, and after each step.
+fn states_of(alloc: Global, held: &Held, steps: Story<'_>) -> Option<Vec<Vec<u8>>> {
     let mut states = Vec::new(alloc);
-    states.push(rows_in(alloc, &held)?).ok()?;
-    add_steps(alloc, &held, trial.steps, &mut states)?;
-    let done = tell_once(alloc, &held, &trial.request, PLAIN)?;
-    let again = tell_once(alloc, &done.held, &trial.request, PLAIN)?;
-    if !is_accepted(&done.answer) || again.rows != done.rows {
-        return None;
-    }
+    states.push(rows_in(alloc, held)?).ok()?;
+    add_steps(alloc, held, steps, &mut states)?;
+    Some(states)
+}
+
+fn tell_request(alloc: Global, held: Held, trial: &Trial<'_>, options: Options) -> Option<Told> {
+    let opened = calls_of(alloc, &held, options, Tell(&[]))?;
+    let answered = calls_of(alloc, &held, options, Ask(&trial.request))?;
+    let mut states = states_of(alloc, &held, trial.steps)?;
+    let (done, again) = tell_twice(alloc, &held, &trial.request)?;
     states.push(done.rows).ok()?;
     Some(Told {
-        opened: calls_of_opening(alloc, &held, options)?,
-        answered: calls_of_request(alloc, &held, &trial.request, options)?,
         held,
+        opened,
+        answered,
         states,
         answer: done.answer,
-        again: again.answer,
+        again,
     })
+}
+
+fn tell_whole(alloc: Global, trial: &Trial<'_>, options: Options) -> Option<Told> {
+    let held = told_stories(alloc, trial.stories, options)?;
+    tell_request(alloc, held, trial, options)
 }
 
 // Which state the rows are.
@@ -169,23 +150,10 @@ fn calls_taken(mut files: Files<Fused>) -> Calls {
     }
 }
 
-// How many calls the files take while a register is opened over them.
-fn calls_of_opening(alloc: Global, held: &Held, options: Options) -> Option<Calls> {
-    let files = files_with(alloc, held, MOST)?;
-    let register = register_in(alloc, files, options).ok()?;
-    Some(calls_taken(files_under(register.close())))
-}
-
-// How many they take until the request is answered.
-fn calls_of_request(
-    alloc: Global,
-    held: &Held,
-    request: &Said<'_>,
-    options: Options,
-) -> Option<Calls> {
-    let files = files_with(alloc, held, MOST)?;
-    let register = register_in(alloc, files, options).ok()?;
-    let (_heard, files) = heard(alloc, register, request);
+// How many calls the files take until a deed is done.
+fn calls_of<D: Deed>(alloc: Global, held: &Held, options: Options, deed: D) -> Option<Calls> {
+    let (made, files) = over(alloc, files_with(alloc, held, MOST)?, options, deed);
+    made?;
     Some(calls_taken(files))
 }
 
@@ -207,10 +175,7 @@ fn stop(
     calls: Calls,
 ) -> Option<Left> {
     let files = files_with(alloc, held, calls)?;
-    let (answer, mut files) = match register_in(alloc, files, options) {
-        Ok(register) => heard(alloc, register, request),
-        Err(files) => (None, files),
-    };
+    let (answer, mut files) = over(alloc, files, options, Ask(request));
     let seen = held_in(alloc, &files)?;
     files.log.crash();
     files.db.crash();
@@ -286,7 +251,7 @@ fn goes_on(
     place: usize,
 ) -> Option<bool> {
     let last = told.states.len().checked_sub(1)?;
-    let next = tell_once(alloc, held, request, PLAIN)?;
+    let next = tell_once(alloc, held, request)?;
     let wanted = if place == last {
         &told.again
     } else {

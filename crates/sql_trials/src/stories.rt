@@ -1,13 +1,10 @@
 //! What is told to a register before it is stopped, and the request in which it is.
-use crate::said::Said;
-
-/// Messages, one after the other.
-pub type Story<'a> = &'a [Said<'a>];
+use crate::said::{Said, Story};
 
 /// A request in which the files stop.
 #[derive(Clone, Copy)]
 pub struct Trial<'a> {
-    /// What is told before, behind what opens each story.
+    /// What is told before.
     pub stories: &'a [Story<'a>],
     /// What the request does first, each in a commit of its own: asked one by one, these do the
     /// same.
@@ -15,8 +12,8 @@ pub struct Trial<'a> {
     pub request: Said<'a>,
 }
 
-/// Three carriers, each with a routing number, and a code that BBBB holds.
-pub const OPENING: Story<'static> = &[
+// Three carriers, each with a routing number, and a code that BBBB holds.
+const OPENING: Story<'static> = &[
     ("NPAC", "/carriers", r#"{"spid":"AAAA"}"#),
     ("NPAC", "/carriers", r#"{"spid":"BBBB"}"#),
     ("NPAC", "/carriers", r#"{"spid":"CCCC"}"#),
@@ -26,8 +23,8 @@ pub const OPENING: Story<'static> = &[
     ("NPAC", "/codes", r#"{"code":"202533","spid":"BBBB"}"#),
 ];
 
-/// A port that both providers have created.
-pub const CREATED: Story<'static> = &[
+// A port that both providers have created.
+const CREATED: Story<'static> = &[
     (
         "AAAA",
         "/subscriptionVersionNewSP-Create",
@@ -40,15 +37,15 @@ pub const CREATED: Story<'static> = &[
     ),
 ];
 
-/// The port is activated, and two of three carriers acknowledge it.
-pub const SENT: Story<'static> = &[
+// The port is activated, and two of three carriers acknowledge it.
+const SENT: Story<'static> = &[
     ("AAAA", "/subscriptionVersionActivate", r#"{"id":1}"#),
     ("AAAA", "/downloads/acknowledge", r#"{"attempt":1,"id":1}"#),
     ("CCCC", "/downloads/acknowledge", r#"{"attempt":1,"id":1}"#),
 ];
 
-/// A block is donated of which one number is in use, and each carrier acknowledges that number.
-pub const DONATED: Story<'static> = &[
+// A block is donated of which one number is in use, and each carrier acknowledges that number.
+const DONATED: Story<'static> = &[
     (
         "BBBB",
         "/blocks/donate",
@@ -143,34 +140,41 @@ const SETTLED: Story<'static> = &[
     ("NPAC", "/versions/3", ""),
 ];
 
+const ACKNOWLEDGED: Said<'static> = ("BBBB", "/downloads/acknowledge", r#"{"attempt":1,"id":1}"#);
+
+const THREE_DONATED: Said<'static> = (
+    "BBBB",
+    "/blocks/donate",
+    r#"{"block":"2025337","lrn":"2025330000","used":["001","002","003"]}"#,
+);
+
+/// A number in force with a carrier code, and a block of which three numbers are sent.
+pub static PORT: [Story<'static>; 4] = [OPENING, CREATED, SENT, &[ACKNOWLEDGED, THREE_DONATED]];
+
 /// A download is sent to each of three carriers.
-pub const ACTIVATION: Trial<'static> = Trial {
-    stories: &[CREATED],
+pub static ACTIVATION: Trial<'static> = Trial {
+    stories: &[OPENING, CREATED],
     steps: &[],
     request: ("AAAA", "/subscriptionVersionActivate", r#"{"id":1}"#),
 };
 
 /// The last acknowledgement closes a broadcast.
-pub const ACKNOWLEDGEMENT: Trial<'static> = Trial {
-    stories: &[CREATED, SENT],
+pub static ACKNOWLEDGEMENT: Trial<'static> = Trial {
+    stories: &[OPENING, CREATED, SENT],
     steps: &[],
-    request: ("BBBB", "/downloads/acknowledge", r#"{"attempt":1,"id":1}"#),
+    request: ACKNOWLEDGED,
 };
 
 /// Three numbers of a block are in use: each is made a version, and sent to each carrier.
-pub const DONATION: Trial<'static> = Trial {
-    stories: &[],
+pub static DONATION: Trial<'static> = Trial {
+    stories: &[OPENING],
     steps: &[],
-    request: (
-        "BBBB",
-        "/blocks/donate",
-        r#"{"block":"2025337","lrn":"2025330000","used":["001","002","003"]}"#,
-    ),
+    request: THREE_DONATED,
 };
 
 /// A donated block is given to a carrier.
-pub const ASSIGNMENT: Trial<'static> = Trial {
-    stories: &[DONATED],
+pub static ASSIGNMENT: Trial<'static> = Trial {
+    stories: &[OPENING, DONATED],
     steps: &[],
     request: (
         "NPAC",
@@ -180,15 +184,15 @@ pub const ASSIGNMENT: Trial<'static> = Trial {
 };
 
 /// The clock jumps over the ends of five windows.
-pub const JUMP: Trial<'static> = Trial {
-    stories: &[WINDOWED],
+pub static JUMP: Trial<'static> = Trial {
+    stories: &[OPENING, WINDOWED],
     steps: &[],
     request: JUMPED,
 };
 
 /// A newcomer finds five windows that have ended.
-pub const NEWCOMER: Trial<'static> = Trial {
-    stories: &[WINDOWED, SENT_AFTERWARDS],
+pub static NEWCOMER: Trial<'static> = Trial {
+    stories: &[OPENING, WINDOWED, SENT_AFTERWARDS],
     steps: SETTLED,
     request: ("NPAC", "/carriers", r#"{"spid":"DDDD"}"#),
 };
