@@ -15,12 +15,15 @@ class Process:
     """A process under the gate, and what it has had of the processors, in seconds."""
     words: str
     folder: str
+    parent: "Process | None" = None
     seconds: float = 0.0
 
     def crate(self):
-        """The crate that it works for: the one that its line names, or in whose folder it runs."""
+        """The crate that it works for: the one that its line names, or in whose folder it runs, else its parent's."""
         found = re.search(r"--crate-name (\w+)", self.words) or re.search(r"/crates/(\w+)", f"{self.folder} {self.words}")
-        return found[1] if found else "the gate itself"
+        if found:
+            return found[1]
+        return self.parent.crate() if self.parent else "the gate itself"
 
     def part(self):
         """What it does for that crate."""
@@ -56,19 +59,15 @@ def all_processes():
 
 def look(root, seen):
     """Notes the seconds of every process under the root."""
-    parents, told = {}, {}
-    for number, parent, begun, seconds in all_processes():
-        parents[number], told[number] = parent, (begun, seconds)
-    for number, (begun, seconds) in told.items():
-        above = number
-        while above not in (root, 0):
-            above = parents.get(above, 0)
-        if above == root:
+    under = {}
+    for number, parent, begun, seconds in sorted(all_processes()):
+        if number == root or parent in under:
             key = number, begun
             if key not in seen or not seen[key].words:
                 words = text_of(f"/proc/{number}/cmdline").replace("\0", " ")
-                seen[key] = Process(words, link_of(f"/proc/{number}/cwd"))
-            seen[key].seconds = seconds
+                seen[key] = Process(words, link_of(f"/proc/{number}/cwd"), under.get(parent))
+            under[number] = seen[key]
+            under[number].seconds = seconds
 
 
 def busy():
