@@ -23,9 +23,13 @@ EXAMPLES = HERE.parent / "examples"
 WINDOWS = EXAMPLES / "windows.toml"
 
 # the stories that are examples too: a stream of messages, and its answers
-SHOWN = ("block", "carrier", "first-port")
+SHOWN = ("block", "carrier", "first-port", "modified-for-some", "windows-of-broadcasts")
 
-NUMBERS = {"attempt", "due", "id", "ids", "in_force", "minute", "now", "open", "release", "since"}
+NUMBERS = {"attempt", "due", "id", "ids", "in_force", "minute", "now", "open", "release", "set", "since"}
+# the windows are numbers too
+NUMBERS |= {"initial_concurrence", "final_concurrence", "pending_retention", "broadcast"}
+NUMBERS |= {"conflict_restriction", "conflict_resolution", "conflict_expiration"}
+NUMBERS |= {"cancellation_initial", "cancellation_final"}
 # the keys of lists: of texts or numbers, and of what `let` has named
 LISTS = {"ids", "used"}
 NAMED_LISTS = {"downloads", "rows"}

@@ -93,6 +93,20 @@ AAAA /subscriptionVersionDisconnect {"id":1,"release":7,"x":1}
 AAAA /subscriptionVersionDisconnect
      405 bad_method 43
 
+# a modify has a routing number, and it may have a carrier code
+AAAA /subscriptionVersionModify id=1
+     400 bad_request 41
+AAAA /subscriptionVersionModify lrn=2025440000
+     400 bad_request 41
+AAAA /subscriptionVersionModify id=1 lrn=202544000
+     400 bad_request 41
+AAAA /subscriptionVersionModify id=1 lrn=2025440000 cic=12
+     400 bad_request 41
+AAAA /subscriptionVersionModify id=1 lrn=2025440000 new=AAAA
+     400 bad_request 41
+AAAA /subscriptionVersionModify
+     405 bad_method 43
+
 # the caller's own refusal stands behind the form's
 ZZZZ /subscriptionVersionDisconnect release=7
      400 bad_request 41
@@ -106,5 +120,5 @@ AAAA /subscriptionVersionOldSP-CancellationAcknowledgement id=1
      404 no_path 42
 AAAA /subscriptionVersionDisconnect/ id=1
      404 no_path 42
-AAAA /subscriptionVersionModify id=1
+AAAA /subscriptionVersionModify/ id=1
      404 no_path 42

@@ -11,7 +11,7 @@ use Rattle.messages.specs.declared.fault.MessageFault.{MessageFault}
 use Rattle.messages.specs.declared.message.Request.{Request}
 use Rattle.messages.specs.declared.paths.Method.{Method}
 use Rattle.messages.specs.declared.paths.Route.{Route}
-use Rattle.messages.specs.declared.paths.Route.TheVariants.{Carriers, Clock, RoutingNumbers, Codes, OldProviderCreate, NewProviderCreate, OnVersion, OnBlock, Acknowledge, Query as QueryPath, Version, Number, Downloads}
+use Rattle.messages.specs.declared.paths.Route.TheVariants.{Carriers, Clock, RoutingNumbers, Codes, OldProviderCreate, NewProviderCreate, OnVersion, OnBlock, Acknowledge, Query as QueryPath, Windows as WindowsPath, Version, Number, Downloads}
 use Rattle.messages.specs.Table.{takes, among_offered}
 use Rattle.calls.specs.Calls.{Wonders, input_of}
 use Rattle.bodies.specs.Forms.{Asked, Calling, Seeking, HasForm, json_of}
@@ -93,6 +93,7 @@ asks_once (OnVersion path) body a b x y = same_asked (OnVersion path) (json_of b
 asks_once (OnBlock path) body a b x y = same_asked (OnBlock path) (json_of body) a b x y
 asks_once Acknowledge body a b x y = same_asked Acknowledge (json_of body) a b x y
 asks_once QueryPath body a b x y = same_asked QueryPath (json_of body) a b x y
+asks_once WindowsPath body a b x y = same_asked WindowsPath (json_of body) a b x y
 
 calls_once : (from to from' to' : ℕ) (st : State) (IsAsked : Asked → Type 0) (caller : ℕ) (text said : List ℕ) (after later : State) → ((a b : Asked) → IsAsked a → IsAsked b → a ≡ b) →
     Calls from to st IsAsked caller text after → Calls from' to' st IsAsked caller said later → IsOnce text said after later

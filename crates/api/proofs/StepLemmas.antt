@@ -6,12 +6,12 @@ use Rattle.std.specs.Prelude.{not, ◌==◌, nat_lt, if◌then◌else◌}
 use Rattle.meaning.specs.declared.refusal.Refusal.{Refusal}
 use Rattle.meaning.specs.declared.refusal.Refusal.TheVariants.{UnknownCarrier, NotAdmin, UnknownCode, CarrierTaken, CodeTaken, LrnTaken, BadLrn, InPool, WrongOld, NotFound, NotYours, Busy, WrongStatus, DuePast, DueMismatch, NotConcurred, BeforeDue, ConflictSpent, TooLate, TooEarly, Protected, Contaminated, OpenPorts, BlockTaken, NotQueued, OutOfOrder, ClockBack, Full, Storage, NoMemory}
 use Rattle.meaning.specs.RefusalNumbers.{number_of}
-use Rattle.meaning.specs.Commands.{Command, RegisterCarrier, RegisterRoutingNumber, OpenCode, OldProviderCreate, NewProviderCreate, OnVersion, Donate, Assign, Release}
+use Rattle.meaning.specs.Commands.{Command, RegisterCarrier, RegisterRoutingNumber, OpenCode, OldProviderCreate, NewProviderCreate, OnVersion, Donate, Assign, Release, SetWindows}
 use Rattle.meaning.specs.Content.{Content}
 use Rattle.meaning.specs.History.{Commands, Acknowledges}
 use Rattle.meaning.specs.Reading.{State, InForce, Download, all_in_force, queue}
 use Rattle.meaning.specs.Refusals.{Input, Question, Moment, Asks, Knows, Fetch, ShowVersion, Query, AllInForce, Waiting, Ids, npac, refusal, tests}
-use Rattle.meaning.specs.Machine.{Reply, Refused as MachineRefused, Moved, Registered, LrnAdded, CodeOpened, Shown, Donated, Known, Fetched, Answered, Rows, Awaited, Found, Answer, out, next, unless_refused, refused_or, reply_of, answer_of, accepted}
+use Rattle.meaning.specs.Machine.{Reply, Refused as MachineRefused, Moved, Registered, LrnAdded, CodeOpened, Shown, Donated, Known, Fetched, Answered, Rows, Awaited, Found, WindowsSet, Answer, out, next, unless_refused, refused_or, reply_of, answer_of, accepted}
 use Rattle.meaning.proofs.DonatedIds.{donated_few}
 use Rattle.settle.specs.Owing.{Owes, SaysStorage}
 use Rattle.settle.specs.Reads.{HasRisen}
@@ -36,7 +36,7 @@ use Rattle.serde_json.specs.Data.{Data}
 use Rattle.messages.specs.declared.message.Request.{Request}
 use Rattle.messages.specs.declared.paths.Method.{Method}
 use Rattle.messages.specs.declared.paths.Route.{Route}
-use Rattle.messages.specs.declared.paths.Route.TheVariants.{Carriers, Clock, RoutingNumbers, Codes, OldProviderCreate as OldProviderPath, NewProviderCreate as NewProviderPath, OnVersion as VersionPaths, OnBlock as BlockPaths, Acknowledge, Query as QueryPath, Version, Number, Downloads}
+use Rattle.messages.specs.declared.paths.Route.TheVariants.{Carriers, Clock, RoutingNumbers, Codes, OldProviderCreate as OldProviderPath, NewProviderCreate as NewProviderPath, OnVersion as VersionPaths, OnBlock as BlockPaths, Acknowledge, Query as QueryPath, Windows as WindowsPath, Version, Number, Downloads}
 use Rattle.messages.specs.Table.{takes, among_offered}
 use Rattle.bodies.proofs.RefusalLemmas.{text_by_number}
 use Rattle.std.proofs.Math.Nat.{le_trans}
@@ -171,6 +171,7 @@ same_registration st (Some k) new caller c holder rows e = let x : ⊥ = cc in a
 same_registration st None new caller (RegisterCarrier spid) provider rows e = (cc, cc)
 same_registration st None new caller (RegisterRoutingNumber lrn) provider rows e = let x : ⊥ = cc in absurd x
 same_registration st None new caller (OpenCode code holder) provider rows e = let x : ⊥ = cc in absurd x
+same_registration st None new caller (SetWindows windows) provider rows e = let x : ⊥ = cc in absurd x
 same_registration st None new caller (OldProviderCreate tn old_provider new_provider due authorized) provider rows e = let x : ⊥ = cc in absurd x
 same_registration st None new caller (NewProviderCreate tn old_provider new_provider due lrn cic) provider rows e = let x : ⊥ = cc in absurd x
 same_registration st None new caller (OnVersion id command) provider rows e = let x : ⊥ = cc in absurd x
@@ -206,6 +207,7 @@ no_download st (Some k) new caller c downloads e = cc
 no_download st None new caller (RegisterCarrier spid) downloads e = cc
 no_download st None new caller (RegisterRoutingNumber lrn) downloads e = cc
 no_download st None new caller (OpenCode code holder) downloads e = cc
+no_download st None new caller (SetWindows windows) downloads e = cc
 no_download st None new caller (OldProviderCreate tn old_provider new_provider due authorized) downloads e = cc
 no_download st None new caller (NewProviderCreate tn old_provider new_provider due lrn cic) downloads e = cc
 no_download st None new caller (OnVersion id command) downloads e = cc
@@ -251,6 +253,7 @@ same_donation st (Some k) new caller c b ids e = let x : ⊥ = cc in absurd x
 same_donation st None new caller (RegisterCarrier spid) b ids e = let x : ⊥ = cc in absurd x
 same_donation st None new caller (RegisterRoutingNumber lrn) b ids e = let x : ⊥ = cc in absurd x
 same_donation st None new caller (OpenCode code holder) b ids e = let x : ⊥ = cc in absurd x
+same_donation st None new caller (SetWindows windows) b ids e = let x : ⊥ = cc in absurd x
 same_donation st None new caller (OldProviderCreate tn old_provider new_provider due authorized) b ids e = let x : ⊥ = cc in absurd x
 same_donation st None new caller (NewProviderCreate tn old_provider new_provider due lrn cic) b ids e = let x : ⊥ = cc in absurd x
 same_donation st None new caller (OnVersion id command) b ids e = let x : ⊥ = cc in absurd x
@@ -311,6 +314,7 @@ not_outgrown st caller c (Answered answered) counted e is x = x
 not_outgrown st caller c (Rows rows) counted e is x = x
 not_outgrown st caller c (Awaited subjects) counted e is x = x
 not_outgrown st caller c (Found in_force opened) counted e is x = x
+not_outgrown st caller c (WindowsSet now number) counted e is x = x
 
 -- ---- calls
 
@@ -497,6 +501,7 @@ path_carried from to new st (VersionPaths path) caller body text other another t
 path_carried from to new st (BlockPaths path) caller body text other another third x = x
 path_carried from to new st Acknowledge caller body text other another third x = x
 path_carried from to new st QueryPath caller body text other another third x = x
+path_carried from to new st WindowsPath caller body text other another third x = x
 path_carried from to new st (Version number) caller body text other another third x = absurd (other number refl)
 path_carried from to new st (Number number) caller body text other another third x = absurd (another number refl)
 path_carried from to new st (Downloads count) caller body text other another third x = absurd (third count refl)

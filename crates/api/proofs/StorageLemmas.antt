@@ -4,9 +4,9 @@ use Rattle.std.specs.Prelude.{◌==◌, if◌then◌else◌, ⊤}
 use Rattle.itoa.proofs.Decimal.{decimal_two, pair}
 use Rattle.numbers.specs.declared.spid.Spid.{Spid}
 use Rattle.settle.specs.Reads.{HasRisen}
-use Rattle.meaning.specs.Commands.{Command, RegisterCarrier, RegisterRoutingNumber, OpenCode, OldProviderCreate, NewProviderCreate, OnVersion, Donate, Assign, Release}
+use Rattle.meaning.specs.Commands.{Command, RegisterCarrier, RegisterRoutingNumber, OpenCode, OldProviderCreate, NewProviderCreate, OnVersion, Donate, Assign, Release, SetWindows}
 use Rattle.meaning.specs.History.{Commands, Acknowledges}
-use Rattle.meaning.specs.Machine.{Reply, Refused, Moved, Registered, LrnAdded, CodeOpened, Shown, Donated, Known, Fetched, Answered, Rows, Awaited, Found, out, accepted, refused_or, reply_of, answer_of}
+use Rattle.meaning.specs.Machine.{Reply, Refused, Moved, Registered, LrnAdded, CodeOpened, Shown, Donated, Known, Fetched, Answered, Rows, Awaited, Found, WindowsSet, out, accepted, refused_or, reply_of, answer_of}
 use Rattle.meaning.specs.Reading.{State}
 use Rattle.meaning.specs.Refusals.{Input, Moment, Requests, Asks, Question, Knows, Fetch, ShowVersion, Query, AllInForce, Waiting, Ids, npac, refusal, tests, command_tests, first_that_holds}
 use Rattle.bodies.specs.Answer.{answer, refusal_body, phrase}
@@ -15,7 +15,7 @@ use Rattle.calls.specs.Calls.{Called, Wants, Wonders, Moves, input_of}
 use Rattle.bodies.specs.Forms.{Asked, Calling, Seeking}
 use Rattle.bodies.specs.RefusalTexts.{refusal_text}
 use Rattle.api.specs.Step.{Step, Meets, MeetsPath, Calls, Answers, AnswersAdmitted, turned_away, AnswersQuery, AnswersUri, Withholds, WithholdsTick, Takes, ticked, success, reply_text, routed_text}
-use Rattle.bodies.specs.Texts.{registered_text, donated_text, routing_number_text, opened_code_text, ids_text, now_text, view_text, looked_up, uri_text, downloads_text}
+use Rattle.bodies.specs.Texts.{registered_text, donated_text, routing_number_text, opened_code_text, ids_text, now_text, windows_set_text, view_text, looked_up, uri_text, downloads_text}
 use Rattle.bodies.specs.declared.fault.Failure.TheVariants.{Uri, Message}
 use Rattle.messages.specs.declared.fault.MessageFault.TheVariants.{BadRequest, NoPath, BadMethod}
 use Rattle.telnp.specs.declared.fault.TelFault.{TelFault}
@@ -173,6 +173,7 @@ reply_accepts : (st new : State) (caller : ℕ) (c : Command) → Accepts (reply
 reply_accepts st new caller (RegisterCarrier spid) k e = cc
 reply_accepts st new caller (RegisterRoutingNumber lrn) k e = cc
 reply_accepts st new caller (OpenCode code holder) k e = cc
+reply_accepts st new caller (SetWindows windows) k e = cc
 reply_accepts st new caller (OldProviderCreate tn old_provider new_provider due authorized) k e = cc
 reply_accepts st new caller (NewProviderCreate tn old_provider new_provider due lrn cic) k e = cc
 reply_accepts st new caller (OnVersion id command) k e = cc
@@ -199,6 +200,7 @@ reply_differs (Answered answered) machine = nothing
 reply_differs (Rows rows) machine = nothing
 reply_differs (Awaited subjects) machine = nothing
 reply_differs (Found in_force opened) machine = succeeds (ids_text in_force opened)
+reply_differs (WindowsSet now number) machine = succeeds (windows_set_text now number)
 
 routed_differs : (uri : TelUri) (reply : Reply) → ((k : ℕ) → reply ≡ Refused k → Differs (refusal_text k)) → Differs (routed_text uri reply)
 routed_differs uri (Refused number) machine = machine number refl
@@ -214,6 +216,7 @@ routed_differs uri (Fetched downloads) machine = nothing
 routed_differs uri (Rows rows) machine = nothing
 routed_differs uri (Awaited subjects) machine = nothing
 routed_differs uri (Found in_force opened) machine = nothing
+routed_differs uri (WindowsSet now number) machine = nothing
 
 takes_differs : (st : State) (input : Input) (after : State) → ((k : ℕ) → out st input ≡ Refused k → Differs (refusal_text k)) → ¬ (Takes st input (refusal_text 29) after)
 takes_differs st input after machine x = reply_differs (out st input) machine (sym x.0)

@@ -8,7 +8,7 @@ use Rattle.meaning.specs.Content.{Content}
 use Rattle.meaning.specs.RefusalNumbers.{number_of}
 use Rattle.meaning.specs.Reading.{State}
 use Rattle.meaning.specs.Refusals.{Input, Moment, Asks, Knows, Fetch, ShowVersion, Query, AllInForce, Waiting, Ids, npac, refusal}
-use Rattle.meaning.specs.Machine.{Reply, Refused, Moved, Registered, LrnAdded, CodeOpened, Shown, Donated, Known, Fetched, Answered, Rows, Awaited, Found, out, next}
+use Rattle.meaning.specs.Machine.{Reply, Refused, Moved, Registered, LrnAdded, CodeOpened, Shown, Donated, Known, Fetched, Answered, Rows, Awaited, Found, WindowsSet, out, next}
 use Rattle.settle.specs.Reads.{HasRisen}
 use Rattle.register.specs.Answers.{Stands}
 use Rattle.calls.specs.Calls.{Called, Wants, Wonders, Moves, input_of}
@@ -32,7 +32,7 @@ use Rattle.bodies.specs.Failures.{failure_text}
 use Rattle.bodies.specs.RefusalTexts.{refusal_text}
 use Rattle.bodies.specs.Forms.{Asked, Calling, Seeking, HasForm, json_of}
 use Rattle.messages.specs.Table.{takes, among_offered}
-use Rattle.bodies.specs.Texts.{registered_text, donated_text, routing_number_text, opened_code_text, ids_text, now_text, view_text, downloads_text, looked_up, uri_text}
+use Rattle.bodies.specs.Texts.{registered_text, donated_text, routing_number_text, opened_code_text, ids_text, now_text, windows_set_text, view_text, downloads_text, looked_up, uri_text}
 
 -- ---- the answers to what was asked, byte for byte
 
@@ -56,6 +56,7 @@ reply_text (Answered answered) = []
 reply_text (Rows rows) = []
 reply_text (Awaited subjects) = []
 reply_text (Found in_force opened) = success (ids_text in_force opened)
+reply_text (WindowsSet now number) = success (windows_set_text now number)
 
 -- the machine's reply to a query for the number of a URI
 abbrev pub routed_text : TelUri → Reply → List ℕ
@@ -72,6 +73,7 @@ routed_text uri (Fetched downloads) = []
 routed_text uri (Rows rows) = []
 routed_text uri (Awaited subjects) = []
 routed_text uri (Found in_force opened) = []
+routed_text uri (WindowsSet now number) = []
 
 -- what is written for a call: a body for what was carried out, or why it was not
 abbrev pub told : {A : Type 0} → Result A Failure → (body : List ℕ) → List ℕ

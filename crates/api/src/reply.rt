@@ -3,13 +3,14 @@ ghost use Rattle.std.specs.Prelude.{◌≡◌, ℕ, ◌+◌, ◌*◌, ◌<◌, �
 ghost use Rattle.calls.specs.Calls.{view_of, reply_of, in_force_of, download_of};
 ghost use Rattle.bodies.specs.Failures.{failure_text};
 ghost use Rattle.bodies.specs.Rooms.{HasRoom, IsEmpty, IsWritten};
-ghost use Rattle.bodies.specs.Texts.{registered_text, donated_text, ids_text, now_text, view_text, downloads_text};
+ghost use Rattle.bodies.specs.Texts.{registered_text, donated_text, ids_text, now_text, windows_set_text, view_text, downloads_text};
 ghost use Rattle.api.specs.Counting.{HasRoomFor};
 ghost use Rattle.api.specs.Step.{Outgrows, success, reply_text};
 
 use bodies::{
     DOWNLOAD_ROOM, Failure, ID_ROOM, ROW_ROOM, Room, put_donated, put_downloads, put_failure,
     put_ids, put_now, put_opened_code, put_registered, put_routing_number, put_version,
+    put_windows_set,
 };
 use calls::{Ids, Reply, VersionView};
 use delivery::{Download, RoutedRow};
@@ -144,6 +145,16 @@ fn put_moved(room: &mut Room, now: Minute)
     put_now(&mut room.body, now);
 }
 
+fn put_set(room: &mut Room, now: Minute, number: u16)
+    requires empty { IsEmpty room.old }
+    requires room { HasRoom 512 room.old }
+    ensures written { IsWritten room.new }
+    ensures room { HasRoom 512 room.new }
+    ensures body { string_bytes room.new.body ≡ windows_set_text now.number number }
+{
+    put_windows_set(&mut room.body, now, number);
+}
+
 /// Writes a reply. It fails alone where a registration shows more rows than were counted, more
 /// downloads are shown than were asked for, or a donation shows more ids than room was taken for.
 pub fn put_reply(room: &mut Room, reply: &Reply, counted: Counted) -> Result<(), Failure>
@@ -178,6 +189,10 @@ pub fn put_reply(room: &mut Room, reply: &Reply, counted: Counted) -> Result<(),
         }
         Reply::Moved(now) => {
             put_moved(room, *now);
+            Ok(())
+        }
+        Reply::WindowsSet { now, number } => {
+            put_set(room, *now, *number);
             Ok(())
         }
     }

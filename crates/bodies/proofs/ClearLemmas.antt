@@ -5,16 +5,17 @@ use Rattle.serde_json.specs.Find.{get, as_number, as_str, as_u64}
 use Rattle.messages.specs.Table.{below_limit}
 use Rattle.numbers.specs.Texts.{spid_text}
 use Rattle.numbers.proofs.DigitLemmas.{digits_of-injective}
-use Rattle.meaning.specs.Commands.{Command, VersionCommand, RegisterCarrier, RegisterRoutingNumber, Disconnect, Release}
+use Rattle.meaning.specs.Commands.{Command, VersionCommand, RegisterCarrier, RegisterRoutingNumber, Disconnect, Release, SetWindows}
+use Rattle.meaning.specs.Windows.{Windows}
 use Rattle.meaning.specs.History.{Commands}
 use Rattle.calls.specs.Calls.{Wants, Moves}
 use Rattle.messages.specs.declared.paths.Route.{Route}
-use Rattle.messages.specs.declared.paths.Route.TheVariants.{Carriers, Clock, RoutingNumbers, Codes, OldProviderCreate as OldProviderPath, NewProviderCreate as NewProviderPath, OnVersion as VersionPaths, OnBlock as BlockPaths, Acknowledge, Query, Version, Number, Downloads}
+use Rattle.messages.specs.declared.paths.Route.TheVariants.{Carriers, Clock, RoutingNumbers, Codes, OldProviderCreate as OldProviderPath, NewProviderCreate as NewProviderPath, OnVersion as VersionPaths, OnBlock as BlockPaths, Acknowledge, Query, Windows as WindowsPath, Version, Number, Downloads}
 use Rattle.messages.specs.declared.paths.VersionPath.{VersionPath}
-use Rattle.messages.specs.declared.paths.VersionPath.TheVariants.{Activate as ActivatePath, PutInConflict as PutInConflictPath, RemoveFromConflict as RemoveFromConflictPath, Cancel as CancelPath, OldProviderCancellationAcknowledge as OldAcknowledgePath, NewProviderCancellationAcknowledge as NewAcknowledgePath, Disconnect as DisconnectPath}
+use Rattle.messages.specs.declared.paths.VersionPath.TheVariants.{Activate as ActivatePath, PutInConflict as PutInConflictPath, RemoveFromConflict as RemoveFromConflictPath, Cancel as CancelPath, OldProviderCancellationAcknowledge as OldAcknowledgePath, NewProviderCancellationAcknowledge as NewAcknowledgePath, Disconnect as DisconnectPath, ModifyRouting as ModifyPath}
 use Rattle.messages.specs.declared.paths.BlockPath.{BlockPath}
 use Rattle.messages.specs.declared.paths.BlockPath.TheVariants.{Assign as AssignPath, Donate as DonatePath, Release as ReleasePath}
-use Rattle.bodies.specs.Forms.{Asked, Calling, Seeking, items, AreLineTexts, HasBlock, HasUsed, HasBlockCommand, HasRelease, HasVersionCommand, text, whole, HasSpid, HasTn, HasLrn, HasCode, HasCic, HasCommand, HasOrder, HasValues, HasForm, is_left_out, flag}
+use Rattle.bodies.specs.Forms.{Asked, Calling, Seeking, items, AreLineTexts, HasBlock, HasUsed, HasBlockCommand, HasRelease, HasVersionCommand, text, whole, HasSpid, HasTn, HasLrn, HasCode, HasCic, HasWindows, HasCommand, HasOrder, HasValues, HasForm, is_left_out, flag}
 
 same_said : {A : Type 0} (given : Option A) (a b : A) → given ≡ Some a → given ≡ Some b → a ≡ b
 same_said given a b e f = cc
@@ -85,6 +86,7 @@ same_version_command CancelPath d b c x y = x ∙ sym y
 same_version_command OldAcknowledgePath d b c x y = x ∙ sym y
 same_version_command NewAcknowledgePath d b c x y = x ∙ sym y
 same_version_command DisconnectPath d b c x y = x.2 ∙ ap Disconnect (same_release d x.0 y.0 x.1 y.1) ∙ sym y.2
+same_version_command ModifyPath d b c x y = x.4 ∙ rw (same_lrn d x.0 y.0 x.2 y.2, same_cic d x.1 y.1 x.3 y.3) (sym y.4)
 
 same_block : (d : Data) (m n : ℕ) → HasBlock d m → HasBlock d n → m ≡ n
 same_block d m n h k = digits_of-injective 7 m n h.valid.0 k.valid.0 (same_said (text (codes "block") d) _ _ h.said k.said)
@@ -122,6 +124,19 @@ same_block_command DonatePath d b c x y =
     ) (sym y.8)
 same_block_command ReleasePath d b c x y = x.2 ∙ ap Release (same_block d x.0 y.0 x.1 y.1) ∙ sym y.2
 
+same_windows : (d : Data) (v w : Windows) → HasWindows d v → HasWindows d w → v ≡ w
+same_windows d v w h k = λ i. record {
+  initial_concurrence = same_said _ _ _ h.initial_concurrence k.initial_concurrence i;
+  final_concurrence = same_said _ _ _ h.final_concurrence k.final_concurrence i;
+  conflict_restriction = same_said _ _ _ h.conflict_restriction k.conflict_restriction i;
+  conflict_resolution = same_said _ _ _ h.conflict_resolution k.conflict_resolution i;
+  conflict_expiration = same_said _ _ _ h.conflict_expiration k.conflict_expiration i;
+  cancellation_initial = same_said _ _ _ h.cancellation_initial k.cancellation_initial i;
+  cancellation_final = same_said _ _ _ h.cancellation_final k.cancellation_final i;
+  pending_retention = same_said _ _ _ h.pending_retention k.pending_retention i;
+  broadcast = same_said _ _ _ h.broadcast k.broadcast i;
+}
+
 same_command : (route : Route) (d : Data) (b c : Command) → HasCommand route d b → HasCommand route d c → b ≡ c
 same_command Carriers d b c x y = x.2 ∙ ap RegisterCarrier (same_spid (codes "spid") d x.0 y.0 x.1 y.1) ∙ sym y.2
 same_command RoutingNumbers d b c x y = x.2 ∙ ap RegisterRoutingNumber (same_lrn d x.0 y.0 x.1 y.1) ∙ sym y.2
@@ -146,6 +161,7 @@ same_command NewProviderPath d b c x y =
 same_command (VersionPaths path) d b c x y =
     x.4 ∙ rw (same_said (whole (codes "id") d) x.0 y.0 x.2 y.2, same_version_command path d x.1 y.1 x.3 y.3) (sym y.4)
 same_command (BlockPaths path) d b c x y = same_block_command path d b c x y
+same_command WindowsPath d b c x y = x.2 ∙ ap SetWindows (same_windows d x.0 y.0 x.1 y.1) ∙ sym y.2
 same_command Acknowledge d b c x y = absurd x
 same_command Query d b c x y = absurd x
 same_command Clock d b c x y = absurd x
@@ -170,6 +186,7 @@ same_values OldProviderPath d a b x y = same_order OldProviderPath d a b x y
 same_values NewProviderPath d a b x y = same_order NewProviderPath d a b x y
 same_values (VersionPaths path) d a b x y = same_order (VersionPaths path) d a b x y
 same_values (BlockPaths path) d a b x y = same_order (BlockPaths path) d a b x y
+same_values WindowsPath d a b x y = same_order WindowsPath d a b x y
 
 pub same_form : (route : Route) (d : Data) (a b : Asked) → HasForm route d a → HasForm route d b → a ≡ b
 same_form route d a b h k = same_values route d a b h.values k.values

@@ -1,13 +1,14 @@
 -- Texts that are no number's, and values that are of no form.
 use Rattle.std.proofs.Common.{◌≡◌, ◌≢◌, ℕ, List, Option, Some, None, IfNone, ◌∙◌, refl}
 use Rattle.serde_json.specs.Data.{Data}
-use Rattle.meaning.specs.Commands.{Command}
+use Rattle.meaning.specs.Commands.{VersionCommand, Command}
 use Rattle.messages.specs.declared.paths.Route.{Route}
-use Rattle.messages.specs.declared.paths.Route.TheVariants.{Carriers, Clock, RoutingNumbers, Codes, OldProviderCreate as OldProviderPath, NewProviderCreate as NewProviderPath, OnVersion as VersionPaths, OnBlock as BlockPaths, Acknowledge, Query, Version, Number, Downloads}
+use Rattle.messages.specs.declared.paths.Route.TheVariants.{Carriers, Clock, RoutingNumbers, Codes, OldProviderCreate as OldProviderPath, NewProviderCreate as NewProviderPath, OnVersion as VersionPaths, OnBlock as BlockPaths, Acknowledge, Query, Windows as WindowsPath, Version, Number, Downloads}
+use Rattle.messages.specs.declared.paths.VersionPath.TheVariants.{ModifyRouting as ModifyPath}
 use Rattle.messages.specs.declared.paths.BlockPath.TheVariants.{Assign as AssignPath, Donate as DonatePath}
 use Rattle.meaning.specs.History.{Commands}
 use Rattle.calls.specs.Calls.{Wants}
-use Rattle.bodies.specs.Forms.{Writes, Asked, Calling, HasPort, HasLrn, HasCic, HasBlockCommand, HasCommand, HasValues}
+use Rattle.bodies.specs.Forms.{HasVersionCommand, Writes, Asked, Calling, HasPort, HasLrn, HasCic, HasBlockCommand, HasCommand, HasValues}
 
 pub no_text : (IsOne : ℕ → Type 0) (text_of : ℕ → List ℕ) (given : Option (List ℕ)) → None ≡ given → (n : ℕ) → ¬ (Writes IsOne text_of given n)
 no_text IsOne text_of given e n w = let h : None ≡ Some (text_of n) = e ∙ w.said in cc
@@ -27,6 +28,7 @@ no_values OldProviderPath d a q k h asked x = h x.0 x.1
 no_values NewProviderPath d a q k h asked x = h x.0 x.1
 no_values (VersionPaths path) d a q k h asked x = h x.0 x.1
 no_values (BlockPaths path) d a q k h asked x = h x.0 x.1
+no_values WindowsPath d a q k h asked x = h x.0 x.1
 no_values Acknowledge d a q k h asked x = a refl
 no_values Query d a q k h asked x = q refl
 no_values Clock d a q k h asked x = k refl
@@ -42,6 +44,7 @@ values_of_command OldProviderPath d c a q k x = (c, x, refl)
 values_of_command NewProviderPath d c a q k x = (c, x, refl)
 values_of_command (VersionPaths path) d c a q k x = (c, x, refl)
 values_of_command (BlockPaths path) d c a q k x = (c, x, refl)
+values_of_command WindowsPath d c a q k x = (c, x, refl)
 values_of_command Acknowledge d c a q k x = absurd x
 values_of_command Query d c a q k x = absurd x
 values_of_command Clock d c a q k x = absurd x
@@ -63,3 +66,10 @@ no_assignment d h c x = h x.2 x.3 x.6 x.7
 
 pub no_donation : (d : Data) → ((lrn : ℕ) (cic : Option ℕ) → HasLrn d lrn → ¬ (HasCic d cic)) → (c : Command) → ¬ (HasBlockCommand DonatePath d c)
 no_donation d h c x = h x.2 x.3 x.6 x.7
+
+pub no_modify : (d : Data) → ((lrn : ℕ) (cic : Option ℕ) → HasLrn d lrn → ¬ (HasCic d cic)) → (c : VersionCommand) → ¬ (HasVersionCommand ModifyPath d c)
+no_modify d h c x = h x.0 x.1 x.2 x.3
+
+-- no window is there, whatever its minutes were
+pub no_window : {P : Type 0} (given : Option ℕ) (n : ℕ) → None ≡ given → given ≡ Some n → P
+no_window given n e h = let no : None ≡ Some n = e ∙ h in cc

@@ -1,5 +1,5 @@
 -- The forms of request bodies: what each asks.
-use Rattle.std.specs.Prelude.{◌≡◌, ℕ, ◌&&◌, List, [], ◌∷◌, codes, Bool, true, false, if◌then◌else◌, Option, Some, None, option_and_then, IsSomeAnd, ⊤}
+use Rattle.std.specs.Prelude.{◌≡◌, ℕ, ◌&&◌, nat_le, List, [], ◌∷◌, codes, Bool, true, false, if◌then◌else◌, Option, Some, None, option_and_then, IsSomeAnd, ⊤}
 use Rattle.std.specs.List.{list_any}
 use Rattle.std.specs.Str.{is_utf8, bytes_eq}
 use Rattle.serde_json.specs.Data.{Data, null, boolean, number, string, array, object, Items, no_items, item, Members, no_members, member}
@@ -8,14 +8,15 @@ use Rattle.serde_json.specs.Find.{get, as_number, as_u64, as_str, as_bool, as_ar
 use Rattle.numbers.specs.Digits.{IsTn, IsCode, IsLrn, IsCic, IsBlock, IsLine}
 use Rattle.numbers.specs.Spids.{IsSpid}
 use Rattle.numbers.specs.Texts.{tn_text, code_text, lrn_text, cic_text, spid_text, block_text, line_text}
-use Rattle.meaning.specs.Commands.{Command, VersionCommand, RegisterCarrier, RegisterRoutingNumber, OpenCode, OldProviderCreate, NewProviderCreate, OnVersion, Activate, PutInConflict, RemoveFromConflict, Cancel, OldProviderCancellationAcknowledge, NewProviderCancellationAcknowledge, Disconnect, Donate, Assign, Release}
+use Rattle.meaning.specs.Commands.{Command, VersionCommand, RegisterCarrier, RegisterRoutingNumber, OpenCode, OldProviderCreate, NewProviderCreate, OnVersion, Activate, PutInConflict, RemoveFromConflict, Cancel, OldProviderCancellationAcknowledge, NewProviderCancellationAcknowledge, Disconnect, ModifyRouting, Donate, Assign, Release, SetWindows}
+use Rattle.meaning.specs.Windows.{Windows}
 use Rattle.meaning.specs.History.{Commands, Acknowledges}
 use Rattle.calls.specs.Calls.{Called, Wants, Moves, called_of}
 use Rattle.messages.specs.Table.{below_limit}
 use Rattle.messages.specs.declared.paths.Route.{Route}
-use Rattle.messages.specs.declared.paths.Route.TheVariants.{Carriers, Clock, RoutingNumbers, Codes, OldProviderCreate as OldProviderPath, NewProviderCreate as NewProviderPath, OnVersion as VersionPaths, OnBlock as BlockPaths, Acknowledge, Query, Version, Number, Downloads}
+use Rattle.messages.specs.declared.paths.Route.TheVariants.{Carriers, Clock, RoutingNumbers, Codes, OldProviderCreate as OldProviderPath, NewProviderCreate as NewProviderPath, OnVersion as VersionPaths, OnBlock as BlockPaths, Acknowledge, Query, Windows as WindowsPath, Version, Number, Downloads}
 use Rattle.messages.specs.declared.paths.VersionPath.{VersionPath}
-use Rattle.messages.specs.declared.paths.VersionPath.TheVariants.{Activate as ActivatePath, PutInConflict as PutInConflictPath, RemoveFromConflict as RemoveFromConflictPath, Cancel as CancelPath, OldProviderCancellationAcknowledge as OldAcknowledgePath, NewProviderCancellationAcknowledge as NewAcknowledgePath, Disconnect as DisconnectPath}
+use Rattle.messages.specs.declared.paths.VersionPath.TheVariants.{Activate as ActivatePath, PutInConflict as PutInConflictPath, RemoveFromConflict as RemoveFromConflictPath, Cancel as CancelPath, OldProviderCancellationAcknowledge as OldAcknowledgePath, NewProviderCancellationAcknowledge as NewAcknowledgePath, Disconnect as DisconnectPath, ModifyRouting as ModifyPath}
 use Rattle.messages.specs.declared.paths.BlockPath.{BlockPath}
 use Rattle.messages.specs.declared.paths.BlockPath.TheVariants.{Assign as AssignPath, Donate as DonatePath, Release as ReleasePath}
 use Rattle.bodies.specs.declared.forms.Asked.{Asked as AskedCode}
@@ -59,6 +60,7 @@ version_keys CancelPath = codes "id" ∷ []
 version_keys OldAcknowledgePath = codes "id" ∷ []
 version_keys NewAcknowledgePath = codes "id" ∷ []
 version_keys DisconnectPath = codes "id" ∷ codes "release" ∷ []
+version_keys ModifyPath = codes "cic" ∷ codes "id" ∷ codes "lrn" ∷ []
 
 -- the keys of a command on a block
 abbrev pub block_keys : BlockPath → List (List ℕ)
@@ -78,6 +80,10 @@ keys (BlockPaths path) = block_keys path
 keys Acknowledge = codes "attempt" ∷ codes "id" ∷ []
 keys Query = codes "uri" ∷ []
 keys Clock = codes "minute" ∷ []
+keys WindowsPath =
+    codes "broadcast" ∷ codes "cancellation_final" ∷ codes "cancellation_initial"
+    ∷ codes "conflict_expiration" ∷ codes "conflict_resolution" ∷ codes "conflict_restriction"
+    ∷ codes "final_concurrence" ∷ codes "initial_concurrence" ∷ codes "pending_retention" ∷ []
 keys (Version id) = []
 keys (Number tn) = []
 keys (Downloads count) = []
@@ -99,6 +105,13 @@ flag key d = option_and_then as_bool (get key d)
 -- the items of an array
 unfoldable pub items : List ℕ → Data → Option Items
 items key d = option_and_then as_array (get key d)
+
+-- the minutes of a window: a whole number from 1 to 525,600
+abbrev pub in_range : ℕ → Option ℕ
+in_range n = if nat_le 1 n && nat_le n 525600 then Some n else None
+
+unfoldable pub window : List ℕ → Data → Option ℕ
+window key d = option_and_then in_range (whole key d)
 
 -- the text of a number of its kind
 pub record Writes (IsOne : ℕ → Type 0) (text_of : ℕ → List ℕ) (given : Option (List ℕ)) (n : ℕ) : Type 0 where
@@ -164,6 +177,18 @@ pub record HasPort (d : Data) (tn old_provider new_provider due : ℕ) : Type 0 
   pub new : HasSpid (codes "new") d new_provider
   pub minute : whole (codes "due") d ≡ Some due
 
+-- nine windows, each under its name
+pub record HasWindows (d : Data) (w : Windows) : Type 0 where
+  pub initial_concurrence : window (codes "initial_concurrence") d ≡ Some w.initial_concurrence
+  pub final_concurrence : window (codes "final_concurrence") d ≡ Some w.final_concurrence
+  pub conflict_restriction : window (codes "conflict_restriction") d ≡ Some w.conflict_restriction
+  pub conflict_resolution : window (codes "conflict_resolution") d ≡ Some w.conflict_resolution
+  pub conflict_expiration : window (codes "conflict_expiration") d ≡ Some w.conflict_expiration
+  pub cancellation_initial : window (codes "cancellation_initial") d ≡ Some w.cancellation_initial
+  pub cancellation_final : window (codes "cancellation_final") d ≡ Some w.cancellation_final
+  pub pending_retention : window (codes "pending_retention") d ≡ Some w.pending_retention
+  pub broadcast : window (codes "broadcast") d ≡ Some w.broadcast
+
 -- a path's command on a version
 abbrev pub HasVersionCommand : VersionPath → Data → VersionCommand → Type 0
 HasVersionCommand ActivatePath d command = command ≡ Activate
@@ -173,6 +198,7 @@ HasVersionCommand CancelPath d command = command ≡ Cancel
 HasVersionCommand OldAcknowledgePath d command = command ≡ OldProviderCancellationAcknowledge
 HasVersionCommand NewAcknowledgePath d command = command ≡ NewProviderCancellationAcknowledge
 HasVersionCommand DisconnectPath d command = (release : Option ℕ) × HasRelease d release × (command ≡ Disconnect release)
+HasVersionCommand ModifyPath d command = (lrn : ℕ) × (cic : Option ℕ) × HasLrn d lrn × HasCic d cic × (command ≡ ModifyRouting lrn cic)
 
 -- a path's command on a block
 abbrev pub HasBlockCommand : BlockPath → Data → Command → Type 0
@@ -196,6 +222,7 @@ HasCommand NewProviderPath d c =
 HasCommand (VersionPaths path) d c =
     (id : ℕ) × (command : VersionCommand) × (whole (codes "id") d ≡ Some id) × HasVersionCommand path d command × (c ≡ OnVersion id command)
 HasCommand (BlockPaths path) d c = HasBlockCommand path d c
+HasCommand WindowsPath d c = (w : Windows) × HasWindows d w × (c ≡ SetWindows w)
 HasCommand Acknowledge d c = ⊥
 HasCommand Query d c = ⊥
 HasCommand Clock d c = ⊥
@@ -221,6 +248,7 @@ HasValues OldProviderPath d asked = HasOrder OldProviderPath d asked
 HasValues NewProviderPath d asked = HasOrder NewProviderPath d asked
 HasValues (VersionPaths path) d asked = HasOrder (VersionPaths path) d asked
 HasValues (BlockPaths path) d asked = HasOrder (BlockPaths path) d asked
+HasValues WindowsPath d asked = HasOrder WindowsPath d asked
 
 -- the value is an object of the path's form, with no other keys, that asks this
 pub record HasForm (route : Route) (d : Data) (asked : Asked) : Type 0 where

@@ -6,7 +6,7 @@ use Rattle.numbers.specs.Routings.{Routing}
 use Rattle.meaning.specs.Statuses.{Status, Pending, Conflict, CancelPending, Sending, Active, PartialFailure, Failed, DisconnectPending, Old, Canceled}
 use Rattle.meaning.specs.Reading.{View, InForce, Download, Phase, Initial, Final, Ended}
 use Rattle.meaning.specs.declared.words.Action.{Action}
-use Rattle.meaning.specs.declared.words.Action.TheVariants.{Create, Delete}
+use Rattle.meaning.specs.declared.words.Action.TheVariants.{Create, Delete, Modify}
 use Rattle.meaning.specs.Machine.{Answer, Closed, Opened}
 use Rattle.telnp.specs.Answer.{Uri, answer_text}
 
@@ -102,6 +102,7 @@ registered_text spid rows = codes "{\"rows\":[" ++ listed row_text rows ++ codes
 abbrev pub action_word : Action → List ℕ
 action_word Create = codes "create"
 action_word Delete = codes "delete"
+action_word Modify = codes "modify"
 
 -- the members `action` to `id`
 abbrev pub sent_text : Download → List ℕ
@@ -148,6 +149,11 @@ ids_text in_force opened = codes "{\"in_force\":" ++ number_value in_force ++ co
 -- the minute that it is
 unfoldable pub now_text : ℕ → List ℕ
 now_text now = codes "{\"now\":" ++ decimal now ++ codes "}"
+
+-- the minute that it is, and the number of the present set of windows
+unfoldable pub windows_set_text : (now number : ℕ) → List ℕ
+windows_set_text now number =
+    codes "{\"now\":" ++ decimal now ++ codes ",\"set\":" ++ decimal number ++ codes "}"
 
 -- ---- a query
 

@@ -40,7 +40,7 @@ impl Default for Member<'_> {
     }
 }
 
-// No body has more keys.
+// No body but that of the windows has more keys.
 pub(crate) const MOST_MEMBERS: usize = 6;
 
 /// The members of an object, in the order in which they stand.
@@ -65,8 +65,8 @@ impl<'a> Flat<'a> {
     /// `false` says nothing of the body: it may be no JSON, no object or one of other than plain
     /// values, have more members than any body of a form, a text with an escape or with more than
     /// ASCII, a number with a sign, a point, an exponent or more than 19 digits, or other blanks
-    /// than spaces and line feeds behind its marks. Every body of a form but a donation's is read
-    /// so where it is written plainly.
+    /// than spaces and line feeds behind its marks. Every body of a form but a donation's and that
+    /// of the windows is read so where it is written plainly.
     pub fn read(&mut self, body: &'a [u8]) -> bool
         ensures { result ≡ true → json_of body.now ≡ Some (flat_data self.new.members.items) }
     {

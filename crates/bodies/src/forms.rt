@@ -5,9 +5,12 @@ ghost use Rattle.numbers.specs.declared.cic.Cic.{Cic as CicSeen};
 ghost use Rattle.numbers.specs.declared.minute.Minute.{Minute as MinuteSeen};
 ghost use Rattle.meaning.specs.Commands.{Command as CommandSeen, VersionCommand as VersionCommandSeen};
 ghost use Rattle.calls.specs.Calls.{command_of as command_seen};
+ghost use Rattle.windows.specs.declared.window.Window.{Window as WindowSeen};
+ghost use Rattle.version.specs.Views.{windows_of};
+ghost use Rattle.meaning.specs.Windows.{Windows as WindowsSeen};
 ghost use Rattle.pool.specs.Donations.{lines_of as lines_seen};
 ghost use Rattle.version.specs.Commands.{asked_of as version_command_seen};
-ghost use Rattle.bodies.specs.Forms.{Asked as AskedSeen, AsksOnce, asked_of as asked_seen, json_of, keys, whole, HasSpid, HasTn, HasLrn, HasCode, HasCic, HasBlock, HasUsed, HasRelease, HasPort, HasVersionCommand, HasBlockCommand, HasCommand, HasValues, HasForm, version_keys, block_keys};
+ghost use Rattle.bodies.specs.Forms.{Asked as AskedSeen, AsksOnce, asked_of as asked_seen, json_of, keys, whole, HasSpid, HasTn, HasLrn, HasCode, HasCic, HasBlock, HasUsed, HasRelease, HasPort, HasWindows, window as window_seen, HasVersionCommand, HasBlockCommand, HasCommand, HasValues, HasForm, version_keys, block_keys};
 
 use crate::fields::Fields;
 use crate::used::lines_of;
@@ -18,6 +21,7 @@ use pool::Assignment;
 use serde_json::{Category, Value};
 use std::alloc::{AllocError, Global};
 use version::{Create, Creator, VersionCommand};
+use windows::{Window, Windows};
 
 /// What a message asks: a call of the register, or where the number of a URI is routed.
 #[derive(Debug, Drop)]
@@ -112,6 +116,7 @@ fn version_keys_of(path: VersionPath) -> &'static [&'static str]
 {
     match path {
         VersionPath::Disconnect => &["id", "release"],
+        VersionPath::ModifyRouting => &["cic", "id", "lrn"],
         _ => &["id"],
     }
 }
@@ -142,6 +147,17 @@ fn keys_of(route: Route) -> &'static [&'static str]
         Route::Acknowledge => &["attempt", "id"],
         Route::Query => &["uri"],
         Route::Clock => &["minute"],
+        Route::Windows => &[
+            "broadcast",
+            "cancellation_final",
+            "cancellation_initial",
+            "conflict_expiration",
+            "conflict_resolution",
+            "conflict_restriction",
+            "final_concurrence",
+            "initial_concurrence",
+            "pending_retention",
+        ],
         Route::Version(_) | Route::Number(_) | Route::Downloads(_) => &[],
     }
 }
@@ -253,6 +269,10 @@ fn version_command<F: Fields>(path: VersionPath, fields: &F) -> Option<VersionCo
             let release = release_at(fields)?;
             Some(VersionCommand::Disconnect { release })
         }
+        VersionPath::ModifyRouting => {
+            let routing = routing_at(fields)?;
+            Some(VersionCommand::ModifyRouting { routing })
+        }
     }
 }
 
@@ -344,6 +364,46 @@ fn on_block<F: Fields>(
     }
 }
 
+// A window: a whole number of minutes from 1 to 525,600.
+#[tactic(auto, unfolding(crate::specs::Forms::window))]
+fn window_at<F: Fields>(fields: &F, key: &str) -> Option<Window>
+    ensures { option_map (λ (w : WindowSeen). w.minutes) result
+        ≡ window_seen key.now (F.value fields.now) }
+{
+    match u32::try_from(fields.whole(key)?) {
+        Ok(minutes) if minutes >= 1 && minutes <= 525_600 => Some(Window { minutes }),
+        _ => None,
+    }
+}
+
+fn windows_at<F: Fields>(fields: &F) -> Option<Windows>
+    ensures some { IfSome result (λ w. HasWindows (F.value fields.now) (windows_of w)) }
+    ensures none { IfNone result ((w : WindowsSeen) → ¬ (HasWindows (F.value fields.now) w)) }
+{
+    Some(Windows {
+        initial_concurrence: window_at(fields, "initial_concurrence")?,
+        final_concurrence: window_at(fields, "final_concurrence")?,
+        conflict_restriction: window_at(fields, "conflict_restriction")?,
+        conflict_resolution: window_at(fields, "conflict_resolution")?,
+        conflict_expiration: window_at(fields, "conflict_expiration")?,
+        cancellation_initial: window_at(fields, "cancellation_initial")?,
+        cancellation_final: window_at(fields, "cancellation_final")?,
+        pending_retention: window_at(fields, "pending_retention")?,
+        broadcast: window_at(fields, "broadcast")?,
+    })
+}
+
+fn set_windows<F: Fields>(fields: &F) -> Option<Command>
+    ensures some { IfSome result (λ c. HasCommand Route.Windows (F.value fields.now)
+        (command_seen c)) }
+    ensures none { IfNone result ((c : CommandSeen)
+        → ¬ (HasCommand Route.Windows (F.value fields.now) c)) }
+{
+    Some(Command::SetWindows {
+        windows: windows_at(fields)?,
+    })
+}
+
 fn command_of<F: Fields>(
     alloc: Global,
     route: Route,
@@ -362,6 +422,7 @@ fn command_of<F: Fields>(
         Route::NewProviderCreate => Ok(new_provider_create(fields)),
         Route::OnVersion(path) => Ok(on_version(path, fields)),
         Route::OnBlock(path) => on_block(alloc, path, fields),
+        Route::Windows => Ok(set_windows(fields)),
         Route::Acknowledge
         | Route::Query
         | Route::Clock

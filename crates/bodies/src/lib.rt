@@ -22,6 +22,6 @@ pub use forms::{Asked, asked_of, body_asks_once};
 pub use reply::{
     DOWNLOAD_ROOM, ID_ROOM, ROW_ROOM, URI_ROOM, put_donated, put_downloads, put_failure, put_ids,
     put_looked_up, put_now, put_opened_code, put_registered, put_routing_number, put_uri,
-    put_version,
+    put_version, put_windows_set,
 };
 pub use room::{put, put_cic, put_lrn, put_number, put_subject};

@@ -12,7 +12,7 @@ ghost use Rattle.telnp.specs.Answer.{answer_text};
 ghost use Rattle.telnp.specs.Views.{uri_of};
 ghost use Rattle.bodies.specs.Failures.{failure_body};
 ghost use Rattle.bodies.specs.Rooms.{HasRoom, IsEmpty, IsWritten};
-ghost use Rattle.bodies.specs.Texts.{cic_value, lrn_value, number_value, phase_value, status_word, cic_in, lrn_in, counts_text, parties_text, times_text, standing_text, view_text, listed, row_text, registered_text, donated_text, action_word, sent_text, placed_text, download_text, downloads_text, routing_number_text, opened_code_text, ids_text, now_text, uri_text};
+ghost use Rattle.bodies.specs.Texts.{cic_value, lrn_value, number_value, phase_value, status_word, cic_in, lrn_in, counts_text, parties_text, times_text, standing_text, view_text, listed, row_text, registered_text, donated_text, action_word, sent_text, placed_text, download_text, downloads_text, routing_number_text, opened_code_text, ids_text, now_text, windows_set_text, uri_text};
 
 use crate::answer::Room;
 use crate::fault::Failure;
@@ -294,6 +294,23 @@ pub fn put_now(out: &mut String, now: Minute)
     put(out, "}");
 }
 
+/// Appends the body that shows the minute that it is and the number of the present set of windows,
+/// of at most 64 bytes.
+#[tactic(auto, unfolding(crate::specs::Texts::windows_set_text))]
+pub fn put_windows_set(out: &mut String, now: Minute, number: u16)
+    requires { string_len out.old + 64 ≤ string_capacity out.old }
+    ensures bytes { string_bytes out.new
+        ≡ string_bytes out.old ++ windows_set_text now.number number }
+    ensures len { string_len out.new ≤ string_len out.old + 64 }
+    ensures capacity { string_capacity out.old ≤ string_capacity out.new }
+{
+    put(out, "{\"now\":");
+    put_minute(out, now);
+    put(out, ",\"set\":");
+    put_number(out, u64::from(number));
+    put(out, "}");
+}
+
 // A row in force.
 impl Item for RoutedRow {
     ghost text = { λ r. row_text (in_force_of r) };
@@ -385,6 +402,7 @@ fn action_text(action: Action) -> &'static str
     match action {
         Action::Create => "create",
         Action::Delete => "delete",
+        Action::Modify => "modify",
     }
 }
 

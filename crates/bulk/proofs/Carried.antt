@@ -1,7 +1,7 @@
 -- What is told of a command that was carried out.
 use Rattle.std.proofs.Common.{◌≡◌, ℕ, Bool, true, false, [], Option, Some, None, Result, Ok, Err, IfOk, OnErr, refl, sym, ap, subst, ◌∙◌}
 use Rattle.std.specs.Prelude.{nat_lt, if◌then◌else◌}
-use Rattle.meaning.specs.Commands.{Command, RegisterCarrier, RegisterRoutingNumber, OpenCode, OldProviderCreate, NewProviderCreate, OnVersion, Donate, Assign, Release}
+use Rattle.meaning.specs.Commands.{Command, RegisterCarrier, RegisterRoutingNumber, OpenCode, OldProviderCreate, NewProviderCreate, OnVersion, Donate, Assign, Release, SetWindows}
 use Rattle.meaning.specs.Content.{Content}
 use Rattle.meaning.specs.History.{Commands}
 use Rattle.meaning.specs.Machine.{Reply, Refused, Shown, out, next, accepted, reply_of, refused_or}
@@ -77,6 +77,7 @@ replied_of st new caller (OnVersion id command) e = tt
 replied_of st new caller (RegisterCarrier spid) e = cc
 replied_of st new caller (RegisterRoutingNumber lrn) e = cc
 replied_of st new caller (OpenCode code spid) e = cc
+replied_of st new caller (SetWindows windows) e = cc
 replied_of st new caller (Donate block used lrn cic) e = cc
 replied_of st new caller (Assign block holder lrn cic) e = cc
 replied_of st new caller (Release block) e = cc

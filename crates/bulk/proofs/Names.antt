@@ -5,7 +5,7 @@ use Rattle.std.specs.Cmp.Lexicographic.{same_text, other_text}
 use Rattle.bulk.specs.Orders.{action_name}
 use Rattle.bulk.specs.Fields.{is_action, actions}
 use Rattle.bulk.specs.declared.order.ActionName.{ActionName}
-use Rattle.bulk.specs.declared.order.ActionName.TheVariants.{OldProviderCreate, NewProviderCreate, Activate, PutInConflict, RemoveFromConflict, Cancel, OldProviderCancellationAcknowledge, NewProviderCancellationAcknowledge, Disconnect}
+use Rattle.bulk.specs.declared.order.ActionName.TheVariants.{OldProviderCreate, NewProviderCreate, Activate, PutInConflict, RemoveFromConflict, Cancel, OldProviderCancellationAcknowledge, NewProviderCancellationAcknowledge, Disconnect, ModifyRouting}
 
 passed_at : {A : Type 0} (p : A → Bool) (x a : A) (b : Bool) (more : Option A) → p x ≡ b → (more ≡ Some a → p a ≡ true) → cond b (Some x) more ≡ Some a → p a ≡ true
 passed_at p x a true more e go h = let same : x ≡ a = cc in ap p (sym same) ∙ e
@@ -39,6 +39,7 @@ each p h Cancel = h.1.1.1.1.1.0
 each p h OldProviderCancellationAcknowledge = h.1.1.1.1.1.1.0
 each p h NewProviderCancellationAcknowledge = h.1.1.1.1.1.1.1.0
 each p h Disconnect = h.1.1.1.1.1.1.1.1.0
+each p h ModifyRouting = h.1.1.1.1.1.1.1.1.1.0
 
 pub found_name : (field : List ℕ) (o : Option ActionName) → o ≡ find (is_action field) actions → IfSome o (λ a. field ≡ action_name a)
 found_name field None e = tt
@@ -63,6 +64,7 @@ named-name Cancel = refl
 named-name OldProviderCancellationAcknowledge = refl
 named-name NewProviderCancellationAcknowledge = refl
 named-name Disconnect = refl
+named-name ModifyRouting = refl
 
 -- no two actions have one name
 pub one_name : (a b : ActionName) → action_name a ≡ action_name b → a ≡ b

@@ -30,6 +30,8 @@ no_command command.NewProviderCancellationAcknowledge (creator.OldProvider a) = 
 no_command command.NewProviderCancellationAcknowledge (creator.NewProvider r) = λ e. cc
 no_command (command.Disconnect release) (creator.OldProvider a) = λ e. cc
 no_command (command.Disconnect release) (creator.NewProvider r) = λ e. cc
+no_command (command.ModifyRouting routing) (creator.OldProvider a) = λ e. cc
+no_command (command.ModifyRouting routing) (creator.NewProvider r) = λ e. cc
 
 -- a create's fields name its new provider
 pub no_new_provider :

@@ -5,11 +5,11 @@ use Rattle.bulk.specs.Rows.{Row}
 use Rattle.bulk.specs.declared.fields.Fields.{Fields}
 use Rattle.bulk.specs.Orders.{action_name}
 use Rattle.bulk.specs.declared.order.ActionName.{ActionName}
-use Rattle.bulk.specs.declared.order.ActionName.TheVariants.{OldProviderCreate, NewProviderCreate, Activate, PutInConflict, RemoveFromConflict, Cancel, OldProviderCancellationAcknowledge, NewProviderCancellationAcknowledge, Disconnect}
+use Rattle.bulk.specs.declared.order.ActionName.TheVariants.{OldProviderCreate, NewProviderCreate, Activate, PutInConflict, RemoveFromConflict, Cancel, OldProviderCancellationAcknowledge, NewProviderCancellationAcknowledge, Disconnect, ModifyRouting}
 
 -- all actions
 abbrev pub actions : List ActionName
-actions = OldProviderCreate ∷ NewProviderCreate ∷ Activate ∷ PutInConflict ∷ RemoveFromConflict ∷ Cancel ∷ OldProviderCancellationAcknowledge ∷ NewProviderCancellationAcknowledge ∷ Disconnect ∷ []
+actions = OldProviderCreate ∷ NewProviderCreate ∷ Activate ∷ PutInConflict ∷ RemoveFromConflict ∷ Cancel ∷ OldProviderCancellationAcknowledge ∷ NewProviderCancellationAcknowledge ∷ Disconnect ∷ ModifyRouting ∷ []
 
 -- whether a field is the name of the action
 abbrev pub is_action : List ℕ → ActionName → Bool

@@ -1,7 +1,7 @@
 -- What making a command leaves.
 use Rattle.std.specs.Prelude.{◌≡◌, ℕ, Bool, true, false, List, [], codes, decimal}
 use Rattle.numbers.specs.Texts.{tn_text}
-use Rattle.meaning.specs.Commands.{Command, RegisterCarrier, RegisterRoutingNumber, OpenCode, OldProviderCreate, NewProviderCreate, OnVersion, Donate, Assign, Release}
+use Rattle.meaning.specs.Commands.{Command, RegisterCarrier, RegisterRoutingNumber, OpenCode, OldProviderCreate, NewProviderCreate, OnVersion, Donate, Assign, Release, SetWindows}
 use Rattle.meaning.specs.Machine.{Reply, Refused, Shown}
 use Rattle.bodies.specs.Failures.{refusal_name}
 use Rattle.bulk.specs.Report.{report_line, reply_line}
@@ -16,6 +16,7 @@ is_of_number (OnVersion id command) = true
 is_of_number (RegisterCarrier spid) = false
 is_of_number (RegisterRoutingNumber lrn) = false
 is_of_number (OpenCode code spid) = false
+is_of_number (SetWindows windows) = false
 is_of_number (Donate block used lrn cic) = false
 is_of_number (Assign block holder lrn cic) = false
 is_of_number (Release block) = false

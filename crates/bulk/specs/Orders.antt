@@ -9,7 +9,7 @@ use Rattle.version.specs.declared.command.VersionCommand.{VersionCommand}
 use Rattle.version.specs.declared.command.VersionCommand.TheVariants as command
 use Rattle.bulk.specs.Rows.{Row}
 use Rattle.bulk.specs.declared.order.ActionName.{ActionName}
-use Rattle.bulk.specs.declared.order.ActionName.TheVariants.{OldProviderCreate, NewProviderCreate, Activate, PutInConflict, RemoveFromConflict, Cancel, OldProviderCancellationAcknowledge, NewProviderCancellationAcknowledge, Disconnect}
+use Rattle.bulk.specs.declared.order.ActionName.TheVariants.{OldProviderCreate, NewProviderCreate, Activate, PutInConflict, RemoveFromConflict, Cancel, OldProviderCancellationAcknowledge, NewProviderCancellationAcknowledge, Disconnect, ModifyRouting}
 use Rattle.bulk.specs.declared.range.Numbers.{Numbers}
 use Rattle.bulk.specs.declared.order.Order.{Order}
 use Rattle.bulk.specs.declared.order.Wish.{Wish}
@@ -32,6 +32,7 @@ action_name Cancel = codes "subscriptionVersionCancel"
 action_name OldProviderCancellationAcknowledge = codes "subscriptionVersionOldSP-CancellationAcknowledge"
 action_name NewProviderCancellationAcknowledge = codes "subscriptionVersionNewSP-CancellationAcknowledge"
 action_name Disconnect = codes "subscriptionVersionDisconnect"
+action_name ModifyRouting = codes "subscriptionVersionModify"
 
 abbrev pub command_action : VersionCommand → ActionName
 command_action command.Activate = Activate
@@ -41,6 +42,7 @@ command_action command.Cancel = Cancel
 command_action command.OldProviderCancellationAcknowledge = OldProviderCancellationAcknowledge
 command_action command.NewProviderCancellationAcknowledge = NewProviderCancellationAcknowledge
 command_action (command.Disconnect release) = Disconnect
+command_action (command.ModifyRouting routing) = ModifyRouting
 
 abbrev pub create_action : Creator → ActionName
 create_action (creator.OldProvider authorized) = OldProviderCreate
@@ -77,7 +79,7 @@ abbrev pub create_fields : Creator → Row
 create_fields (creator.OldProvider authorized) = [] ∷ [] ∷ flag_text authorized ∷ []
 create_fields (creator.NewProvider routing) = lrn_text routing.lrn.number ∷ optional_cic routing.cic ∷ [] ∷ []
 
--- due of a command on a version
+-- due, lrn and cic of a command on a version
 abbrev pub release_field : VersionCommand → List ℕ
 release_field (command.Disconnect release) = optional_minute release
 release_field command.Activate = []
@@ -86,11 +88,32 @@ release_field command.RemoveFromConflict = []
 release_field command.Cancel = []
 release_field command.OldProviderCancellationAcknowledge = []
 release_field command.NewProviderCancellationAcknowledge = []
+release_field (command.ModifyRouting routing) = []
+
+abbrev pub lrn_field : VersionCommand → List ℕ
+lrn_field (command.ModifyRouting routing) = lrn_text routing.lrn.number
+lrn_field command.Activate = []
+lrn_field command.PutInConflict = []
+lrn_field command.RemoveFromConflict = []
+lrn_field command.Cancel = []
+lrn_field command.OldProviderCancellationAcknowledge = []
+lrn_field command.NewProviderCancellationAcknowledge = []
+lrn_field (command.Disconnect release) = []
+
+abbrev pub cic_field : VersionCommand → List ℕ
+cic_field (command.ModifyRouting routing) = optional_cic routing.cic
+cic_field command.Activate = []
+cic_field command.PutInConflict = []
+cic_field command.RemoveFromConflict = []
+cic_field command.Cancel = []
+cic_field command.OldProviderCancellationAcknowledge = []
+cic_field command.NewProviderCancellationAcknowledge = []
+cic_field (command.Disconnect release) = []
 
 abbrev pub wish_fields : Wish → Row
 wish_fields (wish.Create old_provider new_provider due by) =
     spid_text old_provider.number ∷ spid_text new_provider.number ∷ minute_text due.number ∷ create_fields by
-wish_fields (wish.OnVersion command) = [] ∷ [] ∷ release_field command ∷ [] ∷ [] ∷ [] ∷ []
+wish_fields (wish.OnVersion command) = [] ∷ [] ∷ release_field command ∷ lrn_field command ∷ cic_field command ∷ [] ∷ []
 
 -- ---- rows
 

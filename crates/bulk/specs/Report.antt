@@ -33,9 +33,10 @@ abbrev pub first_id : Option ℕ → Option ℕ → ℕ
 first_id (Some id) other = id
 first_id None other = id_or_none other
 
--- a command takes a number's open version, else its version in force, else none; a disconnect takes the one in force, else none
+-- a command takes a number's open version, else its version in force, else none; a disconnect and a modify take the one in force, else none
 abbrev pub id_taken : VersionCommand → (in_force opened : Option ℕ) → ℕ
 id_taken (command.Disconnect release) in_force opened = id_or_none in_force
+id_taken (command.ModifyRouting routing) in_force opened = id_or_none in_force
 id_taken command.Activate in_force opened = first_id opened in_force
 id_taken command.PutInConflict in_force opened = first_id opened in_force
 id_taken command.RemoveFromConflict in_force opened = first_id opened in_force

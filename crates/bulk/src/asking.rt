@@ -114,14 +114,14 @@ fn id_taken(command: VersionCommand, ids: &Ids) -> u64
     ensures { result ≡ id_taken command ids.now.in_force ids.now.opened }
 {
     let taken = match command {
-        VersionCommand::Disconnect { .. } => ids.in_force,
+        VersionCommand::Disconnect { .. } | VersionCommand::ModifyRouting { .. } => ids.in_force,
         _ => ids.opened.or(ids.in_force),
     };
     taken.unwrap_or(NO_ID)
 }
 
 /// What is wanted of a number, as a command. One on a version takes the number's open version, else
-/// its version in force; a disconnect takes the one in force.
+/// its version in force; a disconnect and a modify take the one in force.
 pub fn command_for<S: Store>(
     register: &mut Register<S>,
     tn: Tn,

@@ -8,7 +8,7 @@ ghost use Rattle.version.specs.declared.command.VersionCommand.{VersionCommand a
 ghost use Rattle.numbers.specs.declared.cic.Cic.{Cic as CicSeen};
 ghost use Rattle.numbers.specs.declared.minute.Minute.{Minute as MinuteSeen};
 ghost use Rattle.bulk.specs.Orders.{action_name, command_action, create_action, action_of, Names, flag_text, optional_cic, optional_minute, create_fields, release_field, wish_fields, Says, Reads, header};
-ghost use Rattle.bulk.specs.declared.order.ActionName.TheVariants.{OldProviderCreate, NewProviderCreate};
+ghost use Rattle.bulk.specs.declared.order.ActionName.TheVariants.{OldProviderCreate, NewProviderCreate, ModifyRouting};
 ghost use Rattle.bulk.specs.Fields.{is_action, actions, all_fields, last_fields, six_fields};
 ghost use Rattle.bulk.specs.declared.range.Numbers.{Numbers as NumbersSeen};
 ghost use Rattle.bulk.specs.declared.order.Wish.TheVariants.{OnVersion};
@@ -209,6 +209,7 @@ fn optional_minute_in(field: &[u8]) -> Option<Option<Minute>>
 
 #[tactic(auto, using(crate::proofs::Wishes::no_command))]
 fn version_command_in(action: ActionName, due: &[u8]) -> Option<VersionCommand>
+    requires { action ≢ ModifyRouting }
     ensures some { IfSome result (λ command. (command_action command ≡ action)
         × (due.now ≡ release_field command)) }
     ensures none { IfNone result ((command : VersionCommandSeen) → command_action command ≡ action
@@ -233,9 +234,10 @@ fn version_command_in(action: ActionName, due: &[u8]) -> Option<VersionCommand>
         ActionName::NewProviderCancellationAcknowledge => {
             Some(VersionCommand::NewProviderCancellationAcknowledge)
         }
-        ActionName::OldProviderCreate | ActionName::NewProviderCreate | ActionName::Disconnect => {
-            None
-        }
+        ActionName::OldProviderCreate
+        | ActionName::NewProviderCreate
+        | ActionName::Disconnect
+        | ActionName::ModifyRouting => None,
     }
 }
 
@@ -301,7 +303,38 @@ fn has_due_alone(fields: &Fields) -> bool
         && fields.flag.is_empty()
 }
 
+// Whether all fields behind the subject but lrn and cic are empty.
+fn has_routing_alone(fields: &Fields) -> bool
+    ensures { IsTrue result
+        ↔ (six_fields fields.now ≡ [] ∷ [] ∷ [] ∷ fields.now.lrn.now ∷ fields.now.cic.now ∷ [] ∷
+        []) }
+{
+    fields.old_provider.is_empty()
+        && fields.new_provider.is_empty()
+        && fields.due.is_empty()
+        && fields.flag.is_empty()
+}
+
+// A modify, of which the fields lrn and cic alone are not empty.
+fn modify_in(fields: &Fields) -> Option<Wish>
+    ensures some { IfSome result (λ wish. (action_of wish ≡ ModifyRouting)
+        × (six_fields fields.now ≡ wish_fields wish)) }
+    ensures none { IfNone result ((command : VersionCommandSeen)
+        → command_action command ≡ ModifyRouting
+        → six_fields fields.now ≢ wish_fields (OnVersion command)) }
+{
+    if !has_routing_alone(fields) {
+        return None;
+    }
+    let routing = Routing {
+        lrn: lrn_in(fields.lrn)?,
+        cic: optional_cic_in(fields.cic)?,
+    };
+    Some(Wish::OnVersion(VersionCommand::ModifyRouting { routing }))
+}
+
 fn command_in(fields: &Fields, action: ActionName) -> Option<Wish>
+    requires { action ≢ ModifyRouting }
     ensures some { IfSome result (λ wish. (action_of wish ≡ action)
         × (six_fields fields.now ≡ wish_fields wish)) }
     ensures none { IfNone result ((command : VersionCommandSeen) → command_action command ≡ action
@@ -324,12 +357,13 @@ fn wish_in(fields: &Fields, action: ActionName) -> Option<Wish>
     match action {
         ActionName::OldProviderCreate => create_in(fields, authorization_in(fields)?),
         ActionName::NewProviderCreate => create_in(fields, routing_in(fields)?),
+        ActionName::ModifyRouting => modify_in(fields),
         _ => command_in(fields, action),
     }
 }
 
 /// The order that a row says, or nothing where it is a bad one: it has another number of fields,
-/// its action is none of the nine, its subject is neither a number nor a range of at most a
+/// its action is none of the ten, its subject is neither a number nor a range of at most a
 /// thousand of one code, a field that has to be filled is not, or one that has to be empty is.
 pub fn read_order(row: &ByteRecord) -> Option<Order>
     ensures { Reads (fields_of row.now) result }

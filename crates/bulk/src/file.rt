@@ -78,7 +78,7 @@ fn report_rows<S: Store, R: Read, W: Write>(
 /// each command. Says how many lines there were, without the header.
 ///
 /// A file begins with the header `caller,action,subject,old,new,due,lrn,cic,flag`. Each row behind
-/// it, counted from 1, is an order of one of the nine actions for a number or for each number of a
+/// it, counted from 1, is an order of one of the ten actions for a number or for each number of a
 /// range, by rising number. Its line has the row's number, the telephone number, `ok` or the
 /// refusal's name, and after `ok` the version's id. A row that is no order is told as `bad_row`,
 /// and the run goes on.

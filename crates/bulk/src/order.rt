@@ -18,6 +18,7 @@ pub enum ActionName {
     OldProviderCancellationAcknowledge,
     NewProviderCancellationAcknowledge,
     Disconnect,
+    ModifyRouting,
 }
 
 /// What is wanted of a number.
@@ -45,7 +46,7 @@ pub struct Order {
 
 impl ActionName {
     /// All of them.
-    pub const ALL: [ActionName; 9] = [
+    pub const ALL: [ActionName; 10] = [
         ActionName::OldProviderCreate,
         ActionName::NewProviderCreate,
         ActionName::Activate,
@@ -55,6 +56,7 @@ impl ActionName {
         ActionName::OldProviderCancellationAcknowledge,
         ActionName::NewProviderCancellationAcknowledge,
         ActionName::Disconnect,
+        ActionName::ModifyRouting,
     ];
 
     /// The name as a bulk file writes it.
@@ -76,6 +78,7 @@ impl ActionName {
                 "subscriptionVersionNewSP-CancellationAcknowledge"
             }
             ActionName::Disconnect => "subscriptionVersionDisconnect",
+            ActionName::ModifyRouting => "subscriptionVersionModify",
         }
     }
 }

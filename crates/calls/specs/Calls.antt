@@ -4,25 +4,25 @@ use Rattle.std.specs.Prelude.{Result, Ok, Err}
 use Rattle.numbers.specs.Views.{subject_of}
 use Rattle.meaning.specs.declared.refusal.Refusal.{Refusal}
 use Rattle.meaning.specs.RefusalNumbers.{number_of}
-use Rattle.meaning.specs.Commands.{Command, RegisterCarrier, RegisterRoutingNumber, OpenCode, OnVersion, Donate, Release}
+use Rattle.meaning.specs.Commands.{Command, RegisterCarrier, RegisterRoutingNumber, OpenCode, OnVersion, Donate, Release, SetWindows}
 use Rattle.meaning.specs.Views.{status_of}
 use Rattle.meaning.specs.Reading.{View, release_of}
 use Rattle.meaning.specs.History.{Request, Commands, Acknowledges}
-use Rattle.meaning.specs.Machine.{Reply, Refused, Moved, Registered, LrnAdded, CodeOpened, Shown, Donated, Found, Fetched, Answer, Closed, Opened}
+use Rattle.meaning.specs.Machine.{Reply, Refused, Moved, Registered, LrnAdded, CodeOpened, Shown, Donated, Found, Fetched, Answer, Closed, Opened, WindowsSet}
 use Rattle.meaning.specs.Refusals.{Input, Moment, Requests, Asks, Question, ShowVersion, Fetch, Ids}
 use Rattle.numbers.specs.declared.cic.Cic.{Cic}
 use Rattle.pool.specs.Assignments.{command_of as assignment_of}
 use Rattle.pool.specs.Donations.{lines_of}
 use Rattle.version.specs.Commands.{asked_of}
 use Rattle.version.specs.Creates.{command_of as create_of}
-use Rattle.version.specs.Views.{routings_of, phase_seen}
+use Rattle.version.specs.Views.{routings_of, phase_seen, windows_of}
 pub use Rattle.delivery.specs.Mirrors.{in_force_of, download_of}
 use Rattle.calls.specs.declared.call.Command.{Command as CommandCode}
-use Rattle.calls.specs.declared.call.Command.TheVariants.{RegisterCarrier as RegisterCarrierCode, RegisterRoutingNumber as RegisterRoutingNumberCode, OpenCode as OpenCodeCode, Create as CreateCode, OnVersion as OnVersionCode, Donate as DonateCode, Assign as AssignCode, Release as ReleaseCode}
+use Rattle.calls.specs.declared.call.Command.TheVariants.{RegisterCarrier as RegisterCarrierCode, RegisterRoutingNumber as RegisterRoutingNumberCode, OpenCode as OpenCodeCode, Create as CreateCode, OnVersion as OnVersionCode, Donate as DonateCode, Assign as AssignCode, Release as ReleaseCode, SetWindows as SetWindowsCode}
 use Rattle.calls.specs.declared.call.Call.{Call}
 use Rattle.calls.specs.declared.call.Call.TheVariants.{Command as CommandCall, Acknowledge as AcknowledgeCall, Version as VersionCall, Number as NumberCall, Downloads as DownloadsCall, Clock as ClockCall}
 use Rattle.calls.specs.declared.call.Reply.{Reply as ReplyCode}
-use Rattle.calls.specs.declared.call.Reply.TheVariants.{Registered as RegisteredCode, RoutingNumberRegistered as RoutingNumberRegisteredCode, CodeOpened as CodeOpenedCode, Shown as ShownCode, Donated as DonatedCode, Found as FoundCode, Fetched as FetchedCode, Moved as MovedCode}
+use Rattle.calls.specs.declared.call.Reply.TheVariants.{Registered as RegisteredCode, RoutingNumberRegistered as RoutingNumberRegisteredCode, CodeOpened as CodeOpenedCode, Shown as ShownCode, Donated as DonatedCode, Found as FoundCode, Fetched as FetchedCode, Moved as MovedCode, WindowsSet as WindowsSetCode}
 use Rattle.calls.specs.declared.view.VersionView.{VersionView}
 use Rattle.calls.specs.declared.view.Answer.{Answer as AnswerCode}
 use Rattle.calls.specs.declared.view.Answer.TheVariants.{Closed as ClosedCode, Open as OpenCodeAnswer}
@@ -37,6 +37,7 @@ command_of (OnVersionCode id command) = OnVersion id (asked_of command)
 command_of (DonateCode block used routing) = Donate block.number (lines_of used.items) routing.lrn.number (option_map (λ (c : Cic). c.number) routing.cic)
 command_of (AssignCode assignment) = assignment_of assignment
 command_of (ReleaseCode block) = Release block.number
+command_of (SetWindowsCode windows) = SetWindows (windows_of windows)
 
 -- ---- what is asked, but for its caller
 
@@ -92,6 +93,7 @@ reply_of (DonatedCode block ids) = Donated block.number ids.items
 reply_of (FoundCode ids) = Found ids.in_force ids.opened
 reply_of (FetchedCode downloads) = Fetched (map download_of downloads.items)
 reply_of (MovedCode minute) = Moved minute.number
+reply_of (WindowsSetCode now number) = WindowsSet now.number number
 
 -- the machine's refusals are those below 29: the device's (29) and want of memory (30) are no answers of its
 abbrev pub refused_with : ℕ → Option Reply

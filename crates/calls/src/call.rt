@@ -4,6 +4,7 @@ use delivery::{Download, RoutedRow};
 use numbers::{BlockId, CodeId, Line, Lrn, Minute, Routing, Spid, Tn};
 use pool::Assignment;
 use version::{Create, VersionCommand};
+use windows::Windows;
 
 /// What is asked of a register, but for its caller.
 #[derive(Debug, Drop)]
@@ -57,6 +58,10 @@ pub enum Command {
     Release {
         block: BlockId,
     },
+    /// The administrator sets the windows anew.
+    SetWindows {
+        windows: Windows,
+    },
 }
 
 /// What an accepted call answers.
@@ -78,4 +83,6 @@ pub enum Reply {
     Fetched(Vec<Download>),
     /// The present minute.
     Moved(Minute),
+    /// The present minute, and the number of the set of windows.
+    WindowsSet { now: Minute, number: u16 },
 }

@@ -19,14 +19,13 @@ pub struct VersionView {
 }
 
 impl VersionView {
-    /// The version as it stands at a minute.
+    /// The version as it stands at a minute. The windows are those of the set that it holds.
     pub fn of(id: u64, version: &Version, minute: Minute, windows: &Windows) -> VersionView
         ensures { (st : State) (broadcasts : List Broadcast) → st.now ≡ minute.number
-            → st.windows ≡ windows_of windows.now
             → view_of result
             ≡ view_in st (record {
               subject = subject_of version.now.subject;
-              version = version_of id broadcasts version.now;
+              version = version_of id broadcasts (windows_of windows.now) version.now;
             }) }
     {
         VersionView {

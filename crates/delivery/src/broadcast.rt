@@ -10,7 +10,7 @@ use meaning::{Action, Outcome};
 use numbers::{Minute, Routing, Subject};
 
 /// One send of a version to every carrier: open until its last recipient acknowledges it or its
-/// window ends. A create carries the routing that it puts, a delete none.
+/// window ends. A create and a modify carry the routing that they put, a delete none.
 #[derive(Clone, Copy, Debug, PartialEq, Eq)]
 pub struct Broadcast {
     /// The minute in which it was sent.

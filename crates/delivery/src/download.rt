@@ -8,7 +8,8 @@ ghost use Rattle.meaning.specs.Reading.{Download as DownloadSeen};
 use meaning::{Action, Refusal};
 use numbers::{Minute, Routing, Subject};
 
-/// A broadcast as a carrier is handed it: a create with the routing that it puts, or a delete.
+/// A broadcast as a carrier is handed it: a create or a modify with the routing that it puts, or a
+/// delete.
 #[derive(Clone, Copy, Debug, PartialEq, Eq)]
 pub struct Download {
     /// The version's id.

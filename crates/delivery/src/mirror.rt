@@ -61,9 +61,9 @@ impl Mirror {
         Ok(())
     }
 
-    /// Applies a download: a create puts its routing in place of what the copy had of its subject,
-    /// a delete takes that away. After want of memory the copy is as it was, and only a create
-    /// takes any.
+    /// Applies a download: a create or a modify puts its routing in place of what the copy had of
+    /// its subject, a delete takes that away. After want of memory the copy is as it was, and a
+    /// delete takes none.
     pub fn apply(&mut self, download: &Download) -> Result<(), AllocError>
         ensures applied { OnOk result ((s : SubjectSeen)
             → copied self.new.routings s

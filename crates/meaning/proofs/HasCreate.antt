@@ -1,7 +1,7 @@
 -- A version that waits for its creates has one of them.
 use Rattle.std.proofs.Common.{◌≡◌, ℕ, true, false, ◌||◌, Option, refl, sym, ◌∙◌, is_some}
-use Rattle.meaning.specs.declared.words.Action.{Action}
-use Rattle.meaning.specs.declared.words.Action.TheVariants.{Create, Delete}
+use Rattle.meaning.specs.Statuses.{Send}
+use Rattle.meaning.specs.Statuses.{Create, Delete, Modify}
 use Rattle.meaning.specs.declared.words.Outcome.{Outcome}
 use Rattle.meaning.specs.declared.words.Outcome.TheVariants.{Open, AllAcknowledged}
 use Rattle.meaning.specs.Statuses.{Status}
@@ -9,6 +9,7 @@ use Rattle.meaning.specs.Versions.{Version}
 use Rattle.meaning.specs.Changes.{status_after, outcome_at_end}
 use Rattle.meaning.proofs.Small.{or_true}
 use Rattle.meaning.proofs.Moves.{MovesKeep, is_before_sending}
+use Rattle.meaning.specs.Windows.{WindowSet}
 
 abbrev pub HasCreateAs : (old_at new_at : Option ℕ) → Status → Type 0
 HasCreateAs old_at new_at status = is_before_sending status ≡ true → (is_some old_at || is_some new_at) ≡ true
@@ -17,17 +18,18 @@ abbrev pub HasCreate : Version → Type 0
 HasCreate v = HasCreateAs v.old_at v.new_at v.status
 
 -- what was sent waits for creates no more
-closed_needs_none : (action : Action) (outcome : Outcome) → is_before_sending (status_after action outcome) ≡ false
+closed_needs_none : (action : Send) (outcome : Outcome) → is_before_sending (status_after action outcome) ≡ false
 closed_needs_none action Open = refl
 closed_needs_none Create _ = refl
 closed_needs_none Delete _ = refl
+closed_needs_none (Modify routing) _ = refl
 
 needs_none : (old_at new_at : Option ℕ) (status : Status) → is_before_sending status ≡ false → HasCreateAs old_at new_at status
 needs_none old_at new_at status none = λ needs. absurd (let no : true ≡ false = sym needs ∙ none in cc)
 
 -- every move keeps it
-pub create_kept : MovesKeep (λ m cs v. HasCreate v)
-create_kept = record {
+pub create_kept : (w : WindowSet) → MovesKeep w (λ m cs v. HasCreate v)
+create_kept w = record {
   later = λ m n cs v up is. is;
   joined = λ c m cs v is. is;
   made_old = λ m cs id old_provider new_provider due some needs. refl;
@@ -45,6 +47,7 @@ create_kept = record {
   activated = λ m cs v may is needs. cc;
   disconnected = λ m cs v may is needs. cc;
   released = λ m cs v from is needs. cc;
+  modified = λ routing m cs v may is needs. cc;
   ended = λ action m cs v from is. needs_none v.old_at v.new_at (status_after action (outcome_at_end v.broadcasts)) (closed_needs_none action (outcome_at_end v.broadcasts));
   answered = λ c attempt m cs v may is. is;
   closed = λ c attempt action m cs v may is. needs_none v.old_at v.new_at (status_after action AllAcknowledged) (closed_needs_none action AllAcknowledged);

@@ -4,7 +4,7 @@ use Rattle.numbers.specs.Subjects.{Subject}
 use Rattle.meaning.specs.Windows.{Windows}
 use Rattle.meaning.specs.Versions.{Record, nothing}
 use Rattle.meaning.specs.Judge.{judge, judged_for}
-use Rattle.meaning.specs.History.{Entry, effect, after, meaning, replay, makes, made_by, next_after, id_among, donor_of, assigned_block}
+use Rattle.meaning.specs.History.{Entry, effect, after, meaning, replay, makes, made_by, next_after, id_among, donor_of, assigned_block, present_set}
 use Rattle.meaning.specs.Machine.{IsHistory}
 
 -- a history is one at every later minute
@@ -16,13 +16,13 @@ later-history w (e ∷ h) now m up is = (let before : e.minute ≤ now = is.0 in
 -- the record of s right after one more entry, at its own minute
 abbrev pub record_after : Windows → Subject → List Entry → Entry → Record
 record_after w s h e =
-    effect s (id_among s (next_after (made_by w h)) (makes e.request (λ t. replay w t h e.minute))) (donor_of (assigned_block e.request) h) e (replay w s h e.minute)
+    effect (present_set w h) s (id_among s (next_after (made_by w h)) (makes e.request (λ t. replay w t h e.minute))) (donor_of (assigned_block e.request) h) e (replay w s h e.minute)
 
 -- P is of a history, a minute that is not before its last entry, and the record of s then. Each step may cite whatever is known of the history so far
 pub record IsKept (w : Windows) (s : Subject) (P : List Entry → ℕ → Record → Type 0) : Type 0 where
   pub first : (m : ℕ) → P [] m nothing
   pub minute : (h : List Entry) (m : ℕ) → IsHistory w h m → P h m (replay w s h m) →
-      P h (suc m) (judge w (suc m) (replay w s h m))
+      P h (suc m) (judge (present_set w h) (suc m) (replay w s h m))
   pub entry : (h : List Entry) (e : Entry) → IsHistory w (e ∷ h) e.minute →
       P h e.minute (replay w s h e.minute) → P (e ∷ h) e.minute (record_after w s h e)
 
@@ -32,9 +32,9 @@ module _ (w : Windows) (s : Subject) (P : List Entry → ℕ → Record → Type
 
   -- the record so many minutes after the entry
   minutes_after : (h : List Entry) (e : Entry) (n : ℕ) →
-      replay w s (e ∷ h) (e.minute + n) ≡ judged_for w e.minute n (record_after w s h e)
+      replay w s (e ∷ h) (e.minute + n) ≡ judged_for (present_set w (e ∷ h)) e.minute n (record_after w s h e)
   unfolding meaning after
-  minutes_after h e n = ap (λ k. judged_for w e.minute k (record_after w s h e)) (let same : (e.minute + n) - e.minute ≡ n = omega arith in same)
+  minutes_after h e n = ap (λ k. judged_for (present_set w (e ∷ h)) e.minute k (record_after w s h e)) (let same : (e.minute + n) - e.minute ≡ n = omega arith in same)
 
   kept_after : (h : List Entry) (e : Entry) → IsHistory w (e ∷ h) e.minute →
       P (e ∷ h) e.minute (record_after w s h e) → (n : ℕ) →
@@ -43,8 +43,8 @@ module _ (w : Windows) (s : Subject) (P : List Entry → ℕ → Record → Type
   kept_after h e is now zero =
       moved (e ∷ h) e.minute (e.minute + zero) (record_after w s h e) (replay w s (e ∷ h) (e.minute + zero)) (omega arith) (sym (minutes_after h e zero)) now
   kept_after h e is now (suc n) =
-      moved (e ∷ h) (suc (e.minute + n)) (e.minute + suc n) (judge w (suc (e.minute + n)) (replay w s (e ∷ h) (e.minute + n))) (replay w s (e ∷ h) (e.minute + suc n)) (omega arith)
-      (ap (judge w (suc (e.minute + n))) (minutes_after h e n) ∙ sym (minutes_after h e (suc n)))
+      moved (e ∷ h) (suc (e.minute + n)) (e.minute + suc n) (judge (present_set w (e ∷ h)) (suc (e.minute + n)) (replay w s (e ∷ h) (e.minute + n))) (replay w s (e ∷ h) (e.minute + suc n)) (omega arith)
+      (ap (judge (present_set w (e ∷ h)) (suc (e.minute + n))) (minutes_after h e n) ∙ sym (minutes_after h e (suc n)))
       (keeps.minute (e ∷ h) (e.minute + n) (later-history w (e ∷ h) e.minute (e.minute + n) (omega arith) is) (kept_after h e is now n))
 
   -- every record of every history

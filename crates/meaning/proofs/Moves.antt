@@ -5,14 +5,14 @@ use Rattle.std.specs.List.{AllByRecursion}
 use Rattle.std.proofs.lemmas.Bool.Decides.{nat_tests}
 use Rattle.numbers.specs.Subjects.{Subject, Number, Block, subject_eq}
 use Rattle.numbers.specs.Routings.{Routing}
-use Rattle.meaning.specs.Commands.{Command, RegisterCarrier, OldProviderCreate, NewProviderCreate, VersionCommand, OnVersion, Activate, PutInConflict, RemoveFromConflict, Cancel, OldProviderCancellationAcknowledge, NewProviderCancellationAcknowledge, Disconnect, Donate, Assign, Release}
-use Rattle.meaning.specs.declared.words.Action.{Action}
-use Rattle.meaning.specs.declared.words.Action.TheVariants.{Create, Delete}
+use Rattle.meaning.specs.Commands.{Command, RegisterCarrier, OldProviderCreate, NewProviderCreate, VersionCommand, OnVersion, Activate, PutInConflict, RemoveFromConflict, Cancel, OldProviderCancellationAcknowledge, NewProviderCancellationAcknowledge, Disconnect, ModifyRouting, Donate, Assign, Release}
+use Rattle.meaning.specs.Statuses.{Send}
+use Rattle.meaning.specs.Statuses.{Create, Delete, Modify}
 use Rattle.meaning.specs.declared.words.Outcome.TheVariants.{AllAcknowledged}
 use Rattle.meaning.specs.declared.words.Side.{Side}
 use Rattle.meaning.specs.declared.words.Side.TheVariants.{OldProvider, NewProvider}
 use Rattle.meaning.specs.Statuses.{Status, Pending, Conflict, CancelPending, Sending, Active, PartialFailure, Failed, DisconnectPending, Old, Canceled}
-use Rattle.meaning.specs.Windows.{Windows}
+use Rattle.meaning.specs.Windows.{Windows, WindowSet}
 use Rattle.meaning.specs.Sound.{NoneInForce, AreSound, is_block}
 use Rattle.meaning.specs.Versions.{Version, in_force, in_force_status, is_among, with_number, first_of_versions, last_version, version_with}
 use Rattle.meaning.specs.Changes.{enters, sent, closed_with, outcome_at_end, nobody_is_missing, completed, acknowledged_by, acknowledged_broadcast, joined_by}
@@ -20,8 +20,8 @@ use Rattle.meaning.specs.Conditions.{limit, holds_of, can_activate, can_cancel, 
 use Rattle.meaning.specs.Content.{is_nonempty}
 use Rattle.meaning.specs.Judge.{is_over, ended, judged_version}
 use Rattle.meaning.specs.History.{Request, Commands, Acknowledges, carriers, carrier_named, carrier_added, awaits_creates, lacks_old_create, lacks_new_create, with_old_create, with_new_create, has_both_creates, side_of, cancelled_by, disconnected, change_of, done_to, makes, blank_version, made_version, id_among}
-use Rattle.meaning.specs.Reading.{State, SubjectVersion, record_now, version_of_id, is_carrier}
-use Rattle.meaning.specs.Refusals.{Requests, refusal, tests, is_full_of_carriers, attempts_too_often}
+use Rattle.meaning.specs.Reading.{State, SubjectVersion, record_now, version_of_id, is_carrier, set_now}
+use Rattle.meaning.specs.Refusals.{Requests, refusal, tests, registry_is_full, attempts_too_often}
 use Rattle.meaning.specs.Machine.{IsHistory}
 use Rattle.meaning.proofs.Small.{true-false, denied, and_first, and_second, or_first, or_second}
 use Rattle.meaning.proofs.Lists.{found_has}
@@ -61,7 +61,7 @@ awaits_answers _ = false
 abbrev pub IsIn : (Status → Bool) → List ℕ → Version → Type 0
 IsIn test cs v = test v.status ≡ true
 
-abbrev pub Sends : Action → List ℕ → Version → Type 0
+abbrev pub Sends : Send → List ℕ → Version → Type 0
 Sends action cs v = v.status ≡ Sending action
 
 -- it failed before, or is pending and has the new provider's create, and an attempt is left
@@ -96,51 +96,52 @@ Move P when becomes =
     (m : ℕ) (cs : List ℕ) (v : Version) → when cs v → P m cs v → P m cs (becomes m cs v)
 
 -- a version that is made has P; somebody is a carrier, since a request made it
-abbrev pub Makes : Property → (ℕ → List ℕ → Version → Version) → Type 0
-Makes P becomes =
+abbrev pub Makes : WindowSet → Property → (ℕ → List ℕ → Version → Version) → Type 0
+Makes w P becomes =
     (m : ℕ) (cs : List ℕ) (id old_provider new_provider due : ℕ) → is_nonempty cs ≡ true →
-    P m cs (becomes m cs (blank_version id old_provider new_provider due m))
+    P m cs (becomes m cs (blank_version w id old_provider new_provider due m))
 
--- each move keeps P
-pub record MovesKeep (P : Property) : Type 0 where
+-- each move keeps P, while this set of windows holds
+pub record MovesKeep (w : WindowSet) (P : Property) : Type 0 where
   -- time goes by, and a carrier registers
   pub later : (m n : ℕ) (cs : List ℕ) (v : Version) → m ≤ n → P m cs v → P n cs v
   pub joined : (c m : ℕ) (cs : List ℕ) (v : Version) → P m cs v → P m (with_number c cs) (joined_by c v)
   -- a version is made: by a create, and by a donation or an assignment, which send it
-  pub made_old : Makes P (λ m cs b. record b { old_at = Some m })
+  pub made_old : Makes w P (λ m cs b. record b { old_at = Some m })
   pub made_new : (routing : Routing) →
-      Makes P (λ m cs b. record b { new_at = Some m; routing = Some routing })
+      Makes w P (λ m cs b. record b { new_at = Some m; routing = Some routing })
   pub made_sent : (routing : Routing) (protective : Bool) →
-      Makes P (λ m cs b. sent Create cs m (record b { routing = Some routing; protective = protective }))
+      Makes w P (λ m cs b. sent w Create cs m (record b { routing = Some routing; protective = protective }))
   -- a second create comes
   pub old_create : Move P (IsIn awaits_creates) (λ m cs v. record v { old_at = Some m })
   pub new_create : (routing : Routing) →
       Move P (IsIn awaits_creates) (λ m cs v. record v { new_at = Some m; routing = Some routing })
   -- it enters a status at once
-  pub pending : Move P (IsIn is_before_sending) (λ m cs v. enters Pending m v)
+  pub pending : Move P (IsIn is_before_sending) (λ m cs v. enters w Pending m v)
   pub conflict : (spent : Bool) →
-      Move P (IsIn is_before_sending) (λ m cs v. record (enters Conflict m v) { spent = spent })
+      Move P (IsIn is_before_sending) (λ m cs v. record (enters w Conflict m v) { spent = spent })
   pub cancel_pending : (by : Side) →
-      Move P (IsIn is_before_sending) (λ m cs v. enters (CancelPending by) m v)
-  pub canceled : Move P (IsIn is_unserved) (λ m cs v. enters Canceled m v)
-  pub active : Move P (IsIn is_planned) (λ m cs v. enters Active m v)
-  pub planned : (release : ℕ) → Move P MayDisconnect (λ m cs v. enters (DisconnectPending release) m v)
-  pub old : Move P (IsIn in_force_status) (λ m cs v. enters Old m v)
-  -- it is sent: by an activation, by a disconnect or a block's release, and when its release minute comes
-  pub activated : Move P MayActivate (λ m cs v. sent Create cs m v)
-  pub disconnected : Move P MayDisconnect (λ m cs v. sent Delete cs m v)
-  pub released : Move P (IsIn is_planned) (λ m cs v. sent Delete cs m v)
+      Move P (IsIn is_before_sending) (λ m cs v. enters w (CancelPending by) m v)
+  pub canceled : Move P (IsIn is_unserved) (λ m cs v. enters w Canceled m v)
+  pub active : Move P (IsIn is_planned) (λ m cs v. enters w Active m v)
+  pub planned : (release : ℕ) → Move P MayDisconnect (λ m cs v. enters w (DisconnectPending release) m v)
+  pub old : Move P (IsIn in_force_status) (λ m cs v. enters w Old m v)
+  -- it is sent: by an activation, by a disconnect or a block's release, when its release minute comes, and by a modify
+  pub activated : Move P MayActivate (λ m cs v. sent w Create cs m v)
+  pub disconnected : Move P MayDisconnect (λ m cs v. sent w Delete cs m v)
+  pub released : Move P (IsIn is_planned) (λ m cs v. sent w Delete cs m v)
+  pub modified : (routing : Routing) → Move P MayDisconnect (λ m cs v. sent w (Modify routing) cs m v)
   -- its window ends
-  pub ended : (action : Action) →
-      Move P (Sends action) (λ m cs v. closed_with action (outcome_at_end v.broadcasts) m v)
+  pub ended : (action : Send) →
+      Move P (Sends action) (λ m cs v. closed_with w action (outcome_at_end v.broadcasts) m v)
   -- a carrier acknowledges, and then the last one, which closes the broadcast or makes a partial failure whole
   pub answered : (c attempt : ℕ) → Move P (MayAnswer c attempt) (λ m cs v. answered_by c attempt v)
-  pub closed : (c attempt : ℕ) (action : Action) →
+  pub closed : (c attempt : ℕ) (action : Send) →
       Move P (λ cs v. (is_among c cs ≡ true) × Sends action cs v)
-      (λ m cs v. closed_with action AllAcknowledged m (answered_by c attempt v))
+      (λ m cs v. closed_with w action AllAcknowledged m (answered_by c attempt v))
   pub whole : (c attempt : ℕ) →
       Move P (λ cs v. (is_among c cs ≡ true) × (v.status ≡ PartialFailure))
-      (λ m cs v. enters Active m (answered_by c attempt v))
+      (λ m cs v. enters w Active m (answered_by c attempt v))
 
 -- ---- what the table says
 
@@ -225,14 +226,14 @@ by_carrier st caller id attempt ok = denied (is_among caller (carriers st.histor
 
 -- ---- what is kept
 
-module _ {P : Property} (keeps : MovesKeep P) where
+module _ {P : Property} {w : WindowSet} (keeps : MovesKeep w P) where
   -- by a minute
-  pub judged_kept : (w : Windows) (cs : List ℕ) (m : ℕ) (v : Version) → P m cs v →
+  pub judged_kept : (cs : List ℕ) (m : ℕ) (v : Version) → P m cs v →
       P m cs (judged_version w cs m v)
   unfolding judged_version
-  judged_kept w cs m v p = go (is_over w m v v.status)
+  judged_kept cs m v p = go (is_over m v v.status)
     where
-      over : (status : Status) → v.status ≡ status → P m cs (ended cs m v status)
+      over : (status : Status) → v.status ≡ status → P m cs (ended w cs m v status)
       over Pending e = keeps.canceled m cs v (ap is_unserved e) p
       over Conflict e = keeps.canceled m cs v (ap is_unserved e) p
       over (CancelPending OldProvider) e = keeps.conflict v.spent m cs v (ap is_before_sending e) p
@@ -241,7 +242,7 @@ module _ {P : Property} (keeps : MovesKeep P) where
       over (Sending action) e = keeps.ended action m cs v e p
       over _ e = p
 
-      go : (b : Bool) → P m cs (if b then ended cs m v v.status else v)
+      go : (b : Bool) → P m cs (if b then ended w cs m v v.status else v)
       go true = over v.status refl
       go false = p
 
@@ -251,34 +252,34 @@ module _ {P : Property} (keeps : MovesKeep P) where
     either false u one = p
 
     -- by an acknowledgement
-    acknowledged_kept : (c attempt : ℕ) → is_among c cs ≡ true → P m cs (acknowledged_by c attempt m v)
+    acknowledged_kept : (c attempt : ℕ) → is_among c cs ≡ true → P m cs (acknowledged_by w c attempt m v)
     acknowledged_kept c attempt among = go (nobody_is_missing (answered_by c attempt v).broadcasts) refl
       where
         complete : (status : Status) → v.status ≡ status →
-            P m cs (completed status m (answered_by c attempt v))
+            P m cs (completed w status m (answered_by c attempt v))
         complete (Sending action) e = keeps.closed c attempt action m cs v (among, e) p
         complete PartialFailure e = keeps.whole c attempt m cs v (among, e) p
         complete _ e = keeps.answered c attempt m cs v (among, λ awaits. true-false (awaits_answers v.status) awaits (ap awaits_answers e)) p
 
         go : (b : Bool) → nobody_is_missing (answered_by c attempt v).broadcasts ≡ b →
-            P m cs (if b then completed v.status m (answered_by c attempt v) else answered_by c attempt v)
+            P m cs (if b then completed w v.status m (answered_by c attempt v) else answered_by c attempt v)
         go true e = complete v.status refl
         go false e = keeps.answered c attempt m cs v (among, λ awaits. e) p
 
     -- by a second create
     old_create_kept : (authorized : Bool) → awaits_creates v.status ≡ true →
-        P m cs (with_old_create authorized m v)
+        P m cs (with_old_create w authorized m v)
     old_create_kept true awaits = keeps.old_create m cs v awaits p
     old_create_kept false awaits = keeps.conflict true m cs (record v { old_at = Some m }) (awaiting_before v.status awaits) (keeps.old_create m cs v awaits p)
 
     -- by a cancel
     waiting_kept : (caller : ℕ) → is_before_sending v.status ≡ true → is_unserved v.status ≡ true → (b : Bool) →
-        P m cs (if b then enters (CancelPending (side_of caller v.old_provider)) m v else enters Canceled m v)
+        P m cs (if b then enters w (CancelPending (side_of caller v.old_provider)) m v else enters w Canceled m v)
     waiting_kept caller before unserved true = keeps.cancel_pending (side_of caller v.old_provider) m cs v before p
     waiting_kept caller before unserved false = keeps.canceled m cs v unserved p
 
     cancelled_kept : (caller : ℕ) (status : Status) → v.status ≡ status → not (can_cancel status) ≡ false →
-        P m cs (cancelled_by status caller m v)
+        P m cs (cancelled_by w status caller m v)
     cancelled_kept caller Pending e may =
         waiting_kept caller (ap is_before_sending e) (ap is_unserved e) (has_both_creates v.old_at v.new_at)
     cancelled_kept caller Conflict e may =
@@ -289,106 +290,110 @@ module _ {P : Property} (keeps : MovesKeep P) where
 
     -- by a disconnect
     disconnected_kept : (release : Option ℕ) → v.status ≡ Active → v.attempt + 1 < limit →
-        P m cs (disconnected release cs m v)
+        P m cs (disconnected w release cs m v)
     disconnected_kept None active left = keeps.disconnected m cs v (active, left) p
     disconnected_kept (Some release) active left = go (nat_lt m release)
       where
         go : (b : Bool) →
-            P m cs (if b then enters (DisconnectPending release) m v else sent Delete cs m v)
+            P m cs (if b then enters w (DisconnectPending release) m v else sent w Delete cs m v)
         go true = keeps.planned release m cs v (active, left) p
         go false = keeps.disconnected m cs v (active, left) p
 
-  module _ (st : State) (is : IsHistory st.windows st.history st.now) (s : Subject) where
-    abbrev everyone : List ℕ
-    everyone = (record_now st s).carriers
+module _ {P : Property} (st : State) (keeps : MovesKeep (set_now st) P) (is : IsHistory st.windows st.history st.now) (s : Subject) where
+  abbrev everyone : List ℕ
+  everyone = (record_now st s).carriers
 
-    carriers_are : everyone ≡ carriers st.history
-    carriers_are = record-carriers st.windows st.history s st.now
+  carriers_are : everyone ≡ carriers st.history
+  carriers_are = record-carriers st.windows st.history s st.now
 
-    test : (id : ℕ) (v : Version) (is_so : Version → Bool) →
-        version_with id (record_now st s) ≡ Some v →
-        holds_of (λ (e : SubjectVersion). is_so e.version) (version_of_id st id) ≡ false → is_so v ≡ false
-    test = named_test st s (given_now st is s)
+  test : (id : ℕ) (v : Version) (is_so : Version → Bool) →
+      version_with id (record_now st s) ≡ Some v →
+      holds_of (λ (e : SubjectVersion). is_so e.version) (version_of_id st id) ≡ false → is_so v ≡ false
+  test = named_test st s (given_now st is s)
 
-    attempts_left : (caller : ℕ) (c : Command) → AcceptedCommand st caller c →
-        attempts_too_often st caller c ≡ false
-    attempts_left caller c accepted = or_second (is_full_of_carriers st caller c) (attempts_too_often st caller c) (or_first (is_full_of_carriers st caller c || attempts_too_often st caller c) _ accepted.full)
+  attempts_left : (caller : ℕ) (c : Command) → AcceptedCommand st caller c →
+      attempts_too_often st caller c ≡ false
+  attempts_left caller c accepted = or_second (registry_is_full st caller c) (attempts_too_often st caller c) (or_first (registry_is_full st caller c || attempts_too_often st caller c) _ accepted.full)
 
-    -- by a command on the version
-    change_kept : (caller id : ℕ) (c : VersionCommand) →
-        AcceptedCommand st caller (OnVersion id c) → (v : Version) →
-        version_with id (record_now st s) ≡ Some v →
-        P st.now everyone v → P st.now everyone (change_of caller st.now everyone c v)
-    change_kept caller id Activate accepted v found p = keeps.activated st.now everyone v (
-      activated_from st.windows st.now v.new_at v.old_at v.since v.status (test id v (λ u. not (can_activate u.status)) found accepted.wrong_status)
-          (test id v (λ u. lacks_concurrence st.windows st.now u.status u.old_at u.new_at u.since) found accepted.not_concurred),
-      left_by v.attempt (test id v (λ u. has_no_attempt_left u.attempt) found (attempts_left caller (OnVersion id Activate) accepted)),
-    ) p
-    change_kept caller id PutInConflict accepted v found p = keeps.conflict true st.now everyone v (pending_before v.status (test id v (λ u. not (is_pending u.status)) found accepted.wrong_status)) p
-    change_kept caller id RemoveFromConflict accepted v found p = keeps.pending st.now everyone v (conflict_before v.status (test id v (λ u. not (is_conflict u.status)) found accepted.wrong_status)) p
-    change_kept caller id Cancel accepted v found p = cancelled_kept st.now everyone v p caller v.status refl (test id v (λ u. not (can_cancel u.status)) found accepted.wrong_status)
-    change_kept caller id OldProviderCancellationAcknowledge accepted v found p =
-        keeps.canceled st.now everyone v (cancelled_before v.status (test id v (λ u. not (is_cancel_pending u.status)) found accepted.wrong_status)) p
-    change_kept caller id NewProviderCancellationAcknowledge accepted v found p =
-        keeps.canceled st.now everyone v (cancelled_before v.status (test id v (λ u. not (is_cancel_pending u.status)) found accepted.wrong_status)) p
-    change_kept caller id (Disconnect release) accepted v found p = disconnected_kept st.now everyone v p release
-        (is_active-is v.status (test id v (λ u. not (is_active u.status)) found accepted.wrong_status))
-        (left_by v.attempt (test id v (λ u. has_no_attempt_left u.attempt) found (attempts_left caller (OnVersion id (Disconnect release)) accepted)))
+  -- by a command on the version
+  change_kept : (caller id : ℕ) (c : VersionCommand) →
+      AcceptedCommand st caller (OnVersion id c) → (v : Version) →
+      version_with id (record_now st s) ≡ Some v →
+      P st.now everyone v → P st.now everyone (change_of (set_now st) caller st.now everyone c v)
+  change_kept caller id Activate accepted v found p = keeps.activated st.now everyone v (
+    activated_from v.held.windows st.now v.new_at v.old_at v.since v.status (test id v (λ u. not (can_activate u.status)) found accepted.wrong_status)
+        (test id v (λ u. lacks_concurrence u.held.windows st.now u.status u.old_at u.new_at u.since) found accepted.not_concurred),
+    left_by v.attempt (test id v (λ u. has_no_attempt_left u.attempt) found (attempts_left caller (OnVersion id Activate) accepted)),
+  ) p
+  change_kept caller id PutInConflict accepted v found p = keeps.conflict true st.now everyone v (pending_before v.status (test id v (λ u. not (is_pending u.status)) found accepted.wrong_status)) p
+  change_kept caller id RemoveFromConflict accepted v found p = keeps.pending st.now everyone v (conflict_before v.status (test id v (λ u. not (is_conflict u.status)) found accepted.wrong_status)) p
+  change_kept caller id Cancel accepted v found p = cancelled_kept keeps st.now everyone v p caller v.status refl (test id v (λ u. not (can_cancel u.status)) found accepted.wrong_status)
+  change_kept caller id OldProviderCancellationAcknowledge accepted v found p =
+      keeps.canceled st.now everyone v (cancelled_before v.status (test id v (λ u. not (is_cancel_pending u.status)) found accepted.wrong_status)) p
+  change_kept caller id NewProviderCancellationAcknowledge accepted v found p =
+      keeps.canceled st.now everyone v (cancelled_before v.status (test id v (λ u. not (is_cancel_pending u.status)) found accepted.wrong_status)) p
+  change_kept caller id (Disconnect release) accepted v found p = disconnected_kept keeps st.now everyone v p release
+      (is_active-is v.status (test id v (λ u. not (is_active u.status)) found accepted.wrong_status))
+      (left_by v.attempt (test id v (λ u. has_no_attempt_left u.attempt) found (attempts_left caller (OnVersion id (Disconnect release)) accepted)))
+  change_kept caller id (ModifyRouting lrn cic) accepted v found p = keeps.modified (record { lrn = lrn; cic = cic }) st.now everyone v (
+    is_active-is v.status (test id v (λ u. not (is_active u.status)) found accepted.wrong_status),
+    left_by v.attempt (test id v (λ u. has_no_attempt_left u.attempt) found (attempts_left caller (OnVersion id (ModifyRouting lrn cic)) accepted)),
+  ) p
 
-    -- by the release of a block: its last version is active
-    released_kept : (caller block : ℕ) → AcceptedCommand st caller (Release block) → (v : Version) →
-        version_with v.id (record_now st s) ≡ Some v →
-        (subject_eq s (Block block) && in_force v) ≡ true → P st.now everyone v → P st.now everyone (sent Delete everyone st.now v)
-    released_kept caller block accepted v found released p =
-        let same : s ≡ Block block = sym (same_subject s (Block block) (and_first (subject_eq s (Block block)) (in_force v) released)) in
-        let last : first_of_versions (record_now st s).versions ≡ Some v =
-        last_in_force s (record_now st s).versions v (sound_now st is s) (ap is_block same) found (and_second (subject_eq s (Block block)) (in_force v) released) in
-        let last_is : last_version (record_now st (Block block)) ≡ Some v = ap (λ t. last_version (record_now st t)) (sym same) ∙ last in
-        keeps.disconnected st.now everyone v (
-          is_active-is v.status (ap (holds_of (λ (u : Version). not (is_active u.status))) (sym last_is) ∙ accepted.wrong_status),
-          left_by v.attempt (ap (holds_of (λ (u : Version). has_no_attempt_left u.attempt)) (sym last_is) ∙ attempts_left caller (Release block) accepted),
-        ) p
+  -- by the release of a block: its last version is active
+  released_kept : (caller block : ℕ) → AcceptedCommand st caller (Release block) → (v : Version) →
+      version_with v.id (record_now st s) ≡ Some v →
+      (subject_eq s (Block block) && in_force v) ≡ true → P st.now everyone v → P st.now everyone (sent (set_now st) Delete everyone st.now v)
+  released_kept caller block accepted v found released p =
+      let same : s ≡ Block block = sym (same_subject s (Block block) (and_first (subject_eq s (Block block)) (in_force v) released)) in
+      let last : first_of_versions (record_now st s).versions ≡ Some v =
+      last_in_force s (record_now st s).versions v (sound_now st is s) (ap is_block same) found (and_second (subject_eq s (Block block)) (in_force v) released) in
+      let last_is : last_version (record_now st (Block block)) ≡ Some v = ap (λ t. last_version (record_now st t)) (sym same) ∙ last in
+      keeps.disconnected st.now everyone v (
+        is_active-is v.status (ap (holds_of (λ (u : Version). not (is_active u.status))) (sym last_is) ∙ accepted.wrong_status),
+        left_by v.attempt (ap (holds_of (λ (u : Version). has_no_attempt_left u.attempt)) (sym last_is) ∙ attempts_left caller (Release block) accepted),
+      ) p
 
-    -- by an accepted request, of a version of the subject
-    pub done_kept : (caller : ℕ) (request : Request) → refusal st (Requests caller request) ≡ None →
-        (v : Version) → version_with v.id (record_now st s) ≡ Some v →
-        P st.now everyone v → P st.now (carrier_added (carrier_named request) everyone) (done_to s caller st.now everyone request v)
-    done_kept caller (Commands (RegisterCarrier spid)) ok v found p = keeps.joined spid st.now everyone v p
-    done_kept caller (Commands (OldProviderCreate tn old_provider new_provider due authorized)) ok v found p =
-        either st.now everyone v p (subject_eq s (Number tn) && lacks_old_create old_provider new_provider v) (with_old_create authorized st.now v)
-        (λ lacks. old_create_kept st.now everyone v p authorized (awaits lacks))
-      where
-        awaits : (subject_eq s (Number tn) && lacks_old_create old_provider new_provider v) ≡ true →
-            awaits_creates v.status ≡ true
-        awaits lacks = and_first (awaits_creates v.status) _ (and_first _ _ (and_second (subject_eq s (Number tn)) (lacks_old_create old_provider new_provider v) lacks))
-    done_kept caller (Commands (NewProviderCreate tn old_provider new_provider due lrn cic)) ok v found p =
-        either st.now everyone v p (subject_eq s (Number tn) && lacks_new_create old_provider new_provider v) (with_new_create (record { lrn = lrn; cic = cic }) st.now v)
-        (λ lacks. keeps.new_create (record { lrn = lrn; cic = cic }) st.now everyone v (awaits lacks) p)
-      where
-        awaits : (subject_eq s (Number tn) && lacks_new_create old_provider new_provider v) ≡ true →
-            awaits_creates v.status ≡ true
-        awaits lacks = and_first (awaits_creates v.status) _ (and_first _ _ (and_second (subject_eq s (Number tn)) (lacks_new_create old_provider new_provider v) lacks))
-    done_kept caller (Commands (OnVersion id c)) ok v found p = either st.now everyone v p (v.id == id) (change_of caller st.now everyone c v)
-        (λ named. change_kept caller id c (accepted_command st caller (OnVersion id c) ok) v (subst (λ k. version_with k (record_now st s) ≡ Some v) (same_id v.id id named) found) p)
-    done_kept caller (Commands (Release block)) ok v found p = either st.now everyone v p (subject_eq s (Block block) && in_force v) (sent Delete everyone st.now v)
-        (λ released. released_kept caller block (accepted_command st caller (Release block) ok) v found released p)
-    done_kept caller (Acknowledges id attempt) ok v found p = either st.now everyone v p (v.id == id) (acknowledged_by caller attempt st.now v)
-        (λ named. acknowledged_kept st.now everyone v p caller attempt (ap (is_among caller) carriers_are ∙ by_carrier st caller id attempt ok))
-    done_kept caller _ ok v found p = p
+  -- by an accepted request, of a version of the subject
+  pub done_kept : (caller : ℕ) (request : Request) → refusal st (Requests caller request) ≡ None →
+      (v : Version) → version_with v.id (record_now st s) ≡ Some v →
+      P st.now everyone v → P st.now (carrier_added (carrier_named request) everyone) (done_to (set_now st) s caller st.now everyone request v)
+  done_kept caller (Commands (RegisterCarrier spid)) ok v found p = keeps.joined spid st.now everyone v p
+  done_kept caller (Commands (OldProviderCreate tn old_provider new_provider due authorized)) ok v found p =
+      either keeps st.now everyone v p (subject_eq s (Number tn) && lacks_old_create old_provider new_provider v) (with_old_create (set_now st) authorized st.now v)
+      (λ lacks. old_create_kept keeps st.now everyone v p authorized (awaits lacks))
+    where
+      awaits : (subject_eq s (Number tn) && lacks_old_create old_provider new_provider v) ≡ true →
+          awaits_creates v.status ≡ true
+      awaits lacks = and_first (awaits_creates v.status) _ (and_first _ _ (and_second (subject_eq s (Number tn)) (lacks_old_create old_provider new_provider v) lacks))
+  done_kept caller (Commands (NewProviderCreate tn old_provider new_provider due lrn cic)) ok v found p =
+      either keeps st.now everyone v p (subject_eq s (Number tn) && lacks_new_create old_provider new_provider v) (with_new_create (record { lrn = lrn; cic = cic }) st.now v)
+      (λ lacks. keeps.new_create (record { lrn = lrn; cic = cic }) st.now everyone v (awaits lacks) p)
+    where
+      awaits : (subject_eq s (Number tn) && lacks_new_create old_provider new_provider v) ≡ true →
+          awaits_creates v.status ≡ true
+      awaits lacks = and_first (awaits_creates v.status) _ (and_first _ _ (and_second (subject_eq s (Number tn)) (lacks_new_create old_provider new_provider v) lacks))
+  done_kept caller (Commands (OnVersion id c)) ok v found p = either keeps st.now everyone v p (v.id == id) (change_of (set_now st) caller st.now everyone c v)
+      (λ named. change_kept caller id c (accepted_command st caller (OnVersion id c) ok) v (subst (λ k. version_with k (record_now st s) ≡ Some v) (same_id v.id id named) found) p)
+  done_kept caller (Commands (Release block)) ok v found p = either keeps st.now everyone v p (subject_eq s (Block block) && in_force v) (sent (set_now st) Delete everyone st.now v)
+      (λ released. released_kept caller block (accepted_command st caller (Release block) ok) v found released p)
+  done_kept caller (Acknowledges id attempt) ok v found p = either keeps st.now everyone v p (v.id == id) (acknowledged_by (set_now st) caller attempt st.now v)
+      (λ named. acknowledged_kept keeps st.now everyone v p caller attempt (ap (is_among caller) carriers_are ∙ by_carrier st caller id attempt ok))
+  done_kept caller _ ok v found p = p
 
-    -- by the version that a request makes
-    pub made_kept : (caller : ℕ) (donor : Option ℕ) (from id : ℕ) (request : Request) →
-        refusal st (Requests caller request) ≡ None →
-        id_among s from (makes request (record_now st)) ≡ Some id → P st.now (carrier_added (carrier_named request) everyone) (made_version id caller st.now everyone donor request)
-    made_kept caller donor from id request ok made = go request (ap is_nonempty carriers_are ∙ made_by_carrier st caller s from id request ok made) made
-      where
-        go : (r : Request) → is_nonempty everyone ≡ true →
-            id_among s from (makes r (record_now st)) ≡ Some id →
-            P st.now (carrier_added (carrier_named r) everyone) (made_version id caller st.now everyone donor r)
-        go (Commands (OldProviderCreate tn old_provider new_provider due true)) some is_made = keeps.made_old st.now everyone id old_provider new_provider due some
-        go (Commands (OldProviderCreate tn old_provider new_provider due false)) some is_made =
-            keeps.conflict true st.now everyone (record (blank_version id old_provider new_provider due st.now) { old_at = Some st.now }) refl (keeps.made_old st.now everyone id old_provider new_provider due some)
-        go (Commands (NewProviderCreate tn old_provider new_provider due lrn cic)) some is_made = keeps.made_new (record { lrn = lrn; cic = cic }) st.now everyone id old_provider new_provider due some
-        go (Commands (Donate block used lrn cic)) some is_made = keeps.made_sent (record { lrn = lrn; cic = cic }) true st.now everyone id caller caller st.now some
-        go (Commands (Assign block holder lrn cic)) some is_made = keeps.made_sent (record { lrn = lrn; cic = cic }) false st.now everyone id (unwrap_or donor 0) holder st.now some
-        go _ some is_made = cc
+  -- by the version that a request makes
+  pub made_kept : (caller : ℕ) (donor : Option ℕ) (from id : ℕ) (request : Request) →
+      refusal st (Requests caller request) ≡ None →
+      id_among s from (makes request (record_now st)) ≡ Some id → P st.now (carrier_added (carrier_named request) everyone) (made_version (set_now st) id caller st.now everyone donor request)
+  made_kept caller donor from id request ok made = go request (ap is_nonempty carriers_are ∙ made_by_carrier st caller s from id request ok made) made
+    where
+      go : (r : Request) → is_nonempty everyone ≡ true →
+          id_among s from (makes r (record_now st)) ≡ Some id →
+          P st.now (carrier_added (carrier_named r) everyone) (made_version (set_now st) id caller st.now everyone donor r)
+      go (Commands (OldProviderCreate tn old_provider new_provider due true)) some is_made = keeps.made_old st.now everyone id old_provider new_provider due some
+      go (Commands (OldProviderCreate tn old_provider new_provider due false)) some is_made =
+          keeps.conflict true st.now everyone (record (blank_version (set_now st) id old_provider new_provider due st.now) { old_at = Some st.now }) refl (keeps.made_old st.now everyone id old_provider new_provider due some)
+      go (Commands (NewProviderCreate tn old_provider new_provider due lrn cic)) some is_made = keeps.made_new (record { lrn = lrn; cic = cic }) st.now everyone id old_provider new_provider due some
+      go (Commands (Donate block used lrn cic)) some is_made = keeps.made_sent (record { lrn = lrn; cic = cic }) true st.now everyone id caller caller st.now some
+      go (Commands (Assign block holder lrn cic)) some is_made = keeps.made_sent (record { lrn = lrn; cic = cic }) false st.now everyone id (unwrap_or donor 0) holder st.now some
+      go _ some is_made = cc

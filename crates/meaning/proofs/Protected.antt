@@ -6,15 +6,15 @@ use Rattle.numbers.specs.Digits.{block_of, number_in}
 use Rattle.numbers.specs.Subjects.{Subject, Number, Block}
 use Rattle.meaning.specs.Commands.{OldProviderCreate, NewProviderCreate, Donate, Assign}
 use Rattle.meaning.specs.Statuses.{Old}
-use Rattle.meaning.specs.Windows.{Windows}
+use Rattle.meaning.specs.Windows.{Windows, WindowSet}
 use Rattle.meaning.specs.Versions.{Version, Record, in_force, is_open, version_in_force, open_version, version_with}
 use Rattle.meaning.specs.Changes.{enters, changed_at, retired}
 use Rattle.meaning.specs.Judge.{judge, judged_for, judged_version}
 use Rattle.meaning.specs.Conditions.{holds_of}
-use Rattle.meaning.specs.History.{Request, Entry, Commands, HasLines, makes, made_by, made_version, with_made, done_to, next_after, id_among, donor_named, donor_of, assigned_block, or_else, effect, after, meaning, replay, rising}
+use Rattle.meaning.specs.History.{Request, Entry, Commands, HasValues, makes, made_by, made_version, with_made, done_to, next_after, id_among, donor_named, donor_of, assigned_block, or_else, effect, after, meaning, replay, rising, present_set}
 use Rattle.meaning.specs.Laws.{NoPortUnderBlock}
 use Rattle.meaning.specs.Machine.{IsHistory}
-use Rattle.meaning.specs.Reading.{State, record_now}
+use Rattle.meaning.specs.Reading.{State, record_now, set_now}
 use Rattle.meaning.specs.Refusals.{Requests, refusal, is_in_block, has_open_port}
 use Rattle.meaning.specs.Sound.{NoneInForce, NoneOpen, AreSound}
 use Rattle.meaning.proofs.Accepted.{accepted_command}
@@ -86,14 +86,14 @@ pub undonated : (w : Windows) (b : ℕ) (h : List Entry) (m : ℕ) → IsHistory
 unfolding judge effect
 undonated w b = kept w (Block b) (λ h m r. donor_of b h ≡ None → r.versions ≡ []) (record {
   first = λ m none. refl;
-  minute = λ h m is before none. ap (changed_at (suc m) (judged_version w (replay w (Block b) h m).carriers (suc m))) (before none);
+  minute = λ h m is before none. ap (changed_at (present_set w h) (suc m) (judged_version (present_set w h) (replay w (Block b) h m).carriers (suc m))) (before none);
   entry = λ h e is before none.
       let st : State = record { windows = w; history = h; now = e.minute } in
       let earlier : donor_of b h ≡ None = donor_before (donor_named b e.caller e.request) (donor_of b h) none in
-      ap (λ o. with_made o (λ id. made_version id e.caller e.minute (replay w (Block b) h e.minute).carriers (donor_of (assigned_block e.request) h) e.request)
-      (changed_at e.minute (done_to (Block b) e.caller e.minute (replay w (Block b) h e.minute).carriers e.request) (replay w (Block b) h e.minute).versions))
+      ap (λ o. with_made o (λ id. made_version (present_set w h) id e.caller e.minute (replay w (Block b) h e.minute).carriers (donor_of (assigned_block e.request) h) e.request)
+      (changed_at (present_set w h) e.minute (done_to (present_set w h) (Block b) e.caller e.minute (replay w (Block b) h e.minute).carriers e.request) (replay w (Block b) h e.minute).versions))
       (not_made st b (next_after (made_by w h)) e.request (no_donor st e.caller b e.request is.2 earlier))
-      ∙ ap (changed_at e.minute (done_to (Block b) e.caller e.minute (replay w (Block b) h e.minute).carriers e.request)) (before earlier);
+      ∙ ap (changed_at (present_set w h) e.minute (done_to (present_set w h) (Block b) e.caller e.minute (replay w (Block b) h e.minute).carriers e.request)) (before earlier);
 })
 
 -- ---- an open protective version stands alone
@@ -110,12 +110,12 @@ port_before : (n : ℕ) (old new : Version) → Respects (Number n) old new → 
 port_before n old new respects same is =
     ap (λ b. b && old.protective) (respects.opens (and_first (is_open (Number n) new) new.protective is)) ∙ sym same ∙ and_second (is_open (Number n) new) new.protective is
 
-changed_alone : (n minute : ℕ) (change : Version → Version) (vs : List Version) → RespectsEach (Number n) change vs → ((v : Version) → (change v).protective ≡ v.protective) →
-    AreSound (Number n) vs → PortIsAlone n vs → PortIsAlone n (changed_at minute change vs)
-changed_alone n minute change [] each same sound alone = tt
-changed_alone n minute change (v ∷ vs) each same sound alone = λ is.
-    retired-none (not (in_force v) && in_force (change v)) minute (changed_at minute change vs)
-    (changed-none (Number n) minute change vs each.1 sound.0 (alone (port_before n v (change v) each.0 (same v) is)))
+changed_alone : (w : WindowSet) (n minute : ℕ) (change : Version → Version) (vs : List Version) → RespectsEach (Number n) change vs → ((v : Version) → (change v).protective ≡ v.protective) →
+    AreSound (Number n) vs → PortIsAlone n vs → PortIsAlone n (changed_at w minute change vs)
+changed_alone w n minute change [] each same sound alone = tt
+changed_alone w n minute change (v ∷ vs) each same sound alone = λ is.
+    retired-none w (not (in_force v) && in_force (change v)) minute (changed_at w minute change vs)
+    (changed-none w (Number n) minute change vs each.1 sound.0 (alone (port_before n v (change v) each.0 (same v) is)))
 
 -- only a donation makes a protective version
 abbrev IsDonated : ℕ → Request → Type 0
@@ -124,29 +124,29 @@ IsDonated n _ = ⊥
 
 module _ (st : State) (is : IsHistory st.windows st.history st.now) (n : ℕ) where
   respected : (caller : ℕ) (everyone : List ℕ) (request : Request) → refusal st (Requests caller request) ≡ None →
-      RespectsEach (Number n) (done_to (Number n) caller st.now everyone request) (record_now st (Number n)).versions
+      RespectsEach (Number n) (done_to (set_now st) (Number n) caller st.now everyone request) (record_now st (Number n)).versions
   respected = entry-respects st (Number n) (given_now st is (Number n))
 
-  made_port : (caller id : ℕ) (everyone : List ℕ) (donor : Option ℕ) (k : ℕ) (request : Request) → HasLines request → refusal st (Requests caller request) ≡ None →
-      id_among (Number n) k (makes request (record_now st)) ≡ Some id → is_port n (made_version id caller st.now everyone donor request) ≡ true → IsDonated n request
+  made_port : (caller id : ℕ) (everyone : List ℕ) (donor : Option ℕ) (k : ℕ) (request : Request) → HasValues request → refusal st (Requests caller request) ≡ None →
+      id_among (Number n) k (makes request (record_now st)) ≡ Some id → is_port n (made_version (set_now st) id caller st.now everyone donor request) ≡ true → IsDonated n request
   made_port caller id everyone donor k (Commands (Donate block used lrn cic)) lines ok made port = same_id (block_of n) block (donate-inside st (Number n) k id block used lrn cic lines made)
   made_port caller id everyone donor k (Commands (OldProviderCreate tn old_provider new_provider due true)) lines ok made port = cc
   made_port caller id everyone donor k (Commands (OldProviderCreate tn old_provider new_provider due false)) lines ok made port = cc
   made_port caller id everyone donor k _ lines ok made port = cc
 
-  made_alone : (caller id : ℕ) (everyone : List ℕ) (donor : Option ℕ) (k : ℕ) (request : Request) → HasLines request → refusal st (Requests caller request) ≡ None →
-      id_among (Number n) k (makes request (record_now st)) ≡ Some id → IsDonated n request → NoneInForce (changed_at st.now (done_to (Number n) caller st.now everyone request) (record_now st (Number n)).versions)
+  made_alone : (caller id : ℕ) (everyone : List ℕ) (donor : Option ℕ) (k : ℕ) (request : Request) → HasValues request → refusal st (Requests caller request) ≡ None →
+      id_among (Number n) k (makes request (record_now st)) ≡ Some id → IsDonated n request → NoneInForce (changed_at (set_now st) st.now (done_to (set_now st) (Number n) caller st.now everyone request) (record_now st (Number n)).versions)
   made_alone caller id everyone donor k (Commands (Donate block used lrn cic)) lines ok made donated =
-      subst NoneInForce (sym (changed_at-same st.now (λ v. v) (record_now st (Number n)).versions (everywhere (λ v. refl) (record_now st (Number n)).versions)))
+      subst NoneInForce (sym (changed_at-same (set_now st) st.now (λ v. v) (record_now st (Number n)).versions (everywhere (λ v. refl) (record_now st (Number n)).versions)))
       (none_in_force-found (record_now st (Number n)).versions (donate-unforced st (Number n) k id block used lrn cic lines made))
   made_alone caller id everyone donor k _ lines ok made donated = absurd donated
 
-  entered_alone : (caller : ℕ) (everyone : List ℕ) (donor : Option ℕ) (k : ℕ) (request : Request) → HasLines request → refusal st (Requests caller request) ≡ None → PortIsAlone n (record_now st (Number n)).versions →
+  entered_alone : (caller : ℕ) (everyone : List ℕ) (donor : Option ℕ) (k : ℕ) (request : Request) → HasValues request → refusal st (Requests caller request) ≡ None → PortIsAlone n (record_now st (Number n)).versions →
       (o : Option ℕ) → id_among (Number n) k (makes request (record_now st)) ≡ o →
-      PortIsAlone n (with_made o (λ id. made_version id caller st.now everyone donor request) (changed_at st.now (done_to (Number n) caller st.now everyone request) (record_now st (Number n)).versions))
+      PortIsAlone n (with_made o (λ id. made_version (set_now st) id caller st.now everyone donor request) (changed_at (set_now st) st.now (done_to (set_now st) (Number n) caller st.now everyone request) (record_now st (Number n)).versions))
   entered_alone caller everyone donor k request lines ok alone None unmade =
-      changed_alone n st.now (done_to (Number n) caller st.now everyone request) (record_now st (Number n)).versions (respected caller everyone request ok)
-      (λ v. (done_to-same (Number n) caller st.now everyone request v).protective) (sound_now st is (Number n)) alone
+      changed_alone (set_now st) n st.now (done_to (set_now st) (Number n) caller st.now everyone request) (record_now st (Number n)).versions (respected caller everyone request ok)
+      (λ v. (done_to-same (set_now st) (Number n) caller st.now everyone request v).protective) (sound_now st is (Number n)) alone
   entered_alone caller everyone donor k request lines ok alone (Some id) made = λ port.
       made_alone caller id everyone donor k request lines ok made (made_port caller id everyone donor k request lines ok made port)
 
@@ -155,9 +155,9 @@ unfolding judge effect
 ports_alone w n = kept w (Number n) (λ h m r. PortIsAlone n r.versions) (record {
   first = λ m. tt;
   minute = λ h m is before.
-      changed_alone n (suc m) (judged_version w (replay w (Number n) h m).carriers (suc m)) (replay w (Number n) h m).versions
-      (everywhere (λ v. by_status (Number n) v (judged_version w (replay w (Number n) h m).carriers (suc m) v) (judged_version-respects (Number n) w (replay w (Number n) h m).carriers (suc m) v)) (replay w (Number n) h m).versions)
-      (λ v. (judged_version-same w (replay w (Number n) h m).carriers (suc m) v).protective)
+      changed_alone (present_set w h) n (suc m) (judged_version (present_set w h) (replay w (Number n) h m).carriers (suc m)) (replay w (Number n) h m).versions
+      (everywhere (λ v. by_status (Number n) v (judged_version (present_set w h) (replay w (Number n) h m).carriers (suc m) v) (judged_version-respects (Number n) (present_set w h) (replay w (Number n) h m).carriers (suc m) v)) (replay w (Number n) h m).versions)
+      (λ v. (judged_version-same (present_set w h) (replay w (Number n) h m).carriers (suc m) v).protective)
       (sound_now (record { windows = w; history = h; now = m }) is (Number n)) before;
   entry = λ h e is before.
       entered_alone (record { windows = w; history = h; now = e.minute }) is.3 n e.caller (replay w (Number n) h e.minute).carriers (donor_of (assigned_block e.request) h) (next_after (made_by w h)) e.request is.1 is.2 before
@@ -177,8 +177,8 @@ abbrev has_port : ℕ → List Version → Bool
 has_port n vs = list_any (is_port n) vs
 
 -- what holds of a version after a change only where it held before, and not of an old one, holds of one of them only where it did of one before
-module _ (p : Version → Bool) (minute : ℕ) (fails : (v : Version) → p (enters Old minute v) ≡ false) where
-  retired_before : (c : Bool) (vs : List Version) → list_any p (map (retired c minute) vs) ≡ true → list_any p vs ≡ true
+module _ (w : WindowSet) (p : Version → Bool) (minute : ℕ) (fails : (v : Version) → p (enters w Old minute v) ≡ false) where
+  retired_before : (c : Bool) (vs : List Version) → list_any p (map (retired w c minute) vs) ≡ true → list_any p vs ≡ true
   retired_before c [] is = cc
   retired_before c (v ∷ vs) is = go (retired_before c vs) (c && in_force v) is
     where
@@ -186,19 +186,19 @@ module _ (p : Version → Bool) (minute : ℕ) (fails : (v : Version) → p (ent
       behind true x e = refl
       behind false x e = e
 
-      go : (list_any p (map (retired c minute) vs) ≡ true → list_any p vs ≡ true) → (x : Bool) → (p (if x then enters Old minute v else v) || list_any p (map (retired c minute) vs)) ≡ true → (p v || list_any p vs) ≡ true
-      go later true e = behind (p v) (list_any p vs) (later (ap (λ a. a || list_any p (map (retired c minute) vs)) (sym (fails v)) ∙ e))
-      go later false e = or_either (p v) (list_any p (map (retired c minute) vs)) (list_any p vs) later e
+      go : (list_any p (map (retired w c minute) vs) ≡ true → list_any p vs ≡ true) → (x : Bool) → (p (if x then enters w Old minute v else v) || list_any p (map (retired w c minute) vs)) ≡ true → (p v || list_any p vs) ≡ true
+      go later true e = behind (p v) (list_any p vs) (later (ap (λ a. a || list_any p (map (retired w c minute) vs)) (sym (fails v)) ∙ e))
+      go later false e = or_either (p v) (list_any p (map (retired w c minute) vs)) (list_any p vs) later e
         where
           or_either : (a x y : Bool) → (x ≡ true → y ≡ true) → (a || x) ≡ true → (a || y) ≡ true
           or_either true x y f g = refl
           or_either false x y f g = f g
 
-  any_before : (change : Version → Version) (vs : List Version) → AllByRecursion (λ v. p (change v) ≡ true → p v ≡ true) vs → list_any p (changed_at minute change vs) ≡ true → list_any p vs ≡ true
+  any_before : (change : Version → Version) (vs : List Version) → AllByRecursion (λ v. p (change v) ≡ true → p v ≡ true) vs → list_any p (changed_at w minute change vs) ≡ true → list_any p vs ≡ true
   any_before change [] each is = cc
   any_before change (v ∷ vs) each is =
-      or_both (p (change v)) (list_any p (map (retired (not (in_force v) && in_force (change v)) minute) (changed_at minute change vs))) (p v) (list_any p vs) each.0
-      (λ rest. any_before change vs each.1 (retired_before (not (in_force v) && in_force (change v)) (changed_at minute change vs) rest)) is
+      or_both (p (change v)) (list_any p (map (retired w (not (in_force v) && in_force (change v)) minute) (changed_at w minute change vs))) (p v) (list_any p vs) each.0
+      (λ rest. any_before change vs each.1 (retired_before (not (in_force v) && in_force (change v)) (changed_at w minute change vs) rest)) is
     where
       or_both : (a x c y : Bool) → (a ≡ true → c ≡ true) → (x ≡ true → y ≡ true) → (a || x) ≡ true → (c || y) ≡ true
       or_both true x c y f g e = ap (λ k. k || y) (f refl)
@@ -214,11 +214,11 @@ any_made p (Some id) made vs is = go (p (made id)) refl is
     go true e f = inr (id, refl, e)
     go false e f = inl f
 
-old_stands_not : (b minute : ℕ) (v : Version) → stands (Block b) (enters Old minute v) ≡ false
-old_stands_not b minute v = refl
+old_stands_not : (w : WindowSet) (b minute : ℕ) (v : Version) → stands (Block b) (enters w Old minute v) ≡ false
+old_stands_not w b minute v = refl
 
-old_port_not : (n minute : ℕ) (v : Version) → is_port n (enters Old minute v) ≡ false
-old_port_not n minute v = refl
+old_port_not : (w : WindowSet) (n minute : ℕ) (v : Version) → is_port n (enters w Old minute v) ≡ false
+old_port_not w n minute v = refl
 
 stood_before : (b : ℕ) (old new : Version) → Respects (Block b) old new → stands (Block b) new ≡ true → stands (Block b) old ≡ true
 stood_before b old new respects is = go (is_open (Block b) old) refl (in_force new) refl is
@@ -229,11 +229,11 @@ stood_before b old new respects is = go (is_open (Block b) old) refl (in_force n
     go false e false g h = true-false (is_open (Block b) old) (respects.opens h) e
 
 -- minutes make no version stand, and open none
-module _ (w : Windows) (s : Subject) (p : Version → Bool) (fails : (minute : ℕ) (v : Version) → p (enters Old minute v) ≡ false)
+module _ (w : WindowSet) (s : Subject) (p : Version → Bool) (fails : (minute : ℕ) (v : Version) → p (enters w Old minute v) ≡ false)
     (before : (old new : Version) → Respects s old new → new.protective ≡ old.protective → p new ≡ true → p old ≡ true) where
   judged_before : (j : ℕ) (r : Record) → list_any p (judge w j r).versions ≡ true → list_any p r.versions ≡ true
   unfolding judge
-  judged_before j r is = any_before p j (fails j) (judged_version w r.carriers j) r.versions
+  judged_before j r is = any_before w p j (fails j) (judged_version w r.carriers j) r.versions
       (everywhere (λ v. before v (judged_version w r.carriers j v) (by_status s v (judged_version w r.carriers j v) (judged_version-respects s w r.carriers j v)) (judged_version-same w r.carriers j v).protective) r.versions) is
 
   minutes_before : (from n : ℕ) (r : Record) → list_any p (judged_for w from n r).versions ≡ true → list_any p r.versions ≡ true
@@ -307,27 +307,27 @@ module _ (st : State) (is : IsHistory st.windows st.history st.now) (n : ℕ) wh
   both_never _ assigned donated = absurd assigned
 
   -- after an accepted entry the block is not taken while the number's protective version is open, if it was not before
-  entered_apart : (is_taken (block_of n) block_now ≡ true → has_port n number_now ≡ true → ⊥) → (caller : ℕ) (a c : List ℕ) (donor : Option ℕ) (k : ℕ) (request : Request) → HasLines request →
+  entered_apart : (is_taken (block_of n) block_now ≡ true → has_port n number_now ≡ true → ⊥) → (caller : ℕ) (a c : List ℕ) (donor : Option ℕ) (k : ℕ) (request : Request) → HasValues request →
       refusal st (Requests caller request) ≡ None →
-      is_taken (block_of n) (with_made (id_among (Block (block_of n)) k (makes request (record_now st))) (λ id. made_version id caller st.now a donor request) (changed_at st.now (done_to (Block (block_of n)) caller st.now a request) block_now)) ≡ true →
-      has_port n (with_made (id_among (Number n) k (makes request (record_now st))) (λ id. made_version id caller st.now c donor request) (changed_at st.now (done_to (Number n) caller st.now c request) number_now)) ≡ true → ⊥
+      is_taken (block_of n) (with_made (id_among (Block (block_of n)) k (makes request (record_now st))) (λ id. made_version (set_now st) id caller st.now a donor request) (changed_at (set_now st) st.now (done_to (set_now st) (Block (block_of n)) caller st.now a request) block_now)) ≡ true →
+      has_port n (with_made (id_among (Number n) k (makes request (record_now st))) (λ id. made_version (set_now st) id caller st.now c donor request) (changed_at (set_now st) st.now (done_to (set_now st) (Number n) caller st.now c request) number_now)) ≡ true → ⊥
   entered_apart apart caller a c donor k request lines ok taken has =
-      go (any_made (stands (Block (block_of n))) (id_among (Block (block_of n)) k (makes request (record_now st))) (λ id. made_version id caller st.now a donor request)
-      (changed_at st.now (done_to (Block (block_of n)) caller st.now a request) block_now) taken)
-      (any_made (is_port n) (id_among (Number n) k (makes request (record_now st))) (λ id. made_version id caller st.now c donor request) (changed_at st.now (done_to (Number n) caller st.now c request) number_now) has)
+      go (any_made (stands (Block (block_of n))) (id_among (Block (block_of n)) k (makes request (record_now st))) (λ id. made_version (set_now st) id caller st.now a donor request)
+      (changed_at (set_now st) st.now (done_to (set_now st) (Block (block_of n)) caller st.now a request) block_now) taken)
+      (any_made (is_port n) (id_among (Number n) k (makes request (record_now st))) (λ id. made_version (set_now st) id caller st.now c donor request) (changed_at (set_now st) st.now (done_to (set_now st) (Number n) caller st.now c request) number_now) has)
     where
-      taken_before : is_taken (block_of n) (changed_at st.now (done_to (Block (block_of n)) caller st.now a request) block_now) ≡ true → is_taken (block_of n) block_now ≡ true
-      taken_before = any_before (stands (Block (block_of n))) st.now (old_stands_not (block_of n) st.now) (done_to (Block (block_of n)) caller st.now a request) block_now
-          (each (λ v r. stood_before (block_of n) v (done_to (Block (block_of n)) caller st.now a request v) r) block_now (entry-respects st (Block (block_of n)) (given_now st is (Block (block_of n))) caller a request ok))
+      taken_before : is_taken (block_of n) (changed_at (set_now st) st.now (done_to (set_now st) (Block (block_of n)) caller st.now a request) block_now) ≡ true → is_taken (block_of n) block_now ≡ true
+      taken_before = any_before (set_now st) (stands (Block (block_of n))) st.now (old_stands_not (set_now st) (block_of n) st.now) (done_to (set_now st) (Block (block_of n)) caller st.now a request) block_now
+          (each (λ v r. stood_before (block_of n) v (done_to (set_now st) (Block (block_of n)) caller st.now a request v) r) block_now (entry-respects st (Block (block_of n)) (given_now st is (Block (block_of n))) caller a request ok))
 
-      had_before : has_port n (changed_at st.now (done_to (Number n) caller st.now c request) number_now) ≡ true → has_port n number_now ≡ true
-      had_before = any_before (is_port n) st.now (old_port_not n st.now) (done_to (Number n) caller st.now c request) number_now
-          (each (λ v r. port_before n v (done_to (Number n) caller st.now c request v) r (done_to-same (Number n) caller st.now c request v).protective) number_now (respected st is n caller c request ok))
+      had_before : has_port n (changed_at (set_now st) st.now (done_to (set_now st) (Number n) caller st.now c request) number_now) ≡ true → has_port n number_now ≡ true
+      had_before = any_before (set_now st) (is_port n) st.now (old_port_not (set_now st) n st.now) (done_to (set_now st) (Number n) caller st.now c request) number_now
+          (each (λ v r. port_before n v (done_to (set_now st) (Number n) caller st.now c request v) r (done_to-same (set_now st) (Number n) caller st.now c request v).protective) number_now (respected st is n caller c request ok))
 
-      go : (is_taken (block_of n) (changed_at st.now (done_to (Block (block_of n)) caller st.now a request) block_now) ≡ true)
-          ⊎ ((id : ℕ) × (id_among (Block (block_of n)) k (makes request (record_now st)) ≡ Some id) × (stands (Block (block_of n)) (made_version id caller st.now a donor request) ≡ true)) →
-          (has_port n (changed_at st.now (done_to (Number n) caller st.now c request) number_now) ≡ true)
-          ⊎ ((id : ℕ) × (id_among (Number n) k (makes request (record_now st)) ≡ Some id) × (is_port n (made_version id caller st.now c donor request) ≡ true)) → ⊥
+      go : (is_taken (block_of n) (changed_at (set_now st) st.now (done_to (set_now st) (Block (block_of n)) caller st.now a request) block_now) ≡ true)
+          ⊎ ((id : ℕ) × (id_among (Block (block_of n)) k (makes request (record_now st)) ≡ Some id) × (stands (Block (block_of n)) (made_version (set_now st) id caller st.now a donor request) ≡ true)) →
+          (has_port n (changed_at (set_now st) st.now (done_to (set_now st) (Number n) caller st.now c request) number_now) ≡ true)
+          ⊎ ((id : ℕ) × (id_among (Number n) k (makes request (record_now st)) ≡ Some id) × (is_port n (made_version (set_now st) id caller st.now c donor request) ≡ true)) → ⊥
       go (inl x) (inl y) = apart (taken_before x) (had_before y)
       go (inl x) (inr y) = donated_never caller request ok (made_port st is n caller y.0 c donor k request lines ok y.1 y.2) (taken_before x)
       go (inr x) (inl y) = assigned_never caller request ok (made_of_block st (block_of n) k x.0 request x.1) (had_before y)
@@ -341,8 +341,8 @@ stay_apart w n [] m is taken has = cc
 stay_apart w n (e ∷ h) m is taken has =
     entered_apart (record { windows = w; history = h; now = e.minute }) is.3 n (stay_apart w n h e.minute is.3) e.caller (replay w (Block (block_of n)) h e.minute).carriers (replay w (Number n) h e.minute).carriers
     (donor_of (assigned_block e.request) h) (next_after (made_by w h)) e.request is.1 is.2
-    (minutes_before w (Block (block_of n)) (stands (Block (block_of n))) (old_stands_not (block_of n)) (λ old new r same. stood_before (block_of n) old new r) e.minute (m - e.minute) (record_after w (Block (block_of n)) h e) taken)
-    (minutes_before w (Number n) (is_port n) (old_port_not n) (port_before n) e.minute (m - e.minute) (record_after w (Number n) h e) has)
+    (minutes_before (present_set w (e ∷ h)) (Block (block_of n)) (stands (Block (block_of n))) (old_stands_not (present_set w (e ∷ h)) (block_of n)) (λ old new r same. stood_before (block_of n) old new r) e.minute (m - e.minute) (record_after w (Block (block_of n)) h e) taken)
+    (minutes_before (present_set w (e ∷ h)) (Number n) (is_port n) (old_port_not (present_set w (e ∷ h)) n) (port_before n) e.minute (m - e.minute) (record_after w (Number n) h e) has)
 
 -- in every state that a run can reach
 pub no_port_under_block : NoPortUnderBlock

@@ -9,7 +9,7 @@ use Rattle.meaning.specs.Commands.{Donate, Assign, Release}
 use Rattle.meaning.specs.Versions.{Version, Record, in_force, is_open, version_in_force, open_version}
 use Rattle.meaning.specs.Conditions.{holds_of, is_the}
 use Rattle.meaning.specs.History.{Request, Commands, AreLines, used_numbers, makes, made_version, next_id, id_among, donor_of, code_holder, effect, after, meaning}
-use Rattle.meaning.specs.Reading.{State, Server, ByVersion, ByCode, record_now, serving, protected_by, served_by_code, served_by_block}
+use Rattle.meaning.specs.Reading.{State, Server, ByVersion, ByCode, record_now, serving, protected_by, served_by_code, served_by_block, set_now}
 use Rattle.meaning.specs.Refusals.{Requests, refusal}
 use Rattle.meaning.specs.Laws.{IsState, KeepsService, is_held, server_of, DonationKeepsService, AssignmentKeepsService, ReleaseKeepsService}
 use Rattle.meaning.specs.Machine.{next, accepted}
@@ -68,14 +68,14 @@ assigned_elsewhere : (st : State) (caller block holder lrn : ℕ) (cic : Option 
     record_now (accepted st (Requests caller (Commands (Assign block holder lrn cic)))) (Number n) ≡ record_now st (Number n)
 unfolding meaning
 assigned_elsewhere st caller block holder lrn cic n =
-    after-elsewhere st.windows (record { minute = st.now; caller = caller; request = Commands (Assign block holder lrn cic) }) (donor_of block st.history) (meaning st.windows st.history) (Number n) st.now refl refl
-    ∙ judged-now st.windows st.now (record_now st (Number n))
+    after-elsewhere (set_now st) (record { minute = st.now; caller = caller; request = Commands (Assign block holder lrn cic) }) (donor_of block st.history) (meaning st.windows st.history) (Number n) st.now refl refl
+    ∙ judged-now (set_now st) st.now (record_now st (Number n))
 
 released_elsewhere : (st : State) (caller block n : ℕ) → record_now (accepted st (Requests caller (Commands (Release block)))) (Number n) ≡ record_now st (Number n)
 unfolding meaning
 released_elsewhere st caller block n =
-    after-elsewhere st.windows (record { minute = st.now; caller = caller; request = Commands (Release block) }) (donor_of 0 st.history) (meaning st.windows st.history) (Number n) st.now refl refl
-    ∙ judged-now st.windows st.now (record_now st (Number n))
+    after-elsewhere (set_now st) (record { minute = st.now; caller = caller; request = Commands (Release block) }) (donor_of 0 st.history) (meaning st.windows st.history) (Number n) st.now refl refl
+    ∙ judged-now (set_now st) st.now (record_now st (Number n))
 
 pub assignment_keeps : AssignmentKeepsService
 assignment_keeps st is caller block holder lrn cic none n held =
@@ -107,21 +107,21 @@ module _ (st : State) (is : IsState st) (caller block : ℕ) (used : List ℕ) (
   left_alone : (n : ℕ) → id_among (Number n) ids_from (makes (Commands (Donate block used lrn cic)) (record_now st)) ≡ None → record_now after_it (Number n) ≡ record_now st (Number n)
   unfolding meaning
   left_alone n unmade =
-      after-elsewhere st.windows (record { minute = st.now; caller = caller; request = Commands (Donate block used lrn cic) }) (donor_of 0 st.history) (meaning st.windows st.history) (Number n) st.now refl unmade
-      ∙ judged-now st.windows st.now (record_now st (Number n))
+      after-elsewhere (set_now st) (record { minute = st.now; caller = caller; request = Commands (Donate block used lrn cic) }) (donor_of 0 st.history) (meaning st.windows st.history) (Number n) st.now refl unmade
+      ∙ judged-now (set_now st) st.now (record_now st (Number n))
 
   -- the version of a number that gets one stands in front
   abbrev protective : ℕ → ℕ → Version
-  protective id n = made_version id caller st.now (record_now st (Number n)).carriers (donor_of 0 st.history) (Commands (Donate block used lrn cic))
+  protective id n = made_version (set_now st) id caller st.now (record_now st (Number n)).carriers (donor_of 0 st.history) (Commands (Donate block used lrn cic))
 
   made_in_front : (n id : ℕ) → id_among (Number n) ids_from (makes (Commands (Donate block used lrn cic)) (record_now st)) ≡ Some id →
       (record_now after_it (Number n)).versions ≡ protective id n ∷ (record_now st (Number n)).versions
   unfolding meaning after effect
   made_in_front n id made =
-      ap (λ (r : Record). r.versions) (judged-now st.windows st.now (effect (Number n) (id_among (Number n) ids_from (makes (Commands (Donate block used lrn cic)) (record_now st))) (donor_of 0 st.history)
+      ap (λ (r : Record). r.versions) (judged-now (set_now st) st.now (effect (set_now st) (Number n) (id_among (Number n) ids_from (makes (Commands (Donate block used lrn cic)) (record_now st))) (donor_of 0 st.history)
       (record { minute = st.now; caller = caller; request = Commands (Donate block used lrn cic) }) (record_now st (Number n))))
-      ∙ ap (λ o. (effect (Number n) o (donor_of 0 st.history) (record { minute = st.now; caller = caller; request = Commands (Donate block used lrn cic) }) (record_now st (Number n))).versions) made
-      ∙ ap (λ vs. protective id n ∷ vs) (changed_at-same st.now (λ v. v) (record_now st (Number n)).versions (everywhere (λ v. refl) (record_now st (Number n)).versions))
+      ∙ ap (λ o. (effect (set_now st) (Number n) o (donor_of 0 st.history) (record { minute = st.now; caller = caller; request = Commands (Donate block used lrn cic) }) (record_now st (Number n))).versions) made
+      ∙ ap (λ vs. protective id n ∷ vs) (changed_at-same (set_now st) st.now (λ v. v) (record_now st (Number n)).versions (everywhere (λ v. refl) (record_now st (Number n)).versions))
 
   -- so the donor serves it, as it did by its code
   by_donor : (n id : ℕ) → id_among (Number n) ids_from (makes (Commands (Donate block used lrn cic)) (record_now st)) ≡ Some id → version_in_force (record_now st (Number n)) ≡ None →

@@ -7,7 +7,7 @@ use Rattle.meaning.specs.History.{Entry, Request, Commands, Acknowledges}
 use Rattle.meaning.specs.Reading.{Download, InForce, registers, all_in_force, queue}
 use Rattle.meaning.specs.Refusals.{is_download}
 
--- where a copy routes s, once a download is applied: a create puts its routing, a delete none
+-- where a copy routes s, once a download is applied: a create and a modify put their routing, a delete none
 abbrev pub applied : Download → (s : Subject) → Option Routing → Option Routing
 applied d s before = if subject_eq d.subject s then d.routing else before
 

@@ -1,17 +1,19 @@
 -- Worked examples, computed from the definitions.
-use Rattle.std.specs.Prelude.{ℕ, zero, suc, ◌+◌, true, false, List, [], ◌∷◌, ◌++◌, map, Option, Some, None, ◌≡◌, refl, option_map, length, filter, ◌==◌, if◌then◌else◌}
+use Rattle.std.specs.Prelude.{ℕ, zero, suc, ◌+◌, true, false, List, [], ◌∷◌, ◌++◌, map, Option, Some, None, ◌≡◌, refl, option_map, option_and_then, length, filter, ◌==◌, if◌then◌else◌}
 use Rattle.numbers.specs.Subjects.{Number}
-use Rattle.meaning.specs.Commands.{Command, RegisterCarrier, RegisterRoutingNumber, OpenCode, OldProviderCreate, NewProviderCreate, OnVersion, Activate, PutInConflict, RemoveFromConflict, Cancel, OldProviderCancellationAcknowledge, NewProviderCancellationAcknowledge, Disconnect, Donate, Assign, Release}
-use Rattle.meaning.specs.Statuses.{Status, Pending, Conflict, CancelPending, Sending, Active, PartialFailure, Failed, DisconnectPending, Old, Canceled}
+use Rattle.numbers.specs.Routings.{Routing}
+use Rattle.meaning.specs.Commands.{Command, RegisterCarrier, RegisterRoutingNumber, OpenCode, OldProviderCreate, NewProviderCreate, OnVersion, Activate, PutInConflict, RemoveFromConflict, Cancel, OldProviderCancellationAcknowledge, NewProviderCancellationAcknowledge, Disconnect, ModifyRouting, Donate, Assign, Release}
+use Rattle.meaning.specs.Statuses.{Create, Delete, Modify, Status, Pending, Conflict, CancelPending, Sending, Active, PartialFailure, Failed, DisconnectPending, Old, Canceled}
 use Rattle.meaning.specs.declared.words.Outcome.{Outcome}
 use Rattle.meaning.specs.declared.words.Outcome.TheVariants.{AllAcknowledged, SomeAcknowledged}
-use Rattle.meaning.specs.declared.words.Action.TheVariants.{Create, Delete}
+use Rattle.meaning.specs.declared.words.Action.{Action}
+use Rattle.meaning.specs.declared.words.Action.TheVariants.{Modify as ModifyAction}
 use Rattle.meaning.specs.declared.words.Side.TheVariants.{OldProvider}
-use Rattle.meaning.specs.Windows.{Windows}
+use Rattle.meaning.specs.Windows.{Windows, first_set}
 use Rattle.meaning.specs.Versions.{Broadcast, Version, Record, in_force}
 use Rattle.meaning.specs.Judge.{judged_version, judge, judged_for, judged, caught_up}
 use Rattle.meaning.specs.History.{Commands, Acknowledges, effect, after, meaning, blank_version}
-use Rattle.meaning.specs.Reading.{State, first_state, record_now, queue, version_of_id, routing_of, copy_of, published, Phase, Initial, Final, Ended, phase_of, view_of}
+use Rattle.meaning.specs.Reading.{State, SubjectVersion, Download, first_state, record_now, queue, version_of_id, routing_of, copy_of, published, Phase, Initial, Final, Ended, phase_of, view_of}
 use Rattle.meaning.specs.Refusals.{Input, Moment, Requests, refusal, npac, tests}
 use Rattle.meaning.specs.Machine.{Donated, Registered, next, out, state_after}
 
@@ -356,6 +358,124 @@ release_cancelled : standing (state_after active_at_201 (Moment 300 ∷ does a (
 unfolding next meaning after effect judge judged_for judged_version queue tests out published copy_of
 release_cancelled = refl
 
+-- ---- a modify: AAAA has a second routing number, and routes its active version to it at 300
+
+abbrev pub to_first : Option Routing
+to_first = Some (record { lrn = 2025440000; cic = None })
+
+abbrev pub to_second : Option Routing
+to_second = Some (record { lrn = 2025440001; cic = None })
+
+abbrev pub routed_twice : State
+routed_twice = state_after active_at_201 (does a (RegisterRoutingNumber 2025440001) ∷ Moment 300 ∷ [])
+
+abbrev pub modify_sent : List Input
+modify_sent = does a (OnVersion 1 (ModifyRouting 2025440001 None)) ∷ []
+
+abbrev pub modifying : State
+modifying = state_after routed_twice modify_sent
+
+-- where the version says that it is routed, and where a query is
+abbrev pub routed : State → List (Option Routing)
+routed st = option_and_then (λ (e : SubjectVersion). e.version.routing) (version_of_id st 1) ∷ routing_of st n ∷ []
+
+-- sent, and in force with its old routing
+modify_sends : standing modifying 1 ≡ Some (Sending (Modify (record { lrn = 2025440001; cic = None })), 300, 2)
+unfolding next meaning after effect judge judged_for judged_version queue tests out published copy_of
+modify_sends = refl
+
+modify_keeps : routed modifying ≡ to_first ∷ to_first ∷ []
+unfolding next meaning after effect judge judged_for judged_version queue tests out published copy_of
+modify_keeps = refl
+
+modify_is_busy : map (refusal modifying) (does c (NewProviderCreate n a c 300 2025550000 None) ∷ does a (OnVersion 1 (Disconnect None)) ∷ does a (OnVersion 1 (ModifyRouting 2025440001 None)) ∷ []) ≡ Some 12 ∷ Some 13 ∷ Some 13 ∷ []
+unfolding next meaning after effect judge judged_for judged_version queue tests out published copy_of
+modify_is_busy = refl
+
+-- all acknowledge
+abbrev pub modified_by_all : State
+modified_by_all = state_after modifying (Moment 301 ∷ acks 1 2 (a ∷ b ∷ c ∷ []))
+
+all_modify : standing modified_by_all 1 ≡ Some (Active, 301, 2)
+unfolding next meaning after effect judge judged_for judged_version queue tests out published copy_of
+all_modify = refl
+
+all_are_routed : routed modified_by_all ≡ to_second ∷ to_second ∷ []
+unfolding next meaning after effect judge judged_for judged_version queue tests out published copy_of
+all_are_routed = refl
+
+-- one acknowledges, and the others late
+abbrev pub modified_in_part : State
+modified_in_part = state_after modifying (Moment 301 ∷ acks 1 2 (c ∷ []) ++ Moment 315 ∷ [])
+
+part_modifies : standing modified_in_part 1 ≡ Some (PartialFailure, 315, 2)
+unfolding next meaning after effect judge judged_for judged_version queue tests out published copy_of
+part_modifies = refl
+
+part_is_routed_anew : routed modified_in_part ≡ to_second ∷ to_second ∷ []
+unfolding next meaning after effect judge judged_for judged_version queue tests out published copy_of
+part_is_routed_anew = refl
+
+part_still_waits : map (queued modified_in_part) (a ∷ b ∷ c ∷ []) ≡ ((1, 2) ∷ []) ∷ ((1, 2) ∷ []) ∷ [] ∷ []
+unfolding next meaning after effect judge judged_for judged_version queue tests out published copy_of
+part_still_waits = refl
+
+part_becomes_whole : standing (state_after modified_in_part (Moment 320 ∷ acks 1 2 (a ∷ b ∷ []))) 1 ≡ Some (Active, 320, 2)
+unfolding next meaning after effect judge judged_for judged_version queue tests out published copy_of
+part_becomes_whole = refl
+
+-- nobody acknowledges, in one jump: the old routing stays
+abbrev pub modified_by_nobody : State
+modified_by_nobody = state_after modifying (Moment 900 ∷ [])
+
+nobody_modifies : standing modified_by_nobody 1 ≡ Some (Active, 315, 2)
+unfolding next meaning after effect judge judged_for judged_version queue tests out published copy_of
+nobody_modifies = refl
+
+nobody_is_routed_anew : routed modified_by_nobody ≡ to_first ∷ to_first ∷ []
+unfolding next meaning after effect judge judged_for judged_version queue tests out published copy_of
+nobody_is_routed_anew = refl
+
+nobody_waits : map (queued modified_by_nobody) (a ∷ b ∷ c ∷ []) ≡ [] ∷ [] ∷ [] ∷ []
+unfolding next meaning after effect judge judged_for judged_version queue tests out published copy_of
+nobody_waits = refl
+
+-- another's routing number, another's call, no such version, a block's version
+modify_refused : map (refusal routed_twice) (does a (OnVersion 1 (ModifyRouting 2025330000 None)) ∷ does b (OnVersion 1 (ModifyRouting 2025440001 None)) ∷ does b (OnVersion 1 (ModifyRouting 2025330000 None)) ∷ does a (OnVersion 2 (ModifyRouting 2025330000 None)) ∷ []) ≡ Some 7 ∷ Some 11 ∷ Some 7 ∷ Some 10 ∷ []
+unfolding next meaning after effect judge judged_for judged_version queue tests out published copy_of
+modify_refused = refl
+
+block_not_modified : refused_after start assigned (does c (OnVersion 3 (ModifyRouting 2025330000 None))) ≡ Some 10
+unfolding next meaning after effect judge judged_for judged_version queue tests out published copy_of
+block_not_modified = refl
+
+-- a newcomer at 310: its row has the old routing, and the modify waits for it
+newcomer_to_modify : out (state_after modifying (Moment 310 ∷ [])) (does npac (RegisterCarrier d)) ≡ Registered d (record { subject = Number n; routing = to_first } ∷ [])
+unfolding next meaning after effect judge judged_for judged_version queue tests out published copy_of
+newcomer_to_modify = refl
+
+newcomer_has_modify : queued (state_after modifying (Moment 310 ∷ does npac (RegisterCarrier d) ∷ [])) d ≡ (1, 2) ∷ []
+unfolding next meaning after effect judge judged_for judged_version queue tests out published copy_of
+newcomer_has_modify = refl
+
+-- what a carrier is handed, and its copy before and after
+abbrev pub handed : State → ℕ → List (Action × Option Routing)
+handed st k = map (λ (x : Download). (x.action, x.routing)) (queue st k)
+
+modify_is_handed : handed modifying b ≡ (ModifyAction, to_second) ∷ []
+unfolding next meaning after effect judge judged_for judged_version queue tests out published copy_of
+modify_is_handed = refl
+
+copies_of_modify : map (λ st. copy_of w b (Number n) st.history) (modifying ∷ modified_by_all ∷ modified_in_part ∷ modified_by_nobody ∷ []) ≡ to_first ∷ to_second ∷ to_first ∷ to_first ∷ []
+unfolding next meaning after effect judge judged_for judged_version queue tests out published copy_of
+copies_of_modify = refl
+
+-- the routing is replaced as a whole, and may be the same
+modified_whole : map (λ routing. routed (state_after routed_twice (does a (OnVersion 1 (ModifyRouting 2025440000 (Some 288))) ∷ acks 1 2 (a ∷ b ∷ c ∷ []) ++ does a (OnVersion 1 (ModifyRouting 2025440000 routing)) ∷ acks 1 3 (a ∷ b ∷ c ∷ [])))) (None ∷ Some 288 ∷ [])
+    ≡ (to_first ∷ to_first ∷ []) ∷ (Some (record { lrn = 2025440000; cic = Some 288 }) ∷ Some (record { lrn = 2025440000; cic = Some 288 }) ∷ []) ∷ []
+unfolding next meaning after effect judge judged_for judged_version queue tests out published copy_of
+modified_whole = refl
+
 -- a download that waits while the number is ported again
 abbrev pub waiting_delete : State
 waiting_delete = state_after active_at_201 (Moment 210 ∷ does a (OnVersion 1 (Disconnect None)) ∷ Moment 211 ∷ acks 1 2 (a ∷ c ∷ [])
@@ -495,17 +615,17 @@ administrator_is_no_carrier = refl
 abbrev pub released_at_0 : Record
 released_at_0 = record {
   carriers = a ∷ [];
-  versions = record (blank_version 1 b a 0 0) { status = DisconnectPending 0; attempt = 1 } ∷ [];
+  versions = record (blank_version (first_set w) 1 b a 0 0) { status = DisconnectPending 0; attempt = 1 } ∷ [];
 }
 
 abbrev pub entered_at : Record → List ℕ
 entered_at r = map (λ (v : Version). v.since) r.versions
 
-from_1_on : entered_at (judged w 0 1 released_at_0) ≡ 1 ∷ []
+from_1_on : entered_at (judged (first_set w) 0 1 released_at_0) ≡ 1 ∷ []
 unfolding judged_for judge judged_version
 from_1_on = refl
 
-from_0_on : entered_at (caught_up w 1 released_at_0) ≡ 0 ∷ []
+from_0_on : entered_at (caught_up (first_set w) 1 released_at_0) ≡ 0 ∷ []
 unfolding judged_for judge judged_version
 from_0_on = refl
 
@@ -532,7 +652,7 @@ two_are_in_force = refl
 abbrev pub closings : Record → List (ℕ × Status × ℕ × List Outcome)
 closings r = map (λ (v : Version). (v.id, v.status, v.since, map (λ (x : Broadcast). x.outcome) v.broadcasts)) r.versions
 
-and_catch_up : closings (caught_up w 30 two_in_force) ≡ (2, Active, 30, AllAcknowledged ∷ []) ∷ (1, Old, 25, SomeAcknowledged ∷ AllAcknowledged ∷ []) ∷ []
+and_catch_up : closings (caught_up (first_set w) 30 two_in_force) ≡ (2, Active, 30, AllAcknowledged ∷ []) ∷ (1, Old, 25, SomeAcknowledged ∷ AllAcknowledged ∷ []) ∷ []
 unfolding next meaning after effect judge judged_for judged_version queue tests out
 and_catch_up = refl
 

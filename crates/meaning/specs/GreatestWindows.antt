@@ -1,9 +1,9 @@
 -- Worked examples of the greatest windows, at their last minute and the one before it. Those are too many minutes to be judged one by one, so a version is judged at that minute alone.
 use Rattle.std.specs.Prelude.{ℕ, [], ◌∷◌, map, Some, ◌≡◌, refl}
 use Rattle.meaning.specs.Statuses.{Status, Pending, Conflict, CancelPending, Sending, Active, Failed, DisconnectPending, Canceled}
-use Rattle.meaning.specs.declared.words.Action.TheVariants.{Create, Delete}
+use Rattle.meaning.specs.Statuses.{Create, Delete}
 use Rattle.meaning.specs.declared.words.Side.TheVariants.{OldProvider, NewProvider}
-use Rattle.meaning.specs.Windows.{Windows}
+use Rattle.meaning.specs.Windows.{Windows, first_set}
 use Rattle.meaning.specs.Versions.{Version}
 use Rattle.meaning.specs.Judge.{judged_version}
 use Rattle.meaning.specs.History.{blank_version}
@@ -12,7 +12,7 @@ abbrev pub greatest : Windows
 greatest = record { initial_concurrence = 525600; final_concurrence = 525600; conflict_restriction = 525600; conflict_resolution = 525600; conflict_expiration = 525600; cancellation_initial = 525600; cancellation_final = 525600; pending_retention = 525600; broadcast = 525600 }
 
 abbrev pub at : ℕ → (Version → Version) → Status
-at j f = (judged_version greatest [] j (f (blank_version 1 7 8 100 50))).status
+at j f = (judged_version (first_set greatest) [] j (f (blank_version (first_set greatest) 1 7 8 100 50))).status
 
 abbrev pub in_status : Status → Version → Version
 in_status s v = record v { status = s }

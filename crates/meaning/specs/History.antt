@@ -4,12 +4,11 @@ use Rattle.std.specs.List.{list_any}
 use Rattle.numbers.specs.Digits.{number_in}
 use Rattle.numbers.specs.Subjects.{subject_eq, Subject, Number, Block}
 use Rattle.numbers.specs.Routings.{Routing}
-use Rattle.meaning.specs.Commands.{Command, VersionCommand, RegisterCarrier, RegisterRoutingNumber, OpenCode, OldProviderCreate, NewProviderCreate, OnVersion, Activate, PutInConflict, RemoveFromConflict, Cancel, OldProviderCancellationAcknowledge, NewProviderCancellationAcknowledge, Disconnect, Donate, Assign, Release}
-use Rattle.meaning.specs.declared.words.Action.TheVariants.{Create, Delete}
-use Rattle.meaning.specs.Statuses.{Status, Pending, Conflict, CancelPending, Sending, Active, PartialFailure, Failed, DisconnectPending, Old, Canceled}
+use Rattle.meaning.specs.Commands.{Command, VersionCommand, RegisterCarrier, RegisterRoutingNumber, OpenCode, OldProviderCreate, NewProviderCreate, OnVersion, Activate, PutInConflict, RemoveFromConflict, Cancel, OldProviderCancellationAcknowledge, NewProviderCancellationAcknowledge, Disconnect, ModifyRouting, Donate, Assign, Release, SetWindows}
+use Rattle.meaning.specs.Statuses.{Create, Delete, Modify, Status, Pending, Conflict, CancelPending, Sending, Active, PartialFailure, Failed, DisconnectPending, Old, Canceled}
 use Rattle.meaning.specs.declared.words.Side.{Side}
 use Rattle.meaning.specs.declared.words.Side.TheVariants.{OldProvider, NewProvider}
-use Rattle.meaning.specs.Windows.{Windows}
+use Rattle.meaning.specs.Windows.{Windows, AreWindows, WindowSet, first_set}
 use Rattle.meaning.specs.Versions.{Version, Record, nothing, with_number, in_force, version_in_force}
 use Rattle.meaning.specs.Changes.{enters, sent, acknowledged_by, joined_by, changed_at, of_id}
 use Rattle.meaning.specs.Judge.{judged}
@@ -31,17 +30,19 @@ abbrev pub AreLines : List ℕ → Type 0
 AreLines [] = ⊤
 AreLines (line ∷ lines) = (line < 1000) × AreLines lines
 
-abbrev pub HasLines : Request → Type 0
-HasLines (Commands (Donate block used lrn cic)) = AreLines used
-HasLines (Commands (RegisterCarrier spid)) = ⊤
-HasLines (Commands (RegisterRoutingNumber lrn)) = ⊤
-HasLines (Commands (OpenCode code spid)) = ⊤
-HasLines (Commands (OldProviderCreate tn old_provider new_provider due authorized)) = ⊤
-HasLines (Commands (NewProviderCreate tn old_provider new_provider due lrn cic)) = ⊤
-HasLines (Commands (OnVersion id command)) = ⊤
-HasLines (Commands (Assign block holder lrn cic)) = ⊤
-HasLines (Commands (Release block)) = ⊤
-HasLines (Acknowledges id attempt) = ⊤
+-- what the values of a request are by their types: of a donation lines, and windows of at least a minute
+abbrev pub HasValues : Request → Type 0
+HasValues (Commands (Donate block used lrn cic)) = AreLines used
+HasValues (Commands (RegisterCarrier spid)) = ⊤
+HasValues (Commands (RegisterRoutingNumber lrn)) = ⊤
+HasValues (Commands (OpenCode code spid)) = ⊤
+HasValues (Commands (OldProviderCreate tn old_provider new_provider due authorized)) = ⊤
+HasValues (Commands (NewProviderCreate tn old_provider new_provider due lrn cic)) = ⊤
+HasValues (Commands (OnVersion id command)) = ⊤
+HasValues (Commands (Assign block holder lrn cic)) = ⊤
+HasValues (Commands (Release block)) = ⊤
+HasValues (Commands (SetWindows windows)) = AreWindows windows
+HasValues (Acknowledges id attempt) = ⊤
 
 -- ---- the registry, by searching the history
 
@@ -92,6 +93,35 @@ donor_named block caller _ = None
 abbrev pub donor_of : ℕ → List Entry → Option ℕ
 donor_of block h = search_history (λ e. donor_named block e.caller e.request) h
 
+-- ---- the sets of windows
+
+-- the windows that an entry sets
+abbrev pub windows_named : Request → Option Windows
+windows_named (Commands (SetWindows windows)) = Some windows
+windows_named _ = None
+
+-- windows that are set are the next set
+abbrev pub set_added : Option Windows → WindowSet → WindowSet
+set_added None set = set
+set_added (Some windows) set = record { number = set.number + 1; windows = windows }
+
+-- the present set: the one that was set last, and before any the first
+abbrev pub present_set : Windows → List Entry → WindowSet
+present_set w [] = first_set w
+present_set w (e ∷ h) = set_added (windows_named e.request) (present_set w h)
+
+-- the set of a number, if there is one
+abbrev pub set_if : ℕ → WindowSet → Option WindowSet → Option WindowSet
+set_if number set other = if set.number == number then Some set else other
+
+abbrev pub set_named : ℕ → Option Windows → WindowSet → Option WindowSet → Option WindowSet
+set_named number None last other = other
+set_named number (Some windows) last other = set_if number (set_added (Some windows) last) other
+
+abbrev pub set_of_number : ℕ → Windows → List Entry → Option WindowSet
+set_of_number number w [] = set_if number (first_set w) None
+set_of_number number w (e ∷ h) = set_named number (windows_named e.request) (present_set w h) (set_of_number number w h)
+
 -- ---- creates
 
 -- a create of the other side is a second one: pending or conflict, the same providers, and the caller's own create missing
@@ -118,18 +148,9 @@ lacks_old_create old_provider new_provider v = lacks_create old_provider new_pro
 abbrev pub lacks_new_create : ℕ → ℕ → Version → Bool
 lacks_new_create old_provider new_provider v = lacks_create old_provider new_provider v.status v.old_provider v.new_provider v.new_at
 
--- the old provider's second create
-abbrev pub with_old_create : Bool → ℕ → Version → Version
-with_old_create authorized minute v =
-    if authorized
-    then record v { old_at = Some minute }
-    else record (enters Conflict minute v) { old_at = Some minute; spent = true }
-
 -- the new provider's second create
 abbrev pub with_new_create : Routing → ℕ → Version → Version
 with_new_create routing minute v = record v { new_at = Some minute; routing = Some routing }
-
--- ---- what an entry does to a version that is there
 
 abbrev pub has_both_creates : (old_at new_at : Option ℕ) → Bool
 has_both_creates old_at new_at = is_some old_at && is_some new_at
@@ -138,59 +159,72 @@ has_both_creates old_at new_at = is_some old_at && is_some new_at
 abbrev pub side_of : (provider old_provider : ℕ) → Side
 side_of provider old_provider = if provider == old_provider then OldProvider else NewProvider
 
--- a cancel of a version with both creates waits for the other provider's acknowledgement
-abbrev pub cancelled_before_sending : ℕ → ℕ → Version → Version
-cancelled_before_sending caller minute v =
-    if has_both_creates v.old_at v.new_at
-    then enters (CancelPending (side_of caller v.old_provider)) minute v
-    else enters Canceled minute v
+-- ---- what an entry does to a version that is there
 
--- by the status in which the version is cancelled. In the other statuses a cancel is refused
-abbrev pub cancelled_by : Status → ℕ → ℕ → Version → Version
-cancelled_by Pending caller minute v = cancelled_before_sending caller minute v
-cancelled_by Conflict caller minute v = cancelled_before_sending caller minute v
-cancelled_by Failed caller minute v = enters Canceled minute v
-cancelled_by (DisconnectPending release) caller minute v = enters Active minute v
-cancelled_by (CancelPending by) caller minute v = v
-cancelled_by (Sending action) caller minute v = v
-cancelled_by Active caller minute v = v
-cancelled_by PartialFailure caller minute v = v
-cancelled_by Old caller minute v = v
-cancelled_by Canceled caller minute v = v
+-- `present`: the set of windows that holds, by which what a version becomes will be judged
+module _ (present : WindowSet) where
+  -- the old provider's second create
+  abbrev pub with_old_create : Bool → ℕ → Version → Version
+  with_old_create authorized minute v =
+      if authorized
+      then record v { old_at = Some minute }
+      else record (enters present Conflict minute v) { old_at = Some minute; spent = true }
 
--- a release that is still to come waits for its minute
-abbrev pub disconnected : Option ℕ → List ℕ → ℕ → Version → Version
-disconnected None everyone minute v = sent Delete everyone minute v
-disconnected (Some release) everyone minute v =
-    if nat_lt minute release
-    then enters (DisconnectPending release) minute v
-    else sent Delete everyone minute v
+  -- a cancel of a version with both creates waits for the other provider's acknowledgement
+  abbrev pub cancelled_before_sending : ℕ → ℕ → Version → Version
+  cancelled_before_sending caller minute v =
+      if has_both_creates v.old_at v.new_at
+      then enters present (CancelPending (side_of caller v.old_provider)) minute v
+      else enters present Canceled minute v
 
--- what a command makes of the version that it names
-abbrev pub change_of : (caller minute : ℕ) → (everyone : List ℕ) → VersionCommand → Version → Version
-change_of caller minute everyone Activate v = sent Create everyone minute v
-change_of caller minute everyone PutInConflict v = record (enters Conflict minute v) { spent = true }
-change_of caller minute everyone RemoveFromConflict v = enters Pending minute v
-change_of caller minute everyone Cancel v = cancelled_by v.status caller minute v
-change_of caller minute everyone OldProviderCancellationAcknowledge v = enters Canceled minute v
-change_of caller minute everyone NewProviderCancellationAcknowledge v = enters Canceled minute v
-change_of caller minute everyone (Disconnect release) v = disconnected release everyone minute v
+  -- by the status in which the version is cancelled. In the other statuses a cancel is refused
+  abbrev pub cancelled_by : Status → ℕ → ℕ → Version → Version
+  cancelled_by Pending caller minute v = cancelled_before_sending caller minute v
+  cancelled_by Conflict caller minute v = cancelled_before_sending caller minute v
+  cancelled_by Failed caller minute v = enters present Canceled minute v
+  cancelled_by (DisconnectPending release) caller minute v = enters present Active minute v
+  cancelled_by (CancelPending by) caller minute v = v
+  cancelled_by (Sending action) caller minute v = v
+  cancelled_by Active caller minute v = v
+  cancelled_by PartialFailure caller minute v = v
+  cancelled_by Old caller minute v = v
+  cancelled_by Canceled caller minute v = v
 
--- a version of the subject s after a request
-abbrev pub done_to : Subject → ℕ → ℕ → List ℕ → Request → Version → Version
-done_to s caller minute everyone (Commands (RegisterCarrier spid)) v = joined_by spid v
-done_to s caller minute everyone (Commands (RegisterRoutingNumber lrn)) v = v
-done_to s caller minute everyone (Commands (OpenCode code spid)) v = v
-done_to s caller minute everyone (Commands (OldProviderCreate tn old_provider new_provider due authorized)) v =
-    if subject_eq s (Number tn) && lacks_old_create old_provider new_provider v then with_old_create authorized minute v else v
-done_to s caller minute everyone (Commands (NewProviderCreate tn old_provider new_provider due lrn cic)) v =
-    if subject_eq s (Number tn) && lacks_new_create old_provider new_provider v then with_new_create (record { lrn = lrn; cic = cic }) minute v else v
-done_to s caller minute everyone (Commands (OnVersion id c)) v = of_id id (change_of caller minute everyone c) v
-done_to s caller minute everyone (Commands (Donate block used lrn cic)) v = v
-done_to s caller minute everyone (Commands (Assign block holder lrn cic)) v = v
-done_to s caller minute everyone (Commands (Release block)) v =
-    if subject_eq s (Block block) && in_force v then sent Delete everyone minute v else v
-done_to s caller minute everyone (Acknowledges id attempt) v = of_id id (acknowledged_by caller attempt minute) v
+  -- a release that is still to come waits for its minute
+  abbrev pub disconnected : Option ℕ → List ℕ → ℕ → Version → Version
+  disconnected None everyone minute v = sent present Delete everyone minute v
+  disconnected (Some release) everyone minute v =
+      if nat_lt minute release
+      then enters present (DisconnectPending release) minute v
+      else sent present Delete everyone minute v
+
+  -- what a command makes of the version that it names
+  abbrev pub change_of : (caller minute : ℕ) → (everyone : List ℕ) → VersionCommand → Version → Version
+  change_of caller minute everyone Activate v = sent present Create everyone minute v
+  change_of caller minute everyone PutInConflict v = record (enters present Conflict minute v) { spent = true }
+  change_of caller minute everyone RemoveFromConflict v = enters present Pending minute v
+  change_of caller minute everyone Cancel v = cancelled_by v.status caller minute v
+  change_of caller minute everyone OldProviderCancellationAcknowledge v = enters present Canceled minute v
+  change_of caller minute everyone NewProviderCancellationAcknowledge v = enters present Canceled minute v
+  change_of caller minute everyone (Disconnect release) v = disconnected release everyone minute v
+  change_of caller minute everyone (ModifyRouting lrn cic) v = sent present (Modify (record { lrn = lrn; cic = cic })) everyone minute v
+
+  -- a version of the subject s after a request
+  abbrev pub done_to : Subject → ℕ → ℕ → List ℕ → Request → Version → Version
+  done_to s caller minute everyone (Commands (RegisterCarrier spid)) v = joined_by spid v
+  done_to s caller minute everyone (Commands (RegisterRoutingNumber lrn)) v = v
+  done_to s caller minute everyone (Commands (OpenCode code spid)) v = v
+  done_to s caller minute everyone (Commands (OldProviderCreate tn old_provider new_provider due authorized)) v =
+      if subject_eq s (Number tn) && lacks_old_create old_provider new_provider v then with_old_create authorized minute v else v
+  done_to s caller minute everyone (Commands (NewProviderCreate tn old_provider new_provider due lrn cic)) v =
+      if subject_eq s (Number tn) && lacks_new_create old_provider new_provider v then with_new_create (record { lrn = lrn; cic = cic }) minute v else v
+  done_to s caller minute everyone (Commands (OnVersion id c)) v = of_id id (change_of caller minute everyone c) v
+  done_to s caller minute everyone (Commands (Donate block used lrn cic)) v = v
+  done_to s caller minute everyone (Commands (Assign block holder lrn cic)) v = v
+  done_to s caller minute everyone (Commands (SetWindows windows)) v = v
+  done_to s caller minute everyone (Commands (Release block)) v =
+      if subject_eq s (Block block) && in_force v then sent present Delete everyone minute v else v
+  done_to s caller minute everyone (Acknowledges id attempt) v = of_id id (acknowledged_by present caller attempt minute) v
 
 -- ---- what an entry makes
 
@@ -216,42 +250,46 @@ makes (Commands (RegisterRoutingNumber lrn)) at = []
 makes (Commands (OpenCode code spid)) at = []
 makes (Commands (OnVersion id command)) at = []
 makes (Commands (Release block)) at = []
+makes (Commands (SetWindows windows)) at = []
 makes (Acknowledges id attempt) at = []
 
--- a version as it is made, before its status
-abbrev pub blank_version : ℕ → ℕ → ℕ → ℕ → ℕ → Version
-blank_version id old_provider new_provider due minute = record {
-  id = id;
-  old_provider = old_provider;
-  new_provider = new_provider;
-  due = due;
-  routing = None;
-  old_at = None;
-  new_at = None;
-  status = Pending;
-  since = minute;
-  attempt = 0;
-  spent = false;
-  protective = false;
-  broadcasts = [];
-}
+module _ (present : WindowSet) where
+  -- a version as it is made, before its status
+  abbrev pub blank_version : ℕ → ℕ → ℕ → ℕ → ℕ → Version
+  blank_version id old_provider new_provider due minute = record {
+    id = id;
+    old_provider = old_provider;
+    new_provider = new_provider;
+    due = due;
+    routing = None;
+    old_at = None;
+    new_at = None;
+    status = Pending;
+    since = minute;
+    held = present;
+    attempt = 0;
+    spent = false;
+    protective = false;
+    broadcasts = [];
+  }
 
--- the version that a request makes. An assigned block has a donor. Of requests that make none (`makes`) the version is asked for nowhere
-abbrev pub made_version : ℕ → ℕ → ℕ → List ℕ → Option ℕ → Request → Version
-made_version id caller minute everyone donor (Commands (OldProviderCreate tn old_provider new_provider due authorized)) =
-    with_old_create authorized minute (blank_version id old_provider new_provider due minute)
-made_version id caller minute everyone donor (Commands (NewProviderCreate tn old_provider new_provider due lrn cic)) =
-    with_new_create (record { lrn = lrn; cic = cic }) minute (blank_version id old_provider new_provider due minute)
-made_version id caller minute everyone donor (Commands (Donate block used lrn cic)) =
-    sent Create everyone minute (record (blank_version id caller caller minute minute) { routing = Some (record { lrn = lrn; cic = cic }); protective = true })
-made_version id caller minute everyone donor (Commands (Assign block holder lrn cic)) =
-    sent Create everyone minute (record (blank_version id (unwrap_or donor 0) holder minute minute) { routing = Some (record { lrn = lrn; cic = cic }) })
-made_version id caller minute everyone donor (Commands (RegisterCarrier spid)) = blank_version id caller caller minute minute
-made_version id caller minute everyone donor (Commands (RegisterRoutingNumber lrn)) = blank_version id caller caller minute minute
-made_version id caller minute everyone donor (Commands (OpenCode code spid)) = blank_version id caller caller minute minute
-made_version id caller minute everyone donor (Commands (OnVersion its_id command)) = blank_version id caller caller minute minute
-made_version id caller minute everyone donor (Commands (Release block)) = blank_version id caller caller minute minute
-made_version id caller minute everyone donor (Acknowledges its_id attempt) = blank_version id caller caller minute minute
+  -- the version that a request makes. An assigned block has a donor. Of requests that make none (`makes`) the version is asked for nowhere
+  abbrev pub made_version : ℕ → ℕ → ℕ → List ℕ → Option ℕ → Request → Version
+  made_version id caller minute everyone donor (Commands (OldProviderCreate tn old_provider new_provider due authorized)) =
+      with_old_create present authorized minute (blank_version id old_provider new_provider due minute)
+  made_version id caller minute everyone donor (Commands (NewProviderCreate tn old_provider new_provider due lrn cic)) =
+      with_new_create (record { lrn = lrn; cic = cic }) minute (blank_version id old_provider new_provider due minute)
+  made_version id caller minute everyone donor (Commands (Donate block used lrn cic)) =
+      sent present Create everyone minute (record (blank_version id caller caller minute minute) { routing = Some (record { lrn = lrn; cic = cic }); protective = true })
+  made_version id caller minute everyone donor (Commands (Assign block holder lrn cic)) =
+      sent present Create everyone minute (record (blank_version id (unwrap_or donor 0) holder minute minute) { routing = Some (record { lrn = lrn; cic = cic }) })
+  made_version id caller minute everyone donor (Commands (RegisterCarrier spid)) = blank_version id caller caller minute minute
+  made_version id caller minute everyone donor (Commands (RegisterRoutingNumber lrn)) = blank_version id caller caller minute minute
+  made_version id caller minute everyone donor (Commands (OpenCode code spid)) = blank_version id caller caller minute minute
+  made_version id caller minute everyone donor (Commands (OnVersion its_id command)) = blank_version id caller caller minute minute
+  made_version id caller minute everyone donor (Commands (Release block)) = blank_version id caller caller minute minute
+  made_version id caller minute everyone donor (Commands (SetWindows windows)) = blank_version id caller caller minute minute
+  made_version id caller minute everyone donor (Acknowledges its_id attempt) = blank_version id caller caller minute minute
 
 -- the id of the version that is made for s, if one is: the subjects take ids in turn
 abbrev pub id_among : Subject → ℕ → List Subject → Option ℕ
@@ -269,6 +307,7 @@ assigned_block (Commands (NewProviderCreate tn old_provider new_provider due lrn
 assigned_block (Commands (OnVersion id command)) = 0
 assigned_block (Commands (Donate block used lrn cic)) = 0
 assigned_block (Commands (Release block)) = 0
+assigned_block (Commands (SetWindows windows)) = 0
 assigned_block (Acknowledges id attempt) = 0
 
 -- the new version in front, if one is made
@@ -287,30 +326,31 @@ pub record Meaning : Type 0 where
 abbrev pub next_after : List Subject → ℕ
 next_after made = 1 + length made
 
--- one entry's effect on the record of s
-unfoldable pub effect : Subject → Option ℕ → Option ℕ → Entry → Record → Record
-effect s made donor e r = record {
+-- one entry's effect on the record of s, while this set of windows holds
+unfoldable pub effect : WindowSet → Subject → Option ℕ → Option ℕ → Entry → Record → Record
+effect present s made donor e r = record {
   carriers = carrier_added (carrier_named e.request) r.carriers;
-  versions = with_made made (λ id. made_version id e.caller e.minute r.carriers donor e.request)
-      (changed_at e.minute (done_to s e.caller e.minute r.carriers e.request) r.versions);
+  versions = with_made made (λ id. made_version present id e.caller e.minute r.carriers donor e.request)
+      (changed_at present e.minute (done_to present s e.caller e.minute r.carriers e.request) r.versions);
 }
 
--- one more entry: the minutes after it are judged, each before what comes in it
-unfoldable pub after : Windows → Entry → Option ℕ → Meaning → Meaning
-after w e donor before =
+-- one more entry, before which this set of windows holds: the minutes after it are judged, each before what comes in it, by the windows that it leaves
+unfoldable pub after : WindowSet → Entry → Option ℕ → Meaning → Meaning
+after present e donor before =
     let new = makes e.request (λ s. before.at s e.minute) in
     record {
       made = before.made ++ new;
-      at = λ s m. judged w e.minute m (effect s (id_among s (next_after before.made) new) donor e (before.at s e.minute));
+      at = λ s m. judged (set_added (windows_named e.request) present) e.minute m (effect present s (id_among s (next_after before.made) new) donor e (before.at s e.minute));
     }
 
 -- the first state: no version
 abbrev pub at_first : Meaning
 at_first = record { made = []; at = λ s m. nothing }
 
+-- what a history means, from the first windows on
 unfoldable pub meaning : Windows → List Entry → Meaning
 meaning w [] = at_first
-meaning w (e ∷ h) = after w e (donor_of (assigned_block e.request) h) (meaning w h)
+meaning w (e ∷ h) = after (present_set w h) e (donor_of (assigned_block e.request) h) (meaning w h)
 
 -- the record of a subject at a minute that is not before the last entry
 abbrev pub replay : Windows → Subject → List Entry → ℕ → Record

@@ -1,6 +1,6 @@
 pub mod Statuses
-pub mod Commands
 pub mod Windows
+pub mod Commands
 pub mod Versions
 pub mod Changes
 pub mod Sound
@@ -19,6 +19,7 @@ pub mod Examples
 pub mod ServiceExamples
 pub mod RefusalExamples
 pub mod GreatestWindows
+pub mod WindowExamples
 pub mod Views
 pub mod RefusalNumbers
 pub mod Concerns

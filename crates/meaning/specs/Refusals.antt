@@ -3,12 +3,12 @@ use Rattle.std.specs.Prelude.{ℕ, ◌+◌, Bool, true, false, not, ◌&&◌, �
 use Rattle.std.specs.List.{list_any}
 use Rattle.numbers.specs.Digits.{code_of, block_of, block_code_of}
 use Rattle.numbers.specs.Subjects.{subject_eq, Subject, Number, Block}
-use Rattle.meaning.specs.Commands.{Command, RegisterCarrier, RegisterRoutingNumber, OpenCode, OldProviderCreate, NewProviderCreate, OnVersion, Donate, Assign, Release}
+use Rattle.meaning.specs.Commands.{Command, RegisterCarrier, RegisterRoutingNumber, OpenCode, OldProviderCreate, NewProviderCreate, OnVersion, Donate, Assign, Release, SetWindows}
 use Rattle.meaning.specs.Versions.{Version, in_force, is_open, version_in_force, open_version, last_version}
 use Rattle.meaning.specs.Conditions.{limit, holds_of, is_the, is_active, takes_block, has_no_room, is_past, is_another_due, is_late_conflict, has_no_attempt_left}
 use Rattle.meaning.specs.History.{Request, Commands, Acknowledges, carriers, lrn_owner, code_holder, donor_of, next_id, used_numbers, lacks_old_create, lacks_new_create, makes}
-use Rattle.meaning.specs.OnVersion.{version_tests, holds_at}
-use Rattle.meaning.specs.Reading.{State, SubjectVersion, Download, Server, InPool, record_now, is_carrier, all_versions, version_of_id, serving, is_served_by, queue, is_before}
+use Rattle.meaning.specs.OnVersion.{version_tests, holds_at, is_number}
+use Rattle.meaning.specs.Reading.{State, SubjectVersion, Download, Server, InPool, record_now, is_carrier, all_versions, version_of_id, serving, is_served_by, queue, is_before, set_now}
 
 pub data Question : Type 0 where
   Knows : Question
@@ -42,6 +42,7 @@ named_carriers (RegisterRoutingNumber lrn) = []
 named_carriers (OnVersion id c) = []
 named_carriers (Donate block used lrn cic) = []
 named_carriers (Release block) = []
+named_carriers (SetWindows windows) = []
 
 -- whether the administrator alone may give the command
 abbrev pub is_for_administrator : Command → Bool
@@ -54,6 +55,7 @@ is_for_administrator (NewProviderCreate tn old_provider new_provider due lrn cic
 is_for_administrator (OnVersion id c) = false
 is_for_administrator (Donate block used lrn cic) = false
 is_for_administrator (Release block) = false
+is_for_administrator (SetWindows windows) = true
 
 abbrev pub is_release : Command → Bool
 is_release (Release block) = true
@@ -65,6 +67,7 @@ is_release (NewProviderCreate tn old_provider new_provider due lrn cic) = false
 is_release (OnVersion id c) = false
 is_release (Donate block used lrn cic) = false
 is_release (Assign block holder lrn cic) = false
+is_release (SetWindows windows) = false
 
 -- whether a question has a caller, and may be the administrator's
 abbrev pub has_caller : Question → Bool
@@ -104,14 +107,11 @@ create_of (OnVersion id c) = None
 create_of (Donate block used lrn cic) = None
 create_of (Assign block holder lrn cic) = None
 create_of (Release block) = None
+create_of (SetWindows windows) = None
 
 -- the version that a second create answers to
 abbrev pub second_of : State → Creates → Option Version
 second_of st c = find c.lacks (record_now st (Number c.tn)).versions
-
-abbrev pub is_number : Subject → Bool
-is_number (Number n) = true
-is_number (Block b) = false
 
 -- the block that a block command names
 abbrev pub block_named : Command → Option ℕ
@@ -124,6 +124,7 @@ block_named (OpenCode code spid) = None
 block_named (OldProviderCreate tn old_provider new_provider due authorized) = None
 block_named (NewProviderCreate tn old_provider new_provider due lrn cic) = None
 block_named (OnVersion id c) = None
+block_named (SetWindows windows) = None
 
 -- the numbers of a block, as far as they are spoken of
 abbrev pub is_in_block : ℕ → Subject → Bool
@@ -158,11 +159,15 @@ number_is_busy st n =
 abbrev pub has_open : State → Subject → Bool
 has_open st s = is_some (open_version s (record_now st s))
 
+-- whether a routing number is the carrier's
+abbrev pub owns : State → (lrn carrier : ℕ) → Bool
+owns st lrn carrier = is_the carrier (lrn_owner lrn st.history)
+
 -- the rest of the table is on commands
 module _ (st : State) (caller : ℕ) where
   -- the tests of a command on a version, over the version that it names
   abbrev pub tests_on_version : Command → List (ℕ × Bool)
-  tests_on_version (OnVersion id c) = version_tests st.windows st.now caller (has_open st) c (version_of_id st id)
+  tests_on_version (OnVersion id c) = version_tests (set_now st).windows st.now caller (has_open st) (owns st) c (version_of_id st id)
   tests_on_version (RegisterCarrier spid) = []
   tests_on_version (RegisterRoutingNumber lrn) = []
   tests_on_version (OpenCode code spid) = []
@@ -171,6 +176,7 @@ module _ (st : State) (caller : ℕ) where
   tests_on_version (Donate block used lrn cic) = []
   tests_on_version (Assign block holder lrn cic) = []
   tests_on_version (Release block) = []
+  tests_on_version (SetWindows windows) = []
 
   abbrev pub holds_on_version : ℕ → Command → Bool
   holds_on_version number c = holds_at number (tests_on_version c)
@@ -200,6 +206,7 @@ module _ (st : State) (caller : ℕ) where
   carrier_taken (Donate block used lrn cic) = false
   carrier_taken (Assign block holder lrn cic) = false
   carrier_taken (Release block) = false
+  carrier_taken (SetWindows windows) = false
 
   -- 5: the code is opened already
   abbrev pub code_taken : Command → Bool
@@ -212,6 +219,7 @@ module _ (st : State) (caller : ℕ) where
   code_taken (Donate block used lrn cic) = false
   code_taken (Assign block holder lrn cic) = false
   code_taken (Release block) = false
+  code_taken (SetWindows windows) = false
 
   -- 6: the routing number is registered already
   abbrev pub lrn_taken : Command → Bool
@@ -224,6 +232,7 @@ module _ (st : State) (caller : ℕ) where
   lrn_taken (Donate block used lrn cic) = false
   lrn_taken (Assign block holder lrn cic) = false
   lrn_taken (Release block) = false
+  lrn_taken (SetWindows windows) = false
 
   -- 7: the routing number is not one of the carrier that is to be routed to
   abbrev pub bad_lrn : Command → Bool
@@ -234,8 +243,9 @@ module _ (st : State) (caller : ℕ) where
   bad_lrn (RegisterRoutingNumber lrn) = false
   bad_lrn (OpenCode code spid) = false
   bad_lrn (OldProviderCreate tn old_provider new_provider due authorized) = false
-  bad_lrn (OnVersion id c) = false
+  bad_lrn (OnVersion id c) = holds_on_version 7 (OnVersion id c)
   bad_lrn (Release block) = false
+  bad_lrn (SetWindows windows) = false
 
   -- 8: a create for a number that nobody serves
   abbrev pub in_pool : Command → Bool
@@ -256,6 +266,7 @@ module _ (st : State) (caller : ℕ) where
   not_found (OldProviderCreate tn old_provider new_provider due authorized) = false
   not_found (NewProviderCreate tn old_provider new_provider due lrn cic) = false
   not_found (Donate block used lrn cic) = false
+  not_found (SetWindows windows) = false
 
   -- 11: the caller is not the one who may
   abbrev pub not_yours : Command → Bool
@@ -268,8 +279,9 @@ module _ (st : State) (caller : ℕ) where
   not_yours (RegisterRoutingNumber lrn) = false
   not_yours (OpenCode code spid) = false
   not_yours (Assign block holder lrn cic) = false
+  not_yours (SetWindows windows) = false
 
-  -- 12: a first create where there is no room for it, or a disconnect beside an open version
+  -- 12: a first create where there is no room for it, or a disconnect or a modify beside an open version
   abbrev pub busy : Command → Bool
   busy c = holds_of_create 12 (λ n. is_none (second_of st n) && number_is_busy st n.tn) c
 
@@ -284,6 +296,7 @@ module _ (st : State) (caller : ℕ) where
   wrong_status (NewProviderCreate tn old_provider new_provider due lrn cic) = false
   wrong_status (Donate block used lrn cic) = false
   wrong_status (Assign block holder lrn cic) = false
+  wrong_status (SetWindows windows) = false
 
   -- 14: a first create, or a disconnect's release, in the past
   abbrev pub due_past : Command → Bool
@@ -307,7 +320,7 @@ module _ (st : State) (caller : ℕ) where
 
   -- 19: a conflict too near to the due minute
   abbrev pub too_late : Command → Bool
-  too_late c = holds_of_create 19 (λ n. n.unauthorized && is_late_conflict st.windows st.now n.due) c
+  too_late c = holds_of_create 19 (λ n. n.unauthorized && is_late_conflict (set_now st).windows st.now n.due) c
 
   -- 20: a removal by the new provider before the conflict may be resolved
   abbrev pub too_early : Command → Bool
@@ -335,6 +348,7 @@ module _ (st : State) (caller : ℕ) where
   contaminated (OnVersion id c) = false
   contaminated (Assign block holder lrn cic) = false
   contaminated (Release block) = false
+  contaminated (SetWindows windows) = false
 
   -- a number of the block with an open version and none in force
   abbrev pub has_open_port : ℕ → Bool
@@ -355,6 +369,7 @@ module _ (st : State) (caller : ℕ) where
   block_taken (NewProviderCreate tn old_provider new_provider due lrn cic) = false
   block_taken (OnVersion id c) = false
   block_taken (Release block) = false
+  block_taken (SetWindows windows) = false
 
   -- the attempt that a command sends, or plans
   abbrev pub attempts_too_often : Command → Bool
@@ -367,23 +382,26 @@ module _ (st : State) (caller : ℕ) where
   attempts_too_often (NewProviderCreate tn old_provider new_provider due lrn cic) = false
   attempts_too_often (Donate block used lrn cic) = false
   attempts_too_often (Assign block holder lrn cic) = false
+  attempts_too_often (SetWindows windows) = false
 
-  abbrev pub is_full_of_carriers : Command → Bool
-  is_full_of_carriers (RegisterCarrier spid) = nat_le 100 (length (carriers st.history))
-  is_full_of_carriers (RegisterRoutingNumber lrn) = false
-  is_full_of_carriers (OpenCode code spid) = false
-  is_full_of_carriers (OldProviderCreate tn old_provider new_provider due authorized) = false
-  is_full_of_carriers (NewProviderCreate tn old_provider new_provider due lrn cic) = false
-  is_full_of_carriers (OnVersion id c) = false
-  is_full_of_carriers (Donate block used lrn cic) = false
-  is_full_of_carriers (Assign block holder lrn cic) = false
-  is_full_of_carriers (Release block) = false
+  -- a hundred carriers, or a thousand sets of windows
+  abbrev pub registry_is_full : Command → Bool
+  registry_is_full (RegisterCarrier spid) = nat_le 100 (length (carriers st.history))
+  registry_is_full (RegisterRoutingNumber lrn) = false
+  registry_is_full (OpenCode code spid) = false
+  registry_is_full (OldProviderCreate tn old_provider new_provider due authorized) = false
+  registry_is_full (NewProviderCreate tn old_provider new_provider due lrn cic) = false
+  registry_is_full (OnVersion id c) = false
+  registry_is_full (Donate block used lrn cic) = false
+  registry_is_full (Assign block holder lrn cic) = false
+  registry_is_full (Release block) = false
+  registry_is_full (SetWindows windows) = nat_le 1000 (set_now st).number
 
-  -- 28: a hundred carriers, or an id or an attempt past the last. The test of ids stands for every command, and is right also for one
+  -- 28: a hundred carriers, a thousand sets of windows, or an id or an attempt past the last. The test of ids stands for every command, and is right also for one
   -- that makes no version, because the next id never passes the limit
   abbrev pub full : Command → Bool
   full c =
-      is_full_of_carriers c || attempts_too_often c
+      registry_is_full c || attempts_too_often c
       || nat_lt limit (next_id st.windows st.history + length (makes (Commands c) (record_now st)))
 
 -- the tests of a command, in the order of their numbers

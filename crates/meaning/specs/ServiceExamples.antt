@@ -3,7 +3,7 @@ use Rattle.std.specs.Prelude.{true, [], ◌∷◌, ◌++◌, map, Some, None, �
 use Rattle.numbers.specs.Subjects.{Number}
 use Rattle.meaning.specs.Commands.{OldProviderCreate, NewProviderCreate, Activate, Donate, Assign, Release, RegisterCarrier, OnVersion}
 use Rattle.meaning.specs.Statuses.{Sending, Active, Failed}
-use Rattle.meaning.specs.declared.words.Action.TheVariants.{Create}
+use Rattle.meaning.specs.Statuses.{Create}
 use Rattle.meaning.specs.Judge.{judged_version, judge, judged_for}
 use Rattle.meaning.specs.History.{effect, after, meaning}
 use Rattle.meaning.specs.Reading.{State, ByVersion, ByBlock, InPool, ByCode, serving, queue, routing_of, copy_of}

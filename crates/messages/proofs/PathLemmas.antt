@@ -107,7 +107,7 @@ among_is [] target = refl
 among_is (p ∷ ps) target = among_by p ps target (bytes_eq p.0 target) (among_is ps target)
 
 table_fixed : AreFixed table
-table_fixed = (refl, (refl, (refl, (refl, (refl, (refl, (refl, (refl, (refl, (refl, (refl, (refl, (refl, (refl, (refl, (refl, (refl, (refl, tt))))))))))))))))))
+table_fixed = (refl, (refl, (refl, (refl, (refl, (refl, (refl, (refl, (refl, (refl, (refl, (refl, (refl, (refl, (refl, (refl, (refl, (refl, (refl, (refl, tt))))))))))))))))))))
 
 pub path_is : (target : List ℕ) → option_map (λ (r : RouteOf Route). r.value) (first table target) ≡ path_among paths target
 path_is target = ap (option_map (λ (r : RouteOf Route). r.value)) (seek_is table target table_fixed) ∙ among_is paths target
@@ -133,7 +133,7 @@ not_among (p ∷ ps) target texts n = not_among_by p (path_among ps target) targ
 
 are_texts : AreTexts paths
 unfolding is_utf8 chars encode
-are_texts = (refl, (refl, (refl, (refl, (refl, (refl, (refl, (refl, (refl, (refl, (refl, (refl, (refl, (refl, (refl, (refl, (refl, (refl, tt))))))))))))))))))
+are_texts = (refl, (refl, (refl, (refl, (refl, (refl, (refl, (refl, (refl, (refl, (refl, (refl, (refl, (refl, (refl, (refl, (refl, (refl, (refl, (refl, tt))))))))))))))))))))
 
 pub no_text : (target : List ℕ) → ¬ (IsUtf8 target) → None ≡ path_among paths target
 no_text target n = not_among paths target are_texts n

@@ -9,9 +9,9 @@ use Rattle.messages.specs.Fields.{number_of}
 use Rattle.messages.specs.declared.paths.Method.{Method}
 use Rattle.messages.specs.declared.paths.Method.TheVariants.{Get, Post, Other}
 use Rattle.messages.specs.declared.paths.Route.{Route}
-use Rattle.messages.specs.declared.paths.Route.TheVariants.{Carriers, Clock, RoutingNumbers, Codes, OldProviderCreate, NewProviderCreate, OnVersion, OnBlock, Acknowledge, Query, Version, Number, Downloads}
+use Rattle.messages.specs.declared.paths.Route.TheVariants.{Carriers, Clock, RoutingNumbers, Codes, OldProviderCreate, NewProviderCreate, OnVersion, OnBlock, Acknowledge, Query, Windows, Version, Number, Downloads}
 use Rattle.messages.specs.declared.paths.BlockPath.TheVariants.{Assign, Donate, Release}
-use Rattle.messages.specs.declared.paths.VersionPath.TheVariants.{Activate, PutInConflict, RemoveFromConflict, Cancel, OldProviderCancellationAcknowledge, NewProviderCancellationAcknowledge, Disconnect}
+use Rattle.messages.specs.declared.paths.VersionPath.TheVariants.{Activate, PutInConflict, RemoveFromConflict, Cancel, OldProviderCancellationAcknowledge, NewProviderCancellationAcknowledge, Disconnect, ModifyRouting}
 
 -- ---- the paths that are one text
 
@@ -30,11 +30,13 @@ paths =
     ∷ (codes "/subscriptionVersionCancel", OnVersion Cancel)
     ∷ (codes "/subscriptionVersionConflict", OnVersion PutInConflict)
     ∷ (codes "/subscriptionVersionDisconnect", OnVersion Disconnect)
+    ∷ (codes "/subscriptionVersionModify", OnVersion ModifyRouting)
     ∷ (codes "/subscriptionVersionNewSP-CancellationAcknowledge", OnVersion NewProviderCancellationAcknowledge)
     ∷ (codes "/subscriptionVersionNewSP-Create", NewProviderCreate)
     ∷ (codes "/subscriptionVersionOldSP-CancellationAcknowledge", OnVersion OldProviderCancellationAcknowledge)
     ∷ (codes "/subscriptionVersionOldSP-Create", OldProviderCreate)
     ∷ (codes "/subscriptionVersionRemoveFromConflict", OnVersion RemoveFromConflict)
+    ∷ (codes "/windows", Windows)
     ∷ []
 
 -- all but those of commands on a block or on a version
@@ -48,6 +50,7 @@ first_paths =
     ∷ (codes "/query", Query)
     ∷ (codes "/subscriptionVersionNewSP-Create", NewProviderCreate)
     ∷ (codes "/subscriptionVersionOldSP-Create", OldProviderCreate)
+    ∷ (codes "/windows", Windows)
     ∷ []
 
 -- all but those of commands on a version
@@ -127,6 +130,7 @@ takes Codes method = is_post method
 takes Acknowledge method = is_post method
 takes RoutingNumbers method = is_post method
 takes Query method = is_post method
+takes Windows method = is_post method
 takes (OnVersion path) method = is_post method
 takes (OnBlock path) method = is_post method
 takes NewProviderCreate method = is_post method
@@ -141,6 +145,7 @@ among_offered false (Some Codes) = Some Codes
 among_offered false (Some Acknowledge) = Some Acknowledge
 among_offered false (Some RoutingNumbers) = Some RoutingNumbers
 among_offered false (Some Query) = Some Query
+among_offered false (Some Windows) = Some Windows
 among_offered false (Some (OnVersion path)) = Some (OnVersion path)
 among_offered false (Some (OnBlock path)) = Some (OnBlock path)
 among_offered false (Some NewProviderCreate) = Some NewProviderCreate

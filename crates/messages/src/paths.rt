@@ -26,6 +26,7 @@ pub enum VersionPath {
     OldProviderCancellationAcknowledge,
     NewProviderCancellationAcknowledge,
     Disconnect,
+    ModifyRouting,
 }
 
 /// The paths of commands on a block.
@@ -49,6 +50,8 @@ pub enum Route {
     OnBlock(BlockPath),
     Acknowledge,
     Query,
+    /// The windows.
+    Windows,
     /// A version, by its id, where the path's last part is a number below 2^40 with no zero in
     /// front.
     Version(Option<u64>),
@@ -87,7 +90,8 @@ pub fn takes(route: Route, method: Method) -> bool
         | Route::OnVersion(_)
         | Route::OnBlock(_)
         | Route::Acknowledge
-        | Route::Query => matches!(method, Method::Post),
+        | Route::Query
+        | Route::Windows => matches!(method, Method::Post),
     }
 }
 
@@ -116,6 +120,7 @@ fn insert_paths(router: &mut Router<Route>) -> Result<(), InsertError>
     router.insert("/subscriptionVersionNewSP-Create", Route::NewProviderCreate)?;
     router.insert("/downloads/acknowledge", Route::Acknowledge)?;
     router.insert("/query", Route::Query)?;
+    router.insert("/windows", Route::Windows)?;
     Ok(())
 }
 
@@ -138,7 +143,7 @@ fn insert_version_paths(router: &mut Router<Route>) -> Result<(), InsertError>
     ensures memory { IfErr result (λ e. e ≡ OutOfMemory) }
 {
     use crate::paths::VersionPath::{
-        Activate, Cancel, Disconnect, NewProviderCancellationAcknowledge,
+        Activate, Cancel, Disconnect, ModifyRouting, NewProviderCancellationAcknowledge,
         OldProviderCancellationAcknowledge, PutInConflict, RemoveFromConflict,
     };
     router.insert("/subscriptionVersionActivate", Route::OnVersion(Activate))?;
@@ -162,6 +167,10 @@ fn insert_version_paths(router: &mut Router<Route>) -> Result<(), InsertError>
     router.insert(
         "/subscriptionVersionDisconnect",
         Route::OnVersion(Disconnect),
+    )?;
+    router.insert(
+        "/subscriptionVersionModify",
+        Route::OnVersion(ModifyRouting),
     )?;
     Ok(())
 }

@@ -28,6 +28,7 @@ use Rattle.pool.specs.declared.donation.Donation.{Donation}
 use Rattle.pool.specs.Donations.{command_of as donated, lines_of, used_by, unnamed, made_numbers, contaminated_numbers, donation_refusal}
 use Rattle.pool.specs.Assignments.{command_of, assignment_refusal}
 use Rattle.pool.specs.Releases.{is_others, release_refusal}
+use Rattle.meaning.specs.Windows.{Windows}
 
 not_not : (b : Bool) → not (not b) ≡ b
 not_not true = refl
@@ -43,11 +44,11 @@ none_seen (Some u) (Some v) sees = refl
 none_seen None (Some v) sees = absurd sees
 none_seen (Some u) None sees = absurd sees
 
--- a test that asks neither for the id nor for the broadcasts
-holds_seen : (test : Version → Bool) → ((u : VersionCode) (id : ℕ) (bs : List Broadcast) → test (version_of id bs u) ≡ test (seen u)) → (o : Option VersionCode) (p : Option Version) → Sees o p →
+-- a test that asks for neither the id, the broadcasts nor the windows
+holds_seen : (test : Version → Bool) → ((u : VersionCode) (id : ℕ) (bs : List Broadcast) (ws : Windows) → test (version_of id bs ws u) ≡ test (seen u)) → (o : Option VersionCode) (p : Option Version) → Sees o p →
     holds_of test p ≡ holds_of (λ u. test (seen u)) o
 holds_seen test same None None sees = refl
-holds_seen test same (Some u) (Some v) sees = ap test (sym sees) ∙ same u v.id v.broadcasts
+holds_seen test same (Some u) (Some v) sees = ap test (sym sees) ∙ same u v.id v.broadcasts v.held.windows
 holds_seen test same None (Some v) sees = absurd sees
 holds_seen test same (Some u) None sees = absurd sees
 
@@ -156,8 +157,8 @@ module _ (st : State) (caller : ℕ) (facts : BlockFacts) where
       let donor = none_carrier facts.donor (donor_of block st.history) are.donor in
       let made = none_seen facts.last last are.last in
       let others = others_seen caller facts.last last are.last in
-      let active = holds_seen (λ (v : Version). not (is_active v.status)) (λ u id bs. refl) facts.last last are.last in
-      let attempts = holds_seen (λ (v : Version). has_no_attempt_left v.attempt) (λ u id bs. refl) facts.last last are.last in
+      let active = holds_seen (λ (v : Version). not (is_active v.status)) (λ u id bs ws. refl) facts.last last are.last in
+      let attempts = holds_seen (λ (v : Version). has_no_attempt_left v.attempt) (λ u id bs ws. refl) facts.last last are.last in
       let room = not_past (next_id st.windows st.history) (next_id-below st.windows st.history st.now history) in
       release_by_table st caller block
       ∙ (λ i. first_that_holds ((1, unknown_carrier st (Requests caller (Commands (Release block)))) ∷ (3, code i) ∷ (10, donor i || made i) ∷ (11, others i) ∷ (13, active i)
@@ -175,7 +176,7 @@ module _ (st : State) (caller : ℕ) (facts : BlockFacts) where
       let code = none_carrier facts.code_holder (code_holder (block_code_of a.block.number) st.history) are.code in
       let donor = none_carrier facts.donor (donor_of a.block.number st.history) are.donor in
       let lrn : bad_lrn st caller (command_of a) ≡ not facts.is_lrn_good = sym (not_not (bad_lrn st caller (command_of a))) ∙ ap not (sym are.lrn) in
-      let taken = holds_seen (λ (v : Version). takes_block v.status) (λ u id bs. refl) facts.last last are.last in
+      let taken = holds_seen (λ (v : Version). takes_block v.status) (λ u id bs ws. refl) facts.last last are.last in
       assign_by_table st caller a
       ∙ (λ i. first_that_holds ((1, unknown_carrier st (Requests caller (Commands (command_of a)))) ∷ (2, not (caller == npac)) ∷ (3, code i) ∷ (7, lrn i) ∷ (10, donor i)
       ∷ (23, sym are.ports i) ∷ (24, taken i) ∷ (28, nat_lt limit (sym are.next_id i + 1)) ∷ []))

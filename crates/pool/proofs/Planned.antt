@@ -16,6 +16,7 @@ use Rattle.pool.specs.declared.facts.BlockFacts.{BlockFacts}
 use Rattle.pool.specs.Facts.{has_open_port, in_force_numbers}
 use Rattle.pool.specs.Donations.{tn_subject, numbers_in, used_by, is_unprotected, made_numbers, is_contaminated, donor_tests, tests_by, block_tests, donation_refusal, AreProtective, IsPlanned}
 use Rattle.pool.proofs.InUse.{picked}
+use Rattle.meaning.specs.Windows.{WindowSet}
 
 -- ---- tests in turn
 
@@ -83,7 +84,7 @@ within facts used versions is = fits (go (is_contaminated (numbers_in used) fact
     fits : nat_lt limit (facts.next_id + versions) ≡ false → facts.next_id + versions ≤ limit
     fits e = grind (arith, nat_tests)
 
-pub planned : (caller minute : ℕ) (d : Donation) (facts : BlockFacts) (used : BTreeSet Tn) (made : List Tn) (versions : List (ℕ × VersionCode)) → numbers_in used ≡ used_by d →
-    made ≡ filter (is_unprotected facts) (keys used) → AreProtective caller minute d facts.next_id (map tn_subject made) versions → IsPlanned caller minute d facts versions
-planned caller minute d facts used made versions all is are =
-    subst (λ ss. AreProtective caller minute d facts.next_id ss versions) (sym (made-are d facts used made all is)) are
+pub planned : (w : WindowSet) (caller minute : ℕ) (d : Donation) (facts : BlockFacts) (used : BTreeSet Tn) (made : List Tn) (versions : List (ℕ × VersionCode)) → numbers_in used ≡ used_by d →
+    made ≡ filter (is_unprotected facts) (keys used) → AreProtective w caller minute d facts.next_id (map tn_subject made) versions → IsPlanned w caller minute d facts versions
+planned w caller minute d facts used made versions all is are =
+    subst (λ ss. AreProtective w caller minute d facts.next_id ss versions) (sym (made-are d facts used made all is)) are

@@ -4,7 +4,7 @@ use Rattle.numbers.specs.Subjects.{Block}
 use Rattle.numbers.specs.Views.{subject_of}
 use Rattle.numbers.specs.declared.cic.Cic.{Cic}
 use Rattle.version.specs.declared.version.Version.{Version as VersionCode}
-use Rattle.version.specs.Views.{version_of, seen}
+use Rattle.version.specs.Views.{IsSeen, seen}
 use Rattle.meaning.specs.Commands.{Command, Assign}
 use Rattle.meaning.specs.Conditions.{limit, holds_of, takes_block}
 use Rattle.meaning.specs.History.{Commands, made_version}
@@ -12,6 +12,7 @@ use Rattle.meaning.specs.Refusals.{npac, first_that_holds}
 use Rattle.pool.specs.declared.assignment.Assignment.{Assignment}
 use Rattle.pool.specs.declared.facts.BlockFacts.{BlockFacts}
 use Rattle.pool.specs.Facts.{has_open_port}
+use Rattle.meaning.specs.Windows.{WindowSet}
 
 abbrev pub command_of : Assignment → Command
 command_of a = Assign a.block.number a.holder.number a.routing.lrn.number (option_map (λ (c : Cic). c.number) a.routing.cic)
@@ -26,7 +27,7 @@ abbrev pub assignment_refusal : (caller : ℕ) → BlockFacts → Option ℕ
 assignment_refusal caller facts = first_that_holds (assignment_tests caller facts)
 
 -- the block's version as the assignment makes it. It has one broadcast, its create
-pub record IsAssigned (minute : ℕ) (a : Assignment) (donor : Option ℕ) (v : VersionCode) : Type 0 where
+pub record IsAssigned (present : WindowSet) (minute : ℕ) (a : Assignment) (donor : Option ℕ) (v : VersionCode) : Type 0 where
   pub subject : subject_of v.subject ≡ Block a.block.number
   pub version : (id caller : ℕ) (everyone : List ℕ) →
-      let made = made_version id caller minute everyone donor (Commands (command_of a)) in version_of id made.broadcasts v ≡ made
+      let made = made_version present id caller minute everyone donor (Commands (command_of a)) in IsSeen v made

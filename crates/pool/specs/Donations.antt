@@ -9,7 +9,7 @@ use Rattle.numbers.specs.declared.line.Line.{Line}
 use Rattle.numbers.specs.declared.tn.Tn.{Tn}
 use Rattle.version.specs.declared.version.Version.{Version as VersionCode}
 use Rattle.version.specs.declared.in_use.NumberInUse.{NumberInUse}
-use Rattle.version.specs.Views.{version_of}
+use Rattle.version.specs.Views.{IsSeen}
 use Rattle.meaning.specs.Commands.{Command, Donate}
 use Rattle.meaning.specs.Conditions.{limit, is_the}
 use Rattle.meaning.specs.History.{Commands, used_numbers, made_version}
@@ -17,6 +17,7 @@ use Rattle.meaning.specs.Refusals.{first_that_holds}
 use Rattle.pool.specs.declared.donation.Donation.{Donation}
 use Rattle.pool.specs.declared.facts.BlockFacts.{BlockFacts}
 use Rattle.pool.specs.Facts.{carrier_number, in_force_numbers, is_in_force, has_open_port}
+use Rattle.meaning.specs.Windows.{WindowSet}
 
 -- ---- the donation as the definitions see it
 
@@ -89,19 +90,19 @@ donation_refusal caller d facts = first_that_holds (donor_tests caller facts ++ 
 -- ---- what is made
 
 -- a version as the donation makes it for s. It has one broadcast, its create
-pub record IsProtective (caller minute : ℕ) (d : Donation) (s : Subject) (v : VersionCode) : Type 0 where
+pub record IsProtective (present : WindowSet) (caller minute : ℕ) (d : Donation) (s : Subject) (v : VersionCode) : Type 0 where
   pub subject : subject_of v.subject ≡ s
   pub version : (id : ℕ) (everyone : List ℕ) (donor : Option ℕ) →
-      let made = made_version id caller minute everyone donor (Commands (command_of d)) in version_of id made.broadcasts v ≡ made
+      let made = made_version present id caller minute everyone donor (Commands (command_of d)) in IsSeen v made
 
 -- a version for each of these subjects, in their order, with ids in turn
-abbrev pub AreProtective : (caller minute : ℕ) → Donation → (from : ℕ) → List Subject → List (ℕ × VersionCode) → Type 0
-AreProtective caller minute d from [] [] = ⊤
-AreProtective caller minute d from (s ∷ ss) (e ∷ es) = (e.0 ≡ from) × IsProtective caller minute d s e.1 × AreProtective caller minute d (suc from) ss es
-AreProtective caller minute d from [] (e ∷ es) = ⊥
-AreProtective caller minute d from (s ∷ ss) [] = ⊥
+abbrev pub AreProtective : WindowSet → (caller minute : ℕ) → Donation → (from : ℕ) → List Subject → List (ℕ × VersionCode) → Type 0
+AreProtective present caller minute d from [] [] = ⊤
+AreProtective present caller minute d from (s ∷ ss) (e ∷ es) = (e.0 ≡ from) × IsProtective present caller minute d s e.1 × AreProtective present caller minute d (suc from) ss es
+AreProtective present caller minute d from [] (e ∷ es) = ⊥
+AreProtective present caller minute d from (s ∷ ss) [] = ⊥
 
 -- the versions that a donation makes, given what the facts say
-abbrev pub IsPlanned : (caller minute : ℕ) → Donation → BlockFacts → List (ℕ × VersionCode) → Type 0
-IsPlanned caller minute d facts versions =
-    AreProtective caller minute d facts.next_id (made_numbers (used_by d) (in_force_numbers facts.numbers.now)) versions
+abbrev pub IsPlanned : WindowSet → (caller minute : ℕ) → Donation → BlockFacts → List (ℕ × VersionCode) → Type 0
+IsPlanned present caller minute d facts versions =
+    AreProtective present caller minute d facts.next_id (made_numbers (used_by d) (in_force_numbers facts.numbers.now)) versions

@@ -2,13 +2,15 @@
 use Rattle.std.specs.Prelude.{ℕ, ◌≡◌, Bool, not, ◌&&◌, ◌||◌, ◌==◌, List, [], ◌∷◌, Option, Some, None, is_none}
 use Rattle.version.specs.declared.version.Version.{Version as VersionCode}
 use Rattle.version.specs.declared.command.Step.{Step}
+use Rattle.version.specs.Commands.{sends_seen}
 use Rattle.version.specs.Views.{seen, Becomes}
-use Rattle.meaning.specs.declared.words.Action.TheVariants.{Delete}
+use Rattle.meaning.specs.Statuses.{Delete}
 use Rattle.meaning.specs.Changes.{sent}
 use Rattle.meaning.specs.Conditions.{holds_of, is_active, has_no_attempt_left}
 use Rattle.meaning.specs.Refusals.{npac, first_that_holds}
 use Rattle.pool.specs.declared.facts.BlockFacts.{BlockFacts}
 use Rattle.pool.specs.Facts.{has_open_port}
+use Rattle.meaning.specs.Windows.{WindowSet}
 
 -- the caller is neither the administrator nor the version's provider
 abbrev pub is_others : (caller : ℕ) → VersionCode → Bool
@@ -25,6 +27,6 @@ abbrev pub release_refusal : (caller : ℕ) → BlockFacts → Option ℕ
 release_refusal caller facts = first_that_holds (release_tests caller facts)
 
 -- the block's last version sends a delete
-abbrev pub IsReleased : (minute : ℕ) → Option VersionCode → Step → Type 0
-IsReleased minute None step = ⊥
-IsReleased minute (Some v) step = (step.sends ≡ Some Delete) × ((everyone : List ℕ) → Becomes (sent Delete everyone minute) v step.version)
+abbrev pub IsReleased : WindowSet → (minute : ℕ) → Option VersionCode → Step → Type 0
+IsReleased present minute None step = ⊥
+IsReleased present minute (Some v) step = (sends_seen step.sends ≡ Some Delete) × ((everyone : List ℕ) → Becomes (sent present Delete everyone minute) v step.version)

@@ -2,14 +2,15 @@
 ghost use Rattle.std.specs.Prelude.{◌≡◌, IfOk};
 ghost use Rattle.delivery.specs.Refused.{refusal_in};
 ghost use Rattle.meaning.specs.Conditions.{holds_of, takes_block};
-ghost use Rattle.version.specs.Views.{seen};
+ghost use Rattle.version.specs.Views.{seen, set_of};
 ghost use Rattle.pool.specs.Facts.{carrier_number};
 ghost use Rattle.pool.specs.Assignments.{assignment_refusal, IsAssigned};
 
 use crate::facts::BlockFacts;
-use meaning::{Action, Refusal, Status};
+use meaning::{Refusal, Send, Status};
 use numbers::{BlockId, Minute, Routing, Spid, Subject};
 use version::{ID_LIMIT, Version};
+use windows::WindowSet;
 
 /// The administrator gives a donated block to a carrier, its holder, who from then on serves those
 /// of its numbers that are not ported.
@@ -36,8 +37,9 @@ fn is_taken(last: &Option<Version>) -> bool
 
 impl Assignment {
     // The block's version from its donor, as its first broadcast begins.
-    fn version(&self, donor: Spid, minute: Minute) -> Version
-        ensures { IsAssigned minute.number self.now (Some donor.number) result }
+    fn version(&self, donor: Spid, minute: Minute, present: &WindowSet) -> Version
+        ensures { IsAssigned (set_of present.now) minute.number self.now (Some donor.number)
+            result }
     {
         Version {
             subject: Subject::Block(self.block),
@@ -47,8 +49,9 @@ impl Assignment {
             routing: Some(self.routing),
             old_at: None,
             new_at: None,
-            status: Status::Sending(Action::Create),
+            status: Status::Sending(Send::Create),
             since: minute,
+            held: present.number,
             attempt: 1,
             is_conflict_spent: false,
             is_protective: false,
@@ -68,10 +71,12 @@ impl Assignment {
         caller: Spid,
         facts: &BlockFacts<'_>,
         minute: Minute,
+        present: &WindowSet,
     ) -> Result<Version, Refusal>
         ensures refusal { refusal_in result ≡ assignment_refusal caller.number facts.now }
         ensures made { IfOk result
-            (IsAssigned minute.number self.now (carrier_number facts.now.donor)) }
+            (IsAssigned (set_of present.now) minute.number self.now
+            (carrier_number facts.now.donor)) }
     {
         if caller.number != Spid::NPAC.number {
             return Err(Refusal::NotAdmin);
@@ -94,6 +99,6 @@ impl Assignment {
         if facts.next_id >= ID_LIMIT {
             return Err(Refusal::Full);
         }
-        Ok(self.version(donor, minute))
+        Ok(self.version(donor, minute, present))
     }
 }

@@ -7,14 +7,16 @@ ghost use Rattle.meaning.specs.RefusalNumbers.{number_of};
 ghost use Rattle.meaning.specs.declared.refusal.Refusal.TheVariants.{NoMemory};
 ghost use Rattle.meaning.specs.Refusals.{first_that_holds};
 ghost use Rattle.numbers.specs.Subjects.{Number};
+ghost use Rattle.version.specs.Views.{set_of};
 ghost use Rattle.pool.specs.Donations.{donation_refusal, donor_tests, is_contaminated, is_named, is_unnamed, is_unprotected, numbers_in, tests_by, tn_subject, used_by, AreProtective, IsPlanned, IsProtective};
 
 use crate::facts::BlockFacts;
-use meaning::{Action, Refusal, Status};
+use meaning::{Refusal, Send, Status};
 use numbers::{BlockId, Line, Minute, Routing, Spid, Subject, Tn};
 use std::alloc::{AllocError, Global};
 use std::collections::BTreeSet;
 use version::{ID_LIMIT, Version};
+use windows::WindowSet;
 
 // The most numbers of a block that may be in use when it is donated.
 const MOST_IN_USE: usize = 100;
@@ -142,8 +144,9 @@ impl Donation<'_> {
     }
 
     // The version that keeps a used number with its donor, as its first broadcast begins.
-    fn protective(&self, donor: Spid, tn: Tn, minute: Minute) -> Version
-        ensures { IsProtective donor.number minute.number self.now (Number tn.number) result }
+    fn protective(&self, donor: Spid, tn: Tn, minute: Minute, present: &WindowSet) -> Version
+        ensures { IsProtective (set_of present.now) donor.number minute.number self.now
+            (Number tn.number) result }
     {
         Version {
             subject: Subject::Number(tn),
@@ -153,8 +156,9 @@ impl Donation<'_> {
             routing: Some(self.routing),
             old_at: None,
             new_at: None,
-            status: Status::Sending(Action::Create),
+            status: Status::Sending(Send::Create),
             since: minute,
+            held: present.number,
             attempt: 1,
             is_conflict_spent: false,
             is_protective: true,
@@ -169,16 +173,17 @@ impl Donation<'_> {
         numbers: &[Tn],
         first_id: u64,
         minute: Minute,
+        present: &WindowSet,
     ) -> Result<Vec<(u64, Version)>, AllocError>
         requires ids { first_id + length numbers.now ≤ limit }
         ensures { IfOk result (λ versions.
-            AreProtective donor.number minute.number self.now first_id
+            AreProtective (set_of present.now) donor.number minute.number self.now first_id
             (map tn_subject numbers.now) versions.items) }
     {
         let mut versions = Vec::with_capacity(alloc, numbers.len())?;
         let mut id = first_id;
         for tn in numbers {
-            versions.push((id, self.protective(donor, *tn, minute)))?;
+            versions.push((id, self.protective(donor, *tn, minute, present)))?;
             id += 1;
         }
         Ok(versions)
@@ -199,20 +204,22 @@ impl Donation<'_> {
         caller: Spid,
         facts: &BlockFacts<'_>,
         minute: Minute,
+        present: &WindowSet,
     ) -> Result<Plan, Refusal>
         ensures accepted { OnOk result
             (donation_refusal caller.number self.now facts.now ≡ None) }
         ensures refused { IfErr result (λ refusal. refusal ≢ NoMemory
             → donation_refusal caller.number self.now facts.now ≡ Some (number_of refusal)) }
         ensures planned { IfOk result (λ plan.
-            IsPlanned caller.number minute.number self.now facts.now plan.versions.items) }
+            IsPlanned (set_of present.now) caller.number minute.number self.now facts.now
+            plan.versions.items) }
     {
         check_donor(caller, facts)?;
         let used = self.used_numbers(alloc)?;
         let made = unprotected(alloc, &used, facts)?;
         check_block(&used, made.len(), facts)?;
         Ok(Plan {
-            versions: self.versions(alloc, caller, &made, facts.next_id, minute)?,
+            versions: self.versions(alloc, caller, &made, facts.next_id, minute, present)?,
         })
     }
 }

@@ -1,12 +1,14 @@
 //! Release: a block is given back to the pool.
 ghost use Rattle.std.specs.Prelude.{◌≡◌, ℕ, List, IfOk};
 ghost use Rattle.delivery.specs.Refused.{refusal_in};
+ghost use Rattle.version.specs.Views.{set_of};
 ghost use Rattle.pool.specs.Releases.{is_others, release_refusal, IsReleased};
 
 use crate::facts::BlockFacts;
-use meaning::{Action, Refusal, Status};
+use meaning::{Refusal, Send, Status};
 use numbers::{Minute, Spid};
 use version::{Step, Version};
+use windows::WindowSet;
 
 // The caller is neither the administrator nor the version's provider.
 fn is_others(version: &Version, caller: Spid) -> bool
@@ -24,9 +26,14 @@ fn is_others(version: &Version, caller: Spid) -> bool
 /// its last version's new provider nor the administrator, `WrongStatus` where that version is not
 /// active, `OpenPorts` where a number of the block is being ported, and `Full` where no attempt is
 /// left.
-pub fn release(caller: Spid, facts: &BlockFacts<'_>, minute: Minute) -> Result<Step, Refusal>
+pub fn release(
+    caller: Spid,
+    facts: &BlockFacts<'_>,
+    minute: Minute,
+    present: &WindowSet,
+) -> Result<Step, Refusal>
     ensures refusal { refusal_in result ≡ release_refusal caller.number facts.now }
-    ensures released { IfOk result (IsReleased minute.number facts.now.last) }
+    ensures released { IfOk result (IsReleased (set_of present.now) minute.number facts.now.last) }
 {
     if facts.code_holder.is_none() {
         return Err(Refusal::UnknownCode);
@@ -50,7 +57,7 @@ pub fn release(caller: Spid, facts: &BlockFacts<'_>, minute: Minute) -> Result<S
         return Err(Refusal::Full);
     }
     Ok(Step {
-        version: version.sending(Action::Delete, minute),
-        sends: Some(Action::Delete),
+        version: version.sending(Send::Delete, minute, present),
+        sends: Some(Send::Delete),
     })
 }

@@ -3,12 +3,12 @@ use Rattle.std.proofs.Common.{◌≡◌, ℕ, Bool, true, false, not, ◌&&◌, 
 use Rattle.std.specs.Prelude.{◌==◌, find, filter, is_some, option_map, option_and_then, if◌then◌else◌}
 use Rattle.std.specs.FinMap.{get, keys}
 use Rattle.numbers.specs.Subjects.{Subject, Block, subject_eq}
-use Rattle.meaning.specs.Windows.{Windows}
+use Rattle.meaning.specs.Windows.{WindowSet}
 use Rattle.meaning.specs.Versions.{Version, Record, in_force, is_open, sends_create, is_among, unacknowledged, waiters, version_with, last_version}
 use Rattle.meaning.specs.Changes.{is_empty, acknowledged_by, retired, changed_at, of_id}
 use Rattle.meaning.specs.Laws.{IsQuiet}
 use Rattle.meaning.specs.History.{Acknowledges, effect, after, meaning, donor_of, carriers, made_by}
-use Rattle.meaning.specs.Reading.{State, View, record_now, view_of}
+use Rattle.meaning.specs.Reading.{State, View, record_now, view_of, set_now}
 use Rattle.meaning.specs.Refusals.{Requests, refusal}
 use Rattle.meaning.specs.Machine.{IsHistory, Shown, accepted, answer_of}
 use Rattle.meaning.specs.Content.{Content, VersionRow, BroadcastRow, BlockRow, BroadcastKey, ClockRow, SameRows, Shows, row_of, of_subject, stored_broadcast, stored_wait, broadcast_with}
@@ -99,17 +99,17 @@ module _ (st : State) (old : Content) (stands : Stands old st) (caller : ℕ) (s
 -- ---- the record of the subject
 
 abbrev record_after : (st : State) (caller id attempt : ℕ) (s : Subject) → Record
-record_after st caller id attempt s = record { carriers = (record_now st s).carriers; versions = changed_at st.now (of_id id (acknowledged_by caller attempt st.now)) (record_now st s).versions }
+record_after st caller id attempt s = record { carriers = (record_now st s).carriers; versions = changed_at (set_now st) st.now (of_id id (acknowledged_by (set_now st) caller attempt st.now)) (record_now st s).versions }
 
 acknowledged-record : (st : State) (caller id attempt : ℕ) (s : Subject) → record_now (accepted st (Requests caller (Acknowledges id attempt))) s ≡ record_after st caller id attempt s
 unfolding meaning after effect
 acknowledged-record st caller id attempt s =
-    judged-now st.windows st.now (effect s None (donor_of 0 st.history) (record { minute = st.now; caller = caller; request = Acknowledges id attempt }) (record_now st s))
+    judged-now (set_now st) st.now (effect (set_now st) s None (donor_of 0 st.history) (record { minute = st.now; caller = caller; request = Acknowledges id attempt }) (record_now st s))
 
 -- ---- rows put
 
 -- one's own row, if it changes, comes last
-last_put : (w : Windows) (minute : ℕ) (s : Subject) (id k : ℕ) (row : VersionRow) (x : Bool) (o : Option Version) (before : Option VersionRow) →
+last_put : (w : WindowSet) (minute : ℕ) (s : Subject) (id k : ℕ) (row : VersionRow) (x : Bool) (o : Option Version) (before : Option VersionRow) →
     put_rows ◌==◌ (puts_of w minute s o ++ own_rows x id row) k before ≡ (if x && (id == k) then Some row else put_rows ◌==◌ (puts_of w minute s o) k before)
 last_put w minute s id k row true o before = put_last w minute s id row o k before
 last_put w minute s id k row false None before = refl
@@ -118,17 +118,17 @@ last_put w minute s id k row false (Some u) before = refl
 module _ (st : State) (old : Content) (stands : Stands old st) (s : Subject) (due : IsSettled old st s) where
   -- rows of other subjects
   puts_apart : (takes_over : Bool) (id : ℕ) (v : Version) → version_with id (record_now st s) ≡ Some v → (row : VersionRow) (x : Bool) → row.subject ≡ s → (t : Subject) → subject_eq s t ≡ false → (k : ℕ) →
-      of_subject t (λ (y : VersionRow). y.subject) (put_rows ◌==◌ (puts_of st.windows st.now s (the_replaced takes_over (record_now st s)) ++ own_rows x id row) k (get old.versions k))
+      of_subject t (λ (y : VersionRow). y.subject) (put_rows ◌==◌ (puts_of (set_now st) st.now s (the_replaced takes_over (record_now st s)) ++ own_rows x id row) k (get old.versions k))
       ≡ of_subject t (λ (y : VersionRow). y.subject) (get old.versions k)
   puts_apart takes_over id v found row x of_s t apart k =
-      ap (of_subject t (λ (y : VersionRow). y.subject)) (last_put st.windows st.now s id k row x (the_replaced takes_over (record_now st s)) (get old.versions k)) ∙ go x (id == k) refl
+      ap (of_subject t (λ (y : VersionRow). y.subject)) (last_put (set_now st) st.now s id k row x (the_replaced takes_over (record_now st s)) (get old.versions k)) ∙ go x (id == k) refl
     where
-      stay : of_subject t (λ (y : VersionRow). y.subject) (replaced_row st.windows st.now s (record_now st s) old takes_over k) ≡ of_subject t (λ (y : VersionRow). y.subject) (get old.versions k)
-      stay = retired_apart st.windows st.now s (made_by st.windows st.history) (record_now st s) old due.shows (given_now st stands.represents.history s) takes_over t apart k
+      stay : of_subject t (λ (y : VersionRow). y.subject) (replaced_row (set_now st) st.now s (record_now st s) old takes_over k) ≡ of_subject t (λ (y : VersionRow). y.subject) (get old.versions k)
+      stay = retired_apart (set_now st) st.now s (made_by st.windows st.history) (record_now st s) old due.shows (given_now st stands.represents.history s) takes_over t apart k
 
-      go : (a b : Bool) → (id == k) ≡ b → of_subject t (λ (y : VersionRow). y.subject) (if a && b then Some row else replaced_row st.windows st.now s (record_now st s) old takes_over k) ≡ of_subject t (λ (y : VersionRow). y.subject) (get old.versions k)
+      go : (a b : Bool) → (id == k) ≡ b → of_subject t (λ (y : VersionRow). y.subject) (if a && b then Some row else replaced_row (set_now st) st.now s (record_now st s) old takes_over k) ≡ of_subject t (λ (y : VersionRow). y.subject) (get old.versions k)
       go true true e = others s t (λ (y : VersionRow). y.subject) row of_s apart
-          ∙ sym (none_apart old s t apart id k (row_of st.windows s v) (row_there st.windows s old (record_now st s) due.shows id v found) refl e)
+          ∙ sym (none_apart old s t apart id k (row_of s v) (row_there (set_now st) s old (record_now st s) due.shows id v found) refl e)
       go true false e = stay
       go false b e = stay
 
@@ -152,6 +152,7 @@ one_version caller minute id attempt last s row of_s = record {
   lrn = refl;
   code = refl;
   block = refl;
+  set = refl;
   versions = tt;
   broadcasts = put (last && not row.is_open);
   waits = tt;
@@ -172,7 +173,7 @@ one_version caller minute id attempt last s row of_s = record {
 module _ (st : State) (old new : Content) (stands : Stands old st) (caller : ℕ) (s : Subject) (due : IsSettled old st s) (minute id attempt : ℕ) (is : IsAwaited st caller s minute id attempt) (last : Bool)
     (last_one : last ≡ is_last_wait old (record { carrier = caller; minute = minute; id = id; attempt = attempt })) where
   abbrev change : Version → Version
-  change = acknowledged_by caller attempt st.now
+  change = acknowledged_by (set_now st) caller attempt st.now
 
   tended : IsTended (record_now st s).carriers is.version
   tended = version_now tended_kept st stands.represents.history s id is.version is.found
@@ -190,25 +191,25 @@ module _ (st : State) (old new : Content) (stands : Stands old st) (caller : ℕ
   takes_over = completes && sends_create is.version.status
 
   abbrev finished : Version
-  finished = completed_if completes st.now (answered_all caller attempt st.now is.version)
+  finished = completed_if (set_now st) completes st.now (answered_all caller attempt st.now is.version)
 
   pub change_is : change is.version ≡ finished
-  change_is = acknowledged_is caller attempt st.now is.version (record_now st s).carriers is.broadcast tended is.sent last is_left
+  change_is = acknowledged_is caller attempt st.now is.version (record_now st s).carriers is.broadcast tended is.sent last is_left (set_now st)
 
   takes_over_is : (not (in_force is.version) && in_force (change is.version)) ≡ takes_over
-  takes_over_is = takes_is caller attempt st.now is.version (record_now st s).carriers is.broadcast tended is.sent last is_left
+  takes_over_is = takes_is caller attempt st.now is.version (record_now st s).carriers is.broadcast tended is.sent last is_left (set_now st)
 
   opens : (not (in_force is.version) && in_force (change is.version)) ≡ true → is_open s is.version ≡ true
   opens e = sends_create-open s is.version (and_both completes (sends_create is.version.status) (sym takes_over_is ∙ e)).1
 
   hit : version_with id (record_after st caller id attempt s) ≡ Some (change is.version)
-  hit = version_after (made_by st.windows st.history) s st.now id change (acknowledged_id caller attempt st.now) (record_now st s).versions is.version
+  hit = version_after (set_now st) (made_by st.windows st.history) s st.now id change (acknowledged_id (set_now st) caller attempt st.now) (record_now st s).versions is.version
       (given_now st stands.represents.history s) (sound_now st stands.represents.history s) is.found opens
 
-  miss : (k : ℕ) → (id == k) ≡ false → version_with k (record_after st caller id attempt s) ≡ option_map (retired takes_over st.now) (version_with k (record_now st s))
-  miss k apart = others_after (made_by st.windows st.history) s st.now id change (acknowledged_id caller attempt st.now) (record_now st s).versions is.version
+  miss : (k : ℕ) → (id == k) ≡ false → version_with k (record_after st caller id attempt s) ≡ option_map (retired (set_now st) takes_over st.now) (version_with k (record_now st s))
+  miss k apart = others_after (set_now st) (made_by st.windows st.history) s st.now id change (acknowledged_id (set_now st) caller attempt st.now) (record_now st s).versions is.version
       (given_now st stands.represents.history s) (sound_now st stands.represents.history s) is.found opens k apart
-      ∙ ap (λ b. option_map (retired b st.now) (version_with k (record_now st s))) takes_over_is
+      ∙ ap (λ b. option_map (retired (set_now st) b st.now) (version_with k (record_now st s))) takes_over_is
 
   abbrev the_row : BroadcastRow
   the_row = answered_row closes (row_was caller is.broadcast is.waits s)
@@ -217,45 +218,45 @@ module _ (st : State) (old new : Content) (stands : Stands old st) (caller : ℕ
   the_changes versions = acknowledging caller minute id attempt last versions the_row
 
   abbrev the_puts : List (ℕ × VersionRow)
-  the_puts = puts_of st.windows st.now s (the_replaced takes_over (record_now st s)) ++ own_rows completes id (row_of st.windows s finished)
+  the_puts = puts_of (set_now st) st.now s (the_replaced takes_over (record_now st s)) ++ own_rows completes id (row_of s finished)
 
   module _ (changed : IsChanged (the_changes the_puts) old new) where
-    version_at : (k : ℕ) (b : Bool) → (id == k) ≡ b → of_subject s (λ (x : VersionRow). x.subject) (get new.versions k) ≡ option_map (row_of st.windows s) (version_with k (record_after st caller id attempt s))
+    version_at : (k : ℕ) (b : Bool) → (id == k) ≡ b → of_subject s (λ (x : VersionRow). x.subject) (get new.versions k) ≡ option_map (row_of s) (version_with k (record_after st caller id attempt s))
     version_at k x e = ap (of_subject s (λ (y : VersionRow). y.subject)) (changed.versions k
-        ∙ last_put st.windows st.now s id k (row_of st.windows s finished) completes (the_replaced takes_over (record_now st s)) (get old.versions k)
-        ∙ ap (λ b. if completes && b then Some (row_of st.windows s finished) else replaced_row st.windows st.now s (record_now st s) old takes_over k) e) ∙ at x e
+        ∙ last_put (set_now st) st.now s id k (row_of s finished) completes (the_replaced takes_over (record_now st s)) (get old.versions k)
+        ∙ ap (λ b. if completes && b then Some (row_of s finished) else replaced_row (set_now st) st.now s (record_now st s) old takes_over k) e) ∙ at x e
       where
-        mine : (id == k) ≡ true → (b : Bool) → completes ≡ b → of_subject s (λ (y : VersionRow). y.subject) (if b && true then Some (row_of st.windows s finished) else replaced_row st.windows st.now s (record_now st s) old (b && sends_create is.version.status) k) ≡ Some (row_of st.windows s finished)
-        mine f true g = own s (λ (y : VersionRow). y.subject) (row_of st.windows s finished) refl
-        mine f false g = due.shows.versions k ∙ ap (option_map (row_of st.windows s)) (ap (λ n. version_with n (record_now st s)) (sym (same_id id k f)) ∙ is.found)
-            ∙ sym (ap (λ b. Some (row_of st.windows s (completed_if b st.now (answered_all caller attempt st.now is.version)))) g)
+        mine : (id == k) ≡ true → (b : Bool) → completes ≡ b → of_subject s (λ (y : VersionRow). y.subject) (if b && true then Some (row_of s finished) else replaced_row (set_now st) st.now s (record_now st s) old (b && sends_create is.version.status) k) ≡ Some (row_of s finished)
+        mine f true g = own s (λ (y : VersionRow). y.subject) (row_of s finished) refl
+        mine f false g = due.shows.versions k ∙ ap (option_map (row_of s)) (ap (λ n. version_with n (record_now st s)) (sym (same_id id k f)) ∙ is.found)
+            ∙ sym (ap (λ b. Some (row_of s (completed_if (set_now st) b st.now (answered_all caller attempt st.now is.version)))) g)
 
         never : (b : Bool) (o p : Option VersionRow) → (if b && false then o else p) ≡ p
         never true o p = refl
         never false o p = refl
 
-        at : (b : Bool) → (id == k) ≡ b → of_subject s (λ (y : VersionRow). y.subject) (if completes && b then Some (row_of st.windows s finished) else replaced_row st.windows st.now s (record_now st s) old takes_over k)
-            ≡ option_map (row_of st.windows s) (version_with k (record_after st caller id attempt s))
-        at true f = mine f completes refl ∙ ap (λ u. Some (row_of st.windows s u)) (sym change_is)
-            ∙ sym (ap (option_map (row_of st.windows s)) (ap (λ n. version_with n (record_after st caller id attempt s)) (sym (same_id id k f)) ∙ hit))
-        at false f = ap (of_subject s (λ (y : VersionRow). y.subject)) (never completes (Some (row_of st.windows s finished)) (replaced_row st.windows st.now s (record_now st s) old takes_over k))
-            ∙ retired_shows st.windows st.now s (made_by st.windows st.history) (record_now st s) old due.shows (given_now st stands.represents.history s) (one_in_force st old stands s) takes_over k
-            ∙ sym (ap (option_map (row_of st.windows s)) (miss k f))
+        at : (b : Bool) → (id == k) ≡ b → of_subject s (λ (y : VersionRow). y.subject) (if completes && b then Some (row_of s finished) else replaced_row (set_now st) st.now s (record_now st s) old takes_over k)
+            ≡ option_map (row_of s) (version_with k (record_after st caller id attempt s))
+        at true f = mine f completes refl ∙ ap (λ u. Some (row_of s u)) (sym change_is)
+            ∙ sym (ap (option_map (row_of s)) (ap (λ n. version_with n (record_after st caller id attempt s)) (sym (same_id id k f)) ∙ hit))
+        at false f = ap (of_subject s (λ (y : VersionRow). y.subject)) (never completes (Some (row_of s finished)) (replaced_row (set_now st) st.now s (record_now st s) old takes_over k))
+            ∙ retired_shows (set_now st) st.now s (made_by st.windows st.history) (record_now st s) old due.shows (given_now st stands.represents.history s) (one_in_force st old stands s) takes_over k
+            ∙ sym (ap (option_map (row_of s)) (miss k f))
 
     -- all broadcasts but the one are the same
     same_elsewhere : (k a : ℕ) (x : Bool) → (id == k) ≡ x → (x && (attempt == a)) ≡ false → broadcast_with k a (record_after st caller id attempt s) ≡ broadcast_with k a (record_now st s)
     same_elsewhere k a false e apart = same_broadcast_with (record_now st s) (record_after st caller id attempt s) k
-        (ap (option_map (λ (u : Version). u.broadcasts)) (miss k e) ∙ retired_broadcasts takes_over st.now (version_with k (record_now st s))) a
+        (ap (option_map (λ (u : Version). u.broadcasts)) (miss k e) ∙ retired_broadcasts (set_now st) takes_over st.now (version_with k (record_now st s))) a
     same_elsewhere k a true e apart =
         ap (λ n. broadcast_with n a (record_after st caller id attempt s)) (sym (same_id id k e))
         ∙ ap (option_and_then (λ (v : Version). find (λ x. x.attempt == a) v.broadcasts)) hit
-        ∙ other_broadcast caller attempt st.now is.version (record_now st s).carriers is.broadcast tended is.sent last is_left a apart
+        ∙ other_broadcast caller attempt st.now is.version (record_now st s).carriers is.broadcast tended is.sent last is_left (set_now st) a apart
         ∙ sym (ap (option_and_then (λ (v : Version). find (λ x. x.attempt == a) v.broadcasts)) is.found)
         ∙ ap (λ n. broadcast_with n a (record_now st s)) (same_id id k e)
 
     this_after : broadcast_with id attempt (record_after st caller id attempt s) ≡ Some (answered_one caller is.broadcast is.waits closes)
     this_after = ap (option_and_then (λ (v : Version). find (λ x. x.attempt == attempt) v.broadcasts)) hit
-        ∙ this_broadcast caller attempt st.now is.version (record_now st s).carriers is.broadcast tended is.sent last is_left is.waits
+        ∙ this_broadcast caller attempt st.now is.version (record_now st s).carriers is.broadcast tended is.sent last is_left (set_now st) is.waits
 
     at_key : (k a : ℕ) → ((id == k) && (attempt == a)) ≡ true → (record_now_or : Record) → broadcast_with k a record_now_or ≡ broadcast_with id attempt record_now_or
     at_key k a e x =
@@ -306,7 +307,7 @@ module _ (st : State) (old new : Content) (stands : Stands old st) (caller : ℕ
         off true false z o f = refl
         off false y z o f = refl
 
-    own_shows : Shows st.windows new s (record_after st caller id attempt s)
+    own_shows : Shows new s (record_after st caller id attempt s)
     own_shows = record {
       versions = λ k. version_at k (id == k) refl;
       broadcasts = λ k a. broadcast_at k a ((id == k) && (attempt == a)) refl;
@@ -324,6 +325,7 @@ module _ (st : State) (old new : Content) (stands : Stands old st) (caller : ℕ
           lrns = changed.lrns;
           codes = changed.codes;
           blocks = changed.blocks;
+          sets = changed.sets;
           versions = λ k. refl;
           broadcasts = changed.broadcasts;
           waits = changed.waits;
@@ -331,7 +333,7 @@ module _ (st : State) (old new : Content) (stands : Stands old st) (caller : ℕ
         } in
         let rest : SameRows t old middle = lagging_aside st old middle (the_changes []) s id (one_version caller minute id attempt last s the_row refl) changed_rest t (stands.represents.subjects t) apart free in
         record {
-          versions = λ k. ap (of_subject t (λ (x : VersionRow). x.subject)) (changed.versions k) ∙ puts_apart st old stands s due takes_over id is.version is.found (row_of st.windows s finished) completes refl t apart k;
+          versions = λ k. ap (of_subject t (λ (x : VersionRow). x.subject)) (changed.versions k) ∙ puts_apart st old stands s due takes_over id is.version is.found (row_of s finished) completes refl t apart k;
           broadcasts = rest.broadcasts;
           waits = rest.waits;
         }
@@ -354,17 +356,19 @@ module _ (st : State) (old new : Content) (stands : Stands old st) (caller : ℕ
       last_id b false e = ap (λ (x : Record). option_map (λ (u : Version). u.id) (last_version x)) (elsewhere (Block b) e)
       last_id b true e = subst (λ t. option_map (λ (x : Version). x.id) (last_version (record_now after_it t)) ≡ option_map (λ (x : Version). x.id) (last_version (record_now st t))) (sym (same_subject s (Block b) e))
           (ap (λ (x : Record). option_map (λ (u : Version). u.id) (last_version x)) (acknowledged-record st caller id attempt s)
-          ∙ last-same st.now id change (acknowledged_id caller attempt st.now) (record_now st s).versions)
+          ∙ last-same (set_now st) st.now id change (acknowledged_id (set_now st) caller attempt st.now) (record_now st s).versions)
 
       here : (t : Subject) → subject_eq s t ≡ true → IsSettled new after_it t
       here t e = subst (IsSettled new after_it) (sym (same_subject s t e)) (record {
-        shows = subst (Shows st.windows new s) (sym (acknowledged-record st caller id attempt s)) own_shows;
-        quiet = subst (λ (x : Record). IsQuiet st.windows st.now x.versions) (sym (acknowledged-record st caller id attempt s)) (acknowledging-quiet st.windows st.now caller id attempt (record_now st s).versions due.quiet);
+        shows = subst (Shows new s) (sym (acknowledged-record st caller id attempt s)) own_shows;
+        quiet = subst (λ (x : Record). IsQuiet st.now x.versions) (sym (acknowledged-record st caller id attempt s)) (acknowledging-quiet (set_now st) st.now caller id attempt (record_now st s).versions due.quiet);
       })
 
       registry : RegistryShows new after_it
       registry = record {
-        clock = clock_same st caller (Acknowledges id attempt) s id is.version (acknowledge-names id attempt s) stands.represents.history is.found old new changed.clock clock clock_is stands.represents.clock;
+        clock = clock_same st caller (Acknowledges id attempt) s id is.version
+            (acknowledge-names id attempt s) stands.represents.history is.found refl old new stands
+            changed.clock;
         written = ap is_some changed.clock ∙ stands.written;
         carriers = λ k. ap is_some (changed.carriers k) ∙ stands.represents.carriers k;
         lrns = λ k. changed.lrns k ∙ stands.represents.lrns k;
@@ -374,7 +378,7 @@ module _ (st : State) (old new : Content) (stands : Stands old st) (caller : ℕ
       }
 
       pub acknowledged-stands : Stands new after_it
-      acknowledged-stands = touched-stands st old new caller (Acknowledges id attempt) (subject_eq s) stands none tt registry (λ t e. (elsewhere t e, other_rows t e)) here
+      acknowledged-stands = touched-stands st old new caller (Acknowledges id attempt) (subject_eq s) stands none tt refl changed.sets registry (λ t e. (elsewhere t e, other_rows t e)) here
 
       pub acknowledged-answer : (view : View) → view ≡ view_of after_it (record { subject = s; version = finished }) → Shown (Some view) ≡ answer_of st after_it (Requests caller (Acknowledges id attempt))
       acknowledged-answer view seen =

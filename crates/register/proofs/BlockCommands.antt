@@ -5,14 +5,14 @@ use Rattle.std.specs.List.{list_any}
 use Rattle.std.specs.FinMap.{get}
 use Rattle.numbers.specs.Digits.{number_in}
 use Rattle.numbers.specs.Subjects.{Subject, Number, Block, subject_eq}
-use Rattle.meaning.specs.declared.words.Action.TheVariants.{Create, Delete}
+use Rattle.meaning.specs.Statuses.{Create, Delete}
 use Rattle.meaning.specs.Commands.{Donate, Assign, Release}
 use Rattle.meaning.specs.Versions.{Version, Record, first_of_versions, in_force, last_version, version_in_force, version_with}
 use Rattle.meaning.specs.Changes.{sent}
 use Rattle.meaning.specs.Content.{BlockRow, Content, stored_block}
 use Rattle.meaning.specs.History.{AreLines, Commands, blank_version, donor_of, made_by, next_id, or_else, rising, used_numbers, with_made}
 use Rattle.meaning.specs.Machine.{accepted}
-use Rattle.meaning.specs.Reading.{State, record_now}
+use Rattle.meaning.specs.Reading.{State, record_now, set_now}
 use Rattle.meaning.specs.Refusals.{Requests, refusal}
 use Rattle.meaning.proofs.Accepted.{accepted_command}
 use Rattle.meaning.proofs.Entered.{given_now, subject_eq-refl}
@@ -28,24 +28,27 @@ use Rattle.register.proofs.Before.{turned}
 use Rattle.meaning.proofs.Lists.{each}
 use Rattle.std.proofs.Common.{arith}
 use Rattle.std.proofs.lemmas.Bool.Decides.{nat_tests}
+use Rattle.meaning.specs.Windows.{WindowSet}
 
 -- ---- donations
 
 -- a protective version before it is sent
-abbrev pub protective : (donor minute lrn : ℕ) (cic : Option ℕ) → ℕ → Version
-protective donor minute lrn cic id = record (blank_version id donor donor minute minute) { routing = Some (record { lrn = lrn; cic = cic }); protective = true }
+abbrev pub protective : (w : WindowSet) (donor minute lrn : ℕ) (cic : Option ℕ) → ℕ → Version
+protective w donor minute lrn cic id = record (blank_version w id donor donor minute minute)
+    { routing = Some (record { lrn = lrn; cic = cic }); protective = true }
 
 -- the used numbers that have no version in force
 abbrev pub to_protect : State → (block : ℕ) (used : List ℕ) → List Subject
 to_protect st block used = filter (λ s. is_none (version_in_force (record_now st s))) (used_numbers block used)
 
 pub donation-makes : (st : State) (caller block : ℕ) (used : List ℕ) (lrn : ℕ) (cic : Option ℕ) → AreLines used →
-    MakesSent st caller (Commands (Donate block used lrn cic)) (to_protect st block used) (protective caller st.now lrn cic)
+    MakesSent st caller (Commands (Donate block used lrn cic)) (to_protect st block used) (protective (set_now st) caller st.now lrn cic)
 donation-makes st caller block used lrn cic lines = record {
   carrier = refl;
   lrn = λ k. refl;
   code = λ k. refl;
   lines = lines;
+  unset = refl;
   makes = refl;
   does = λ s everyone v. refl;
   made = λ id everyone. refl;
@@ -78,7 +81,7 @@ pub donation-blocks : (st : State) (old : Content) (caller block : ℕ) (used : 
 donation-blocks st old caller block used lrn cic lines stands none k = go (block == k) refl
   where
     same : (b : ℕ) → record_now (accepted st (Requests caller (Commands (Donate block used lrn cic)))) (Block b) ≡ record_now st (Block b)
-    same b = unmade-same st caller (Commands (Donate block used lrn cic)) (to_protect st block used) (protective caller st.now lrn cic) (donation-makes st caller block used lrn cic lines) (Block b)
+    same b = unmade-same st caller (Commands (Donate block used lrn cic)) (to_protect st block used) (protective (set_now st) caller st.now lrn cic) (donation-makes st caller block used lrn cic lines) (Block b)
         (no_block b block (λ s. is_none (version_in_force (record_now st s))) (rising used))
 
     free : donor_of block st.history ≡ None
@@ -99,16 +102,17 @@ donation-blocks st old caller block used lrn cic lines stands none k = go (block
 -- ---- assignments
 
 -- the block's version before it is sent
-abbrev pub unsent_block : (donor : Option ℕ) → (holder minute lrn : ℕ) (cic : Option ℕ) → ℕ → Version
-unsent_block donor holder minute lrn cic id = record (blank_version id (unwrap_or donor 0) holder minute minute) { routing = Some (record { lrn = lrn; cic = cic }) }
+abbrev pub unsent_block : (w : WindowSet) (donor : Option ℕ) → (holder minute lrn : ℕ) (cic : Option ℕ) → ℕ → Version
+unsent_block w donor holder minute lrn cic id = record (blank_version w id (unwrap_or donor 0) holder minute minute) { routing = Some (record { lrn = lrn; cic = cic }) }
 
 pub assignment-makes : (st : State) (caller block holder lrn : ℕ) (cic : Option ℕ) →
-    MakesSent st caller (Commands (Assign block holder lrn cic)) (Block block ∷ []) (unsent_block (donor_of block st.history) holder st.now lrn cic)
+    MakesSent st caller (Commands (Assign block holder lrn cic)) (Block block ∷ []) (unsent_block (set_now st) (donor_of block st.history) holder st.now lrn cic)
 assignment-makes st caller block holder lrn cic = record {
   carrier = refl;
   lrn = λ k. refl;
   code = λ k. refl;
   lines = tt;
+  unset = refl;
   makes = refl;
   does = λ s everyone v. refl;
   made = λ id everyone. refl;
@@ -141,22 +145,22 @@ assignment-blocks st old caller block holder lrn cic donor stands donated k = go
         let here : subject_eq (Block k) (Block block) ≡ true = ap (λ j. subject_eq (Block j) (Block block)) (sym (same_id block k e)) ∙ subject_eq-refl (Block block) in
         sym (ap (λ j. option_map (row_of (last_version (record_now (accepted st (Requests caller (Commands (Assign block holder lrn cic)))) (Block k)))) (donor_of j st.history)) (sym (same_id block k e))
         ∙ ap (option_map (row_of (last_version (record_now (accepted st (Requests caller (Commands (Assign block holder lrn cic)))) (Block k))))) donated
-        ∙ ap (λ (r : Record). Some (row_of (last_version r) donor)) (made-records st caller (Commands (Assign block holder lrn cic)) (Block block ∷ []) (unsent_block (donor_of block st.history) holder st.now lrn cic) (assignment-makes st caller block holder lrn cic) (Block k))
-        ∙ ap (λ b. Some (row_of (first_of_versions (with_made (if b then Some (next_id st.windows st.history) else None) (λ id. sent Create (record_now st (Block k)).carriers st.now (unsent_block (donor_of block st.history) holder st.now lrn cic id)) (record_now st (Block k)).versions)) donor)) here)
+        ∙ ap (λ (r : Record). Some (row_of (last_version r) donor)) (made-records st caller (Commands (Assign block holder lrn cic)) (Block block ∷ []) (unsent_block (set_now st) (donor_of block st.history) holder st.now lrn cic) (assignment-makes st caller block holder lrn cic) (Block k))
+        ∙ ap (λ b. Some (row_of (first_of_versions (with_made (if b then Some (next_id st.windows st.history) else None) (λ id. sent (set_now st) Create (record_now st (Block k)).carriers st.now (unsent_block (set_now st) (donor_of block st.history) holder st.now lrn cic id)) (record_now st (Block k)).versions)) donor)) here)
     go false e = stands.represents.blocks k
         ∙ sym (ap (λ r. option_map (row_of (last_version r)) (donor_of k st.history))
-        (unmade-same st caller (Commands (Assign block holder lrn cic)) (Block block ∷ []) (unsent_block (donor_of block st.history) holder st.now lrn cic) (assignment-makes st caller block holder lrn cic) (Block k) (another e)))
+        (unmade-same st caller (Commands (Assign block holder lrn cic)) (Block block ∷ []) (unsent_block (set_now st) (donor_of block st.history) holder st.now lrn cic) (assignment-makes st caller block holder lrn cic) (Block k) (another e)))
 
 -- ---- releases
 
 -- a release changes the block's version in force alone, which sends a delete
 pub release-steps : (st : State) (old : Content) (caller block : ℕ) (v : Version) → Stands old st → version_with v.id (record_now st (Block block)) ≡ Some v → in_force v ≡ true →
-    StepsOne st caller (Commands (Release block)) (Block block) v.id (sent Delete (record_now st (Block block)).carriers st.now) (Some Delete) v
+    StepsOne st caller (Commands (Release block)) (Block block) v.id (sent (set_now st) Delete (record_now st (Block block)).carriers st.now) (Some Delete) v
 release-steps st old caller block v stands found forced = record {
-  leaves = record { carrier = refl; lrn = λ k. refl; code = λ k. refl; donor = λ k. refl; lines = tt };
+  leaves = record { carrier = refl; lrn = λ k. refl; code = λ k. refl; donor = λ k. refl; lines = tt; unset = refl };
   names = record { unmade = λ at. refl; elsewhere = λ t vs apart none. turned (Block block) t apart };
-  does = each (λ u same. ap (λ b. if b && in_force u then sent Delete (record_now st (Block block)).carriers st.now u else u) (subject_eq-refl (Block block)) ∙ same) (record_now st (Block block)).versions
-      (same_change (made_by st.windows st.history) (Block block) in_force (sent Delete (record_now st (Block block)).carriers st.now) v.id (record_now st (Block block)).versions v
+  does = each (λ u same. ap (λ b. if b && in_force u then sent (set_now st) Delete (record_now st (Block block)).carriers st.now u else u) (subject_eq-refl (Block block)) ∙ same) (record_now st (Block block)).versions
+      (same_change (made_by st.windows st.history) (Block block) in_force (sent (set_now st) Delete (record_now st (Block block)).carriers st.now) v.id (record_now st (Block block)).versions v
       (given_now st stands.represents.history (Block block)) (one_in_force st old stands (Block block)) found forced);
   keeps = λ u. refl;
   stepped = (refl, ap (λ b. not b && true) forced);

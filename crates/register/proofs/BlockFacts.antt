@@ -1,15 +1,15 @@
 -- The facts of a block that are read are those of the state.
-use Rattle.std.proofs.Common.{◌≡◌, ℕ, Bool, true, false, not, ◌||◌, List, [], ◌∷◌, Option, Some, None, refl, ap, sym, ◌∙◌, subst, inl}
+use Rattle.std.proofs.Common.{◌≡◌, ℕ, Bool, true, false, not, ◌||◌, List, [], ◌∷◌, Option, Some, None, refl, ap, sym, ◌∙◌, subst, inl, is_some}
 use Rattle.std.specs.Prelude.{option_map}
 use Rattle.std.specs.FinMap.{get}
 use Rattle.numbers.specs.Digits.{block_code_of}
 use Rattle.numbers.specs.Subjects.{Subject, Block}
 use Rattle.meaning.specs.Versions.{Version, last_version, first_of_versions}
-use Rattle.meaning.specs.Commands.{Command, RegisterCarrier, RegisterRoutingNumber, OpenCode, OldProviderCreate, NewProviderCreate, OnVersion, Donate, Assign, Release}
+use Rattle.meaning.specs.Commands.{Command, RegisterCarrier, RegisterRoutingNumber, OpenCode, OldProviderCreate, NewProviderCreate, OnVersion, Donate, Assign, Release, SetWindows}
 use Rattle.meaning.specs.Conditions.{is_the}
 use Rattle.meaning.specs.History.{donor_of, lrn_owner}
-use Rattle.meaning.specs.Reading.{State, record_now}
-use Rattle.meaning.specs.Refusals.{bad_lrn}
+use Rattle.meaning.specs.Reading.{State, record_now, set_now}
+use Rattle.meaning.specs.Refusals.{block_named, bad_lrn}
 use Rattle.meaning.specs.Content.{Content, BlockRow, ClockRow, row_of}
 use Rattle.meaning.proofs.Lists.{Among}
 use Rattle.meaning.proofs.Small.{some_is}
@@ -54,18 +54,18 @@ not_not : (b : Bool) → b ≡ not (not b)
 not_not true = refl
 not_not false = refl
 
--- the routing number of a command
-pub routing_is : (st : State) (c : Content) → Stands c st → (caller : ℕ) (command : Command) → is_routing_good c caller command ≡ not (bad_lrn st caller command)
-routing_is st c stands caller (Donate block used lrn cic) = ap (is_the caller) (stands.represents.lrns lrn) ∙ not_not (is_the caller (lrn_owner lrn st.history))
-routing_is st c stands caller (Assign block holder lrn cic) = ap (is_the holder) (stands.represents.lrns lrn) ∙ not_not (is_the holder (lrn_owner lrn st.history))
-routing_is st c stands caller (NewProviderCreate tn old_provider new_provider due lrn cic) =
-    ap (is_the new_provider) (stands.represents.lrns lrn) ∙ not_not (is_the new_provider (lrn_owner lrn st.history))
-routing_is st c stands caller (Release block) = refl
-routing_is st c stands caller (RegisterCarrier spid) = refl
-routing_is st c stands caller (RegisterRoutingNumber lrn) = refl
-routing_is st c stands caller (OpenCode code spid) = refl
-routing_is st c stands caller (OldProviderCreate tn old_provider new_provider due authorized) = refl
-routing_is st c stands caller (OnVersion id change) = refl
+-- the routing number of a command on a block
+pub routing_is : (st : State) (c : Content) → Stands c st → (caller : ℕ) (command : Command) → is_some (block_named command) ≡ true → is_routing_good c caller command ≡ not (bad_lrn st caller command)
+routing_is st c stands caller (Donate block used lrn cic) on = ap (is_the caller) (stands.represents.lrns lrn) ∙ not_not (is_the caller (lrn_owner lrn st.history))
+routing_is st c stands caller (Assign block holder lrn cic) on = ap (is_the holder) (stands.represents.lrns lrn) ∙ not_not (is_the holder (lrn_owner lrn st.history))
+routing_is st c stands caller (Release block) on = refl
+routing_is st c stands caller (NewProviderCreate tn old_provider new_provider due lrn cic) on = cc
+routing_is st c stands caller (RegisterCarrier spid) on = cc
+routing_is st c stands caller (RegisterRoutingNumber lrn) on = cc
+routing_is st c stands caller (OpenCode code spid) on = cc
+routing_is st c stands caller (OldProviderCreate tn old_provider new_provider due authorized) on = cc
+routing_is st c stands caller (OnVersion id change) on = cc
+routing_is st c stands caller (SetWindows windows) on = cc
 
 -- ---- the version made last
 
@@ -81,10 +81,11 @@ module _ (st : State) (c : Content) (stands : Stands c st) (block : ℕ) (settle
   seen_by_id : (v : Version) → last_version (record_now st (Block block)) ≡ Some v → (e : Option (ℕ × VersionCode)) → IsLast c (Some v.id) e → Sees (option_map (λ p. p.1) e) (Some v)
   seen_by_id v last None is = absurd is
   seen_by_id v last (Some e) is =
-      let there = row_there st.windows (Block block) c (record_now st (Block block)) block_due.shows v.id v
+      let there = row_there (set_now st) (Block block) c (record_now st (Block block)) block_due.shows v.id v
       (found_by_id st stands.represents.history (Block block) v (first_among (record_now st (Block block)).versions v last)) in
-      ap (λ (u : VersionCode). version_of v.id v.broadcasts u) (sym is.3)
-      ∙ row_version st.windows (Block block) v is.1 (some_is (version_row_of is.1) (row_of st.windows (Block block) v) (sym is.2 ∙ there))
+      ap (λ (u : VersionCode). version_of v.id v.broadcasts v.held.windows u) (sym is.3)
+      ∙ row_version (Block block) v is.1 (some_is (version_row_of is.1) (row_of (Block block) v)
+      (sym is.2 ∙ there))
 
   none_by_id : (e : Option (ℕ × VersionCode)) → IsLast c None e → Sees (option_map (λ p. p.1) e) None
   none_by_id None is = tt
@@ -106,11 +107,11 @@ module _ (st : State) (c : Content) (stands : Stands c st) (block : ℕ) (settle
   -- ---- all facts
 
   module _ (read : BlockRead) (is : IsBlockRead c block read) (clock : ClockRow) (clock_is : c.clock ≡ Some clock) (caller : ℕ) (command : Command) (facts : BlockFacts)
-      (are : AreBlockFacts read (is_routing_good c caller command) clock.next_id facts) where
+      (are : AreBlockFacts read (is_routing_good c caller command) clock.next_id facts) (on_block : is_some (block_named command) ≡ true) where
     pub block_facts_are : BlockFactsAre st caller block command facts
     block_facts_are = record {
       code = ap carrier_number are.code ∙ is.code ∙ stands.represents.codes (block_code_of block);
-      lrn = are.lrn ∙ routing_is st c stands caller command;
+      lrn = are.lrn ∙ routing_is st c stands caller command on_block;
       donor = ap carrier_number are.donor ∙ donor_read read.row ∙ ap donor_in (is.row ∙ stands.represents.blocks block)
           ∙ donor_stored (donor_of block st.history) (option_map (λ (v : Version). v.id) (last_version (record_now st (Block block))));
       last = subst (λ o. Sees o (last_version (record_now st (Block block)))) (sym are.last) (last_seen read.row read.last is.row is.last);

@@ -8,7 +8,7 @@ use Rattle.version.specs.declared.in_use.NumberInUse.{NumberInUse}
 use Rattle.meaning.specs.Versions.{Version, in_force, is_open, version_in_force, version_with}
 use Rattle.meaning.specs.History.{made_by}
 use Rattle.meaning.specs.Laws.{IsState}
-use Rattle.meaning.specs.Reading.{State, SubjectVersion, InForce, record_now, all_versions, all_in_force}
+use Rattle.meaning.specs.Reading.{State, SubjectVersion, InForce, record_now, all_versions, all_in_force, set_now}
 use Rattle.meaning.specs.Refusals.{is_in_block, has_open_port as has_open_port_in}
 use Rattle.meaning.specs.Content.{Content, VersionRow, row_of, subject_if}
 use Rattle.meaning.proofs.Small.{and_first, and_second, equal_numbers, or_right}
@@ -94,7 +94,7 @@ module _ (st : State) (c : Content) (stands : Stands c st) where
     pub force-holds : (v : Version) → version_in_force (record_now st s) ≡ Some v → Holds c s
     force-holds v found =
         let among = found-among in_force (record_now st s).versions v found in
-        (v.id, row_of st.windows s v, row_there st.windows s c (record_now st s) due.shows v.id v (found_by_id st stands.represents.history s v among.0), ap (λ b. subject_if b s) among.1)
+        (v.id, row_of s v, row_there (set_now st) s c (record_now st s) due.shows v.id v (found_by_id st stands.represents.history s v among.0), ap (λ b. subject_if b s) among.1)
 
     pub opens-open : Opens c s → (v : Version) × Among v (record_now st s).versions × (is_open s v ≡ true)
     opens-open opened =
@@ -104,7 +104,7 @@ module _ (st : State) (c : Content) (stands : Stands c st) where
         (is.0, among.0, among.1)
 
     pub open-opens : (id : ℕ) (v : Version) → version_with id (record_now st s) ≡ Some v → is_open s v ≡ true → Opens c s
-    open-opens id v found passes = (id, row_of st.windows s v, row_there st.windows s c (record_now st s) due.shows id v found, ap (λ b. subject_if b s) passes)
+    open-opens id v found passes = (id, row_of s v, row_there (set_now st) s c (record_now st s) due.shows id v found, ap (λ b. subject_if b s) passes)
 
     none-force : (Holds c s → ⊥) → is_none (version_in_force (record_now st s)) ≡ true
     none-force never = go (version_in_force (record_now st s)) refl

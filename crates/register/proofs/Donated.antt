@@ -7,12 +7,12 @@ use Rattle.numbers.specs.Digits.{block_of, number_in}
 use Rattle.numbers.specs.Subjects.{Subject, Number, Block, subject_eq}
 use Rattle.meaning.specs.declared.refusal.Refusal.{Refusal}
 use Rattle.meaning.specs.declared.refusal.Refusal.TheVariants.{NoMemory}
-use Rattle.meaning.specs.declared.words.Action.TheVariants.{Create}
+use Rattle.meaning.specs.Statuses.{Create}
 use Rattle.meaning.specs.Conditions.{limit}
 use Rattle.meaning.specs.Content.{ClockRow, Content, stored_block}
 use Rattle.meaning.specs.History.{AreLines, Commands, next_id, rising, used_numbers}
 use Rattle.meaning.specs.Machine.{Donated, Reply, accepted, ids_from}
-use Rattle.meaning.specs.Reading.{State, record_now}
+use Rattle.meaning.specs.Reading.{State, record_now, set_now}
 use Rattle.meaning.specs.RefusalNumbers.{number_of}
 use Rattle.meaning.specs.Refusals.{Requests, is_in_block, refusal}
 use Rattle.meaning.specs.Versions.{version_in_force}
@@ -21,7 +21,7 @@ use Rattle.meaning.proofs.Ids.{same_subject}
 use Rattle.meaning.proofs.Lists.{Among, any_there, filtered-from, mapped-from}
 use Rattle.meaning.proofs.Small.{equal_numbers, or_right, or_second}
 use Rattle.version.specs.declared.version.Version.{Version as VersionCode}
-use Rattle.settle.specs.Changes.{IsChanged}
+use Rattle.settle.specs.Changes.{ClockMove, IsChanged}
 use Rattle.settle.specs.Sending.{Begun, begun_of, sending_each}
 use Rattle.pool.specs.declared.donation.Donation.{Donation}
 use Rattle.pool.specs.declared.facts.BlockFacts.{BlockFacts}
@@ -41,6 +41,7 @@ use Rattle.register.proofs.Composed.{answers_accepted}
 use Rattle.register.proofs.OnVersion.{clock_is_of, clock_of}
 use Rattle.register.proofs.Planned.{Once, cic_of, once-apart, planned-begun, planned-subjects, used_once}
 use Rattle.register.proofs.Pooled.{pooled-leaves, pooled-stands}
+use Rattle.meaning.specs.Windows.{WindowSet}
 
 -- ---- the used numbers are of the block
 
@@ -61,17 +62,17 @@ used-inside st block test used lines t named =
 
 -- ---- their ids
 
-planned-ids : (caller minute : ℕ) (d : Donation) (from : ℕ) (ss : List Subject) (es : List (ℕ × VersionCode)) → AreProtective caller minute d from ss es → map (λ e. e.0) es ≡ ids_from from (length ss)
-planned-ids caller minute d from [] [] are = refl
-planned-ids caller minute d from (s ∷ ss) (e ∷ es) are = ap (λ k. k ∷ map (λ x. x.0) es) are.0 ∙ ap (λ ks. from ∷ ks) (planned-ids caller minute d (suc from) ss es are.2)
-planned-ids caller minute d from [] (e ∷ es) are = absurd are
-planned-ids caller minute d from (s ∷ ss) [] are = absurd are
+planned-ids : (w : WindowSet) (caller minute : ℕ) (d : Donation) (from : ℕ) (ss : List Subject) (es : List (ℕ × VersionCode)) → AreProtective w caller minute d from ss es → map (λ e. e.0) es ≡ ids_from from (length ss)
+planned-ids w caller minute d from [] [] are = refl
+planned-ids w caller minute d from (s ∷ ss) (e ∷ es) are = ap (λ k. k ∷ map (λ x. x.0) es) are.0 ∙ ap (λ ks. from ∷ ks) (planned-ids w caller minute d (suc from) ss es are.2)
+planned-ids w caller minute d from [] (e ∷ es) are = absurd are
+planned-ids w caller minute d from (s ∷ ss) [] are = absurd are
 
-so_many : (caller minute : ℕ) (d : Donation) (from : ℕ) (ss : List Subject) (es : List (ℕ × VersionCode)) → AreProtective caller minute d from ss es → length es ≡ length ss
-so_many caller minute d from [] [] are = refl
-so_many caller minute d from (s ∷ ss) (e ∷ es) are = ap suc (so_many caller minute d (suc from) ss es are.2)
-so_many caller minute d from [] (e ∷ es) are = absurd are
-so_many caller minute d from (s ∷ ss) [] are = absurd are
+so_many : (w : WindowSet) (caller minute : ℕ) (d : Donation) (from : ℕ) (ss : List Subject) (es : List (ℕ × VersionCode)) → AreProtective w caller minute d from ss es → length es ≡ length ss
+so_many w caller minute d from [] [] are = refl
+so_many w caller minute d from (s ∷ ss) (e ∷ es) are = ap suc (so_many w caller minute d (suc from) ss es are.2)
+so_many w caller minute d from [] (e ∷ es) are = absurd are
+so_many w caller minute d from (s ∷ ss) [] are = absurd are
 
 -- ---- the donation
 
@@ -79,18 +80,21 @@ module _ (old new : Content) (caller : ℕ) (d : Donation) (clock : ClockRow) (r
   refused_read : (st : State) → Stands old st → AreSettled old st (Requests caller (Commands (donated d))) → refusal st (Requests caller (Commands (donated d))) ≡ donation_refusal caller d facts
   refused_read st stands settled =
       donation_refused st caller facts d
-      (block_facts_are st old stands d.block.number settled read has.is_read clock has.clock_is caller (donated d) facts has.are)
-      (facts_numbers_are st old stands d.block.number settled read has.is_read clock has.clock_is caller (donated d) facts has.are)
+      (block_facts_are st old stands d.block.number settled read has.is_read clock has.clock_is caller (donated d) facts has.are refl)
+      (facts_numbers_are st old stands d.block.number settled read has.is_read clock has.clock_is caller (donated d) facts has.are refl)
       ∙ ap (λ b. if b then Some 1 else donation_refusal caller d facts) (has.known st stands)
 
   pub answers_donation_refused : {A : Type 0} (seen : A → Reply) (result : Result A Refusal) (r : Refusal) → result ≡ Err r → new ≡ old →
       (r ≢ NoMemory → donation_refusal caller d facts ≡ Some (number_of r)) → AnswersSettled old new (Requests caller (Commands (donated d))) (replied seen result)
   answers_donation_refused seen result r is same says = answers_or_no_memory old new caller (donated d) seen result r (donation_refusal caller d facts) is same says refused_read
 
-  module _ (versions : List (ℕ × VersionCode)) (ids everyone : List ℕ) (accepts : donation_refusal caller d facts ≡ None) (plan : IsPlanned caller clock.minute d facts versions)
+  module _ (versions : List (ℕ × VersionCode)) (ids everyone : List ℕ) (accepts : donation_refusal caller d facts ≡ None) (plan : IsPlanned clock.present caller clock.minute d facts versions)
       (ids_are : ids ≡ map (λ e. e.0) versions) (are_all : everyone ≡ keys old.carriers)
       (changed : clock.next_id + length versions ≤ limit
-      → IsChanged (pooling (sending_each clock.windows clock.minute Create (map begun_of versions) everyone) (donated_row d.block.number caller) (record clock { next_id = clock.next_id + length versions })) old new) where
+      → IsChanged (pooling (sending_each clock.minute Create
+      (map (begun_of clock.present.windows) versions) everyone)
+      (donated_row d.block.number caller)
+      (record { minute = clock.minute; next_id = clock.next_id + length versions })) old new) where
     module _ (st : State) (stands : Stands old st) (settled : AreSettled old st (Requests caller (Commands (donated d)))) where
       abbrev used : List ℕ
       used = lines_of d.used.now
@@ -99,7 +103,7 @@ module _ (old new : Content) (caller : ℕ) (d : Donation) (clock : ClockRow) (r
       news = to_protect st d.block.number (lines_of d.used.now)
 
       abbrev begun : List Begun
-      begun = map begun_of versions
+      begun = map (begun_of (set_now st).windows) versions
 
       none : refusal st (Requests caller (Commands (donated d))) ≡ None
       none = refused_read st stands settled ∙ accepts
@@ -111,37 +115,49 @@ module _ (old new : Content) (caller : ℕ) (d : Donation) (clock : ClockRow) (r
       same_clock = clock_is_of old st clock stands.represents has.clock_is
 
       news_are : made_numbers (used_by d) (in_force_numbers facts.numbers.now) ≡ news
-      news_are = sym (donation_makes st d facts (facts_numbers_are st old stands d.block.number settled read has.is_read clock has.clock_is caller (donated d) facts has.are))
+      news_are = sym (donation_makes st d facts (facts_numbers_are st old stands d.block.number settled read has.is_read clock has.clock_is caller (donated d) facts has.are refl))
 
       first_is : facts.next_id ≡ next_id st.windows st.history
       first_is = has.are.next_id ∙ ap (λ (k : ClockRow). k.next_id) same_clock
 
-      planned : AreProtective caller st.now d (next_id st.windows st.history) news versions
-      planned = subst (λ ss. AreProtective caller st.now d (next_id st.windows st.history) ss versions) news_are
-          (subst (λ k. AreProtective caller st.now d k (made_numbers (used_by d) (in_force_numbers facts.numbers.now)) versions) first_is
-          (subst (λ m. AreProtective caller m d facts.next_id (made_numbers (used_by d) (in_force_numbers facts.numbers.now)) versions) (ap (λ (k : ClockRow). k.minute) same_clock) plan))
+      planned : AreProtective (set_now st) caller st.now d (next_id st.windows st.history) news versions
+      planned = subst (λ ss. AreProtective (set_now st) caller st.now d (next_id st.windows st.history) ss versions) news_are
+          (subst (λ k. AreProtective (set_now st) caller st.now d k (made_numbers (used_by d) (in_force_numbers facts.numbers.now)) versions) first_is
+          (subst (λ (k : ClockRow). AreProtective k.present caller k.minute d facts.next_id
+          (made_numbers (used_by d) (in_force_numbers facts.numbers.now)) versions) same_clock
+          plan))
 
       subjects : map (λ (b : Begun). b.subject) begun ≡ news
-      subjects = planned-subjects caller st.now d (next_id st.windows st.history) news versions planned
+      subjects = planned-subjects (set_now st) caller st.now d (next_id st.windows st.history) news versions planned
 
       ids_from_first : ids ≡ ids_from (next_id st.windows st.history) (length news)
-      ids_from_first = ids_are ∙ planned-ids caller st.now d (next_id st.windows st.history) news versions planned
+      ids_from_first = ids_are ∙ planned-ids (set_now st) caller st.now d (next_id st.windows st.history) news versions planned
 
       many : length versions ≡ length news
-      many = so_many caller st.now d (next_id st.windows st.history) news versions planned
+      many = so_many (set_now st) caller st.now d (next_id st.windows st.history) news versions planned
 
       room : clock.next_id + length versions ≤ limit
       room =
           let test : nat_lt limit (next_id st.windows st.history + length news) ≡ false = or_second false (nat_lt limit (next_id st.windows st.history + length news)) (accepted_command st caller (donated d) none).full in
           subst (λ n. clock.next_id + n ≤ limit) (sym many) (subst (λ k. k + length news ≤ limit) (ap (λ (k : ClockRow). k.next_id) (sym same_clock)) (not_past (next_id st.windows st.history + length news) test))
 
-      abbrev next : ClockRow
-      next = record { minute = st.now; next_id = next_id st.windows st.history + length (to_protect st d.block.number (lines_of d.used.now)); windows = st.windows }
+      abbrev next : ClockMove
+      next = record {
+        minute = st.now;
+        next_id =
+            next_id st.windows st.history + length
+            (to_protect st d.block.number (lines_of d.used.now));
+      }
 
-      put : IsChanged (pooling (sending_each st.windows st.now Create begun everyone) (donated_row d.block.number caller) next) old new
-      put = subst (λ n. let row : ClockRow = record { minute = st.now; next_id = next_id st.windows st.history + n; windows = st.windows } in
-          IsChanged (pooling (sending_each st.windows st.now Create begun everyone) (donated_row d.block.number caller) row) old new) many
-          (subst (λ (k : ClockRow). IsChanged (pooling (sending_each k.windows k.minute Create begun everyone) (donated_row d.block.number caller) (record k { next_id = k.next_id + length versions })) old new) same_clock (changed room))
+      put : IsChanged (pooling (sending_each st.now Create begun everyone) (donated_row d.block.number caller) next) old new
+      put = subst (λ n. let row : ClockMove =
+          record { minute = st.now; next_id = next_id st.windows st.history + n } in
+          IsChanged (pooling (sending_each st.now Create begun everyone) (donated_row d.block.number caller) row) old new) many
+          (subst (λ (k : ClockRow). IsChanged
+          (pooling (sending_each k.minute Create (map (begun_of k.present.windows) versions)
+          everyone) (donated_row d.block.number caller)
+          (record { minute = k.minute; next_id = k.next_id + length versions })) old new) same_clock
+          (changed room))
 
       blocks : (k : ℕ) → get new.blocks k ≡ stored_block (accepted st (Requests caller (Commands (donated d)))) k
       blocks k = put.blocks k ∙ donation-blocks st old caller d.block.number (lines_of d.used.now) d.routing.lrn.number (cic_of d) lines stands none k
@@ -159,20 +175,20 @@ module _ (old new : Content) (caller : ℕ) (d : Donation) (clock : ClockRow) (r
       donated-stands : Stands new (accepted st (Requests caller (Commands (donated d))))
       donated-stands =
           let makes_them = donation-makes st caller d.block.number (lines_of d.used.now) d.routing.lrn.number (cic_of d) lines in
-          pooled-stands st caller (Commands (donated d)) news (protective caller st.now d.routing.lrn.number (cic_of d)) makes_them
+          pooled-stands st caller (Commands (donated d)) news (protective (set_now st) caller st.now d.routing.lrn.number (cic_of d)) makes_them
           old new begun everyone (donated_row d.block.number caller) next stands none
-          (planned-begun st.windows everyone caller st.now d (next_id st.windows st.history) news versions planned)
-          (once-apart st.windows st.now everyone (protective caller st.now d.routing.lrn.number (cic_of d)) (λ id. refl) (λ id. refl) (λ id. refl) begun
+          (planned-begun (set_now st) everyone caller st.now d (next_id st.windows st.history) news versions planned)
+          (once-apart (set_now st) st.now everyone (protective (set_now st) caller st.now d.routing.lrn.number (cic_of d)) (λ id. refl) (λ id. refl) (λ id. refl) begun
           (subst Once (sym subjects) (used_once d.block.number (λ s. is_none (version_in_force (record_now st s))) (lines_of d.used.now))))
           subjects are_all put (λ t named. settled t (is_due t named)) blocks refl
 
       donated-leaves : LeavesOthers old new st (Requests caller (Commands (donated d)))
       donated-leaves =
           let makes_them = donation-makes st caller d.block.number (lines_of d.used.now) d.routing.lrn.number (cic_of d) lines in
-          pooled-leaves st caller (Commands (donated d)) news (protective caller st.now d.routing.lrn.number (cic_of d)) makes_them
+          pooled-leaves st caller (Commands (donated d)) news (protective (set_now st) caller st.now d.routing.lrn.number (cic_of d)) makes_them
           old new begun everyone (donated_row d.block.number caller) next stands none
-          (planned-begun st.windows everyone caller st.now d (next_id st.windows st.history) news versions planned)
-          (once-apart st.windows st.now everyone (protective caller st.now d.routing.lrn.number (cic_of d)) (λ id. refl) (λ id. refl) (λ id. refl) begun
+          (planned-begun (set_now st) everyone caller st.now d (next_id st.windows st.history) news versions planned)
+          (once-apart (set_now st) st.now everyone (protective (set_now st) caller st.now d.routing.lrn.number (cic_of d)) (λ id. refl) (λ id. refl) (λ id. refl) begun
           (subst Once (sym subjects) (used_once d.block.number (λ s. is_none (version_in_force (record_now st s))) (lines_of d.used.now))))
           subjects are_all put (λ t named. settled t (is_due t named)) blocks refl within
 

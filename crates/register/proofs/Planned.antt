@@ -9,7 +9,7 @@ use Rattle.numbers.specs.declared.cic.Cic.{Cic}
 use Rattle.meaning.specs.History.{rising, used_numbers}
 use Rattle.meaning.specs.Versions.{Version, in_force}
 use Rattle.meaning.proofs.Rising.{AreAbove, Rise, rising-rise}
-use Rattle.meaning.specs.Windows.{Windows}
+use Rattle.meaning.specs.Windows.{WindowSet}
 use Rattle.version.specs.declared.version.Version.{Version as VersionCode}
 use Rattle.settle.specs.Sending.{Begun, begun_of}
 use Rattle.pool.specs.declared.donation.Donation.{Donation}
@@ -22,21 +22,23 @@ use Rattle.register.proofs.MadeSent.{AreApart, AreBegun, bare}
 abbrev pub cic_of : Donation → Option ℕ
 cic_of d = option_map (λ (c : Cic). c.number) d.routing.cic
 
-module _ (w : Windows) (everyone : List ℕ) (caller minute : ℕ) (d : Donation) where
-  pub planned-begun : (from : ℕ) (ss : List Subject) (es : List (ℕ × VersionCode)) → AreProtective caller minute d from ss es →
-      AreBegun w minute everyone (protective caller minute d.routing.lrn.number (cic_of d)) (λ id. refl) (λ id. refl) (λ id. refl) from (map begun_of es)
+module _ (w : WindowSet) (everyone : List ℕ) (caller minute : ℕ) (d : Donation) where
+  pub planned-begun : (from : ℕ) (ss : List Subject) (es : List (ℕ × VersionCode)) → AreProtective w caller minute d from ss es →
+      AreBegun w minute everyone (protective w caller minute d.routing.lrn.number (cic_of d))
+      (λ id. refl) (λ id. refl) (λ id. refl) from (map (begun_of w.windows) es)
   planned-begun from [] [] are = tt
   planned-begun from (s ∷ ss) (e ∷ es) are = (are.0, ap bare (are.1.version from [] None), planned-begun (suc from) ss es are.2)
   planned-begun from [] (e ∷ es) are = absurd are
   planned-begun from (s ∷ ss) [] are = absurd are
 
-pub planned-subjects : (caller minute : ℕ) (d : Donation) (from : ℕ) (ss : List Subject) (es : List (ℕ × VersionCode)) → AreProtective caller minute d from ss es →
-    map (λ (b : Begun). b.subject) (map begun_of es) ≡ ss
-planned-subjects caller minute d from [] [] are = refl
-planned-subjects caller minute d from (s ∷ ss) (e ∷ es) are =
-    ap (λ t. t ∷ map (λ (b : Begun). b.subject) (map begun_of es)) are.1.subject ∙ ap (λ ts. s ∷ ts) (planned-subjects caller minute d (suc from) ss es are.2)
-planned-subjects caller minute d from [] (e ∷ es) are = absurd are
-planned-subjects caller minute d from (s ∷ ss) [] are = absurd are
+pub planned-subjects : (w : WindowSet) (caller minute : ℕ) (d : Donation) (from : ℕ) (ss : List Subject) (es : List (ℕ × VersionCode)) → AreProtective w caller minute d from ss es →
+    map (λ (b : Begun). b.subject) (map (begun_of w.windows) es) ≡ ss
+planned-subjects w caller minute d from [] [] are = refl
+planned-subjects w caller minute d from (s ∷ ss) (e ∷ es) are =
+    ap (λ t. t ∷ map (λ (b : Begun). b.subject) (map (begun_of w.windows) es)) are.1.subject
+    ∙ ap (λ ts. s ∷ ts) (planned-subjects w caller minute d (suc from) ss es are.2)
+planned-subjects w caller minute d from [] (e ∷ es) are = absurd are
+planned-subjects w caller minute d from (s ∷ ss) [] are = absurd are
 
 -- ---- the used numbers are each one
 
@@ -73,7 +75,7 @@ named s [] = refl
 named s (b ∷ bs) = ap (λ c. subject_eq s b.subject || c) (named s bs)
 
 -- so each of the versions is of a subject of its own
-module _ (w : Windows) (minute : ℕ) (everyone : List ℕ) (blank : ℕ → Version) (is_id : (id : ℕ) → (blank id).id ≡ id) (unsent : (id : ℕ) → (blank id).broadcasts ≡ []) (quiet : (id : ℕ) → in_force (blank id) ≡ false) where
+module _ (w : WindowSet) (minute : ℕ) (everyone : List ℕ) (blank : ℕ → Version) (is_id : (id : ℕ) → (blank id).id ≡ id) (unsent : (id : ℕ) → (blank id).broadcasts ≡ []) (quiet : (id : ℕ) → in_force (blank id) ≡ false) where
   pub once-apart : (bs : List Begun) → Once (map (λ (b : Begun). b.subject) bs) → AreApart w minute everyone blank is_id unsent quiet bs
   once-apart [] once = tt
   once-apart (b ∷ bs) once = (named b.subject bs ∙ once.0, once-apart bs once.1)

@@ -1,6 +1,6 @@
 -- What an acknowledgement owes at each of its ends, over what its code reads.
-use Rattle.std.proofs.Common.{◌≡◌, ℕ, Bool, true, false, ◌&&◌, List, [], ◌∷◌, ◌++◌, Option, Some, None, refl, ap, sym, ◌∙◌, subst}
-use Rattle.std.specs.Prelude.{◌==◌, nat_lt, is_some, find, if◌then◌else◌, Result, Ok, Err, IfOk, IfErr, OnErr}
+use Rattle.std.proofs.Common.{◌≡◌, inl, inr, ℕ, Bool, true, false, ◌&&◌, List, [], ◌∷◌, ◌++◌, Option, Some, None, refl, ap, sym, ◌∙◌, subst}
+use Rattle.std.specs.Prelude.{◌⊎◌, ◌==◌, nat_lt, is_some, find, if◌then◌else◌, Result, Ok, Err, IfOk, IfErr}
 use Rattle.std.specs.FinMap.{get}
 use Rattle.numbers.specs.Subjects.{Subject}
 use Rattle.numbers.specs.Views.{subject_of}
@@ -8,32 +8,41 @@ use Rattle.meaning.specs.Views.{status_of}
 use Rattle.meaning.specs.declared.words.Outcome.TheVariants.{Open, SomeAcknowledged}
 use Rattle.meaning.specs.Versions.{Broadcast, Version, sends_create, version_with}
 use Rattle.meaning.specs.History.{Acknowledges, made_by}
-use Rattle.meaning.specs.Reading.{State, View, record_now, view_of}
+use Rattle.meaning.specs.Reading.{State, View, record_now, view_of, set_now}
 use Rattle.meaning.specs.declared.refusal.Refusal.{Refusal}
 use Rattle.meaning.specs.RefusalNumbers.{number_of}
 use Rattle.meaning.specs.Refusals.{Input, Requests, refusal}
 use Rattle.meaning.specs.Machine.{Shown, accepted, answer_of}
-use Rattle.meaning.specs.Content.{Content, VersionRow, BroadcastRow, ClockRow, row_of}
+use Rattle.meaning.specs.Content.{Content, VersionRow, BroadcastRow, ClockRow, WaitKey, row_of}
 use Rattle.meaning.proofs.Shown.{id_found, some_is}
 use Rattle.version.specs.declared.version.Version.{Version as VersionCode}
-use Rattle.version.specs.Views.{version_of, seen, Becomes}
+use Rattle.version.specs.Views.{version_of, seen_by, Becomes, IsSeen}
 use Rattle.delivery.specs.declared.download.DownloadKey.{DownloadKey}
 use Rattle.delivery.specs.Queues.{is_key, key_refusal}
 use Rattle.delivery.specs.Broadcasts.{answered, broadcast_row}
 use Rattle.settle.specs.declared.rows.NumberedRow.{NumberedRow}
 use Rattle.settle.specs.declared.rows.VersionRow.TheInside.{Inside}
 use Rattle.settle.specs.Views.{version_row_of}
-use Rattle.settle.specs.Reads.{AreWaitsAbout}
-use Rattle.settle.specs.Changes.{IsChanged}
+use Rattle.settle.specs.Reads.{AreWaitsAbout, is_last_wait}
+use Rattle.settle.specs.Changes.{Changes, IsChanged}
 use Rattle.settle.specs.Settling.{IsSettled}
 use Rattle.register.specs.Answers.{Stands}
 use Rattle.register.specs.Settling.{AnswersSettled, AreSettled, LeavesOthers}
 use Rattle.register.proofs.Settled.{IdSettled, row_now, row_settled}
-use Rattle.calls.specs.declared.view.VersionView.{VersionView}
-use Rattle.calls.specs.Calls.{refused_with, replied, view_of as view_seen}
+use Rattle.calls.specs.Calls.{refused_with}
 use Rattle.settle.specs.Fired.{retired_rows, IsEarlier}
 use Rattle.version.specs.Acknowledging.{is_sending, completed_if, completes}
-use Rattle.register.specs.Acknowledging.{answered_row, own_rows, acknowledging, IsFound, all_changes}
+use Rattle.register.specs.Acknowledging.{answered_row, own_rows, acknowledging, IsFound, IsTaken, IsTakenBy, TakesIt, all_changes, windows_after}
+use Rattle.register.specs.Deciding.{Decides}
+use Rattle.calls.specs.declared.call.Reply.{Reply}
+use Rattle.register.specs.Looking.{AreHeld}
+use Rattle.register.proofs.HeldSets.{row_held, same_set}
+use Rattle.meaning.specs.Changes.{completed}
+use Rattle.meaning.specs.Statuses.{Status, Pending, Conflict, CancelPending, Sending, Active, PartialFailure, Failed, DisconnectPending, Old, Canceled}
+use Rattle.meaning.specs.Windows.{Windows, WindowSet}
+use Rattle.meaning.proofs.Ids.{same_id}
+use Rattle.meaning.proofs.Sets.{held-is}
+use Rattle.meaning.proofs.Small.{equal_numbers}
 use Rattle.register.proofs.Composed.{answers_refused_same, answers_accepted, answers_without}
 use Rattle.register.proofs.OnVersion.{clock_of, clock_is_of}
 use Rattle.register.proofs.RowVersion.{row_version}
@@ -105,7 +114,7 @@ never_missing old caller id attempt row u keys key found is waits key_is absent 
     due : IsSettled old st row.subject
     due = row_settled st old id row stands.represents settled found
 
-    shown : (v : Version) × (version_with id (record_now st row.subject) ≡ Some v) × (row ≡ row_of st.windows row.subject v)
+    shown : (v : Version) × (version_with id (record_now st row.subject) ≡ Some v) × (row ≡ row_of row.subject v)
     shown = row_now st old id row stands.represents settled found
 
     awaited : IsAwaited st caller row.subject key.minute.number id attempt
@@ -113,16 +122,86 @@ never_missing old caller id attempt row u keys key found is waits key_is absent 
 
 -- ---- an acknowledgement
 
-pub answers_acknowledged : (old new : Content) (caller id attempt : ℕ) (clock : ClockRow) (row : VersionRow) (u : Inside) (keys : List DownloadKey) (key : DownloadKey)
-    (broadcast : BroadcastRow) (last : Bool) (earlier : Option NumberedRow) (after : VersionCode) (view : View) →
-    is_some (get old.carriers caller) ≡ true → old.clock ≡ Some clock → get old.versions id ≡ Some row → version_row_of u ≡ row → AreWaitsAbout old caller (subject_of u.version.subject) keys →
+-- a version that is answered keeps its id
+completed_id : (w : WindowSet) (b : Bool) (minute : ℕ) (v : Version) →
+    (completed_if w b minute v).id ≡ v.id
+completed_id w false minute v = refl
+completed_id w true minute v = by_status v.status
+  where
+    by_status : (status : Status) → (completed w status minute v).id ≡ v.id
+    by_status (Sending action) = refl
+    by_status PartialFailure = refl
+    by_status Pending = refl
+    by_status Conflict = refl
+    by_status (CancelPending by) = refl
+    by_status Active = refl
+    by_status Failed = refl
+    by_status (DisconnectPending release) = refl
+    by_status Old = refl
+    by_status Canceled = refl
+
+-- and holds what it held, or the present set
+completed_holds : (w : WindowSet) (b : Bool) (minute : ℕ) (v : Version) →
+    ((completed_if w b minute v).held ≡ v.held) ⊎ ((completed_if w b minute v).held ≡ w)
+completed_holds w false minute v = inl refl
+completed_holds w true minute v = by_status v.status
+  where
+    by_status : (status : Status) → ((completed w status minute v).held ≡ v.held) ⊎
+        ((completed w status minute v).held ≡ w)
+    by_status (Sending action) = inr refl
+    by_status PartialFailure = inr refl
+    by_status Pending = inl refl
+    by_status Conflict = inl refl
+    by_status (CancelPending by) = inl refl
+    by_status Active = inl refl
+    by_status Failed = inl refl
+    by_status (DisconnectPending release) = inl refl
+    by_status Old = inl refl
+    by_status Canceled = inl refl
+
+-- so its windows are told by the numbers
+either_held : (present before after : WindowSet) → (after ≡ before) ⊎ (after ≡ present) →
+    (before.number ≡ present.number → before ≡ present) →
+    windows_after present before.windows before.number after.number ≡ after.windows
+either_held present before after (inl stays) one =
+    ap (λ (x : WindowSet). windows_after present before.windows before.number x.number) stays
+    ∙ ap (λ b. if b then before.windows else present.windows) (equal_numbers before.number)
+    ∙ sym (ap (λ (x : WindowSet). x.windows) stays)
+either_held present before after (inr enters) one =
+    ap (λ (x : WindowSet). windows_after present before.windows before.number x.number) enters
+    ∙ go (present.number == before.number) refl
+    ∙ sym (ap (λ (x : WindowSet). x.windows) enters)
+  where
+    go : (b : Bool) → (present.number == before.number) ≡ b →
+        (if b then before.windows else present.windows) ≡ present.windows
+    go true e = ap (λ (x : WindowSet). x.windows)
+        (one (sym (same_id present.number before.number e)))
+    go false e = refl
+
+pub answers_acknowledged : (old new : Content) (caller id attempt : ℕ) (clock : ClockRow)
+    (row : VersionRow) (held : Windows) (u : Inside) (keys : List DownloadKey) (key : DownloadKey)
+    (broadcast : BroadcastRow) (last : Bool) (earlier : Option NumberedRow) (after : VersionCode)
+    (windows : Windows) (view : View) →
+    is_some (get old.carriers caller) ≡ true → old.clock ≡ Some clock → get old.versions id
+    ≡ Some row → AreHeld old clock row.held held →
+    version_row_of u ≡ row → AreWaitsAbout old caller (subject_of u.version.subject) keys →
     None ≡ key_refusal keys id attempt → find (is_key id attempt) keys ≡ Some key →
     IsFound old (record { carrier = caller; minute = key.minute.number; id = id; attempt = attempt }) u.version broadcast last earlier →
-    Becomes (completed_if (completes u.version attempt last) clock.minute) u.version after →
-    IsChanged (all_changes clock.windows clock.minute (record { carrier = caller; minute = key.minute.number; id = id; attempt = attempt }) u.version after broadcast last earlier) old new →
-    ((st : State) (broadcasts : List Broadcast) → st.now ≡ clock.minute → st.windows ≡ clock.windows → view ≡ view_of st (record { subject = subject_of after.subject; version = version_of id broadcasts after })) →
+    Becomes (completed_if clock.present (completes u.version attempt last) clock.minute) u.version after →
+    windows ≡ windows_after clock.present held u.version.held after.held →
+    IsChanged (all_changes clock.present windows clock.minute
+    (record { carrier = caller; minute = key.minute.number; id = id; attempt = attempt })
+    u.version after broadcast last earlier) old new →
+    ((st : State) (broadcasts : List Broadcast) → st.now ≡ clock.minute → view
+    ≡ view_of st (record {
+      subject = subject_of after.subject;
+      version =
+          version_of id broadcasts windows after;
+    })) →
     AnswersSettled old new (Requests caller (Acknowledges id attempt)) (Some (Shown (Some view)))
-answers_acknowledged old new caller id attempt clock row u keys key broadcast last earlier after view known clock_is found is waits accepts key_is there becomes changed views =
+answers_acknowledged old new caller id attempt clock row held u keys key broadcast last earlier
+    after windows view known clock_is found are_held is waits accepts key_is there becomes
+    windows_are changed views =
     answers_accepted old new (Requests caller (Acknowledges id attempt)) (Shown (Some view)) each
   where
     subject_is : subject_of u.version.subject ≡ row.subject
@@ -144,7 +223,7 @@ answers_acknowledged old new caller id attempt clock row u keys key broadcast la
         due : IsSettled old st row.subject
         due = row_settled st old id row stands.represents settled found
 
-        shown : (v : Version) × (version_with id (record_now st row.subject) ≡ Some v) × (row ≡ row_of st.windows row.subject v)
+        shown : (v : Version) × (version_with id (record_now st row.subject) ≡ Some v) × (row ≡ row_of row.subject v)
         shown = row_now st old id row stands.represents settled found
 
         none : refusal st (Requests caller (Acknowledges id attempt)) ≡ None
@@ -153,11 +232,11 @@ answers_acknowledged old new caller id attempt clock row u keys key broadcast la
         awaited : IsAwaited st caller row.subject key.minute.number id attempt
         awaited = (found-awaited st old stands caller row.subject due keys waits_about id attempt shown.0 shown.1 key key_is).0
 
-        row_is : row ≡ row_of st.windows row.subject awaited.version
-        row_is = shown.2 ∙ ap (row_of st.windows row.subject) (some_is shown.0 awaited.version (sym shown.1 ∙ awaited.found))
+        row_is : row ≡ row_of row.subject awaited.version
+        row_is = shown.2 ∙ ap (row_of row.subject) (some_is shown.0 awaited.version (sym shown.1 ∙ awaited.found))
 
-        before : version_of awaited.version.id awaited.version.broadcasts u.version ≡ awaited.version
-        before = row_version st.windows row.subject awaited.version u (is ∙ row_is)
+        before : IsSeen u.version awaited.version
+        before = row_version row.subject awaited.version u (is ∙ row_is)
 
         same_attempt : u.version.attempt ≡ awaited.version.attempt
         same_attempt = ap (λ (v : Version). v.attempt) before
@@ -177,17 +256,60 @@ answers_acknowledged old new caller id attempt clock row u keys key broadcast la
         answered_version : Version
         answered_version = answered_all caller attempt st.now awaited.version
 
-        before_answered : version_of awaited.version.id (answered_all caller attempt st.now awaited.version).broadcasts u.version ≡ answered_all caller attempt st.now awaited.version
+        held_is : held ≡ awaited.version.held.windows
+        held_is = row_held st old clock stands.represents clock_is row.subject id awaited.version
+            awaited.found row row_is held are_held
+
+        before_answered : version_of awaited.version.id
+            (answered_all caller attempt st.now awaited.version).broadcasts
+            awaited.version.held.windows u.version
+            ≡ answered_all caller attempt st.now awaited.version
         before_answered = ap (λ (x : Version). let y : Version = record x { broadcasts = (answered_all caller attempt st.now awaited.version).broadcasts } in y) before
 
-        becomes_now : Becomes (completed_if (last && (awaited.version.attempt == attempt)) st.now) u.version after
-        becomes_now = subst (λ m. Becomes (completed_if (last && (awaited.version.attempt == attempt)) m) u.version after) (ap (λ (c : ClockRow). c.minute) same_clock)
-            (subst (λ b. Becomes (completed_if b clock.minute) u.version after) complete becomes)
+        becomes_now : Becomes (completed_if (set_now st)
+            (last && (awaited.version.attempt == attempt)) st.now) u.version after
+        becomes_now = subst (λ (k : ClockRow). Becomes
+            (completed_if k.present (last && (awaited.version.attempt == attempt)) k.minute)
+            u.version after) same_clock
+            (subst (λ b. Becomes (completed_if clock.present b clock.minute) u.version after) complete becomes)
 
-        after_is : version_of awaited.version.id (completed_if (last && (awaited.version.attempt == attempt)) st.now (answered_all caller attempt st.now awaited.version)).broadcasts after
-            ≡ completed_if (last && (awaited.version.attempt == attempt)) st.now (answered_all caller attempt st.now awaited.version)
-        after_is = subst (λ (x : Version). version_of awaited.version.id (completed_if (last && (awaited.version.attempt == attempt)) st.now x).broadcasts after ≡ completed_if (last && (awaited.version.attempt == attempt)) st.now x)
-            before_answered (becomes_now.version awaited.version.id (answered_all caller attempt st.now awaited.version).broadcasts)
+        finished : Version
+        finished = completed_if (set_now st) (last && (awaited.version.attempt == attempt)) st.now
+            (answered_all caller attempt st.now awaited.version)
+
+        seen_after : IsSeen after finished
+        seen_after = subst (λ (x : Version). IsSeen after
+            (completed_if (set_now st) (last && (awaited.version.attempt == attempt)) st.now x))
+            before_answered
+            (becomes_now.version awaited.version.id
+            (answered_all caller attempt st.now awaited.version).broadcasts
+            awaited.version.held.windows)
+
+        -- the set that it holds then
+        windows_is : windows ≡ finished.held.windows
+        windows_is =
+            windows_are
+            ∙ ap (λ (k : ClockRow). windows_after k.present held u.version.held after.held)
+            same_clock
+            ∙ ap (λ w. windows_after (set_now st) w u.version.held after.held) held_is
+            ∙ ap (λ n. windows_after (set_now st) awaited.version.held.windows n after.held)
+            (ap (λ (v : Version). v.held.number) before)
+            ∙ ap (windows_after (set_now st) awaited.version.held.windows
+            awaited.version.held.number) (ap (λ (v : Version). v.held.number) seen_after)
+            ∙ either_held (set_now st) awaited.version.held finished.held
+            (completed_holds (set_now st) (last && (awaited.version.attempt == attempt)) st.now
+            (answered_all caller attempt st.now awaited.version))
+            (λ same. same_set st old clock stands.represents clock_is awaited.version.held
+            (held-is st stands.represents.history row.subject id awaited.version awaited.found)
+            (same ∙ ap (λ (k : ClockRow). k.present.number) (sym same_clock))
+            ∙ ap (λ (k : ClockRow). k.present) same_clock)
+
+        after_is : version_of awaited.version.id finished.broadcasts windows after ≡ finished
+        after_is =
+            ap (λ k. version_of k finished.broadcasts windows after)
+            (sym (completed_id (set_now st) (last && (awaited.version.attempt == attempt))
+            st.now (answered_all caller attempt st.now awaited.version)))
+            ∙ ap (λ w. version_of finished.id finished.broadcasts w after) windows_is ∙ seen_after
 
         subject_after : subject_of after.subject ≡ row.subject
         subject_after = ap subject_of becomes.subject ∙ subject_is
@@ -197,18 +319,25 @@ answers_acknowledged old new caller id attempt clock row u keys key broadcast la
             (subst (λ t. IsEarlier ((last && (awaited.version.attempt == attempt)) && sends_create t) old (subject_of u.version.subject) earlier) same_status
             (subst (λ b. IsEarlier (b && sends_create (status_of u.version.status)) old (subject_of u.version.subject) earlier) complete there.replaced))
 
-        versions_same : retired_rows st.windows st.now earlier ++ own_rows (completes u.version attempt last) id (row_of st.windows (subject_of after.subject) (seen after))
-            ≡ puts_of st.windows st.now row.subject (the_replaced ((last && (awaited.version.attempt == attempt)) && sends_create awaited.version.status) (record_now st row.subject))
-            ++ own_rows (last && (awaited.version.attempt == attempt)) id (row_of st.windows row.subject (completed_if (last && (awaited.version.attempt == attempt)) st.now (answered_all caller attempt st.now awaited.version)))
+        versions_same : retired_rows (set_now st) st.now earlier ++ own_rows
+            (completes u.version attempt last) id
+            (row_of (subject_of after.subject) (seen_by windows after))
+            ≡ puts_of (set_now st) st.now row.subject (the_replaced ((last && (awaited.version.attempt == attempt)) && sends_create awaited.version.status) (record_now st row.subject))
+            ++ own_rows (last && (awaited.version.attempt == attempt)) id
+            (row_of row.subject (completed_if (set_now st)
+            (last && (awaited.version.attempt == attempt)) st.now
+            (answered_all caller attempt st.now awaited.version)))
         versions_same =
-            ap (λ ps. ps ++ own_rows (completes u.version attempt last) id (row_of st.windows (subject_of after.subject) (seen after)))
-            (retired_read st.windows st.now row.subject (made_by st.windows st.history) (record_now st row.subject) old due.shows (given_now st stands.represents.history row.subject)
+            ap (λ ps. ps ++ own_rows (completes u.version attempt last) id
+            (row_of (subject_of after.subject) (seen_by windows after)))
+            (retired_read (set_now st) st.now row.subject (made_by st.windows st.history) (record_now st row.subject) old due.shows (given_now st stands.represents.history row.subject)
             (one_in_force st old stands row.subject) (λ t. ((stands.represents.subjects t).kept, (stands.represents.subjects t).shows)) ((last && (awaited.version.attempt == attempt)) && sends_create awaited.version.status) earlier replaced)
-            ∙ ap (λ b. puts_of st.windows st.now row.subject (the_replaced ((last && (awaited.version.attempt == attempt)) && sends_create awaited.version.status) (record_now st row.subject))
-            ++ own_rows b id (row_of st.windows (subject_of after.subject) (seen after))) complete
-            ∙ ap (λ r. puts_of st.windows st.now row.subject (the_replaced ((last && (awaited.version.attempt == attempt)) && sends_create awaited.version.status) (record_now st row.subject))
+            ∙ ap (λ b. puts_of (set_now st) st.now row.subject (the_replaced ((last && (awaited.version.attempt == attempt)) && sends_create awaited.version.status) (record_now st row.subject))
+            ++ own_rows b id (row_of (subject_of after.subject) (seen_by windows after))) complete
+            ∙ ap (λ r. puts_of (set_now st) st.now row.subject (the_replaced ((last && (awaited.version.attempt == attempt)) && sends_create awaited.version.status) (record_now st row.subject))
             ++ own_rows (last && (awaited.version.attempt == attempt)) id r)
-            (ap (λ t. row_of st.windows t (seen after)) subject_after ∙ ap (row_of st.windows row.subject) after_is)
+            (ap (λ t. row_of t (seen_by windows after)) subject_after
+            ∙ ap (row_of row.subject) after_is)
 
         broadcast_same : answered_row (completes u.version attempt last && is_sending (status_of u.version.status)) broadcast
             ≡ answered_row ((last && (awaited.version.attempt == attempt)) && is_sending awaited.version.status) (row_was caller awaited.broadcast awaited.waits row.subject)
@@ -219,29 +348,85 @@ answers_acknowledged old new caller id attempt clock row u keys key broadcast la
             (broadcast_read st old stands caller row.subject due key.minute.number id attempt awaited broadcast there.stored)
 
         change : IsChanged (acknowledging caller key.minute.number id attempt last
-            (puts_of st.windows st.now row.subject (the_replaced ((last && (awaited.version.attempt == attempt)) && sends_create awaited.version.status) (record_now st row.subject))
-            ++ own_rows (last && (awaited.version.attempt == attempt)) id (row_of st.windows row.subject (completed_if (last && (awaited.version.attempt == attempt)) st.now (answered_all caller attempt st.now awaited.version))))
+            (puts_of (set_now st) st.now row.subject (the_replaced ((last && (awaited.version.attempt == attempt)) && sends_create awaited.version.status) (record_now st row.subject))
+            ++ own_rows (last && (awaited.version.attempt == attempt)) id
+            (row_of row.subject (completed_if (set_now st)
+            (last && (awaited.version.attempt == attempt)) st.now
+            (answered_all caller attempt st.now awaited.version))))
             (answered_row ((last && (awaited.version.attempt == attempt)) && is_sending awaited.version.status) (row_was caller awaited.broadcast awaited.waits row.subject))) old new
         change = subst (λ d. IsChanged d old new)
             (ap (λ ps. acknowledging caller key.minute.number id attempt last ps (answered_row (completes u.version attempt last && is_sending (status_of u.version.status)) broadcast)) versions_same
             ∙ ap (acknowledging caller key.minute.number id attempt last
-            (puts_of st.windows st.now row.subject (the_replaced ((last && (awaited.version.attempt == attempt)) && sends_create awaited.version.status) (record_now st row.subject))
-            ++ own_rows (last && (awaited.version.attempt == attempt)) id (row_of st.windows row.subject (completed_if (last && (awaited.version.attempt == attempt)) st.now (answered_all caller attempt st.now awaited.version))))) broadcast_same)
-            (subst (λ (c : ClockRow). IsChanged (all_changes c.windows c.minute (record { carrier = caller; minute = key.minute.number; id = id; attempt = attempt }) u.version after broadcast last earlier) old new) same_clock changed)
+            (puts_of (set_now st) st.now row.subject (the_replaced ((last && (awaited.version.attempt == attempt)) && sends_create awaited.version.status) (record_now st row.subject))
+            ++ own_rows (last && (awaited.version.attempt == attempt)) id
+            (row_of row.subject (completed_if (set_now st)
+            (last && (awaited.version.attempt == attempt)) st.now
+            (answered_all caller attempt st.now awaited.version))))) broadcast_same)
+            (subst (λ (c : ClockRow). IsChanged
+            (all_changes c.present windows c.minute
+            (record {
+              carrier = caller;
+              minute = key.minute.number;
+              id = id;
+              attempt =
+                  attempt;
+            }) u.version after broadcast last earlier) old new) same_clock changed)
 
-        seen_view : view ≡ view_of (accepted st (Requests caller (Acknowledges id attempt))) (record { subject = row.subject; version = completed_if (last && (awaited.version.attempt == attempt)) st.now (answered_all caller attempt st.now awaited.version) })
+        seen_view : view ≡ view_of (accepted st (Requests caller (Acknowledges id attempt)))
+            (record {
+              subject = row.subject;
+              version =
+                  completed_if (set_now st) (last && (awaited.version.attempt == attempt)) st.now
+                  (answered_all caller attempt st.now awaited.version);
+            })
         seen_view =
-            views (accepted st (Requests caller (Acknowledges id attempt))) (completed_if (last && (awaited.version.attempt == attempt)) st.now (answered_all caller attempt st.now awaited.version)).broadcasts
-            (ap (λ (c : ClockRow). c.minute) (sym same_clock)) (ap (λ (c : ClockRow). c.windows) (sym same_clock))
-            ∙ ap (λ t. view_of (accepted st (Requests caller (Acknowledges id attempt))) (record { subject = t; version = version_of id (completed_if (last && (awaited.version.attempt == attempt)) st.now (answered_all caller attempt st.now awaited.version)).broadcasts after })) subject_after
-            ∙ ap (λ k. view_of (accepted st (Requests caller (Acknowledges id attempt))) (record { subject = row.subject; version = version_of k (completed_if (last && (awaited.version.attempt == attempt)) st.now (answered_all caller attempt st.now awaited.version)).broadcasts after }))
+            views (accepted st (Requests caller (Acknowledges id attempt)))
+            (completed_if (set_now st) (last && (awaited.version.attempt == attempt)) st.now
+            (answered_all caller attempt st.now awaited.version)).broadcasts
+            (ap (λ (c : ClockRow). c.minute) (sym same_clock))
+            ∙ ap (λ t. view_of (accepted st (Requests caller (Acknowledges id attempt)))
+            (record {
+              subject = t;
+              version =
+                  version_of id (completed_if (set_now st)
+                  (last && (awaited.version.attempt == attempt)) st.now
+                  (answered_all caller attempt st.now awaited.version)).broadcasts windows after;
+            }))
+            subject_after
+            ∙ ap (λ k. view_of (accepted st (Requests caller (Acknowledges id attempt)))
+            (record {
+              subject = row.subject;
+              version =
+                  version_of k (completed_if (set_now st)
+                  (last && (awaited.version.attempt == attempt)) st.now
+                  (answered_all caller attempt st.now awaited.version)).broadcasts windows after;
+            }))
             (sym (id_found id (record_now st row.subject).versions awaited.version awaited.found))
             ∙ ap (λ x. view_of (accepted st (Requests caller (Acknowledges id attempt))) (record { subject = row.subject; version = x })) after_is
 
--- by what a call answered that shows a version, or leaves the content
-pub by_view : {U : Type 0} (P : Content → VersionView → Type 0) (old mid new : Content) (input : Input) (result : Result VersionView Refusal) → U →
-    IfOk result (λ view. U → P mid view) → OnErr result (U → new ≡ mid) → IfErr result (λ r. nat_lt (number_of r) 29 ≡ false) → mid ≡ old →
-    ((view : VersionView) → P old view → AnswersSettled old new input (Some (Shown (Some (view_seen view))))) →
-    AnswersSettled old new input (replied (λ view. Shown (Some (view_seen view))) result)
-by_view P old mid new input (Ok view) usable gives kept fault same each = each view (subst (λ (m : Content). P m view) same (gives usable))
-by_view P old mid new input (Err r) usable gives kept fault same each = answers_without old new input (number_of r) fault (kept usable ∙ same)
+-- by what the store says of the download
+pub taken_by : (last : Bool) (old mid : Content) (clock : ClockRow) (held : Windows)
+    (wait : WaitKey) (v : VersionCode) (changes : Changes) (result : Result Reply Refusal) →
+    mid ≡ old →
+    last ≡ is_last_wait old wait →
+    IfOk result (TakesIt last mid clock held wait v changes) →
+    IfOk result (IsTakenBy old clock held wait v changes)
+taken_by last old mid clock held wait v changes (Ok reply) same is takes =
+    subst (λ k. TakesIt last k clock held wait v changes reply) same takes is
+taken_by last old mid clock held wait v changes (Err r) same is takes = tt
+
+-- by what the taking came to
+pub decides_taken : (old mid : Content) (input : Input) (clock : ClockRow) (held : Windows)
+    (wait : WaitKey) (v : VersionCode) (changes : Changes) (result : Result Reply Refusal) →
+    IfOk result (IsTakenBy mid clock held wait v changes) →
+    IfErr result (λ r. nat_lt (number_of r) 29 ≡ false) → mid ≡ old →
+    ((m : Content) (view : View) → IsTaken old m clock held wait v view →
+    AnswersSettled old m input (Some (Shown (Some view)))) → Decides old input changes result
+decides_taken old mid input clock held wait v changes (Ok reply) taken fault same each = record {
+  refused = tt;
+  accepted = λ m changed.
+      let shown = subst (λ k. IsTakenBy k clock held wait v changes reply) same taken m changed in
+      subst (λ r. AnswersSettled old m input (Some r)) (sym shown.1) (each m shown.0 shown.2);
+}
+decides_taken old mid input clock held wait v changes (Err r) taken fault same each =
+    record { refused = answers_without old old input (number_of r) fault refl; accepted = tt }

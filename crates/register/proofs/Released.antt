@@ -6,13 +6,13 @@ use Rattle.numbers.specs.Subjects.{Block}
 use Rattle.numbers.specs.Views.{subject_of}
 use Rattle.meaning.specs.declared.refusal.Refusal.{Refusal}
 use Rattle.meaning.specs.declared.refusal.Refusal.TheVariants.{Storage}
-use Rattle.meaning.specs.declared.words.Action.TheVariants.{Delete}
+use Rattle.meaning.specs.Statuses.{Delete}
 use Rattle.meaning.specs.Changes.{sent}
 use Rattle.meaning.specs.Commands.{Release}
 use Rattle.meaning.specs.Content.{ClockRow, Content, row_of}
 use Rattle.meaning.specs.History.{Commands, donor_of}
 use Rattle.meaning.specs.Machine.{Shown}
-use Rattle.meaning.specs.Reading.{State, View, record_now}
+use Rattle.meaning.specs.Reading.{State, View, record_now, set_now}
 use Rattle.meaning.specs.RefusalNumbers.{number_of}
 use Rattle.meaning.specs.Refusals.{Requests, refusal}
 use Rattle.meaning.specs.Versions.{Version, last_version}
@@ -21,7 +21,7 @@ use Rattle.meaning.proofs.Copies.Queue.{found_by_id}
 use Rattle.meaning.proofs.Small.{some_is}
 use Rattle.version.specs.declared.version.Version.{Version as VersionCode}
 use Rattle.version.specs.Facts.{Sees}
-use Rattle.version.specs.Views.{Becomes, seen, version_of}
+use Rattle.version.specs.Views.{Becomes, IsSeen, seen_by}
 use Rattle.settle.specs.declared.rows.VersionRow.TheInside.{Inside}
 use Rattle.settle.specs.Changes.{IsChanged}
 use Rattle.settle.specs.Settling.{IsSettled}
@@ -53,22 +53,25 @@ release_never caller facts r is storage =
 record IsLastOne (st : State) (block id : ℕ) (u : VersionCode) : Type 0 where
   version : Version
   last : last_version (record_now st (Block block)) ≡ Some version
-  sees : version_of version.id version.broadcasts u ≡ version
+  sees : IsSeen u version
   its : id ≡ version.id
   subject : subject_of u.subject ≡ Block block
 
 module _ (old new : Content) (caller block : ℕ) (clock : ClockRow) (read : BlockRead) (facts : BlockFacts) (has : HasFound old caller block (Release block) clock read facts) where
   refused_read : (st : State) → Stands old st → AreSettled old st (Requests caller (Commands (Release block))) → refusal st (Requests caller (Commands (Release block))) ≡ release_refusal caller facts
   refused_read st stands settled =
-      release_refused st caller facts block (block_facts_are st old stands block settled read has.is_read clock has.clock_is caller (Release block) facts has.are) stands.represents.history
+      release_refused st caller facts block (block_facts_are st old stands block settled read has.is_read clock has.clock_is caller (Release block) facts has.are refl) stands.represents.history
       ∙ ap (λ b. if b then Some 1 else release_refusal caller facts) (has.known st stands)
 
   pub answers_release_refused : (k : ℕ) → new ≡ old → Some k ≡ release_refusal caller facts → AnswersSettled old new (Requests caller (Commands (Release block))) (refused_with k)
   answers_release_refused k same refused = answers_refused_same old new (Requests caller (Commands (Release block))) k same (λ st stands settled. refused_read st stands settled ∙ sym refused)
 
   module _ (id : ℕ) (u next : VersionCode) (everyone : List ℕ) (view : View) (accepts : None ≡ release_refusal caller facts) (last_is : read.last ≡ Some (id, u))
-      (becomes : (cs : List ℕ) → Becomes (sent Delete cs clock.minute) u next) (are_all : everyone ≡ keys old.carriers) (views : Views clock id next view)
-      (changed : IsChanged (stepping id clock.windows clock.minute (Some Delete) (subject_of next.subject) (seen next) everyone) old new) where
+      (becomes : (cs : List ℕ) → Becomes (sent clock.present Delete cs clock.minute) u next)
+      (are_all : everyone ≡ keys old.carriers)
+      (views : Views clock.present.windows clock id next view)
+      (changed : IsChanged (stepping id clock.minute (Some Delete) (subject_of next.subject)
+      (seen_by clock.present.windows next) everyone) old new) where
     module _ (st : State) (stands : Stands old st) (settled : AreSettled old st (Requests caller (Commands (Release block)))) where
       none : refusal st (Requests caller (Commands (Release block))) ≡ None
       none = refused_read st stands settled ∙ sym accepts
@@ -86,14 +89,14 @@ module _ (old new : Content) (caller block : ℕ) (clock : ClockRow) (read : Blo
           let named : last_id read.row ≡ Some v.id = named_is st old stands.represents block read.row has.is_read.row ∙ donated (donor_of block st.history) (accepted_command st caller (Release block) none).not_found
           ∙ ap (option_map (λ (x : Version). x.id)) e in
           let row = its_row v.id named in
-          let there = row_there st.windows (Block block) old (record_now st (Block block)) due.shows v.id v (found_by_id st stands.represents.history (Block block) v (first_among (record_now st (Block block)).versions v e)) in
+          let there = row_there (set_now st) (Block block) old (record_now st (Block block)) due.shows v.id v (found_by_id st stands.represents.history (Block block) v (first_among (record_now st (Block block)).versions v e)) in
           record {
             version = v;
             last = e;
             sees = sees;
             its = row.0;
             subject = ap (λ (x : VersionCode). subject_of x.subject) (sym row.3)
-                ∙ row_subject st.windows (Block block) v row.1 (some_is (version_row_of row.1) (row_of st.windows (Block block) v) (sym row.2 ∙ there));
+                ∙ row_subject (Block block) v row.1 (some_is (version_row_of row.1) (row_of (Block block) v) (sym row.2 ∙ there));
           }
         where
           -- a block that nobody donated is not found
@@ -105,7 +108,7 @@ module _ (old new : Content) (caller block : ℕ) (clock : ClockRow) (read : Blo
       one : IsLastOne st block id u
       one = the_last (last_version (record_now st (Block block))) refl
           (subst (λ o. Sees o (last_version (record_now st (Block block)))) (has.are.last ∙ ap (option_map (λ e. e.1)) last_is)
-          (block_facts_are st old stands block settled read has.is_read clock has.clock_is caller (Release block) facts has.are).last)
+          (block_facts_are st old stands block settled read has.is_read clock has.clock_is caller (Release block) facts has.are refl).last)
 
     pub answers_released : AnswersSettled old new (Requests caller (Commands (Release block))) (Some (Shown (Some view)))
     answers_released = answers_accepted old new (Requests caller (Commands (Release block))) (Shown (Some view)) (λ st stands settled.

@@ -2,7 +2,7 @@
 use Rattle.std.specs.Prelude.{◌≡◌, ◌⊎◌, ℕ, Bool, true, false, nat_lt, Option, Some, None, is_some, option_map, ⊤}
 use Rattle.std.specs.FinMap.{get}
 use Rattle.numbers.specs.Digits.{block_code_of}
-use Rattle.meaning.specs.Commands.{Command, RegisterCarrier, RegisterRoutingNumber, OpenCode, OldProviderCreate, NewProviderCreate, OnVersion, Donate, Assign, Release}
+use Rattle.meaning.specs.Commands.{Command, RegisterCarrier, RegisterRoutingNumber, OpenCode, OldProviderCreate, NewProviderCreate, OnVersion, Donate, Assign, Release, SetWindows}
 use Rattle.meaning.specs.Conditions.{is_the}
 use Rattle.meaning.specs.Content.{Content, ClockRow}
 use Rattle.meaning.specs.RefusalNumbers.{number_of}
@@ -55,6 +55,7 @@ abbrev pub is_routing_good : Content → (caller : ℕ) → Command → Bool
 is_routing_good c caller (Donate block used lrn cic) = is_the caller (get c.lrns lrn)
 is_routing_good c caller (Assign block holder lrn cic) = is_the holder (get c.lrns lrn)
 is_routing_good c caller (Release block) = true
+is_routing_good c caller (SetWindows windows) = true
 is_routing_good c caller (RegisterCarrier spid) = true
 is_routing_good c caller (RegisterRoutingNumber lrn) = true
 is_routing_good c caller (OpenCode code spid) = true

@@ -1,20 +1,24 @@
 //! The version that a caller names.
 ghost use Rattle.settle.specs.Owing.{IsAnswer, IsAnswered, Reads};
-ghost use Rattle.std.specs.Prelude.{◌≡◌, Err, true, is_some, IfOk, IfErr};
+ghost use Rattle.std.specs.Prelude.{◌≡◌, Err, IfOk, IfErr};
 ghost use Rattle.std.specs.FinMap.{get};
 ghost use Rattle.meaning.specs.Conditions.{is_the};
 ghost use Rattle.settle.specs.Views.{clock_row_of};
-ghost use Rattle.register.specs.Looking.{IsLookedUp, IsLookedUpInVain};
+ghost use Rattle.register.specs.Looking.{AreHeld, HasHeldSet, HasSet, IsLookedUp, IsLookedUpInVain};
+ghost use Rattle.version.specs.Views.{windows_of};
 
 use meaning::Refusal;
 use numbers::{Lrn, Spid};
 use settle::{ClockRow, Store, StoreFault, VersionRow};
+use windows::Windows;
 
 /// A version that a caller names, and the minute and windows under which it stands.
 #[derive(Drop)]
 pub struct LookedUp {
     pub clock: ClockRow,
     pub row: VersionRow,
+    /// The windows of the set that the version holds.
+    pub held: Windows,
 }
 
 /// Looks up the version that a caller names: first the caller, then the version.
@@ -25,11 +29,11 @@ pub fn look_up<S: Store>(store: &mut S, is_known: bool, id: u64) -> Result<Looke
     ensures found { S.IsUsable store.new
         → IfOk result
         (λ found. IsLookedUp (S.content store.old) is_known id (clock_row_of found.clock)
-        found.row) }
+        found.row (windows_of found.held)) }
     ensures refused { S.IsUsable store.new
         → IfErr result (IsLookedUpInVain (S.content store.old) is_known id) }
     ensures reads { Reads S.IsUsable S.IsHonest S.MayLeave S.content S.failed store.old store.new
-        (IsAnswered result) (S.IsUsable store.new × (is_some (S.content store.old).clock ≡ true)
+        (IsAnswered result) (S.IsUsable store.new × HasHeldSet (S.content store.old) id
         × (result ≡ Err Refusal.Storage)) }
 {
     if !is_known {
@@ -41,7 +45,32 @@ pub fn look_up<S: Store>(store: &mut S, is_known: bool, id: u64) -> Result<Looke
     let Some(row) = store.version(id)? else {
         return Err(Refusal::NotFound);
     };
-    Ok(LookedUp { clock, row })
+    let held = held_windows(store, &clock, row.version.held)?;
+    Ok(LookedUp { clock, row, held })
+}
+
+/// The windows of the set that a version holds: the present one's, or those of an earlier set.
+pub fn held_windows<S: Store>(
+    store: &mut S,
+    clock: &ClockRow,
+    held: u16,
+) -> Result<Windows, StoreFault>
+    ensures value { S.IsUsable store.new
+        → IfOk result
+        (λ windows. AreHeld (S.content store.old) (clock_row_of clock.now) held
+        (windows_of windows)) }
+    ensures reads { Reads S.IsUsable S.IsHonest S.MayLeave S.content S.failed store.old store.new
+        (IsAnswer result) (S.IsUsable store.new
+        × HasSet (S.content store.old) (clock_row_of clock.now) held
+        × (result ≡ Err StoreFault.Storage)) }
+{
+    if held == clock.present.number {
+        return Ok(clock.present.windows);
+    }
+    match store.window_set(held)? {
+        Some(windows) => Ok(windows),
+        None => Err(StoreFault::Storage),
+    }
 }
 
 /// Whether the routing number is registered, and the carrier's.

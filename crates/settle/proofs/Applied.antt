@@ -8,8 +8,8 @@ use Rattle.std.specs.FinMap.{FinMap, get, insert, get-insert}
 use Rattle.std.proofs.lemmas.Cmp.{then_total, on_total}
 use Rattle.std.proofs.lemmas.Bool.Decides.{nat_tests}
 use Rattle.numbers.specs.Subjects.{Subject}
-use Rattle.meaning.specs.declared.words.Action.{Action}
-use Rattle.meaning.specs.Windows.{Windows}
+use Rattle.meaning.specs.Statuses.{Send}
+use Rattle.meaning.specs.Windows.{WindowSet}
 use Rattle.meaning.specs.Versions.{Record}
 use Rattle.meaning.specs.Changes.{routing_sent}
 use Rattle.meaning.specs.Content.{Content, VersionRow, BroadcastRow, BroadcastKey, WaitKey, broadcast_cmp, wait_cmp, Shows, of_subject}
@@ -87,21 +87,21 @@ applied_puts changes c = record {
 
 -- ---- many versions that begin to send, one after the other
 
-module _ (w : Windows) (minute : ℕ) (action : Action) (everyone : List ℕ) where
+module _ (w : WindowSet) (minute : ℕ) (action : Send) (everyone : List ℕ) where
   abbrev pub sending_one : Begun → Changes
-  sending_one b = sending b.id w minute action b.subject b.version (routing_sent action b.version) everyone
+  sending_one b = sending b.id minute action b.subject b.version (routing_sent action b.version) everyone
 
   abbrev pub sent_in_turn : List Begun → Content → Content
   sent_in_turn [] c = c
   sent_in_turn (b ∷ bs) c = sent_in_turn bs (applied (sending_one b) c)
 
-  pub sent_puts : (bs : List Begun) (c : Content) → Puts (sending_each w minute action bs everyone) c (sent_in_turn bs c)
+  pub sent_puts : (bs : List Begun) (c : Content) → Puts (sending_each minute action bs everyone) c (sent_in_turn bs c)
   sent_puts [] c = record { versions = λ k. refl; broadcasts = λ k. refl; waits = λ k. refl }
   sent_puts (b ∷ bs) c =
       let later = sent_puts bs (applied (sending_one b) c) in
       let first = applied_puts (sending_one b) c in
       record {
-        versions = λ k. later.versions k ∙ ap (put_rows ◌==◌ (map (begun_version w) bs) k) (first.versions k);
+        versions = λ k. later.versions k ∙ ap (put_rows ◌==◌ (map (begun_version) bs) k) (first.versions k);
         broadcasts = λ k. later.broadcasts k ∙ ap (put_rows same_broadcast (map (begun_broadcast minute action) bs) k) (first.broadcasts k);
         waits = λ k. later.waits k ∙ ap (put_rows same_wait (flat_map (begun_waits minute everyone) bs) k) (first.waits k)
             ∙ sym (put_rows-append same_wait (begun_waits minute everyone b) (flat_map (begun_waits minute everyone) bs) k (get c.waits k));
@@ -119,11 +119,12 @@ module _ (w : Windows) (minute : ℕ) (action : Action) (everyone : List ℕ) wh
         versions = puts.versions;
         broadcasts = puts.broadcasts;
         waits = puts.waits;
+        sets = λ k. refl;
         clock = refl;
       }
 
 -- two contents with the same rows put show the same records
-pub same_shows : (changes : Changes) (old one other : Content) → Puts changes old one → Puts changes old other → (w : Windows) (s : Subject) (r : Record) → Shows w one s r → Shows w other s r
+pub same_shows : (changes : Changes) (old one other : Content) → Puts changes old one → Puts changes old other → (w : WindowSet) (s : Subject) (r : Record) → Shows one s r → Shows other s r
 same_shows changes old one other is its w s r shows = record {
   versions = λ k. ap (of_subject s (λ (v : VersionRow). v.subject)) (its.versions k ∙ sym (is.versions k)) ∙ shows.versions k;
   broadcasts = λ k a. ap (of_subject s (λ (b : BroadcastRow). b.subject)) (its.broadcasts (record { id = k; attempt = a }) ∙ sym (is.broadcasts (record { id = k; attempt = a }))) ∙ shows.broadcasts k a;

@@ -19,21 +19,27 @@ use Rattle.numbers.specs.declared.code_id.CodeId.{CodeId}
 use Rattle.numbers.specs.declared.block_id.BlockId.{BlockId}
 use Rattle.meaning.specs.declared.words.Status.{Status as StatusCode}
 use Rattle.meaning.specs.declared.words.Status.TheVariants as code
-use Rattle.meaning.specs.declared.words.Action.TheVariants.{Create, Delete}
+use Rattle.numbers.specs.Routings.{Routing}
+use Rattle.meaning.specs.declared.words.Send.TheVariants.{Create as CreateCode, Delete as DeleteCode, Modify as ModifyCode}
+use Rattle.meaning.specs.declared.words.Action.TheVariants.{Create, Delete, Modify}
+use Rattle.sql_rows.specs.Versions.{bare, bare_status, is_routed_while_modified}
 use Rattle.meaning.specs.declared.words.Side.TheVariants.{OldProvider, NewProvider}
 use Rattle.meaning.specs.Views.{status_of}
 use Rattle.meaning.specs.Content.{subject_if}
-use Rattle.settle.specs.Views.{version_row_of, block_row_of, clock_row_of, broadcast_row_of, broadcast_key_of, wait_key_of}
+use Rattle.settle.specs.Views.{version_row_of, block_row_of, broadcast_row_of, broadcast_key_of, wait_key_of}
 use Rattle.settle.specs.declared.rows.BlockRow.{BlockRow as BlockRowCode}
-use Rattle.settle.specs.declared.rows.ClockRow.{ClockRow as ClockCode}
+use Rattle.sql_rows.specs.declared.keyed.StoredClock.{StoredClock as ClockCode}
+use Rattle.sql_rows.specs.Clocks.{clock_of}
+use Rattle.version.specs.Views.{windows_of}
+use Rattle.windows.specs.declared.window.WindowSet.{WindowSet as SetCode}
 use Rattle.settle.specs.declared.rows.BroadcastKey.{BroadcastKey as KeyCode}
 use Rattle.settle.specs.declared.rows.WaitKey.{WaitKey as WaitCode}
 use Rattle.delivery.specs.declared.broadcast.Broadcast.{Broadcast as BroadcastCode}
 use Rattle.windows.specs.declared.window.Window.{Window}
 use Rattle.meaning.specs.declared.words.Action.{Action}
-use Rattle.sql_rows.specs.Content.{carrier_entry, lrn_entry, code_entry, block_entry, broadcast_entry, wait_entry, clock_entry, carrier_params, owner_params, block_params, broadcast_params, wait_params, clock_params, stored}
+use Rattle.sql_rows.specs.Content.{next_entry, next_params, carrier_entry, lrn_entry, code_entry, block_entry, broadcast_entry, wait_entry, set_entry, clock_entry, carrier_params, owner_params, block_params, broadcast_params, wait_params, set_params, clock_params, stored}
 use Rattle.settle.specs.declared.rows.VersionRow.TheInside.{Inside}
-use Rattle.sql_rows.specs.Values.{number_in, minute_in, lrn_in, cic_in, bool_in, subject_in, spid_in, or_null_in, status_in, routing_in, number_value, spid_value, bool_value, subject_value, lrn_value, cic_value, status_word, sends_word, release_value, by_value, found_in, found_value, subject_number, window_in, action_in, action_word}
+use Rattle.sql_rows.specs.Values.{number_in, minute_in, lrn_in, cic_in, bool_in, subject_in, spid_in, or_null_in, status_in, routing_in, number_value, spid_value, bool_value, subject_value, lrn_value, cic_value, status_word, sends_word, release_value, by_value, found_in, found_value, subject_number, window_in, set_number_in, action_in, action_word}
 use Rattle.sql_rows.specs.Versions.{version_entry, version_row}
 
 is_less : (n m : ℕ) → n < m → nat_lt n m ≡ true
@@ -100,22 +106,29 @@ routing_back (Some r) = go r.cic
     go None = rw (routed_back r.lrn) refl
     go (Some c) = rw (routed_back r.lrn, cic_back c) refl
 
-pub status_back : (s : StatusCode) → status_in (Text (status_word (status_of s))) (Text (sends_word (status_of s))) (release_value (status_of s)) (by_value (status_of s)) ≡ Some (status_of s)
-status_back code.Pending = refl
-status_back code.Conflict = refl
-status_back (code.CancelPending OldProvider) = refl
-status_back (code.CancelPending NewProvider) = refl
-status_back (code.Sending Create) = refl
-status_back (code.Sending Delete) = refl
-status_back code.Active = refl
-status_back code.PartialFailure = refl
-status_back code.Failed = refl
-status_back (code.DisconnectPending m) = rw (minute_back m) refl
-status_back code.Old = refl
-status_back code.Canceled = refl
+pub status_back : (own : Option Routing) (s : StatusCode) → is_routed_while_modified own (status_of s) ≡ true →
+    status_in own (Text (status_word (status_of s))) (Text (sends_word (status_of s))) (release_value (status_of s)) (by_value (status_of s)) ≡ Some (bare_status own (status_of s))
+status_back own code.Pending fits = refl
+status_back own code.Conflict fits = refl
+status_back own (code.CancelPending OldProvider) fits = refl
+status_back own (code.CancelPending NewProvider) fits = refl
+status_back own (code.Sending CreateCode) fits = refl
+status_back own (code.Sending DeleteCode) fits = refl
+status_back (Some own) (code.Sending (ModifyCode put)) fits = refl
+status_back None (code.Sending (ModifyCode put)) fits = cc
+status_back own code.Active fits = refl
+status_back own code.PartialFailure fits = refl
+status_back own code.Failed fits = refl
+status_back own (code.DisconnectPending m) fits = rw (minute_back m) refl
+status_back own code.Old fits = refl
+status_back own code.Canceled fits = refl
 
-pub reads_back : (id : ℕ) (v : Inside) → id < 9223372036854775808 → v.version.attempt < 9223372036854775808 → version_entry (version_row id (version_row_of v)) ≡ Some (id, version_row_of v)
-reads_back id v low few =
+pub set_number_back : (n : ℕ) → 0 < n → n ≤ 1000 → set_number_in (Int (pos n)) ≡ Some n
+set_number_back n least most = rw (is_less n 9223372036854775808 (omega arith)) (rw (is_less 0 n least, is_at_most n 1000 most) refl)
+
+pub reads_back : (id : ℕ) (v : Inside) → id < 9223372036854775808 → v.version.attempt < 9223372036854775808 → 0 < v.version.held → v.version.held ≤ 1000 → is_routed_while_modified (option_map routing_of v.version.routing) (status_of v.version.status) ≡ true →
+    version_entry (version_row id (version_row_of v)) ≡ Some (id, bare (version_row_of v))
+reads_back id v low few least most fits =
     rw (
       number_back id low,
       subject_back v.version.subject,
@@ -125,8 +138,9 @@ reads_back id v low few =
       routing_back v.version.routing,
       minutes_back v.version.old_at,
       minutes_back v.version.new_at,
-      status_back v.version.status,
+      status_back (option_map routing_of v.version.routing) v.version.status fits,
       minute_back v.version.since,
+      set_number_back v.version.held least most,
       number_back v.version.attempt few,
       bool_back v.version.is_conflict_spent,
       bool_back v.version.is_protective,
@@ -149,6 +163,9 @@ code_back k c =
     let v : IsCode n = k.valid in
     rw (is_less n 9223372036854775808 (omega (arith, v.0)), spid_back c) (rw (is_less n 1000000 v.0, is_at_most 2 (n / 100000) v.1, is_at_most 2 (n / 100 % 10) v.2) refl)
 
+pub next_back : (id : ℕ) (r : RoutingCode) → id < 9223372036854775808 → next_entry (stored (next_params id (routing_of r))) ≡ Some (id, routing_of r)
+next_back id r low = rw (number_back id low, routing_back (Some r)) refl
+
 last_back : (o : Option ℕ) → IfSome o (λ n. n < 9223372036854775808) → or_null_in number_in (or_null number_value o) ≡ Some o
 last_back None low = refl
 last_back (Some n) low = ap (option_map Some) (number_back n low)
@@ -162,6 +179,7 @@ block_back k b last =
 action_back : (a : Action) → action_in (Text (action_word a)) ≡ Some a
 action_back Create = refl
 action_back Delete = refl
+action_back Modify = refl
 
 pub broadcast_back : (rowid : Value) (k : KeyCode) (b : BroadcastCode) → k.id < 9223372036854775808 → k.attempt < 9223372036854775808
     → broadcast_entry (rowid ∷ broadcast_params (broadcast_key_of k) (broadcast_row_of b)) ≡ Some (broadcast_key_of k, broadcast_row_of b)
@@ -187,18 +205,21 @@ window_back w =
     let most : w.minutes ≤ 525600 = w.in_range.1 in
     rw (is_less w.minutes 9223372036854775808 (omega arith)) (rw (is_less 0 w.minutes least, is_at_most w.minutes 525600 most) refl)
 
-pub clock_back : (c : ClockCode) → c.next_id < 9223372036854775808 → clock_entry (stored (clock_params 0 (clock_row_of c))) ≡ Some (0, clock_row_of c)
-clock_back c few =
+pub set_back : (set : SetCode) → 0 < set.number → set.number ≤ 1000 → set_entry (stored (set_params set.number (windows_of set.windows))) ≡ Some (set.number, windows_of set.windows)
+set_back set least most =
+    let w = set.windows in
     rw (
-      minute_back c.minute,
-      number_back c.next_id few,
-      window_back c.windows.initial_concurrence,
-      window_back c.windows.final_concurrence,
-      window_back c.windows.conflict_restriction,
-      window_back c.windows.conflict_resolution,
-      window_back c.windows.conflict_expiration,
-      window_back c.windows.cancellation_initial,
-      window_back c.windows.cancellation_final,
-      window_back c.windows.pending_retention,
-      window_back c.windows.broadcast,
+      set_number_back set.number least most,
+      window_back w.initial_concurrence,
+      window_back w.final_concurrence,
+      window_back w.conflict_restriction,
+      window_back w.conflict_resolution,
+      window_back w.conflict_expiration,
+      window_back w.cancellation_initial,
+      window_back w.cancellation_final,
+      window_back w.pending_retention,
+      window_back w.broadcast,
     ) refl
+
+pub clock_back : (c : ClockCode) → c.next_id < 9223372036854775808 → 0 < c.present → c.present ≤ 1000 → clock_entry (stored (clock_params 0 (clock_of c))) ≡ Some (0, clock_of c)
+clock_back c few least most = rw (minute_back c.minute, number_back c.next_id few, set_number_back c.present least most) refl

@@ -9,9 +9,11 @@ use Rattle.numbers.specs.Routings.{Routing}
 use Rattle.meaning.specs.Content.{VersionRow}
 use Rattle.meaning.specs.Statuses.{Status, Pending, Conflict, CancelPending, Sending, Active, PartialFailure, Failed, DisconnectPending, Old, Canceled}
 use Rattle.sql_rows.specs.Values.{number_value, bool_value, lrn_value, cic_value, cic_of, release_value, by_value, found_value}
-use Rattle.meaning.specs.Content.{BlockRow, BroadcastKey, BroadcastRow, WaitKey, ClockRow}
+use Rattle.meaning.specs.Content.{BlockRow, BroadcastKey, BroadcastRow, WaitKey}
+use Rattle.meaning.specs.Windows.{Windows}
+use Rattle.sql_rows.specs.Clocks.{StoredClock}
 use Rattle.sql_rows.specs.Versions.{version_params}
-use Rattle.sql_rows.specs.Content.{carrier_params, owner_params, block_params, broadcast_params, wait_params, clock_params, wait_key_params, broadcast_key_params}
+use Rattle.sql_rows.specs.Content.{carrier_params, owner_params, block_params, broadcast_params, wait_params, clock_params, set_params, next_params, wait_key_params, broadcast_key_params}
 
 bound_map : (rs : List ValueRef) → bound rs ≡ map bound_value (map owned rs)
 bound_map [] = refl
@@ -79,7 +81,13 @@ bound_block rs block row is = bound_as rs _ is (rw (numbers row.last) refl)
 pub bound_broadcast : (rs : List ValueRef) (k : BroadcastKey) (b : BroadcastRow) → map owned rs ≡ broadcast_params k b → bound rs ≡ broadcast_params k b
 bound_broadcast rs k b is = bound_as rs _ is (rw (lrns b.routing, cics b.routing, bools b.is_open, bools b.any) refl)
 
-pub bound_clock : (rs : List ValueRef) (number : ℕ) (c : ClockRow) → map owned rs ≡ clock_params number c → bound rs ≡ clock_params number c
+pub bound_set : (rs : List ValueRef) (number : ℕ) (w : Windows) → map owned rs ≡ set_params number w → bound rs ≡ set_params number w
+bound_set rs number w is = bound_as rs _ is refl
+
+pub bound_next : (rs : List ValueRef) (id : ℕ) (r : Routing) → map owned rs ≡ next_params id r → bound rs ≡ next_params id r
+bound_next rs id r is = bound_as rs _ is (rw (cics (Some r)) refl)
+
+pub bound_clock : (rs : List ValueRef) (number : ℕ) (c : StoredClock) → map owned rs ≡ clock_params number c → bound rs ≡ clock_params number c
 bound_clock rs number c is = bound_as rs _ is refl
 
 pub bound_wait : (rs : List ValueRef) (k : WaitKey) (s : Subject) → map owned rs ≡ wait_params k s → bound rs ≡ wait_params k s

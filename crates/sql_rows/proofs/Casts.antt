@@ -9,13 +9,15 @@ use Rattle.sqlite.specs.Cast.{cast}
 use Rattle.sqlite.specs.Tree.{Trees}
 use Rattle.numbers.specs.Subjects.{Subject}
 use Rattle.numbers.specs.Routings.{Routing}
-use Rattle.meaning.specs.Content.{BlockRow, VersionRow, BroadcastRow, BroadcastKey, WaitKey, ClockRow}
+use Rattle.meaning.specs.Content.{BlockRow, VersionRow, BroadcastRow, BroadcastKey, WaitKey}
+use Rattle.meaning.specs.Windows.{Windows}
+use Rattle.sql_rows.specs.Clocks.{StoredClock}
 use Rattle.meaning.specs.Statuses.{Status, Pending, Conflict, CancelPending, Sending, Active, PartialFailure, Failed, DisconnectPending, Old, Canceled}
 use Rattle.sqlite.specs.Edit.{next_rowid}
 use Rattle.sql_rows.specs.Values.{number_value, bool_value, lrn_value, cic_value, cic_of, release_value, by_value, found_value, subject_value}
 use Rattle.sql_rows.specs.Versions.{version_params, version_row}
-use Rattle.sql_rows.specs.Content.{carrier_params, owner_params, block_params, broadcast_params, wait_params, clock_params, stored}
-use Rattle.sql_rows.specs.declared.statement.Table.TheVariants.{Carrier, Lrn, Code, Block, Version, Broadcast, Wait, Clock}
+use Rattle.sql_rows.specs.Content.{next_params, carrier_params, owner_params, block_params, broadcast_params, wait_params, set_params, clock_params, stored}
+use Rattle.sql_rows.specs.declared.statement.Table.TheVariants.{Carrier, Lrn, Code, Block, Version, Broadcast, Wait, Clock, NextRouting, WindowSet}
 use Rattle.sql_rows.specs.Written.{cast_rows}
 
 either : (b : Bool) (x : Value) → cond b x x ≡ x
@@ -104,23 +106,27 @@ module _ (db : Trees) where
   pub wait_cast : (k : WaitKey) (s : Subject) → cast_rows Wait (wait_params k s) db ≡ (next_in 10 ∷ wait_params k s) ∷ []
   wait_cast k s = rw (cast_null, cast_int (pos k.minute), cast_int (pos k.id), cast_int (pos k.attempt), cast_subject s) refl
 
-  pub clock_cast : (number : ℕ) (c : ClockRow) → cast_rows Clock (clock_params number c) db ≡ stored (clock_params number c) ∷ []
-  clock_cast number c =
+  pub next_cast : (id : ℕ) (r : Routing) → cast_rows NextRouting (next_params id r) db ≡ stored (next_params id r) ∷ []
+  next_cast id r = rw (cast_int (pos id), cast_null, cast_lrn (Some r), cast_cic (Some r)) refl
+
+  pub set_cast : (number : ℕ) (w : Windows) → cast_rows WindowSet (set_params number w) db ≡ stored (set_params number w) ∷ []
+  set_cast number w =
       rw (
         cast_int (pos number),
         cast_null,
-        cast_int (pos c.minute),
-        cast_int (pos c.next_id),
-        cast_int (pos c.windows.initial_concurrence),
-        cast_int (pos c.windows.final_concurrence),
-        cast_int (pos c.windows.conflict_restriction),
-        cast_int (pos c.windows.conflict_resolution),
-        cast_int (pos c.windows.conflict_expiration),
-        cast_int (pos c.windows.cancellation_initial),
-        cast_int (pos c.windows.cancellation_final),
-        cast_int (pos c.windows.pending_retention),
-        cast_int (pos c.windows.broadcast),
+        cast_int (pos w.initial_concurrence),
+        cast_int (pos w.final_concurrence),
+        cast_int (pos w.conflict_restriction),
+        cast_int (pos w.conflict_resolution),
+        cast_int (pos w.conflict_expiration),
+        cast_int (pos w.cancellation_initial),
+        cast_int (pos w.cancellation_final),
+        cast_int (pos w.pending_retention),
+        cast_int (pos w.broadcast),
       ) refl
+
+  pub clock_cast : (number : ℕ) (c : StoredClock) → cast_rows Clock (clock_params number c) db ≡ stored (clock_params number c) ∷ []
+  clock_cast number c = rw (cast_int (pos number), cast_null, cast_int (pos c.minute), cast_int (pos c.next_id), cast_int (pos c.present)) refl
 
   pub version_cast : (id : ℕ) (v : VersionRow) → cast_rows Version (version_params id v) db ≡ version_row id v ∷ []
   version_cast id v =
@@ -141,5 +147,6 @@ module _ (db : Trees) where
         cast_number v.deadline,
         cast_found id v.holds,
         cast_found id v.opens,
+        cast_int (pos v.held),
         cast_subject v.subject,
       ) refl

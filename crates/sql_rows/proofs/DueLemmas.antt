@@ -32,7 +32,7 @@ use Rattle.settle.specs.declared.rows.NumberedRow.{NumberedRow}
 use Rattle.sql_rows.specs.Shaped.{AreShaped}
 use Rattle.sql_rows.specs.Values.{minute_in}
 use Rattle.sql_rows.specs.Versions.{version_in, version_entry, shown_of}
-use Rattle.sql_rows.specs.Content.{content_in}
+use Rattle.sql_rows.specs.Content.{bare_in}
 use Rattle.sql_rows.specs.Found.{IsSoleAnswer}
 use Rattle.sql_rows.specs.Statements.{query_of}
 use Rattle.sql_rows.specs.declared.statement.Query.TheVariants.{VersionDue}
@@ -124,7 +124,7 @@ lt_no n m h = grind arith
 
 -- the output of a row of the table that is due
 abbrev IsOutput : Trees → ℕ → Output → Type 0
-IsOutput db n o = (r : Row) × Has (db 5) r × (is_due n r ≡ true) × (o ≡ out r)
+IsOutput db n o = (r : Row) × Has (db 18) r × (is_due n r ≡ true) × (o ≡ out r)
 
 outputs : (xs : List Row) (P : Output → Type 0) → ((r : Row) → Has xs r → P (out r)) → AllByRecursion P (map out xs)
 outputs [] P h = tt
@@ -169,18 +169,18 @@ weak = ranks_by value_cmp_total (λ (o : Output). column o.0 0)
 
 -- the query found none due, or the first of those due
 pub data Found (db : Trees) (n : ℕ) (rows : List Row) : Type 0 where
-  nothing : rows ≡ [] → filter (is_due n) (db 5) ≡ [] → Found db n rows
-  first : (r : Row) → Has (db 5) r → is_due n r ≡ true → rows ≡ shown_of r ∷ [] → ((x : Row) → Has (db 5) x → is_due n x ≡ true → is_lt (value_cmp (column x 18) (column r 18)) ≡ false) → Found db n rows
+  nothing : rows ≡ [] → filter (is_due n) (db 18) ≡ [] → Found db n rows
+  first : (r : Row) → Has (db 18) r → is_due n r ≡ true → rows ≡ shown_of r ∷ [] → ((x : Row) → Has (db 18) x → is_due n x ≡ true → is_lt (value_cmp (column x 18) (column r 18)) ≡ false) → Found db n rows
 
 due_found : (db : Trees) (n : ℕ) (rows : List Row) → IsAnswer due_query (overlay db []) (Int (pos n) ∷ []) rows → Found db n rows
 due_found db n rows a = go a.ordered a.same a.sorted a.shown
   where
     picks : List Row
-    picks = filter (is_due n) (db 5)
+    picks = filter (is_due n) (db 18)
 
     kept : a.kept ≡ map out picks
     kept =
-        let staged : a.staged ≡ map (λ r. (Int (pos n) ∷ []) ∷ r ∷ []) picks = a.grouped ∙ picked (is_due n) (λ r. (Int (pos n) ∷ []) ∷ r ∷ []) (db 5) in
+        let staged : a.staged ≡ map (λ r. (Int (pos n) ∷ []) ∷ r ∷ []) picks = a.grouped ∙ picked (is_due n) (λ r. (Int (pos n) ∷ []) ∷ r ∷ []) (db 18) in
         a.distinct ∙ ap (map (output due_query)) staged ∙ map_twice (output due_query) (λ r. (Int (pos n) ∷ []) ∷ r ∷ []) picks
 
     go : (ordered : List Output) → IsPermutation a.kept ordered → IsSorted (output_cmp due_query) ordered → rows ≡ take 1 (map (λ (o : Output). o.1) ordered) → Found db n rows
@@ -192,17 +192,17 @@ due_found db n rows a = go a.ordered a.same a.sorted a.shown
     go (o ∷ rest) same up shown =
         let p : IsPermutation (map out picks) (o ∷ rest) = subst (λ l. IsPermutation l (o ∷ rest)) kept same in
         let at : IsOutput db n o = all_has (IsOutput db n) (o ∷ rest) o (all-permutation (IsOutput db n) (map out picks) (o ∷ rest) p
-        (outputs picks (IsOutput db n) (λ r h. let f = has_filtered (is_due n) (db 5) r h in (r, f.0, f.1, refl)))) (inl refl) in
+        (outputs picks (IsOutput db n) (λ r h. let f = has_filtered (is_due n) (db 18) r h in (r, f.0, f.1, refl)))) (inl refl) in
         let sorted : IsSortedBy (λ (a b : Output). is_lt (value_cmp (column a.0 0) (column b.0 0))) (o ∷ rest) = λ k d low high. sym (by_deadline (slice_index_or (o ∷ rest) (k + 1) d) (slice_index_or (o ∷ rest) k d)) ∙ up k d low high in
         first at.0 at.1 at.2 (shown ∙ ap (λ (e : Output). e.1 ∷ []) at.3) (λ x h due.
-        let there : Has (o ∷ rest) (out x) = has_permuted (map out picks) (o ∷ rest) (out x) p (has_output picks x (has_kept (is_due n) (db 5) x h due)) in
+        let there : Has (o ∷ rest) (out x) = has_permuted (map out picks) (o ∷ rest) (out x) p (has_output picks x (has_kept (is_due n) (db 18) x h due)) in
         ap (λ (e : Output). is_lt (value_cmp (column x 18) (column e.0 0))) (sym at.3) ∙ first_least _ weak o rest sorted (out x) there)
 
 deadline_at : (r : Row) (e : ℕ × VersionRow) (d : ℕ) → version_entry r ≡ Some e → e.1.deadline ≡ Some d → column r 18 ≡ Int (pos d)
 deadline_at r e d is given = minute_read (column r 18) d (some_read minute_in (column r 18) d ((reads (shown_of r) e is).deadline ∙ ap Some given))
 
 module _ (db : Trees) (shaped : AreShaped db) (n : ℕ) where
-  none_due : filter (is_due n) (db 5) ≡ [] → NoRowIsDue (content_in db) n
+  none_due : filter (is_due n) (db 18) ≡ [] → NoRowIsDue (bare_in db) n
   none_due none id row at d given = go (nat_lt n d) refl
     where
       go : (b : Bool) → nat_lt n d ≡ b → n < d
@@ -210,40 +210,40 @@ module _ (db : Trees) (shaped : AreShaped db) (n : ℕ) where
       go false e =
           let f = version_row_of db id row at in
           let low : d ≤ n = lt_no n d e in
-          absurd (none_passes (is_due n) (db 5) f.row none f.has (number_due n d f.row (deadline_at f.row (id, row) d f.reads given) ∙ le_told d n low))
+          absurd (none_passes (is_due n) (db 18) f.row none f.has (number_due n d f.row (deadline_at f.row (id, row) d f.reads given) ∙ le_told d n low))
 
-  least : (r : Row) (v : NumberedRow) → Has (db 5) r → is_due n r ≡ true → version_entry r ≡ Some (v.id, v.row) → ((x : Row) → Has (db 5) x → is_due n x ≡ true → is_lt (value_cmp (column x 18) (column r 18)) ≡ false)
-      → IsLeastDue (content_in db) n (Some v)
+  least : (r : Row) (v : NumberedRow) → Has (db 18) r → is_due n r ≡ true → version_entry r ≡ Some (v.id, v.row) → ((x : Row) → Has (db 18) x → is_due n x ≡ true → is_lt (value_cmp (column x 18) (column r 18)) ≡ false)
+      → IsLeastDue (bare_in db) n (Some v)
   least r v at due is low = go v.row.deadline refl
     where
-      go : (o : Option ℕ) → v.row.deadline ≡ o → IsLeastDue (content_in db) n (Some v)
+      go : (o : Option ℕ) → v.row.deadline ≡ o → IsLeastDue (bare_in db) n (Some v)
       go None e = absurd (true≢false (sym due ∙ null_not_due n r (none_read minute_in (column r 18) ((reads (shown_of r) (v.id, v.row) is).deadline ∙ ap Some e))))
       go (Some d) e =
           let col : column r 18 ≡ Int (pos d) = deadline_at r (v.id, v.row) d is e in
           let come : d ≤ n = le_said d n (sym (number_due n d r col) ∙ due) in
           (version_stands db shaped r v.id v.row at is, d, e, come, each d col come)
         where
-          each : (d : ℕ) → column r 18 ≡ Int (pos d) → d ≤ n → IsLeastDeadline (content_in db) d
+          each : (d : ℕ) → column r 18 ≡ Int (pos d) → d ≤ n → IsLeastDeadline (bare_in db) d
           each d col come id row got f given =
               let other = version_row_of db id row got in
               let at_f : column other.row 18 ≡ Int (pos f) = deadline_at other.row (id, row) f other.reads given in
               by (nat_lt n f) refl other.row other.has at_f
             where
-              by : (b : Bool) → nat_lt n f ≡ b → (other : Row) → Has (db 5) other → column other 18 ≡ Int (pos f) → d ≤ f
+              by : (b : Bool) → nat_lt n f ≡ b → (other : Row) → Has (db 18) other → column other 18 ≡ Int (pos f) → d ≤ f
               by true e other has at_f = let up : n < f = lt_yes n f e in omega arith
               by false e other has at_f =
                   let due_f : is_due n other ≡ true = number_due n f other at_f ∙ le_told f n (lt_no n f e) in
                   not_less d f (ap (λ w. is_lt (value_cmp (Int (pos f)) w)) (sym col) ∙ ap (λ w. is_lt (value_cmp w (column r 18))) (sym at_f) ∙ low other has due_f)
 
-  pub due_is_found : (o : Option NumberedRow) → IsSoleAnswer VersionDue version_in db (Int (pos n) ∷ []) (option_map (λ (v : NumberedRow). (v.id, v.row)) o) → IsLeastDue (content_in db) n o
+  pub due_is_found : (o : Option NumberedRow) → IsSoleAnswer VersionDue version_in db (Int (pos n) ∷ []) (option_map (λ (v : NumberedRow). (v.id, v.row)) o) → IsLeastDue (bare_in db) n o
   due_is_found None h = go (due_found db n h.0 h.1)
     where
-      go : Found db n h.0 → NoRowIsDue (content_in db) n
+      go : Found db n h.0 → NoRowIsDue (bare_in db) n
       go (nothing e none) = none_due none
       go (first r at due e low) = absurd (let x = sym h.2 ∙ e in cc)
   due_is_found (Some v) h = go (due_found db n h.0 h.1)
     where
-      go : Found db n h.0 → IsLeastDue (content_in db) n (Some v)
+      go : Found db n h.0 → IsLeastDue (bare_in db) n (Some v)
       go (nothing e none) = absurd (let x = sym h.2.1 ∙ e in cc)
       go (first r at due e low) =
           let same : h.2.0 ≡ shown_of r = same_head _ _ (sym h.2.1 ∙ e) in

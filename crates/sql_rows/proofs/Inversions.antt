@@ -5,14 +5,17 @@ use Rattle.std.specs.Cmp.{signed_Decides}
 use Rattle.sqlite.specs.declared.types.Value.{Value}
 use Rattle.sqlite.specs.declared.types.Value.TheVariants.{Null, Int, Real, Text, Blob}
 use Rattle.sqlite.specs.Order.{Row, column}
+use Rattle.numbers.specs.Routings.{Routing}
 use Rattle.numbers.specs.Subjects.{Subject, Number, Block}
 use Rattle.meaning.specs.Content.{VersionRow, subject_if}
-use Rattle.sql_rows.specs.Values.{number_in, lrn_in, code_from, code_in, block_from, block_in, minute_in, subject_in, subject_from, below, or_null_in, spid_in, routing_in, status_in, bool_in, subject_number, found_in, is_int, only_in}
+use Rattle.sql_rows.specs.Values.{number_in, lrn_in, code_from, code_in, block_from, block_in, minute_in, subject_in, subject_from, below, or_null_in, spid_in, routing_in, status_in, bool_in, subject_number, found_in, is_int, only_in, set_from, set_number_in}
 use Rattle.numbers.specs.Texts.{spid_text}
-use Rattle.meaning.specs.Content.{BlockRow, BroadcastRow, BroadcastKey, WaitKey, ClockRow}
-use Rattle.sql_rows.specs.Versions.{version_in, version_entry, shown_of}
+use Rattle.meaning.specs.Content.{BlockRow, BroadcastRow, BroadcastKey, WaitKey}
+use Rattle.meaning.specs.Windows.{Windows}
+use Rattle.sql_rows.specs.Clocks.{StoredClock}
+use Rattle.sql_rows.specs.Versions.{version_with, version_in, version_entry, shown_of}
 use Rattle.sql_rows.specs.Values.{action_in}
-use Rattle.sql_rows.specs.Content.{carrier_entry, lrn_entry, code_entry, block_entry, clock_entry, clock_shown, windows_in, broadcast_entry, wait_entry}
+use Rattle.sql_rows.specs.Content.{next_entry, carrier_entry, lrn_entry, code_entry, block_entry, clock_entry, set_entry, set_shown, windows_in, broadcast_entry, wait_entry}
 use Rattle.sql_rows.proofs.SpidLemmas.{spelt}
 
 pub bind_some : {A B : Type 0} (f : A → Option B) (o : Option A) (b : B) → option_and_then f o ≡ Some b → (a : A) × (o ≡ Some a) × (f a ≡ Some b)
@@ -35,8 +38,8 @@ pub record Reads (r : Row) (e : ℕ × VersionRow) : Type 0 where
   pub holds : e.1.holds ≡ subject_if is_in_force e.1.subject
   pub opens : e.1.opens ≡ subject_if is_open e.1.subject
 
-pub reads : (r : Row) (e : ℕ × VersionRow) → version_in r ≡ Some e → Reads r e
-reads r e h =
+pub reads_with : (held : Option ℕ) (r : Row) (e : ℕ × VersionRow) → version_with held r ≡ Some e → Reads r e
+reads_with held r e h =
     let a = bind_some _ (number_in (column r 0)) e h in
     let b = bind_some _ (subject_in (column r 1)) e a.2 in
     let c = bind_some _ (spid_in (column r 2)) e b.2 in
@@ -45,15 +48,19 @@ reads r e h =
     let g = bind_some _ (routing_in (column r 5) (column r 6)) e f.2 in
     let i = bind_some _ (or_null_in minute_in (column r 7)) e g.2 in
     let j = bind_some _ (or_null_in minute_in (column r 8)) e i.2 in
-    let k = bind_some _ (status_in (column r 9) (column r 10) (column r 13) (column r 16)) e j.2 in
+    let k = bind_some _ (status_in g.0 (column r 9) (column r 10) (column r 13) (column r 16)) e j.2 in
     let l = bind_some _ (minute_in (column r 11)) e k.2 in
-    let m = bind_some _ (number_in (column r 12)) e l.2 in
+    let w = bind_some _ held e l.2 in
+    let m = bind_some _ (number_in (column r 12)) e w.2 in
     let n = bind_some _ (bool_in (column r 14)) e m.2 in
     let o = bind_some _ (bool_in (column r 15)) e n.2 in
     let p = bind_some _ (or_null_in minute_in (column r 17)) e o.2 in
     let q = bind_some _ (found_in a.0 b.0 (column r 18)) e p.2 in
     let s = map_some _ (found_in a.0 b.0 (column r 19)) e q.2 in
     subst (Reads r) s.2 (record { id = a.1; deadline = p.1; subject = b.1; is_in_force = q.0; is_open = s.0; found_in_force = q.1; found_open = s.1; holds = refl; opens = refl })
+
+pub reads : (r : Row) (e : ℕ × VersionRow) → version_in r ≡ Some e → Reads r e
+reads r e h = reads_with (set_number_in (column r 20)) r e h
 
 pub number_read : (v : Value) (n : ℕ) → number_in v ≡ Some n → v ≡ Int (pos n)
 number_read (Int (pos m)) n h = go (nat_lt m 9223372036854775808) h
@@ -186,13 +193,29 @@ only_read v n h = go (is_int (pos 0) v) refl h
     go true e h = ap number_in (is_int_read (pos 0) v e) ∙ h
     go false e h = absurd cc
 
-pub clock_key : (r : Row) (e : ℕ × ClockRow) → clock_entry r ≡ Some e → number_in (column r 0) ≡ Some e.0
+pub next_key : (r : Row) (e : ℕ × Routing) → next_entry r ≡ Some e → number_in (column r 0) ≡ Some e.0
+next_key r e h =
+    let a = bind_some _ (number_in (column r 0)) e h in
+    let b = bind_some _ (routing_in (column r 2) (column r 3)) e a.2 in
+    let c = map_some _ b.0 e b.2 in
+    a.1 ∙ ap (λ (x : ℕ × Routing). Some x.0) c.2
+
+set_same : (m n : ℕ) → set_from m ≡ Some n → m ≡ n
+set_same m n h = some_kept _ h
+
+pub set_key : (r : Row) (e : ℕ × Windows) → set_entry r ≡ Some e → number_in (column r 0) ≡ Some e.0
+set_key r e h =
+    let a = bind_some _ (set_number_in (column r 0)) e h in
+    let b = map_some _ (windows_in 1 (set_shown r)) e a.2 in
+    tested_read set_from set_same (column r 0) a.0 a.1 ∙ ap (λ (x : ℕ × Windows). Some x.0) b.2
+
+pub clock_key : (r : Row) (e : ℕ × StoredClock) → clock_entry r ≡ Some e → number_in (column r 0) ≡ Some e.0
 clock_key r e h =
     let a = bind_some _ (only_in (column r 0)) e h in
     let b = bind_some _ (minute_in (column r 2)) e a.2 in
     let c = bind_some _ (number_in (column r 3)) e b.2 in
-    let d = map_some _ (windows_in (clock_shown r)) e c.2 in
-    only_read (column r 0) a.0 a.1 ∙ ap (λ (x : ℕ × ClockRow). Some x.0) d.2
+    let d = map_some _ (set_number_in (column r 4)) e c.2 in
+    only_read (column r 0) a.0 a.1 ∙ ap (λ (x : ℕ × StoredClock). Some x.0) d.2
 
 pub version_key : (r : Row) (e : ℕ × VersionRow) → version_entry r ≡ Some e → number_in (column r 0) ≡ Some e.0
 version_key r e h = (reads (shown_of r) e h).id

@@ -18,14 +18,15 @@ use Rattle.sqlite_value.proofs.OrderLemmas.{value_cmp-Int, value_cmp-Text, value
 use Rattle.numbers.specs.Texts.{spid_text}
 use Rattle.numbers.specs.declared.spid.Spid.{Spid}
 use Rattle.meaning.specs.Content.{BroadcastKey, WaitKey, broadcast_cmp, wait_cmp}
+use Rattle.numbers.specs.Routings.{Routing}
 use Rattle.sql_rows.specs.Values.{number_in, spid_in, spid_value}
 use Rattle.sql_rows.specs.Versions.{version_entry}
-use Rattle.sql_rows.specs.Content.{carrier_entry, lrn_entry, code_entry, block_entry, broadcast_entry, wait_entry, clock_entry}
+use Rattle.sql_rows.specs.Content.{next_entry, carrier_entry, lrn_entry, code_entry, block_entry, broadcast_entry, wait_entry, set_entry, clock_entry}
 use Rattle.sql_rows.specs.Statements.{key_test, column_is}
-use Rattle.sql_rows.specs.declared.statement.Table.TheVariants.{Carrier, Lrn, Code, Block, Version, Broadcast, Wait, Clock}
+use Rattle.sql_rows.specs.declared.statement.Table.TheVariants.{Carrier, Lrn, Code, Block, Version, Broadcast, Wait, Clock, NextRouting, WindowSet}
 use Rattle.sql_rows.proofs.QueryLemmas.{passes}
 use Rattle.sql_rows.proofs.RowLemmas.{Tests}
-use Rattle.sql_rows.proofs.Inversions.{number_read, minute_read, spid_read, carrier_key, lrn_key, code_key, block_key, clock_key, version_key, broadcast_reads, wait_reads}
+use Rattle.sql_rows.proofs.Inversions.{number_read, minute_read, spid_read, carrier_key, lrn_key, code_key, block_key, next_key, set_key, clock_key, version_key, broadcast_reads, wait_reads}
 use Rattle.sql_rows.proofs.Backs.{spid_back}
 use Rattle.sql_rows.proofs.Orders.{broadcast_total, wait_total, broadcast_tie, wait_tie, same_number}
 use Rattle.std.proofs.lemmas.Map.Lookups.{exact_bytes}
@@ -117,6 +118,12 @@ block_tests = number_tests block_entry block_key
 
 pub version_tests : (n : ℕ) → Tests nat_cmp version_entry n (passes (key_test Version) (Int (pos n) ∷ []))
 version_tests = number_tests version_entry version_key
+
+pub next_tests : (n : ℕ) → Tests nat_cmp next_entry n (passes (key_test NextRouting) (Int (pos n) ∷ []))
+next_tests = number_tests next_entry next_key
+
+pub set_tests : (n : ℕ) → Tests nat_cmp set_entry n (passes (key_test WindowSet) (Int (pos n) ∷ []))
+set_tests = number_tests set_entry set_key
 
 pub clock_tests : (n : ℕ) → Tests nat_cmp clock_entry n (passes (key_test Clock) (Int (pos n) ∷ []))
 clock_tests = number_tests clock_entry clock_key

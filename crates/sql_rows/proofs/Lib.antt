@@ -8,6 +8,7 @@ pub mod Backs
 pub mod Lookups
 pub mod Orders
 pub mod KeyTests
+pub mod MovingLemmas
 pub mod WriteLemmas
 pub mod Casts
 pub mod BoundLemmas
@@ -21,3 +22,6 @@ pub mod Listed
 pub mod SortedLists
 pub mod Picked
 pub mod QueriesListed
+pub mod Over
+pub mod Rerouted
+pub mod Formers

@@ -23,7 +23,7 @@ use Rattle.settle.specs.declared.rows.NumberedRow.{NumberedRow}
 use Rattle.sql_rows.specs.Shaped.{AreShaped}
 use Rattle.sql_rows.specs.Values.{bool_from, found_in, number_in, spid_in, spid_value, subject_in, subject_number, subject_value}
 use Rattle.sql_rows.specs.Versions.{version_in, shown_of}
-use Rattle.sql_rows.specs.Content.{content_in, carrier_in, carrier_shown, broadcast_in, broadcast_shown, wait_in, wait_shown}
+use Rattle.sql_rows.specs.Content.{content_in, bare_in, carrier_in, carrier_shown, broadcast_in, broadcast_shown, wait_in, wait_shown}
 use Rattle.sql_rows.specs.Found.{IsListAnswer}
 use Rattle.sql_rows.specs.Once.{AreKeysOnce}
 use Rattle.sql_rows.specs.Statements.{query_test, shown_by}
@@ -194,12 +194,12 @@ module _ (db : Trees) (shaped : AreShaped db) (low high : ℕ) where
       let says = within_says low high id (column r 20) v.subject it.is_open it.found_open in
       (λ e. subst (IsAmong low high) (sym it.opens) (says.0 e), λ h. says.1 (subst (IsAmong low high) it.opens h))
 
-  pub in_force_picked : (items : List NumberedRow) → IsListAnswer InForceAmong version_in db (Int (pos low) ∷ Int (pos high) ∷ []) (map version_seen items) → Picks version_seen (content_in db).versions (λ id v. IsAmong low high v.holds) items
+  pub in_force_picked : (items : List NumberedRow) → IsListAnswer InForceAmong version_in db (Int (pos low) ∷ Int (pos high) ∷ []) (map version_seen items) → Picks version_seen (bare_in db).versions (λ id v. IsAmong low high v.holds) items
   in_force_picked items h =
-      picks nat_cmp_total same_number version_in shown_of version_seen _ _ (db 5) items (versions_once db shaped) holds_say
-      (listed version_seen version_in shown_of _ (db 5) h.0 items (plain_answer 5 (query_test InForceAmong) (shown_by Version) (overlay db []) (Int (pos low) ∷ Int (pos high) ∷ []) h.0 h.1) h.2)
+      picks nat_cmp_total same_number version_in shown_of version_seen _ _ (db 18) items (versions_once db shaped) holds_say
+      (listed version_seen version_in shown_of _ (db 18) h.0 items (plain_answer 18 (query_test InForceAmong) (shown_by Version) (overlay db []) (Int (pos low) ∷ Int (pos high) ∷ []) h.0 h.1) h.2)
 
-  pub open_picked : (items : List NumberedRow) → IsListAnswer OpenAmong version_in db (Int (pos low) ∷ Int (pos high) ∷ []) (map version_seen items) → Picks version_seen (content_in db).versions (λ id v. IsAmong low high v.opens) items
+  pub open_picked : (items : List NumberedRow) → IsListAnswer OpenAmong version_in db (Int (pos low) ∷ Int (pos high) ∷ []) (map version_seen items) → Picks version_seen (bare_in db).versions (λ id v. IsAmong low high v.opens) items
   open_picked items h =
-      picks nat_cmp_total same_number version_in shown_of version_seen _ _ (db 5) items (versions_once db shaped) opens_say
-      (listed version_seen version_in shown_of _ (db 5) h.0 items (plain_answer 5 (query_test OpenAmong) (shown_by Version) (overlay db []) (Int (pos low) ∷ Int (pos high) ∷ []) h.0 h.1) h.2)
+      picks nat_cmp_total same_number version_in shown_of version_seen _ _ (db 18) items (versions_once db shaped) opens_say
+      (listed version_seen version_in shown_of _ (db 18) h.0 items (plain_answer 18 (query_test OpenAmong) (shown_by Version) (overlay db []) (Int (pos low) ∷ Int (pos high) ∷ []) h.0 h.1) h.2)

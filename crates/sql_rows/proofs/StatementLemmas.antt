@@ -17,9 +17,9 @@ use Rattle.sqlite_tied.specs.Compute.{everything}
 use Rattle.sql_rows.specs.Tables.{the_schema}
 use Rattle.sql_rows.specs.Statements.{query_text, query_command, delete_text, delete_command, insert_text, insert_command}
 use Rattle.sql_rows.specs.declared.statement.Table.{Table}
-use Rattle.sql_rows.specs.declared.statement.Table.TheVariants.{Carrier, Lrn, Code, Block, Version, Broadcast, Wait, Clock}
+use Rattle.sql_rows.specs.declared.statement.Table.TheVariants.{Carrier, Lrn, Code, Block, OldVersion, Broadcast, Wait, OldClock, NextRouting, WindowSet, Version, Clock}
 use Rattle.sql_rows.specs.declared.statement.Query.{Query}
-use Rattle.sql_rows.specs.declared.statement.Query.TheVariants.{CarrierNamed, LrnNumbered, CodeNumbered, BlockNumbered, ClockNumbered, VersionNumbered, VersionInForce, VersionOpen, VersionDue, BroadcastKeyed, All, BroadcastsByOpen, WaitsAbout, WaitsFor, WaitsOf, InForceAmong, OpenAmong}
+use Rattle.sql_rows.specs.declared.statement.Query.TheVariants.{CarrierNamed, LrnNumbered, CodeNumbered, BlockNumbered, ClockNumbered, WindowSetNumbered, NextRoutingNumbered, VersionNumbered, VersionInForce, VersionOpen, VersionDue, BroadcastKeyed, All, BroadcastsByOpen, WaitsAbout, WaitsFor, WaitsOf, InForceAmong, OpenAmong}
 
 -- its command, where it has no RETURNING and does not read the time
 abbrev bare : {R F : Type 0} → Option R → List F → Command → Option Command
@@ -74,6 +74,8 @@ query_compiles LrnNumbered = refl
 query_compiles CodeNumbered = refl
 query_compiles BlockNumbered = refl
 query_compiles ClockNumbered = refl
+query_compiles WindowSetNumbered = refl
+query_compiles NextRoutingNumbered = refl
 query_compiles VersionNumbered = refl
 query_compiles VersionInForce = refl
 query_compiles VersionOpen = refl
@@ -83,9 +85,13 @@ query_compiles (All Carrier) = refl
 query_compiles (All Lrn) = refl
 query_compiles (All Code) = refl
 query_compiles (All Block) = refl
-query_compiles (All Version) = refl
+query_compiles (All OldVersion) = refl
 query_compiles (All Broadcast) = refl
 query_compiles (All Wait) = refl
+query_compiles (All OldClock) = refl
+query_compiles (All NextRouting) = refl
+query_compiles (All WindowSet) = refl
+query_compiles (All Version) = refl
 query_compiles (All Clock) = refl
 query_compiles BroadcastsByOpen = refl
 query_compiles WaitsAbout = refl
@@ -120,6 +126,8 @@ query_selects LrnNumbered = tt
 query_selects CodeNumbered = tt
 query_selects BlockNumbered = tt
 query_selects ClockNumbered = tt
+query_selects WindowSetNumbered = tt
+query_selects NextRoutingNumbered = tt
 query_selects VersionNumbered = tt
 query_selects VersionInForce = tt
 query_selects VersionOpen = tt
@@ -129,9 +137,13 @@ query_selects (All Carrier) = tt
 query_selects (All Lrn) = tt
 query_selects (All Code) = tt
 query_selects (All Block) = tt
-query_selects (All Version) = tt
+query_selects (All OldVersion) = tt
 query_selects (All Broadcast) = tt
 query_selects (All Wait) = tt
+query_selects (All OldClock) = tt
+query_selects (All NextRouting) = tt
+query_selects (All WindowSet) = tt
+query_selects (All Version) = tt
 query_selects (All Clock) = tt
 query_selects BroadcastsByOpen = tt
 query_selects WaitsAbout = tt
@@ -149,9 +161,13 @@ delete_compiles Carrier = refl
 delete_compiles Lrn = refl
 delete_compiles Code = refl
 delete_compiles Block = refl
-delete_compiles Version = refl
+delete_compiles OldVersion = refl
 delete_compiles Broadcast = refl
 delete_compiles Wait = refl
+delete_compiles OldClock = refl
+delete_compiles NextRouting = refl
+delete_compiles WindowSet = refl
+delete_compiles Version = refl
 delete_compiles Clock = refl
 
 pub delete_is : (t : Table) → command_of (understood the_schema (delete_text t)) ≡ delete_command t
@@ -167,9 +183,13 @@ insert_compiles Carrier = refl
 insert_compiles Lrn = refl
 insert_compiles Code = refl
 insert_compiles Block = refl
-insert_compiles Version = refl
+insert_compiles OldVersion = refl
 insert_compiles Broadcast = refl
 insert_compiles Wait = refl
+insert_compiles OldClock = refl
+insert_compiles NextRouting = refl
+insert_compiles WindowSet = refl
+insert_compiles Version = refl
 insert_compiles Clock = refl
 
 pub insert_is : (t : Table) → command_of (understood the_schema (insert_text t)) ≡ insert_command t

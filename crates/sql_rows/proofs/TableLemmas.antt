@@ -11,12 +11,13 @@ use Rattle.sqlite_trees.specs.declared.store.Shape.TheVariants.{Table as AsTable
 use Rattle.sqlite_trees.proofs.TreeLemmas.{IsShaped-put_row}
 use Rattle.sqlite.specs.Effect.{Database}
 use Rattle.meaning.specs.Content.{broadcast_cmp, wait_cmp}
-use Rattle.sql_rows.specs.Versions.{version_entry}
-use Rattle.sql_rows.specs.Content.{content_of, content_in, carrier_entry, lrn_entry, code_entry, block_entry, broadcast_entry, wait_entry, clock_entry}
+use Rattle.sql_rows.specs.Versions.{rerouted, version_entry}
+use Rattle.sql_rows.specs.Over.{over as both}
+use Rattle.sql_rows.specs.Content.{content_of, content_in, versions_in, nexts_in, next_entry, carrier_entry, lrn_entry, code_entry, block_entry, broadcast_entry, wait_entry, clock_entry, sets_in, clocks_in, clock_from}
 use Rattle.sql_rows.specs.Shaped.{AreShaped}
 use Rattle.sql_rows.specs.Statements.{tree_of, key_test}
 use Rattle.sql_rows.specs.declared.statement.Table.{Table}
-use Rattle.sql_rows.specs.declared.statement.Table.TheVariants.{Carrier, Lrn, Code, Block, Version, Broadcast, Wait, Clock}
+use Rattle.sql_rows.specs.declared.statement.Table.TheVariants.{Carrier, Lrn, Code, Block, OldVersion, Broadcast, Wait, OldClock, NextRouting, WindowSet, Version, Clock}
 use Rattle.sql_rows.proofs.QueryLemmas.{passes}
 use Rattle.sql_rows.proofs.RowLemmas.{Tests, content_kept, content_added, put_adds}
 use Rattle.sql_rows.proofs.DeleteLemmas.{filter_shaped}
@@ -25,7 +26,7 @@ use Rattle.sql_rows.specs.Written.{Removed, Replaced, IsFrame, cast_rows}
 alike : (m n : ℕ) → (m ≡ n) ⊎ (m ≢ n)
 alike m n = grind arith
 
-shaped_framed : (t : Table) (db next : Trees) → IsFrame t db next → IsShaped AsTable (next (tree_of t)) → AreShaped db → AreShaped next
+pub shaped_framed : (t : Table) (db next : Trees) → IsFrame t db next → IsShaped AsTable (next (tree_of t)) → AreShaped db → AreShaped next
 shaped_framed t db next frame given shaped u = elim (alike (tree_of u) (tree_of t)) [
   | inl same ↦ subst (λ n. IsShaped AsTable (next n)) (sym same) given
   | inr other ↦ subst (IsShaped AsTable) (sym (frame u other)) (shaped u)
@@ -35,7 +36,7 @@ shaped_framed t db next frame given shaped u = elim (alike (tree_of u) (tree_of 
 pub removed_shaped : (t : Table) (key : Row) (old new : Database) → AreShaped old.trees → Removed t key old new → AreShaped new.trees
 removed_shaped t key old new shaped r = shaped_framed t old.trees new.trees r.frame (subst (IsShaped AsTable) (sym r.rows) (filter_shaped _ (old.trees (tree_of t)) (shaped t))) shaped
 
-framed_twice : (t : Table) (a b c : Trees) → IsFrame t a b → IsFrame t b c → IsFrame t a c
+pub framed_twice : (t : Table) (a b c : Trees) → IsFrame t a b → IsFrame t b c → IsFrame t a c
 framed_twice t a b c first second u other = second u other ∙ first u other
 
 shadowed : {A : Type 0} (b : Bool) (x y z : A) → cond b x (cond b y z) ≡ cond b x z
@@ -80,25 +81,38 @@ module _ (t : Table) {K V : Type 0} (R : K → K → Ordering) (o : IsTotalOrder
 
 module _ (db next : Trees) where
   pub carriers_framed : IsFrame Carrier db next → content_in next ≡ record (content_in db) { carriers = content_of nat_cmp carrier_entry (next 0) }
-  carriers_framed f = rw (f Lrn (λ e. omega arith), f Code (λ e. omega arith), f Block (λ e. omega arith), f Version (λ e. omega arith), f Broadcast (λ e. omega arith), f Wait (λ e. omega arith), f Clock (λ e. omega arith)) refl
+  carriers_framed f = rw (f Lrn (λ e. omega arith), f Code (λ e. omega arith), f Block (λ e. omega arith), f Broadcast (λ e. omega arith), f Wait (λ e. omega arith), f NextRouting (λ e. omega arith), f WindowSet (λ e. omega arith), f Version (λ e. omega arith), f Clock (λ e. omega arith)) refl
 
   pub lrns_framed : IsFrame Lrn db next → content_in next ≡ record (content_in db) { lrns = content_of nat_cmp lrn_entry (next 2) }
-  lrns_framed f = rw (f Carrier (λ e. omega arith), f Code (λ e. omega arith), f Block (λ e. omega arith), f Version (λ e. omega arith), f Broadcast (λ e. omega arith), f Wait (λ e. omega arith), f Clock (λ e. omega arith)) refl
+  lrns_framed f = rw (f Carrier (λ e. omega arith), f Code (λ e. omega arith), f Block (λ e. omega arith), f Broadcast (λ e. omega arith), f Wait (λ e. omega arith), f NextRouting (λ e. omega arith), f WindowSet (λ e. omega arith), f Version (λ e. omega arith), f Clock (λ e. omega arith)) refl
 
   pub codes_framed : IsFrame Code db next → content_in next ≡ record (content_in db) { codes = content_of nat_cmp code_entry (next 3) }
-  codes_framed f = rw (f Carrier (λ e. omega arith), f Lrn (λ e. omega arith), f Block (λ e. omega arith), f Version (λ e. omega arith), f Broadcast (λ e. omega arith), f Wait (λ e. omega arith), f Clock (λ e. omega arith)) refl
+  codes_framed f = rw (f Carrier (λ e. omega arith), f Lrn (λ e. omega arith), f Block (λ e. omega arith), f Broadcast (λ e. omega arith), f Wait (λ e. omega arith), f NextRouting (λ e. omega arith), f WindowSet (λ e. omega arith), f Version (λ e. omega arith), f Clock (λ e. omega arith)) refl
 
   pub blocks_framed : IsFrame Block db next → content_in next ≡ record (content_in db) { blocks = content_of nat_cmp block_entry (next 4) }
-  blocks_framed f = rw (f Carrier (λ e. omega arith), f Lrn (λ e. omega arith), f Code (λ e. omega arith), f Version (λ e. omega arith), f Broadcast (λ e. omega arith), f Wait (λ e. omega arith), f Clock (λ e. omega arith)) refl
+  blocks_framed f = rw (f Carrier (λ e. omega arith), f Lrn (λ e. omega arith), f Code (λ e. omega arith), f Broadcast (λ e. omega arith), f Wait (λ e. omega arith), f NextRouting (λ e. omega arith), f WindowSet (λ e. omega arith), f Version (λ e. omega arith), f Clock (λ e. omega arith)) refl
 
-  pub versions_framed : IsFrame Version db next → content_in next ≡ record (content_in db) { versions = content_of nat_cmp version_entry (next 5) }
-  versions_framed f = rw (f Carrier (λ e. omega arith), f Lrn (λ e. omega arith), f Code (λ e. omega arith), f Block (λ e. omega arith), f Broadcast (λ e. omega arith), f Wait (λ e. omega arith), f Clock (λ e. omega arith)) refl
+  pub versions_framed : IsFrame Version db next → content_in next ≡ record (content_in db) { versions = both rerouted (content_of nat_cmp version_entry (next 18)) (nexts_in (db 16)) }
+  versions_framed f = rw (f Carrier (λ e. omega arith), f Lrn (λ e. omega arith), f Code (λ e. omega arith), f Block (λ e. omega arith), f Broadcast (λ e. omega arith), f Wait (λ e. omega arith), f NextRouting (λ e. omega arith), f WindowSet (λ e. omega arith), f Clock (λ e. omega arith)) refl
+
+  pub nexts_framed : IsFrame NextRouting db next → content_in next ≡ record (content_in db) { versions = both rerouted (versions_in (db 18)) (content_of nat_cmp next_entry (next 16)) }
+  nexts_framed f = rw (f Carrier (λ e. omega arith), f Lrn (λ e. omega arith), f Code (λ e. omega arith), f Block (λ e. omega arith), f Broadcast (λ e. omega arith), f Wait (λ e. omega arith), f WindowSet (λ e. omega arith), f Version (λ e. omega arith), f Clock (λ e. omega arith)) refl
 
   pub broadcasts_framed : IsFrame Broadcast db next → content_in next ≡ record (content_in db) { broadcasts = content_of broadcast_cmp broadcast_entry (next 8) }
-  broadcasts_framed f = rw (f Carrier (λ e. omega arith), f Lrn (λ e. omega arith), f Code (λ e. omega arith), f Block (λ e. omega arith), f Version (λ e. omega arith), f Wait (λ e. omega arith), f Clock (λ e. omega arith)) refl
+  broadcasts_framed f = rw (f Carrier (λ e. omega arith), f Lrn (λ e. omega arith), f Code (λ e. omega arith), f Block (λ e. omega arith), f Wait (λ e. omega arith), f NextRouting (λ e. omega arith), f WindowSet (λ e. omega arith), f Version (λ e. omega arith), f Clock (λ e. omega arith)) refl
 
   pub waits_framed : IsFrame Wait db next → content_in next ≡ record (content_in db) { waits = content_of wait_cmp wait_entry (next 10) }
-  waits_framed f = rw (f Carrier (λ e. omega arith), f Lrn (λ e. omega arith), f Code (λ e. omega arith), f Block (λ e. omega arith), f Version (λ e. omega arith), f Broadcast (λ e. omega arith), f Clock (λ e. omega arith)) refl
+  waits_framed f = rw (f Carrier (λ e. omega arith), f Lrn (λ e. omega arith), f Code (λ e. omega arith), f Block (λ e. omega arith), f Broadcast (λ e. omega arith), f NextRouting (λ e. omega arith), f WindowSet (λ e. omega arith), f Version (λ e. omega arith), f Clock (λ e. omega arith)) refl
 
-  pub clock_framed : IsFrame Clock db next → content_in next ≡ record (content_in db) { clock = get (content_of nat_cmp clock_entry (next 12)) 0 }
-  clock_framed f = rw (f Carrier (λ e. omega arith), f Lrn (λ e. omega arith), f Code (λ e. omega arith), f Block (λ e. omega arith), f Version (λ e. omega arith), f Broadcast (λ e. omega arith), f Wait (λ e. omega arith)) refl
+  pub sets_framed : IsFrame WindowSet db next → content_in next ≡ record (content_in db) { sets = sets_in (next 17); clock = clock_from (sets_in (next 17)) (clocks_in (db 21)) }
+  sets_framed f = rw (f Carrier (λ e. omega arith), f Lrn (λ e. omega arith), f Code (λ e. omega arith), f Block (λ e. omega arith), f Broadcast (λ e. omega arith), f Wait (λ e. omega arith), f NextRouting (λ e. omega arith), f Version (λ e. omega arith), f Clock (λ e. omega arith)) refl
+
+  pub clock_framed : IsFrame Clock db next → content_in next ≡ record (content_in db) { clock = clock_from (sets_in (db 17)) (content_of nat_cmp clock_entry (next 21)) }
+  clock_framed f = rw (f Carrier (λ e. omega arith), f Lrn (λ e. omega arith), f Code (λ e. omega arith), f Block (λ e. omega arith), f Broadcast (λ e. omega arith), f Wait (λ e. omega arith), f NextRouting (λ e. omega arith), f WindowSet (λ e. omega arith), f Version (λ e. omega arith)) refl
+
+  -- the tables of an earlier form are no part of it
+  pub old_version_framed : IsFrame OldVersion db next → content_in next ≡ content_in db
+  old_version_framed f = rw (f Carrier (λ e. omega arith), f Lrn (λ e. omega arith), f Code (λ e. omega arith), f Block (λ e. omega arith), f Broadcast (λ e. omega arith), f Wait (λ e. omega arith), f NextRouting (λ e. omega arith), f WindowSet (λ e. omega arith), f Version (λ e. omega arith), f Clock (λ e. omega arith)) refl
+
+  pub old_clock_framed : IsFrame OldClock db next → content_in next ≡ content_in db
+  old_clock_framed f = rw (f Carrier (λ e. omega arith), f Lrn (λ e. omega arith), f Code (λ e. omega arith), f Block (λ e. omega arith), f Broadcast (λ e. omega arith), f Wait (λ e. omega arith), f NextRouting (λ e. omega arith), f WindowSet (λ e. omega arith), f Version (λ e. omega arith), f Clock (λ e. omega arith)) refl

@@ -21,11 +21,16 @@ use Rattle.sqlite.specs.Rows.{Written, Task, Sourced, Edited, Inserts, count_of,
 use Rattle.sqlite.specs.Effect.{Database}
 use Rattle.sqlite.specs.Listing.{understood}
 use Rattle.sqlite.specs.State.{State, mode_of, Executes}
-use Rattle.sqlite.proofs.Callers.{statement_of, runs_as, one_step}
+use Rattle.sqlite.specs.Command.TheVariants.{Delete}
+use Rattle.sqlite.specs.Term.{Term, col}
+use Rattle.sqlite.proofs.Callers.{IsPlain, command_of, statement_of, runs_as, one_step}
+use Rattle.sql_rows.specs.Moving.{IsCleared, clear_text, table_of_old}
+use Rattle.sql_rows.specs.declared.moving.OldTable.{OldTable}
+use Rattle.sql_rows.proofs.MovingLemmas.{clear_is, clear_plain}
 use Rattle.sql_rows.specs.Tables.{the_schema}
-use Rattle.sql_rows.specs.Statements.{slot_of, table_of, tree_of, key_test, delete_text, delete_command, deleting, insert_text, insert_terms, width_of, insert_command}
+use Rattle.sql_rows.specs.Statements.{plain_query, slot_of, table_of, tree_of, key_test, delete_text, insert_text, insert_terms, width_of, insert_command}
 use Rattle.sql_rows.specs.declared.statement.Table.{Table}
-use Rattle.sql_rows.specs.declared.statement.Table.TheVariants.{Carrier, Lrn, Code, Block, Version, Broadcast, Wait, Clock}
+use Rattle.sql_rows.specs.declared.statement.Table.TheVariants.{Carrier, Lrn, Code, Block, OldVersion, Broadcast, Wait, OldClock, NextRouting, WindowSet, Version, Clock}
 use Rattle.sql_rows.specs.Written.{IsFrame, Removed, Added, cast_rows}
 use Rattle.sql_rows.proofs.StatementLemmas.{delete_is, delete_plain, insert_is, insert_plain}
 use Rattle.sql_rows.proofs.QueryLemmas.{passes, plain_answer}
@@ -44,9 +49,13 @@ slot_is Carrier = refl
 slot_is Lrn = refl
 slot_is Code = refl
 slot_is Block = refl
-slot_is Version = refl
+slot_is OldVersion = refl
 slot_is Broadcast = refl
 slot_is Wait = refl
+slot_is OldClock = refl
+slot_is NextRouting = refl
+slot_is WindowSet = refl
+slot_is Version = refl
 slot_is Clock = refl
 
 pub overlay_is : (t : Table) (db : Trees) → overlay db [] (tree_of t) ≡ db (tree_of t)
@@ -54,9 +63,13 @@ overlay_is Carrier db = refl
 overlay_is Lrn db = refl
 overlay_is Code db = refl
 overlay_is Block db = refl
-overlay_is Version db = refl
+overlay_is OldVersion db = refl
 overlay_is Broadcast db = refl
 overlay_is Wait db = refl
+overlay_is OldClock db = refl
+overlay_is NextRouting db = refl
+overlay_is WindowSet db = refl
+overlay_is Version db = refl
 overlay_is Clock db = refl
 
 uncounted : (t : Table) → (table_of t).is_counted ≡ false
@@ -64,9 +77,13 @@ uncounted Carrier = refl
 uncounted Lrn = refl
 uncounted Code = refl
 uncounted Block = refl
-uncounted Version = refl
+uncounted OldVersion = refl
 uncounted Broadcast = refl
 uncounted Wait = refl
+uncounted OldClock = refl
+uncounted NextRouting = refl
+uncounted WindowSet = refl
+uncounted Version = refl
 uncounted Clock = refl
 
 -- what an INSERT does to a table that counts no rowids
@@ -106,33 +123,40 @@ framed t db next h Carrier = h.0
 framed t db next h Lrn = h.1.0
 framed t db next h Code = h.1.1.0
 framed t db next h Block = h.1.1.1.0
-framed t db next h Version = h.1.1.1.1.0
+framed t db next h OldVersion = h.1.1.1.1.0
 framed t db next h Broadcast = h.1.1.1.1.1.0
 framed t db next h Wait = h.1.1.1.1.1.1.0
-framed t db next h Clock = h.1.1.1.1.1.1.1.0
+framed t db next h OldClock = h.1.1.1.1.1.1.1.0
+framed t db next h NextRouting = h.1.1.1.1.1.1.1.1.0
+framed t db next h WindowSet = h.1.1.1.1.1.1.1.1.1.0
+framed t db next h Version = h.1.1.1.1.1.1.1.1.1.1.0
+framed t db next h Clock = h.1.1.1.1.1.1.1.1.1.1.1.0
 
 module _ (t : Table) (params : Row) (old new : State) (has : old.now.schema ≡ the_schema) (count : ℕ) where
-  pub removes : IsShaped AsTable (old.now.trees (tree_of t)) → Executes (delete_text t) params old new (Ok count) → Removed t params old.now new.now
-  removes shaped h =
+  -- the rows that pass the test are taken away
+  removes_by : (sql : List ℕ) (test : List Term) → command_of (understood the_schema sql) ≡ Delete (slot_of t) (record { lets = []; body = plain_query (tree_of t) test (col 1 0 ∷ []) }) → IsPlain (understood the_schema sql) →
+      IsShaped AsTable (old.now.trees (tree_of t)) → Executes sql params old new (Ok count) →
+      (new.now.schema ≡ the_schema) × (new.now.trees (tree_of t) ≡ filter (λ r. not (passes test params r)) (old.now.trees (tree_of t))) × IsFrame t old.now.trees new.now.trees
+  removes_by sql test is plain shaped h =
       let db = old.now.trees in
-      let w = runs_as (delete_text t) params old new the_schema has (delete_command t) (delete_is t) (delete_plain t) count h in
-      let text = statement_of (delete_text t) (understood the_schema (delete_text t)) in
-      let did = subst (λ s. Does old.step_limit (mode_of old) params (record old.now { schema = s }) text None (delete_command t) (Ok (w.tally, new.now))) has w.changed in
+      let command = Delete (slot_of t) (record { lets = []; body = plain_query (tree_of t) test (col 1 0 ∷ []) }) in
+      let w = runs_as sql params old new the_schema has command is plain count h in
+      let text = statement_of sql (understood the_schema sql) in
+      let did = subst (λ s. Does old.step_limit (mode_of old) params (record old.now { schema = s }) text None command (Ok (w.tally, new.now))) has w.changed in
       let done = went (rw (slot_is t) at did) in
       let now = ap (λ (p : Tally × Database). p.1) (same_value (went (went done.2).2).2) in
       let found = went done.1 in
-      let a : IsAnswer (deleting t) (overlay db []) params found.0 = found.1.answer Null in
-      let same = subst (λ rows. IsPermutation (map (λ r. column r 0 ∷ []) (filter (passes (key_test t) params) rows)) found.0) (overlay_is t db) (plain_answer (tree_of t) (key_test t) _ (overlay db []) params found.0 a) in
+      let a : IsAnswer (plain_query (tree_of t) test (col 1 0 ∷ [])) (overlay db []) params found.0 = found.1.answer Null in
+      let same = subst (λ rows. IsPermutation (map (λ r. column r 0 ∷ []) (filter (passes test params) rows)) found.0) (overlay_is t db) (plain_answer (tree_of t) test _ (overlay db []) params found.0 a) in
       let written = went found.2 in
       let trees : done.0.trees ≡ written.0 = ap (λ (it : Written). it.trees) (same_value written.2) in
       let applies = one_step the_schema _ db written.0 (edit_of db (table_of t) (ids_of found.0) Given 0 []) refl written.1 in
-      let left = deleted (passes (key_test t) params) (db (tree_of t)) shaped.0 shaped.1 found.0 same in
+      let left = deleted (passes test params) (db (tree_of t)) shaped.0 shaped.1 found.0 same in
       let is : new.now.trees ≡ written.0 = ap (λ (d : Database). d.trees) now ∙ trees in
-      record {
-        schema = ap (λ (d : Database). d.schema) now;
-        rows = ap (λ n. n (tree_of t)) is ∙ applies.rows ∙ left;
-        frame = subst (IsFrame t db) (sym is) (framed t db written.0 applies.tables);
-      }
+      (ap (λ (d : Database). d.schema) now, ap (λ n. n (tree_of t)) is ∙ applies.rows ∙ left, subst (IsFrame t db) (sym is) (framed t db written.0 applies.tables))
+
+  pub removes : IsShaped AsTable (old.now.trees (tree_of t)) → Executes (delete_text t) params old new (Ok count) → Removed t params old.now new.now
+  removes shaped h = let it = removes_by (delete_text t) (key_test t) (delete_is t) (delete_plain t) shaped h in record { schema = it.0; rows = it.1; frame = it.2 }
 
   pub adds : (row : Row) → cast_rows t params old.now.trees ≡ row ∷ [] → Executes (insert_text t) params old new (Ok count) → Added t row old.now new.now
   adds row news h =
@@ -156,3 +180,13 @@ module _ (t : Table) (params : Row) (old new : State) (has : old.now.schema ≡ 
         rows = ap (λ n. n (tree_of t)) is ∙ applies.rows ∙ ap (put_all (db (tree_of t))) is_news;
         frame = subst (IsFrame t db) (sym is) (framed t db next applies.tables);
       }
+
+none_left : (rows : List Row) → filter (λ r. false) rows ≡ []
+none_left [] = refl
+none_left (r ∷ rows) = none_left rows
+
+-- a table of an earlier form is emptied
+pub clears : (t : OldTable) (old new : State) → old.now.schema ≡ the_schema → (count : ℕ) → IsShaped AsTable (old.now.trees (tree_of (table_of_old t))) → Executes (clear_text t) [] old new (Ok count) → IsCleared t old.now new.now
+clears t old new has count shaped h =
+    let it = removes_by (table_of_old t) [] old new has count (clear_text t) [] (clear_is t) (clear_plain t) shaped h in
+    record { schema = it.0; rows = it.1 ∙ none_left (old.now.trees (tree_of (table_of_old t))); frame = it.2 }

@@ -1,9 +1,13 @@
 pub mod Tables
 pub mod Values
 pub mod Versions
+pub mod Clocks
 pub mod Content
 pub mod Found
 pub mod Statements
 pub mod Shaped
 pub mod Written
 pub mod Once
+pub mod Over
+pub mod Moving
+pub mod Former

@@ -89,15 +89,20 @@ code_table = numbered_table 3 (codes "code") (codes "code") (text_column (codes 
 abbrev pub block_table : Table
 block_table = numbered_table 4 (codes "block") (codes "block") (text_column (codes "donor") ∷ number_or_null (codes "last") ∷ [])
 
-abbrev pub version_columns : List Column
-version_columns =
+abbrev pub version_columns : List Column → List Column
+version_columns more =
     number_column (codes "subject") ∷ text_column (codes "old") ∷ text_column (codes "new") ∷ number_column (codes "due") ∷ number_or_null (codes "lrn") ∷ number_or_null (codes "cic")
     ∷ number_or_null (codes "old_at") ∷ number_or_null (codes "new_at") ∷ text_column (codes "status") ∷ text_column (codes "sends") ∷ number_column (codes "since")
     ∷ number_column (codes "attempt") ∷ number_or_null (codes "release") ∷ number_column (codes "spent") ∷ number_column (codes "protective") ∷ text_or_null (codes "cancelled_by")
-    ∷ number_or_null (codes "deadline") ∷ number_column (codes "holds") ∷ number_column (codes "opens") ∷ []
+    ∷ number_or_null (codes "deadline") ∷ number_column (codes "holds") ∷ number_column (codes "opens") ∷ more
 
-abbrev pub version_table : Table
-version_table = record (numbered_table 5 (codes "version") (codes "id") version_columns) { uniques = (19 ∷ []) ∷ (20 ∷ []) ∷ []; orders = plain ∷ plain ∷ [] }
+-- a table of versions: two of its columns are unique
+abbrev pub a_version_table : ℕ → List ℕ → List Column → Table
+a_version_table tree name columns = record (numbered_table tree name (codes "id") columns) { uniques = (19 ∷ []) ∷ (20 ∷ []) ∷ []; orders = plain ∷ plain ∷ [] }
+
+-- of the versions of files of an earlier form
+abbrev pub old_version_table : Table
+old_version_table = a_version_table 5 (codes "version") (version_columns [])
 
 abbrev pub broadcast_table : Table
 broadcast_table = keyed_table 8 (codes "broadcast") (1 ∷ 2 ∷ [])
@@ -108,17 +113,40 @@ abbrev pub wait_table : Table
 wait_table = keyed_table 10 (codes "wait") (1 ∷ 2 ∷ 3 ∷ 4 ∷ [])
     (text_column (codes "spid") ∷ number_column (codes "minute") ∷ number_column (codes "id") ∷ number_column (codes "attempt") ∷ number_column (codes "subject") ∷ [])
 
-abbrev pub clock_settings : List Column
-clock_settings =
-    number_column (codes "now") ∷ number_column (codes "next_id") ∷ number_column (codes "initial_concurrence") ∷ number_column (codes "final_concurrence")
+-- the nine windows
+abbrev pub window_columns : List Column
+window_columns =
+    number_column (codes "initial_concurrence") ∷ number_column (codes "final_concurrence")
     ∷ number_column (codes "conflict_restriction") ∷ number_column (codes "conflict_resolution") ∷ number_column (codes "conflict_expiration") ∷ number_column (codes "cancellation_initial")
     ∷ number_column (codes "cancellation_final") ∷ number_column (codes "pending_retention") ∷ number_column (codes "broadcast") ∷ []
+
+abbrev pub clock_settings : List Column
+clock_settings = number_column (codes "now") ∷ number_column (codes "next_id") ∷ window_columns
 
 abbrev pub clock_columns : List Column
 clock_columns = number_or_null (codes "one") ∷ clock_settings
 
+-- of files of an earlier form
+abbrev pub old_clock_table : Table
+old_clock_table = numbered_table 12 (codes "clock") (codes "one") clock_settings
+
+-- ---- tables that were made after the indexes: files of an earlier form have none of them
+
+-- where a version that sends a modify is to be routed
+abbrev pub next_routing_table : Table
+next_routing_table = numbered_table 16 (codes "next_routing") (codes "id") (number_column (codes "lrn") ∷ number_or_null (codes "cic") ∷ [])
+
+abbrev pub set_columns : List Column
+set_columns = number_or_null (codes "number") ∷ window_columns
+
+abbrev pub window_set_table : Table
+window_set_table = numbered_table 17 (codes "window_set") (codes "number") window_columns
+
+abbrev pub version_table : Table
+version_table = a_version_table 18 (codes "version2") (version_columns (number_column (codes "held") ∷ []))
+
 abbrev pub clock_table : Table
-clock_table = numbered_table 12 (codes "clock") (codes "one") clock_settings
+clock_table = numbered_table 21 (codes "clock2") (codes "one") (number_column (codes "now") ∷ number_column (codes "next_id") ∷ number_column (codes "present") ∷ [])
 
 abbrev pub an_index : List ℕ → ℕ → ℕ → List ℕ → Bool → Index
 an_index name tree table columns is_unique = record { name = name; tree = tree; table = table; columns = columns; order = plain; is_unique = is_unique }
@@ -141,22 +169,47 @@ wait_subject = plain_index (codes "wait_subject") 14 10 (5 ∷ 1 ∷ [])
 abbrev pub wait_broadcast : Index
 wait_broadcast = plain_index (codes "wait_broadcast") 15 10 (3 ∷ 4 ∷ [])
 
-abbrev pub later_indexes : List Index
-later_indexes = wait_key ∷ version_deadline ∷ wait_subject ∷ wait_broadcast ∷ []
+abbrev pub version2_deadline : Index
+version2_deadline = plain_index (codes "version2_deadline") 22 18 (18 ∷ [])
 
-abbrev pub the_indexes : List Index
-the_indexes =
+-- the indexes of the tables that were made last
+abbrev pub version_keys : List Index
+version_keys = unique_index (codes "sqlite_autoindex_version2_1") 19 18 (19 ∷ []) ∷ unique_index (codes "sqlite_autoindex_version2_2") 20 18 (20 ∷ []) ∷ []
+
+abbrev pub new_indexes : List Index
+new_indexes =
+    unique_index (codes "sqlite_autoindex_version2_1") 19 18 (19 ∷ [])
+    ∷ unique_index (codes "sqlite_autoindex_version2_2") 20 18 (20 ∷ [])
+    ∷ version2_deadline ∷ []
+
+abbrev pub later_indexes : List Index → List Index
+later_indexes more = wait_key ∷ version_deadline ∷ wait_subject ∷ wait_broadcast ∷ more
+
+abbrev pub indexes_with : List Index → List Index
+indexes_with more =
     unique_index (codes "sqlite_autoindex_carrier_1") 1 0 (1 ∷ [])
     ∷ unique_index (codes "sqlite_autoindex_version_1") 6 5 (19 ∷ [])
     ∷ unique_index (codes "sqlite_autoindex_version_2") 7 5 (20 ∷ [])
     ∷ unique_index (codes "sqlite_autoindex_broadcast_1") 9 8 (1 ∷ 2 ∷ [])
-    ∷ later_indexes
+    ∷ later_indexes more
 
-abbrev pub later_tables : List Table
-later_tables = version_table ∷ broadcast_table ∷ wait_table ∷ clock_table ∷ []
+abbrev pub the_indexes : List Index
+the_indexes = indexes_with new_indexes
+
+abbrev pub later_tables : List Table → List Table
+later_tables more = old_version_table ∷ broadcast_table ∷ wait_table ∷ old_clock_table ∷ more
+
+abbrev pub tables_with : List Table → List Table
+tables_with more = carrier_table ∷ lrn_table ∷ code_table ∷ block_table ∷ later_tables more
+
+abbrev pub set_tables : List Table
+set_tables = window_set_table ∷ version_table ∷ clock_table ∷ []
+
+abbrev pub new_tables : List Table
+new_tables = next_routing_table ∷ set_tables
 
 abbrev pub the_tables : List Table
-the_tables = carrier_table ∷ lrn_table ∷ code_table ∷ block_table ∷ later_tables
+the_tables = tables_with new_tables
 
 abbrev pub the_schema : Schema
 the_schema = record {
@@ -164,6 +217,13 @@ the_schema = record {
   indexes = the_indexes;
   views = [];
 }
+
+-- of files of the first form, and of those that know a modify and no sets of windows
+abbrev pub first_schema : Schema
+first_schema = record { tables = tables_with []; indexes = indexes_with []; views = [] }
+
+abbrev pub modify_schema : Schema
+modify_schema = record { tables = tables_with (next_routing_table ∷ []); indexes = indexes_with []; views = [] }
 
 abbrev pub no_schema : Schema
 no_schema = record { tables = []; indexes = []; views = [] }

@@ -8,10 +8,11 @@ use Rattle.numbers.specs.Texts.{spid_text}
 use Rattle.numbers.specs.Subjects.{Subject, Number, Block}
 use Rattle.numbers.specs.Routings.{Routing}
 use Rattle.meaning.specs.declared.words.Action.{Action}
-use Rattle.meaning.specs.declared.words.Action.TheVariants.{Create, Delete}
+use Rattle.meaning.specs.declared.words.Action.TheVariants.{Create, Delete, Modify}
 use Rattle.meaning.specs.declared.words.Side.{Side}
 use Rattle.meaning.specs.declared.words.Side.TheVariants.{OldProvider, NewProvider}
-use Rattle.meaning.specs.Statuses.{Status, Pending, Conflict, CancelPending, Sending, Active, PartialFailure, Failed, DisconnectPending, Old, Canceled}
+use Rattle.meaning.specs.Changes.{action_of}
+use Rattle.meaning.specs.Statuses.{Send, Create as CreateSend, Delete as DeleteSend, Modify as ModifySend, Status, Pending, Conflict, CancelPending, Sending, Active, PartialFailure, Failed, DisconnectPending, Old, Canceled}
 
 -- a whole number that a column holds
 abbrev pub number_in : Value → Option ℕ
@@ -51,6 +52,13 @@ window_from n = if nat_lt 0 n && nat_le n 525600 then Some n else None
 abbrev pub window_in : Value → Option ℕ
 window_in v = option_and_then window_from (number_in v)
 
+-- the number of a set of windows
+abbrev pub set_from : ℕ → Option ℕ
+set_from n = if nat_lt 0 n && nat_le n 1000 then Some n else None
+
+abbrev pub set_number_in : Value → Option ℕ
+set_number_in v = option_and_then set_from (number_in v)
+
 abbrev pub bool_from : ℕ → Option Bool
 bool_from n = if nat_lt n 1 then Some false else (if nat_lt n 2 then Some true else None)
 
@@ -86,7 +94,11 @@ is_word w (Text t) = bytes_eq t w
 is_word w _ = false
 
 abbrev pub action_in : Value → Option Action
-action_in v = if is_word (codes "create") v then Some Create else (if is_word (codes "delete") v then Some Delete else None)
+action_in v = if is_word (codes "create") v then Some Create else (if is_word (codes "delete") v then Some Delete else (if is_word (codes "modify") v then Some Modify else None))
+
+-- what a version sends. Where it sends a modify, this is to the routing that it has: the one under way stands elsewhere
+abbrev pub send_in : (own : Option Routing) → Value → Option Send
+send_in own v = if is_word (codes "create") v then Some CreateSend else (if is_word (codes "delete") v then Some DeleteSend else (if is_word (codes "modify") v then option_map ModifySend own else None))
 
 abbrev pub side_in : Value → Option Side
 side_in v = if is_word (codes "old") v then Some OldProvider else (if is_word (codes "new") v then Some NewProvider else None)
@@ -110,12 +122,12 @@ found_in id s v =
     if is_int (pos (subject_number s)) v then Some true else None)
 
 -- a status by its name, and by what it sends, when it is released, or who cancelled
-abbrev pub status_in : (status sends release by : Value) → Option Status
-status_in status sends release by =
+abbrev pub status_in : (own : Option Routing) → (status sends release by : Value) → Option Status
+status_in own status sends release by =
     if is_word (codes "pending") status then Some Pending else (
     if is_word (codes "conflict") status then Some Conflict else (
     if is_word (codes "cancel-pending") status then option_map CancelPending (side_in by) else (
-    if is_word (codes "sending") status then option_map Sending (action_in sends) else (
+    if is_word (codes "sending") status then option_map Sending (send_in own sends) else (
     if is_word (codes "active") status then Some Active else (
     if is_word (codes "partial-failure") status then Some PartialFailure else (
     if is_word (codes "failed") status then Some Failed else (
@@ -173,9 +185,10 @@ status_word Canceled = codes "canceled"
 abbrev pub action_word : Action → List ℕ
 action_word Create = codes "create"
 action_word Delete = codes "delete"
+action_word Modify = codes "modify"
 
 abbrev pub sends_word : Status → List ℕ
-sends_word (Sending action) = action_word action
+sends_word (Sending action) = action_word (action_of action)
 sends_word _ = codes "none"
 
 abbrev pub release_value : Status → Value

@@ -1,19 +1,19 @@
 //! Rows with their keys, as a query shows them.
-ghost use Rattle.std.specs.Prelude.{◌≡◌, option_map};
+ghost use Rattle.std.specs.Prelude.{◌≡◌, ◌<◌, option_map};
 ghost use Rattle.sqlite.specs.Order.{column};
 ghost use Rattle.version.specs.Views.{windows_of};
 ghost use Rattle.sql_rows.specs.Content.{windows_in};
 
 use crate::reading::{
     action_at, block_at, bool_at, code_at, lrn_at, minute_at, number_at, number_or_null_at,
-    only_at, routing_at, spid_at, subject_at, window_at,
+    only_at, routing_at, set_number_at, spid_at, subject_at, window_at,
 };
 use crate::stored::Stored;
 use delivery::Broadcast;
-use numbers::{BlockId, CodeId, Lrn, Spid, Subject};
-use settle::{BlockRow, BroadcastKey, ClockRow, WaitKey};
+use numbers::{BlockId, CodeId, Lrn, Minute, Routing, Spid, Subject};
+use settle::{BlockRow, BroadcastKey, WaitKey};
 use sqlite::Row;
-use windows::Windows;
+use windows::{WindowSet, Windows};
 
 impl Stored for Spid {
     ghost use Rattle.std.specs.Prelude.{ℕ};
@@ -182,49 +182,145 @@ impl Stored for KeyedWait {
     }
 }
 
+/// The routing that a version sends, with the version's id.
+#[derive(Clone, Copy, Debug, PartialEq, Eq)]
+pub struct KeyedRouting {
+    pub id: u64,
+    pub routing: Routing,
+}
+
+impl Stored for KeyedRouting {
+    ghost use Rattle.std.specs.Prelude.{ℕ};
+    ghost use Rattle.numbers.specs.Routings.{Routing as RoutingSeen};
+    ghost use Rattle.numbers.specs.Views.{routing_of};
+    ghost use Rattle.sql_rows.specs.Content.{next_row_in};
+
+    ghost Seen = { ℕ × RoutingSeen };
+
+    ghost seen = { λ r. (r.id, routing_of r.routing) };
+
+    ghost seen_in = { next_row_in };
+
+    fn read(row: &Row) -> Option<KeyedRouting> {
+        let id = number_at(row, 0)?;
+        match routing_at(row, 1, 2)? {
+            Some(routing) => Some(KeyedRouting { id, routing }),
+            None => None,
+        }
+    }
+}
+
+/// A set of windows, as it is stored under its number.
+#[derive(Clone, Copy, Debug, PartialEq, Eq)]
+pub struct KeyedSet {
+    pub set: WindowSet,
+}
+
+impl Stored for KeyedSet {
+    ghost use Rattle.std.specs.Prelude.{ℕ};
+    ghost use Rattle.meaning.specs.Windows.{Windows as WindowsSeen};
+    ghost use Rattle.version.specs.Views.{windows_of};
+    ghost use Rattle.sql_rows.specs.Content.{set_in};
+
+    ghost Seen = { ℕ × WindowsSeen };
+
+    ghost seen = { λ s. (s.set.number, windows_of s.set.windows) };
+
+    ghost seen_in = { set_in };
+
+    fn read(row: &Row) -> Option<KeyedSet> {
+        Some(KeyedSet {
+            set: WindowSet {
+                number: set_number_at(row, 0)?,
+                windows: windows_at(row, 1)?,
+            },
+        })
+    }
+}
+
+/// The clock's row as it is stored: of the present set its number alone.
+#[derive(Clone, Copy, Debug, PartialEq, Eq)]
+pub struct StoredClock {
+    pub minute: Minute,
+    pub next_id: u64,
+    pub present: u16,
+}
+
 /// The clock's row, with the number under which it stands.
 #[derive(Clone, Copy, Debug, PartialEq, Eq)]
 pub struct KeyedClock {
     pub number: u64,
-    pub row: ClockRow,
+    pub row: StoredClock,
 }
 
 impl Stored for KeyedClock {
     ghost use Rattle.std.specs.Prelude.{ℕ};
-    ghost use Rattle.meaning.specs.Content.{ClockRow as ClockSeen};
-    ghost use Rattle.settle.specs.Views.{clock_row_of};
+    ghost use Rattle.sql_rows.specs.Clocks.{StoredClock as ClockSeen, clock_of};
     ghost use Rattle.sql_rows.specs.Content.{clock_in};
 
     ghost Seen = { ℕ × ClockSeen };
 
-    ghost seen = { λ c. (c.number, clock_row_of c.row) };
+    ghost seen = { λ c. (c.number, clock_of c.row) };
 
     ghost seen_in = { clock_in };
 
     fn read(row: &Row) -> Option<KeyedClock> {
         Some(KeyedClock {
             number: only_at(row, 0)?,
-            row: ClockRow {
+            row: StoredClock {
                 minute: minute_at(row, 1)?,
                 next_id: number_at(row, 2)?,
-                windows: windows_at(row)?,
+                present: set_number_at(row, 3)?,
             },
         })
     }
 }
 
-fn windows_at(row: &Row) -> Option<Windows>
-    ensures { option_map windows_of result ≡ windows_in row.now }
+/// The clock's row of a file of an earlier form, in which the nine windows stand.
+#[derive(Clone, Copy, Debug, PartialEq, Eq)]
+pub struct OldClock {
+    pub number: u64,
+    pub minute: Minute,
+    pub next_id: u64,
+    pub windows: Windows,
+}
+
+impl Stored for OldClock {
+    ghost use Rattle.std.specs.Prelude.{ℕ};
+    ghost use Rattle.meaning.specs.Content.{ClockRow as ClockSeen};
+    ghost use Rattle.sql_rows.specs.Clocks.{old_clock_of};
+    ghost use Rattle.sql_rows.specs.Content.{old_clock_in};
+
+    ghost Seen = { ℕ × ClockSeen };
+
+    ghost seen = { λ c. (c.number, old_clock_of c) };
+
+    ghost seen_in = { old_clock_in };
+
+    fn read(row: &Row) -> Option<OldClock> {
+        Some(OldClock {
+            number: only_at(row, 0)?,
+            minute: minute_at(row, 1)?,
+            next_id: number_at(row, 2)?,
+            windows: windows_at(row, 3)?,
+        })
+    }
+}
+
+// The nine windows in the columns from this one on.
+fn windows_at(row: &Row, first: usize) -> Option<Windows>
+    requires { first < 100 }
+    ensures { option_map windows_of result ≡ windows_in first row.now }
 {
     Some(Windows {
-        initial_concurrence: window_at(row, 3)?,
-        final_concurrence: window_at(row, 4)?,
-        conflict_restriction: window_at(row, 5)?,
-        conflict_resolution: window_at(row, 6)?,
-        conflict_expiration: window_at(row, 7)?,
-        cancellation_initial: window_at(row, 8)?,
-        cancellation_final: window_at(row, 9)?,
-        pending_retention: window_at(row, 10)?,
-        broadcast: window_at(row, 11)?,
+        initial_concurrence: window_at(row, first)?,
+        final_concurrence: window_at(row, first + 1)?,
+        conflict_restriction: window_at(row, first + 2)?,
+        conflict_resolution: window_at(row, first + 3)?,
+        conflict_expiration: window_at(row, first + 4)?,
+        cancellation_initial: window_at(row, first + 5)?,
+        cancellation_final: window_at(row, first + 6)?,
+        pending_retention: window_at(row, first + 7)?,
+        broadcast: window_at(row, first + 8)?,
     })
 }

@@ -4,6 +4,7 @@
 
 mod fault;
 mod keyed;
+mod moving;
 mod params;
 mod reading;
 mod statement;
@@ -12,11 +13,16 @@ mod values;
 mod version_row;
 
 pub use fault::Fault;
-pub use keyed::{KeyedBlock, KeyedBroadcast, KeyedClock, KeyedCode, KeyedLrn, KeyedWait};
+pub use keyed::{
+    KeyedBlock, KeyedBroadcast, KeyedClock, KeyedCode, KeyedLrn, KeyedRouting, KeyedSet, KeyedWait,
+    OldClock, StoredClock,
+};
+pub use moving::{Form, NewTable, OldTable, index_text};
 pub use params::{
-    block_params, broadcast_key, broadcast_params, clock_params, fits_block, wait_key, wait_params,
+    block_params, broadcast_key, broadcast_params, clock_params, fits_block, is_set_number,
+    next_params, set_params, wait_key, wait_params,
 };
 pub use statement::{Query, Table};
 pub use stored::{Stored, all, sole};
 pub use values::{minute, number, spid_bytes, subject, text, truth};
-pub use version_row::{fits, version_params};
+pub use version_row::{OldVersion, fits, version_params};

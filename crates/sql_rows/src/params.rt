@@ -1,16 +1,21 @@
 //! What the statements take that put rows in. A provider's text is `spid_bytes` of its number.
-ghost use Rattle.std.specs.Prelude.{◌≡◌, ◌<◌, map, IfSome, IsTrue};
+ghost use Rattle.std.specs.Prelude.{◌≡◌, ◌<◌, ◌≤◌, map, IfSome, IsTrue};
 ghost use Rattle.sqlite.specs.Value.{owned};
 ghost use Rattle.numbers.specs.Texts.{spid_text};
 ghost use Rattle.numbers.specs.Views.{subject_of};
-ghost use Rattle.settle.specs.Views.{block_row_of, clock_row_of, broadcast_key_of, broadcast_row_of, wait_key_of};
-ghost use Rattle.sql_rows.specs.Content.{owner_params, block_params, broadcast_params, wait_params, clock_params, wait_key_params, broadcast_key_params};
+ghost use Rattle.settle.specs.Views.{block_row_of, broadcast_key_of, broadcast_row_of, wait_key_of};
+ghost use Rattle.sql_rows.specs.Content.{owner_params, block_params, broadcast_params, wait_params, clock_params, set_params, next_params, wait_key_params, broadcast_key_params};
+ghost use Rattle.numbers.specs.Views.{routing_of};
+ghost use Rattle.version.specs.Views.{windows_of};
+ghost use Rattle.sql_rows.specs.Clocks.{clock_of};
 
+use crate::keyed::StoredClock;
 use crate::values::{action, cic, lrn, minute, number, number_or_null, subject, truth, window};
 use delivery::Broadcast;
-use numbers::{Spid, Subject};
-use settle::{BlockRow, BroadcastKey, ClockRow, WaitKey};
+use numbers::{Routing, Spid, Subject};
+use settle::{BlockRow, BroadcastKey, WaitKey};
 use sqlite::types::ValueRef;
+use windows::WindowSet;
 
 /// A donated block's columns.
 pub fn block_params<'a>(block: u64, row: &BlockRow, donor: &'a [u8; 4]) -> [ValueRef<'a>; 3]
@@ -96,16 +101,29 @@ pub fn wait_params<'a>(key: WaitKey, of: Subject, carrier: &'a [u8; 4]) -> [Valu
     ]
 }
 
-/// The clock's columns.
-pub fn clock_params(row: &ClockRow) -> [ValueRef<'static>; 12]
-    requires few { row.now.next_id < 9223372036854775808 }
-    ensures { map owned result ≡ clock_params 0 (clock_row_of row.now) }
+/// The columns of the routing that a version sends.
+pub fn next_params(id: u64, routing: Routing) -> [ValueRef<'static>; 3]
+    requires small { id < 9223372036854775808 }
+    ensures { map owned result ≡ next_params id (routing_of routing) }
 {
-    let windows = &row.windows;
+    [number(id), lrn(Some(routing)), cic(Some(routing))]
+}
+
+/// Whether a column holds the number of a set of windows.
+pub fn is_set_number(number: u16) -> bool
+    ensures low { IsTrue result → 0 < number }
+    ensures high { IsTrue result → number ≤ 1000 }
+{
+    0 < number && number <= 1000
+}
+
+/// The columns of a set of windows.
+pub fn set_params(set: &WindowSet) -> [ValueRef<'static>; 10]
+    ensures { map owned result ≡ set_params set.now.number (windows_of set.now.windows) }
+{
+    let windows = &set.windows;
     [
-        number(0),
-        minute(row.minute),
-        number(row.next_id),
+        number(u64::from(set.number)),
         window(windows.initial_concurrence),
         window(windows.final_concurrence),
         window(windows.conflict_restriction),
@@ -115,5 +133,18 @@ pub fn clock_params(row: &ClockRow) -> [ValueRef<'static>; 12]
         window(windows.cancellation_final),
         window(windows.pending_retention),
         window(windows.broadcast),
+    ]
+}
+
+/// The clock's columns.
+pub fn clock_params(row: &StoredClock) -> [ValueRef<'static>; 4]
+    requires few { row.now.next_id < 9223372036854775808 }
+    ensures { map owned result ≡ clock_params 0 (clock_of row.now) }
+{
+    [
+        number(0),
+        minute(row.minute),
+        number(row.next_id),
+        number(u64::from(row.present)),
     ]
 }

@@ -5,11 +5,11 @@ ghost use Rattle.sqlite.specs.Ops.{is_null};
 ghost use Rattle.numbers.specs.Views.{subject_of, routing_of, minute_of};
 ghost use Rattle.numbers.specs.Spids.{is_spid_character};
 ghost use Rattle.settle.specs.Views.{spid_of, lrn_of, code_of, block_of};
-ghost use Rattle.meaning.specs.Views.{status_of};
-ghost use Rattle.sql_rows.specs.Values.{number_in, minute_in, lrn_in, code_from, code_in, block_from, block_in, cic_in, bool_from, bool_in, subject_from, subject_in, spid_from, spid_in, found_in, is_int, only_in, window_in, or_null_in, is_word, action_in, side_in, status_in, routing_in};
+ghost use Rattle.meaning.specs.Views.{send_of, status_of};
+ghost use Rattle.sql_rows.specs.Values.{number_in, minute_in, lrn_in, code_from, code_in, block_from, block_in, cic_in, bool_from, bool_in, subject_from, subject_in, spid_from, spid_in, found_in, is_int, only_in, window_in, set_number_in, or_null_in, is_word, action_in, send_in, side_in, status_in, routing_in};
 
 use crate::values::{not_found, subject_number};
-use meaning::{Action, Side, Status};
+use meaning::{Action, Send, Side, Status};
 use numbers::{BlockId, Cic, CodeId, Lrn, Minute, Routing, Spid, Subject, Tn};
 use sqlite::Row;
 use sqlite::types::ValueRef;
@@ -68,6 +68,18 @@ pub fn window_at(row: &Row, at: usize) -> Option<Window>
         Some(Window {
             minutes: number as u32,
         })
+    } else {
+        None
+    }
+}
+
+/// The number of a set of windows: from 1 to 1,000.
+pub fn set_number_at(row: &Row, at: usize) -> Option<u16>
+    ensures { result ≡ set_number_in (column row.now at) }
+{
+    let number = number_at(row, at)?;
+    if 0 < number && number <= 1000 {
+        Some(number as u16)
     } else {
         None
     }
@@ -196,9 +208,28 @@ pub fn action_at(row: &Row, at: usize) -> Option<Action>
         Some(Action::Create)
     } else if is_word(row, at, b"delete") {
         Some(Action::Delete)
+    } else if is_word(row, at, b"modify") {
+        Some(Action::Modify)
     } else {
         None
     }
+}
+
+// What a version sends that is routed to `own`.
+fn send_at(row: &Row, at: usize, own: Option<Routing>) -> Option<Send>
+    ensures { option_map send_of result
+        ≡ send_in (option_map routing_of own) (column row.now at) }
+{
+    if is_word(row, at, b"create") {
+        return Some(Send::Create);
+    }
+    if is_word(row, at, b"delete") {
+        return Some(Send::Delete);
+    }
+    if is_word(row, at, b"modify") {
+        return Some(Send::Modify(own?));
+    }
+    None
 }
 
 fn side_at(row: &Row, at: usize) -> Option<Side>
@@ -213,9 +244,17 @@ fn side_at(row: &Row, at: usize) -> Option<Side>
     }
 }
 
-pub fn status_at(row: &Row, at: usize, sends: usize, release: usize, by: usize) -> Option<Status>
-    ensures { option_map status_of result ≡ status_in (column row.now at) (column row.now sends)
-        (column row.now release) (column row.now by) }
+/// A status in four columns, of a version that is routed to `own`.
+pub fn status_at(
+    row: &Row,
+    at: usize,
+    sends: usize,
+    release: usize,
+    by: usize,
+    own: Option<Routing>,
+) -> Option<Status>
+    ensures { option_map status_of result ≡ status_in (option_map routing_of own)
+        (column row.now at) (column row.now sends) (column row.now release) (column row.now by) }
 {
     if is_word(row, at, b"pending") {
         return Some(Status::Pending);
@@ -227,7 +266,7 @@ pub fn status_at(row: &Row, at: usize, sends: usize, release: usize, by: usize) 
         return Some(Status::CancelPending(side_at(row, by)?));
     }
     if is_word(row, at, b"sending") {
-        return Some(Status::Sending(action_at(row, sends)?));
+        return Some(Status::Sending(send_at(row, sends, own)?));
     }
     if is_word(row, at, b"active") {
         return Some(Status::Active);

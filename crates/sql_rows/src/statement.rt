@@ -9,9 +9,15 @@ pub enum Table {
     Lrn,
     Code,
     Block,
-    Version,
+    /// Versions of files of an earlier form. It is empty in a file of this one.
+    OldVersion,
     Broadcast,
     Wait,
+    /// The clock of files of an earlier form. It is empty in a file of this one.
+    OldClock,
+    NextRouting,
+    WindowSet,
+    Version,
     Clock,
 }
 
@@ -25,13 +31,17 @@ impl Table {
             Table::Lrn => "DELETE FROM lrn WHERE lrn = ?1",
             Table::Code => "DELETE FROM code WHERE code = ?1",
             Table::Block => "DELETE FROM block WHERE block = ?1",
-            Table::Version => "DELETE FROM version WHERE id = ?1",
+            Table::OldVersion => "DELETE FROM version WHERE id = ?1",
             Table::Broadcast => "DELETE FROM broadcast WHERE id = ?1 AND attempt = ?2",
             Table::Wait => {
                 "DELETE FROM wait WHERE spid = ?1 AND minute = ?2 AND id = ?3 AND attempt = \
                  ?4"
             }
-            Table::Clock => "DELETE FROM clock WHERE one = ?1",
+            Table::OldClock => "DELETE FROM clock WHERE one = ?1",
+            Table::NextRouting => "DELETE FROM next_routing WHERE id = ?1",
+            Table::WindowSet => "DELETE FROM window_set WHERE number = ?1",
+            Table::Version => "DELETE FROM version2 WHERE id = ?1",
+            Table::Clock => "DELETE FROM clock2 WHERE one = ?1",
         }
     }
 
@@ -44,7 +54,7 @@ impl Table {
             Table::Lrn => "SELECT lrn, spid FROM lrn",
             Table::Code => "SELECT code, spid FROM code",
             Table::Block => "SELECT block, donor, last FROM block",
-            Table::Version => {
+            Table::OldVersion => {
                 "SELECT id, subject, old, new, due, lrn, cic, old_at, new_at, status, sends, \
                  since, attempt, release, spent, protective, cancelled_by, deadline, holds, \
                  opens FROM version"
@@ -54,12 +64,24 @@ impl Table {
                  broadcast"
             }
             Table::Wait => "SELECT spid, minute, id, attempt, subject FROM wait",
-            Table::Clock => {
+            Table::NextRouting => "SELECT id, lrn, cic FROM next_routing",
+            Table::OldClock => {
                 "SELECT one, now, next_id, initial_concurrence, final_concurrence, \
                  conflict_restriction, conflict_resolution, conflict_expiration, \
                  cancellation_initial, cancellation_final, pending_retention, broadcast FROM \
                  clock"
             }
+            Table::WindowSet => {
+                "SELECT number, initial_concurrence, final_concurrence, conflict_restriction, \
+                 conflict_resolution, conflict_expiration, cancellation_initial, \
+                 cancellation_final, pending_retention, broadcast FROM window_set"
+            }
+            Table::Version => {
+                "SELECT id, subject, old, new, due, lrn, cic, old_at, new_at, status, sends, \
+                 since, attempt, release, spent, protective, cancelled_by, deadline, holds, \
+                 opens, held FROM version2"
+            }
+            Table::Clock => "SELECT one, now, next_id, present FROM clock2",
         }
     }
 
@@ -70,9 +92,10 @@ impl Table {
         match self {
             Table::Carrier => "INSERT INTO carrier (spid) VALUES (?1)",
             Table::Lrn => "INSERT INTO lrn (lrn, spid) VALUES (?1, ?2)",
+            Table::NextRouting => "INSERT INTO next_routing (id, lrn, cic) VALUES (?1, ?2, ?3)",
             Table::Code => "INSERT INTO code (code, spid) VALUES (?1, ?2)",
             Table::Block => "INSERT INTO block (block, donor, last) VALUES (?1, ?2, ?3)",
-            Table::Version => {
+            Table::OldVersion => {
                 "INSERT INTO version (id, subject, old, new, due, lrn, cic, old_at, new_at, \
                  status, sends, since, attempt, release, spent, protective, cancelled_by, \
                  deadline, holds, opens) VALUES (?1, ?2, ?3, ?4, ?5, ?6, ?7, ?8, ?9, ?10, \
@@ -86,12 +109,27 @@ impl Table {
                 "INSERT INTO wait (spid, minute, id, attempt, subject) VALUES (?1, ?2, ?3, \
                  ?4, ?5)"
             }
-            Table::Clock => {
+            Table::OldClock => {
                 "INSERT INTO clock (one, now, next_id, initial_concurrence, \
                  final_concurrence, conflict_restriction, conflict_resolution, \
                  conflict_expiration, cancellation_initial, cancellation_final, \
                  pending_retention, broadcast) VALUES (?1, ?2, ?3, ?4, ?5, ?6, ?7, ?8, ?9, \
                  ?10, ?11, ?12)"
+            }
+            Table::WindowSet => {
+                "INSERT INTO window_set (number, initial_concurrence, final_concurrence, \
+                 conflict_restriction, conflict_resolution, conflict_expiration, \
+                 cancellation_initial, cancellation_final, pending_retention, broadcast) \
+                 VALUES (?1, ?2, ?3, ?4, ?5, ?6, ?7, ?8, ?9, ?10)"
+            }
+            Table::Version => {
+                "INSERT INTO version2 (id, subject, old, new, due, lrn, cic, old_at, new_at, \
+                 status, sends, since, attempt, release, spent, protective, cancelled_by, \
+                 deadline, holds, opens, held) VALUES (?1, ?2, ?3, ?4, ?5, ?6, ?7, ?8, ?9, \
+                 ?10, ?11, ?12, ?13, ?14, ?15, ?16, ?17, ?18, ?19, ?20, ?21)"
+            }
+            Table::Clock => {
+                "INSERT INTO clock2 (one, now, next_id, present) VALUES (?1, ?2, ?3, ?4)"
             }
         }
     }
@@ -110,6 +148,10 @@ pub enum Query {
     BlockNumbered,
     /// The clock's row, which has the number 0.
     ClockNumbered,
+    /// The set of windows with a number.
+    WindowSetNumbered,
+    /// The routing under way of the version with an id.
+    NextRoutingNumbered,
     /// The version with an id.
     VersionNumbered,
     /// A subject's version in force.
@@ -146,31 +188,35 @@ impl Query {
             Query::LrnNumbered => "SELECT lrn, spid FROM lrn WHERE lrn = ?1",
             Query::CodeNumbered => "SELECT code, spid FROM code WHERE code = ?1",
             Query::BlockNumbered => "SELECT block, donor, last FROM block WHERE block = ?1",
+            Query::NextRoutingNumbered => "SELECT id, lrn, cic FROM next_routing WHERE id = ?1",
             Query::ClockNumbered => {
-                "SELECT one, now, next_id, initial_concurrence, final_concurrence, \
-                 conflict_restriction, conflict_resolution, conflict_expiration, \
-                 cancellation_initial, cancellation_final, pending_retention, broadcast FROM \
-                 clock WHERE one = ?1"
+                "SELECT one, now, next_id, present FROM clock2 WHERE one = ?1"
+            }
+            Query::WindowSetNumbered => {
+                "SELECT number, initial_concurrence, final_concurrence, conflict_restriction, \
+                 conflict_resolution, conflict_expiration, cancellation_initial, \
+                 cancellation_final, pending_retention, broadcast FROM window_set WHERE number \
+                 = ?1"
             }
             Query::VersionNumbered => {
                 "SELECT id, subject, old, new, due, lrn, cic, old_at, new_at, status, sends, \
                  since, attempt, release, spent, protective, cancelled_by, deadline, holds, \
-                 opens FROM version WHERE id = ?1"
+                 opens, held FROM version2 WHERE id = ?1"
             }
             Query::VersionInForce => {
                 "SELECT id, subject, old, new, due, lrn, cic, old_at, new_at, status, sends, \
                  since, attempt, release, spent, protective, cancelled_by, deadline, holds, \
-                 opens FROM version WHERE holds = ?1"
+                 opens, held FROM version2 WHERE holds = ?1"
             }
             Query::VersionOpen => {
                 "SELECT id, subject, old, new, due, lrn, cic, old_at, new_at, status, sends, \
                  since, attempt, release, spent, protective, cancelled_by, deadline, holds, \
-                 opens FROM version WHERE opens = ?1"
+                 opens, held FROM version2 WHERE opens = ?1"
             }
             Query::VersionDue => {
                 "SELECT id, subject, old, new, due, lrn, cic, old_at, new_at, status, sends, \
                  since, attempt, release, spent, protective, cancelled_by, deadline, holds, \
-                 opens FROM version WHERE deadline >= 0 AND deadline <= ?1 ORDER BY deadline \
+                 opens, held FROM version2 WHERE deadline >= 0 AND deadline <= ?1 ORDER BY deadline \
                  LIMIT 1"
             }
             Query::BroadcastKeyed => {
@@ -196,12 +242,12 @@ impl Query {
             Query::InForceAmong => {
                 "SELECT id, subject, old, new, due, lrn, cic, old_at, new_at, status, sends, \
                  since, attempt, release, spent, protective, cancelled_by, deadline, holds, \
-                 opens FROM version WHERE holds >= ?1 AND holds <= ?2"
+                 opens, held FROM version2 WHERE holds >= ?1 AND holds <= ?2"
             }
             Query::OpenAmong => {
                 "SELECT id, subject, old, new, due, lrn, cic, old_at, new_at, status, sends, \
                  since, attempt, release, spent, protective, cancelled_by, deadline, holds, \
-                 opens FROM version WHERE opens >= ?1 AND opens <= ?2"
+                 opens, held FROM version2 WHERE opens >= ?1 AND opens <= ?2"
             }
         }
     }

@@ -161,6 +161,7 @@ pub fn action(action: Action) -> ValueRef<'static>
     match action {
         Action::Create => ValueRef::Text(b"create"),
         Action::Delete => ValueRef::Text(b"delete"),
+        Action::Modify => ValueRef::Text(b"modify"),
     }
 }
 
@@ -168,7 +169,7 @@ pub fn sends(status: Status) -> ValueRef<'static>
     ensures { owned result ≡ Text (sends_word (status_of status)) }
 {
     match status {
-        Status::Sending(sent) => action(sent),
+        Status::Sending(send) => action(send.action()),
         _ => ValueRef::Text(b"none"),
     }
 }

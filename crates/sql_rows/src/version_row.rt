@@ -2,17 +2,21 @@
 ghost use Rattle.std.specs.Prelude.{◌≡◌, ◌<◌, map, option_map, Some, IsTrue, List};
 ghost use Rattle.sqlite.specs.Value.{owned};
 ghost use Rattle.numbers.specs.Texts.{spid_text};
-ghost use Rattle.sql_rows.specs.Versions.{version_in, version_entry, version_row, version_params};
+ghost use Rattle.meaning.specs.Views.{status_of};
+ghost use Rattle.version.specs.Views.{routings_of};
+ghost use Rattle.sql_rows.specs.Versions.{version_with, version_entry, version_row, version_params, bare, is_routed_while_modified};
 
+use crate::params::is_set_number;
 use crate::reading::{
-    bool_at, found_at, minute_at, minute_or_null_at, number_at, routing_at, spid_at, status_at,
-    subject_at,
+    bool_at, found_at, minute_at, minute_or_null_at, number_at, routing_at, set_number_at, spid_at,
+    status_at, subject_at,
 };
 use crate::stored::Stored;
 use crate::values::{
     cancelled_by, cic, found, lrn, minute, minute_or_null, number, release, sends, status, subject,
     truth,
 };
+use meaning::{Send, Status};
 use settle::{NumberedRow, VersionRow};
 use sqlite::Row;
 use sqlite::types::ValueRef;
@@ -30,40 +34,90 @@ impl Stored for NumberedRow {
     ghost seen_in = { version_in };
 
     fn read(row: &Row) -> Option<NumberedRow> {
-        let id = number_at(row, 0)?;
-        let subject = subject_at(row, 1)?;
-        Some(NumberedRow {
-            id,
-            row: VersionRow {
-                version: Version {
-                    subject,
-                    old_provider: spid_at(row, 2)?,
-                    new_provider: spid_at(row, 3)?,
-                    due: minute_at(row, 4)?,
-                    routing: routing_at(row, 5, 6)?,
-                    old_at: minute_or_null_at(row, 7)?,
-                    new_at: minute_or_null_at(row, 8)?,
-                    status: status_at(row, 9, 10, 13, 16)?,
-                    since: minute_at(row, 11)?,
-                    attempt: number_at(row, 12)?,
-                    is_conflict_spent: bool_at(row, 14)?,
-                    is_protective: bool_at(row, 15)?,
-                },
-                deadline: minute_or_null_at(row, 17)?,
-                is_in_force: found_at(row, 18, id, subject)?,
-                is_open: found_at(row, 19, id, subject)?,
-            },
+        version_at(row, set_number_at(row, 20))
+    }
+}
+
+/// A version of a file of an earlier form: it holds set 1.
+#[derive(Debug, Drop)]
+pub struct OldVersion {
+    pub version: NumberedRow,
+}
+
+impl Stored for OldVersion {
+    ghost use Rattle.std.specs.Prelude.{ℕ};
+    ghost use Rattle.meaning.specs.Content.{VersionRow as Seen};
+    ghost use Rattle.sql_rows.specs.Versions.{old_version_in};
+
+    ghost Seen = { ℕ × Seen };
+
+    ghost seen = { λ v. (v.version.id, v.version.row) };
+
+    ghost seen_in = { old_version_in };
+
+    fn read(row: &Row) -> Option<OldVersion> {
+        Some(OldVersion {
+            version: version_at(row, Some(1))?,
         })
     }
 }
 
-/// Whether a column holds the id and the attempt. Each other value fits its column.
+// A version by its columns, and by the number of the set of windows that it holds.
+fn version_at(row: &Row, held: Option<u16>) -> Option<NumberedRow>
+    ensures { option_map (λ (v : NumberedRow). (v.id, v.row)) result ≡ version_with held row.now }
+{
+    let id = number_at(row, 0)?;
+    let subject = subject_at(row, 1)?;
+    let routing = routing_at(row, 5, 6)?;
+    Some(NumberedRow {
+        id,
+        row: VersionRow {
+            version: Version {
+                subject,
+                old_provider: spid_at(row, 2)?,
+                new_provider: spid_at(row, 3)?,
+                due: minute_at(row, 4)?,
+                routing,
+                old_at: minute_or_null_at(row, 7)?,
+                new_at: minute_or_null_at(row, 8)?,
+                status: status_at(row, 9, 10, 13, 16, routing)?,
+                since: minute_at(row, 11)?,
+                held: held?,
+                attempt: number_at(row, 12)?,
+                is_conflict_spent: bool_at(row, 14)?,
+                is_protective: bool_at(row, 15)?,
+            },
+            deadline: minute_or_null_at(row, 17)?,
+            is_in_force: found_at(row, 18, id, subject)?,
+            is_open: found_at(row, 19, id, subject)?,
+        },
+    })
+}
+
+// Whether the row says where it is routed while it sends a modify.
+fn is_routed_while_modified(version: &Version) -> bool
+    ensures { result
+        ≡ is_routed_while_modified (routings_of version.now.routing)
+        (status_of version.now.status) }
+{
+    match version.status {
+        Status::Sending(Send::Modify(_)) => version.routing.is_some(),
+        _ => true,
+    }
+}
+
+/// Whether a column holds the id, the attempt and the number of the set. Each other value fits its
+/// column.
 pub fn fits(id: u64, row: &VersionRow) -> bool
     ensures small { IsTrue result → id < 9223372036854775808 }
     ensures few { IsTrue result → row.now.attempt < 9223372036854775808 }
-    ensures back { IsTrue result → version_entry (version_row id row.now) ≡ Some (id, row.now) }
+    ensures back { IsTrue result → version_entry (version_row id row.now)
+        ≡ Some (id, bare row.now) }
 {
-    id < 9_223_372_036_854_775_808 && row.version.attempt < 9_223_372_036_854_775_808
+    id < 9_223_372_036_854_775_808
+        && row.version.attempt < 9_223_372_036_854_775_808
+        && is_set_number(row.version.held)
+        && is_routed_while_modified(&row.version)
 }
 
 /// What the statement takes that puts it in. `old` and `new` are the providers' texts.
@@ -72,7 +126,7 @@ pub fn version_params<'a>(
     row: &VersionRow,
     old: &'a [u8; 4],
     new: &'a [u8; 4],
-) -> [ValueRef<'a>; 20]
+) -> [ValueRef<'a>; 21]
     requires small { id < 9223372036854775808 }
     requires few { row.now.attempt < 9223372036854775808 }
     requires old { old.now ≡ spid_text row.now.old_provider }
@@ -101,5 +155,6 @@ pub fn version_params<'a>(
         minute_or_null(row.deadline),
         found(id, row.holds()),
         found(id, row.opens()),
+        number(u64::from(version.held)),
     ]
 }

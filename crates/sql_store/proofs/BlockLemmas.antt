@@ -1,5 +1,5 @@
 -- What stands in the list of a block's numbers.
-use Rattle.std.proofs.Common.{◌≡◌, ◌⊎◌, ℕ, ◌+◌, ◌*◌, ◌≤◌, List, [], ◌∷◌, ◌++◌, map, pos, Bool, true, false, ◌||◌, Some, inl, inr, Equal, refl, sym, ap, subst, ◌∙◌, true≢false, arith}
+use Rattle.std.proofs.Common.{◌≡◌, ◌⊎◌, ℕ, ◌+◌, ◌*◌, ◌≤◌, List, [], ◌∷◌, ◌++◌, map, pos, Bool, true, false, ◌||◌, Option, Some, inl, inr, Equal, refl, sym, ap, subst, ◌∙◌, true≢false, arith}
 use Rattle.std.specs.Prelude.{◌==◌}
 use Rattle.std.specs.FinMap.{nat_cmp-IsAntisymmetric}
 use Rattle.std.specs.List.{filter_map}
@@ -16,7 +16,11 @@ use Rattle.numbers.specs.declared.tn.Tn.{Tn}
 use Rattle.meaning.specs.Content.{Content, VersionRow}
 use Rattle.settle.specs.Reads.{AreInBlock, IsInBlock, IsTold}
 use Rattle.settle.specs.declared.rows.NumberedRow.{NumberedRow}
-use Rattle.sql_rows.specs.Content.{content_in}
+use Rattle.numbers.specs.Routings.{Routing}
+use Rattle.std.specs.FinMap.{get}
+use Rattle.sql_rows.specs.Content.{bare_in, content_in, nexts_in}
+use Rattle.sql_rows.specs.Versions.{rerouted}
+use Rattle.sql_rows.proofs.Rerouted.{bare-of, whole-of}
 use Rattle.sql_rows.specs.Found.{IsListAnswer}
 use Rattle.sql_rows.specs.Shaped.{AreShaped}
 use Rattle.sql_rows.specs.Versions.{version_in}
@@ -35,7 +39,7 @@ use Rattle.sql_store.proofs.WaiterLemmas.{has_any}
 -- ---- numbers of the block by one column
 
 pub standing_picked : (db : Trees) → AreShaped db → (standing : Standing) (low high : ℕ) (found : List NumberedRow) → IsListAnswer (query_by standing) version_in db (Int (pos low) ∷ Int (pos high) ∷ []) (map version_seen found)
-    → Picks version_seen (content_in db).versions (λ id v. IsAmong low high (subject_by standing v)) found
+    → Picks version_seen (bare_in db).versions (λ id v. IsAmong low high (subject_by standing v)) found
 standing_picked db shaped InForce low high found answer = in_force_picked db shaped low high found answer
 standing_picked db shaped Open low high found answer = open_picked db shaped low high found answer
 
@@ -72,6 +76,24 @@ numbers_are c standing block found tns picks are = record {
   where
     by_subject : (standing : Standing) (v : VersionRow) (n : ℕ) → subject_by standing v ≡ Some (Number n) → number_by standing v ≡ Some n
     by_subject standing v n is = rw is refl
+
+-- a row that sends a modify stands as the others do
+module _ (db : Trees) (standing : Standing) where
+  same_subject : (n : Option Routing) (v : VersionRow) → (by : Standing) → subject_by by (rerouted n v) ≡ subject_by by v
+  same_subject n v InForce = refl
+  same_subject n v Open = refl
+
+  stands_whole : (n : ℕ) → Stands (bare_in db) standing n → Stands (content_in db) standing n
+  stands_whole n s = (s.0, rerouted (get (nexts_in (db 16)) s.0) s.1, whole-of db s.0 s.1 s.2, same_subject (get (nexts_in (db 16)) s.0) s.1 standing ∙ s.3)
+
+  stands_bare : (n : ℕ) → Stands (content_in db) standing n → Stands (bare_in db) standing n
+  stands_bare n s = let b = bare-of db s.0 s.1 s.2 in (s.0, b.0, b.1, sym (same_subject (get (nexts_in (db 16)) s.0) b.0 standing) ∙ ap (subject_by standing) b.2 ∙ s.3)
+
+  pub numbers_whole : (block : ℕ) (tns : List Tn) → AreNumbers (bare_in db) standing block tns → AreNumbers (content_in db) standing block tns
+  numbers_whole block tns are = record {
+    each = λ n own stands. are.each n own (stands_bare n stands);
+    only = λ tn at. let it = are.only tn at in (it.0, stands_whole tn.number it.1);
+  }
 
 -- ---- both columns
 

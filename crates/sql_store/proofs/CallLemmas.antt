@@ -26,12 +26,13 @@ use Rattle.sql_rows.specs.declared.statement.Query.{Query}
 use Rattle.sql_rows.specs.Written.{Removed, AddedBy, Replaced}
 use Rattle.sql_rows.specs.declared.statement.Table.{Table}
 use Rattle.sql_rows.proofs.TableLemmas.{removed_shaped}
+use Rattle.sql_rows.proofs.PutLemmas.{Became}
 use Rattle.sql_rows.proofs.StatementLemmas.{Selects, query_is, query_plain, query_selects, query_unlisted}
 use Rattle.sql_store.proofs.Showing.{never_shows}
 use Rattle.sql_store.specs.Store.{settled, content_at, IsOurs, IsSame, Looked, Turned, IsInside, Stepped, Kept, Makes, Goes, Writes}
 
 module _ (sql : List ℕ) (params : Row) (old new : State) where
-  shown_open : (rows : List Row) → Shown sql params old new rows → IsTrue old.is_open
+  pub shown_open : (rows : List Row) → Shown sql params old new rows → IsTrue old.is_open
   unfolding Shown
   shown_open rows h = go h.0.returning h.2
     where
@@ -43,7 +44,7 @@ module _ (sql : List ℕ) (params : Row) (old new : State) where
   unfolding Shown
   shown_same rows plain h = (subst (ShowsRows old new sql h.0 (timed params h.0.formats h.1.now) rows) (subst IsPlain h.1.is plain).0 h.2).3
 
-  fails_open : (e : Error) → IsTrue new.is_open → FailsToQuery sql params old new e → IsTrue old.is_open
+  pub fails_open : (e : Error) → IsTrue new.is_open → FailsToQuery sql params old new e → IsTrue old.is_open
   unfolding FailsToQuery IsNotRun
   fails_open e is_open (inl (inl unrun)) = unrun.1.0.was_open
   fails_open e is_open (inl (inr fails)) = fails.3.was_open is_open
@@ -54,7 +55,7 @@ module _ (sql : List ℕ) (params : Row) (old new : State) where
       go (Some what) (inl it) = it.1.0.was_open
       go (Some what) (inr it) = it.3.was_open is_open
 
-  fails_same : (e : Error) → IsPlain (understood old.now.schema sql) → FailsToQuery sql params old new e → IsUnchanged old new ⊎ IsRolledBack old new
+  pub fails_same : (e : Error) → IsPlain (understood old.now.schema sql) → FailsToQuery sql params old new e → IsUnchanged old new ⊎ IsRolledBack old new
   unfolding FailsToQuery IsNotRun
   fails_same e plain (inl (inl unrun)) = inl unrun.1
   fails_same e plain (inl (inr fails)) = inr fails.3
@@ -101,6 +102,18 @@ module _ (query : Query) (params : Row) (old new : State) (ours : IsTrue old.is_
 
   pub answers : (rows : List Row) → IsTrue old.is_open → Shown (query_text query) params old new rows → IsAnswer (query_of query) (overlay old.now.trees []) params rows
   answers rows was shown = (reads_as (query_text query) params old new the_schema (ours was).schema _ (query_is query) (query_plain query) (query_unlisted query) rows shown).answer Null
+
+-- what was read is ours still
+pub looked_ours : (old new : State) (answered : Bool) → (IsTrue old.is_open → IsOurs old) → Looked old new answered → IsTrue new.is_open → IsOurs new
+looked_ours old new answered ours looked up =
+    let same = looked.same up in
+    let our = ours same.was_open in
+    record {
+      schema = ap (λ (d : Database). d.schema) same.now ∙ our.schema;
+      shaped = subst (λ (d : Database). AreShaped d.trees) (sym same.now) our.shaped;
+      same_schema = ap (λ (d : Database). d.schema) (same.now ∙ settled old our ∙ sym same.committed);
+      same_trees = ap (λ (d : Database). d.trees) (same.now ∙ settled old our ∙ sym same.committed);
+    }
 
 -- two reads, one after the other
 pub looked_then : (a b d : State) (answered : Bool) → Looked a b true → Looked b d answered → Looked a d answered
@@ -156,13 +169,13 @@ statement_writes g old new sql params r done Did clean_of ended runs survives co
 -- ---- changes in turn
 
 module _ (a b c : State) where
-  kept_then : (IsTrue b.is_open → Kept a b) → (IsTrue c.is_open → Kept b c) → IsTrue c.is_open → Kept a c
+  pub kept_then : (IsTrue b.is_open → Kept a b) → (IsTrue c.is_open → Kept b c) → IsTrue c.is_open → Kept a c
   kept_then first two up = let k = two up in let j = first k.was_open in record { was_open = j.was_open; committed = k.committed ∙ j.committed }
 
-  both_survive : Survives a b (λ _. ⊥) → Survives b c (λ _. ⊥) → Survives a c (λ _. ⊥)
+  pub both_survive : Survives a b (λ _. ⊥) → Survives b c (λ _. ⊥) → Survives a c (λ _. ⊥)
   both_survive first two = survives_then a b c _ _ _ (λ clean db bad. bad) (λ clean db bad. bad) first two
 
-  earlier : Survives b c (λ _. ⊥) → HasCleanDisk c → HasCleanDisk b
+  pub earlier : Survives b c (λ _. ⊥) → HasCleanDisk c → HasCleanDisk b
   earlier two clean = omega (arith, clean, two.clean)
 
   pub makes_then : (done : Bool) (f g : Content → Content) → Makes a b true f → Makes b c done g → Makes a c done (λ m. g (f m))
@@ -171,6 +184,27 @@ module _ (a b c : State) where
         let one = first.made refl (earlier two.survives clean) inside in
         let more = two.made ok clean one.inside in
         record { inside = more.inside; committed = more.committed ∙ one.committed; is = more.is ∙ ap g one.is };
+    kept = kept_then first.kept two.kept;
+    survives = both_survive first.survives two.survives;
+  }
+
+  -- two statements that make together this of the content
+  pub two_made : (done : Bool) (First Second : Database → Database → Type 0) (change : Content → Content) → Writes a b true First → Writes b c done Second → (AreShaped a.now.trees → First a.now b.now → (b.now.schema ≡ the_schema) × AreShaped b.now.trees)
+      → (AreShaped a.now.trees → First a.now b.now → Second b.now c.now → Became c.now (change (content_at a))) → Makes a c done change
+  two_made done First Second change first two between means = record {
+    made = λ ok clean inside.
+        let one = first.wrote refl (earlier two.survives clean) inside in
+        let m = between inside.shaped one.did in
+        let then = two.wrote ok clean (record { is_open = one.is_open; inside = one.inside; schema = m.0; shaped = m.1 }) in
+        let w = means inside.shaped one.did then.did in
+        record { inside = record { is_open = then.is_open; inside = then.inside; schema = w.schema; shaped = w.shaped }; committed = then.committed ∙ one.committed; is = w.is };
+    kept = kept_then first.kept two.kept;
+    survives = both_survive first.survives two.survives;
+  }
+
+  pub two_stop : (First Second : Database → Database → Type 0) (change : Content → Content) → Writes a b true First → Writes b c false Second → Makes a c false change
+  two_stop First Second change first two = record {
+    made = λ no. absurd (true≢false (sym no));
     kept = kept_then first.kept two.kept;
     survives = both_survive first.survives two.survives;
   }
@@ -216,6 +250,13 @@ module _ (a b : State) where
   -- what failed made nothing
   pub writes_nothing : (Did Would : Database → Database → Type 0) → Writes a b false Did → Writes a b false Would
   writes_nothing Did Would it = record { wrote = λ bad. absurd (true≢false (sym bad)); kept = it.kept; survives = it.survives }
+
+  pub writes_as : (done : Bool) (Did Would : Database → Database → Type 0) → (Did a.now b.now → Would a.now b.now) → Writes a b done Did → Writes a b done Would
+  writes_as done Did Would means it = record {
+    wrote = λ ok clean inside. let w = it.wrote ok clean inside in record { is_open = w.is_open; inside = w.inside; committed = w.committed; did = means w.did };
+    kept = it.kept;
+    survives = it.survives;
+  }
 
   -- what was made of the tables, as a change of the content
   pub makes : (done : Bool) (Did : Database → Database → Type 0) (change : Content → Content) → Writes a b done Did
@@ -365,4 +406,36 @@ looked_still a is_open = record {
   honest = λ done. done;
   stays = λ ok done. is_open done;
   survives = record { clean = omega arith; shield = λ s. s; counts = omega arith; limit = refl; closes = λ clean h. inl h; crash = λ clean db may. inl may };
+}
+
+-- ---- a read, and then a commit
+
+module _ (a b d : State) (Turns Becomes : Content → Content → Type 0) (one : Looked a b true) (means : IsTrue b.is_open → (after : Content) → Turns (content_at b) after → Becomes (content_at b) after) where
+  from_first : IsTrue b.is_open → (after : Content) → Turns (content_at b) after → Becomes (content_at a) after
+  from_first was after h = subst (λ (db : Database). Becomes (content_in db.trees) after) (one.same was).now (means was after h)
+
+  pub looked_turned : (done : Bool) → Turned b d done Turns → Turned a d done Becomes
+  looked_turned done two = record {
+    becomes = λ ok up. from_first (two.was_open up) (content_at d) (two.becomes ok up);
+    same = λ no up.
+        let later = two.same no up in
+        let sooner = one.same later.was_open in
+        record { was_open = sooner.was_open; now = later.now ∙ sooner.now; committed = later.committed ∙ sooner.committed };
+    was_open = λ up. (one.same (two.was_open up)).was_open;
+    honest = λ done. one.honest (two.honest done);
+    stays = λ ok was clean. two.stays ok (one.stays refl (two.honest clean)) clean;
+    ours = two.ours;
+    crash = survives_then a b d _ _ _ (λ clean db none. absurd none) (λ clean db h was. let up = one.stays refl (two.honest clean) in from_first up (content_in db) (h up)) one.survives two.crash;
+  }
+
+-- a read that failed: nothing is committed
+pub looked_unturned : (a b : State) (Becomes : Content → Content → Type 0) → (IsTrue a.is_open → IsOurs a) → Looked a b false → Turned a b false Becomes
+looked_unturned a b Becomes ours one = record {
+  becomes = λ no. absurd (true≢false (sym no));
+  same = λ _. one.same;
+  was_open = λ up. (one.same up).was_open;
+  honest = one.honest;
+  stays = λ no. absurd (true≢false (sym no));
+  ours = looked_ours a b false ours one;
+  crash = survives_weaker a b _ _ (λ clean db none. absurd none) one.survives;
 }

@@ -1,23 +1,27 @@
 -- The content with all rows put and taken away is the content with the changes.
 use Rattle.std.proofs.Common.{◌≡◌, ℕ, List, [], ◌∷◌, map, Option, Some, None, Bool, true, false, cond, ◌&&◌, refl, sym, ap, ◌∙◌, arith, drop, drop-cons, add-one, zero, suc, ◌+◌, ◌<◌, ◌≤◌, length, get_or}
-use Rattle.std.specs.Prelude.{◌==◌, if◌then◌else◌, option_map}
+use Rattle.std.specs.Prelude.{◌==◌, ◌||◌, IsTrue, if◌then◌else◌, is_some, option_map}
 use Rattle.std.specs.declared.cmp.Ordering.{Ordering}
 use Rattle.std.specs.Ordering.{nat_cmp, eq_by_cmp, is_eq}
 use Rattle.std.specs.Cmp.{IsTotalOrder, nat_cmp_total}
 use Rattle.std.specs.FinMap.{FinMap, get, insert, remove, get-insert, get-remove}
 use Rattle.std.proofs.lemmas.Bool.Decides.{nat_tests}
 use Rattle.numbers.specs.Views.{subject_of}
-use Rattle.std.specs.Option.{option_or}
 use Rattle.numbers.specs.Subjects.{Subject}
 use Rattle.numbers.specs.declared.spid.Spid.{Spid}
 use Rattle.settle.specs.declared.rows.ClockRow.{ClockRow as ClockCode}
+use Rattle.settle.specs.declared.rows.ClockMove.{ClockMove as MoveCode}
+use Rattle.windows.specs.declared.window.WindowSet.{WindowSet as SetCode}
+use Rattle.meaning.specs.Windows.{WindowSet, Windows}
+use Rattle.version.specs.Views.{set_of, windows_of}
+use Rattle.sql_rows.specs.Clocks.{clock_row}
 use Rattle.meaning.specs.Content.{Content, BlockRow, VersionRow, BroadcastRow, ClockRow, BroadcastKey, WaitKey, broadcast_cmp, wait_cmp}
-use Rattle.settle.specs.Changes.{IsChanged, changes_of, put_rows, put_row, take_rows, same_broadcast, same_wait}
+use Rattle.settle.specs.Changes.{IsChanged, changes_of, clock_after, clock_move_of, put_rows, put_row, take_rows, same_broadcast, same_wait}
 use Rattle.settle.specs.Lists.{items_of}
 use Rattle.settle.specs.Views.{spid_of, lrn_of, code_of, block_of, block_row_of, clock_row_of, broadcast_row_of, broadcast_key_of, wait_key_of}
 use Rattle.settle.specs.declared.changes.Changes.{Changes}
 use Rattle.sql_rows.proofs.Orders.{broadcast_total, wait_total, broadcast_tie, wait_tie}
-use Rattle.sql_store.specs.Changes.{all_made, if_some, singles, lists, made, with_carrier, with_lrn, with_code, with_block, with_clock, with_version, without_version, with_broadcast, without_broadcast, with_wait, without_wait}
+use Rattle.sql_store.specs.Changes.{all_made, go_by_clock, if_some, singles, lists, made, with_carrier, with_lrn, with_code, with_block, clock_made, with_version, without_version, with_broadcast, without_broadcast, with_wait, without_wait}
 
 -- ---- a part of the content that a change leaves
 
@@ -32,6 +36,18 @@ keeps_some part change same (Some x) c = same x c
 if_cond : {X : Type 0} (b : Bool) (x y : X) → cond b x y ≡ (if b then x else y)
 if_cond true x y = refl
 if_cond false x y = refl
+
+-- what the clock and its sets leave
+abbrev pub ClockKeeps : {A : Type 0} → (Content → A) → Type 0
+ClockKeeps part = (c : Content) (sets : FinMap nat_cmp Windows) (clock : Option ClockRow) → part (record c { sets = sets; clock = clock }) ≡ part c
+
+clock_keeps : {A : Type 0} (part : Content → A) → ClockKeeps part → (moved : Option MoveCode) (set : Option SetCode) (row : Option ClockCode) (c : Content) → part (clock_made moved set row c) ≡ part c
+clock_keeps part same None None row c = refl
+clock_keeps part same (Some m) None None c = refl
+clock_keeps part same (Some m) None (Some row) c = same c c.sets _
+clock_keeps part same (Some m) (Some s) row c = same c _ _
+clock_keeps part same None (Some s) (Some row) c = same c _ _
+clock_keeps part same None (Some s) None c = same c _ c.clock
 
 -- ---- a table
 
@@ -135,11 +151,11 @@ module _ {A : Type 0} (part : Content → A) (ch : Changes) where
     lrn : (k v : ℕ) (c : Content) → part (with_lrn k v c) ≡ part c
     code : (k v : ℕ) (c : Content) → part (with_code k v c) ≡ part c
     block : (k : ℕ) (v : BlockRow) (c : Content) → part (with_block k v c) ≡ part c
-    clock : (v : ClockRow) (c : Content) → part (with_clock v c) ≡ part c
+    clock : ClockKeeps part
 
-  past_singles : Spared → (c : Content) → part (singles ch c) ≡ part c
-  past_singles p c =
-      keeps_some part _ (λ r c. p.clock (clock_row_of r) c) ch.clock _ ∙ keeps_some part _ (λ e c. p.block (block_of e.0) (block_row_of e.1) c) ch.block _ ∙ keeps_some part _ (λ e c. p.code (code_of e.0) (spid_of e.1) c) ch.code _
+  past_singles : Spared → (row : Option ClockCode) (c : Content) → part (singles ch row c) ≡ part c
+  past_singles p row c =
+      clock_keeps part p.clock ch.clock ch.set row _ ∙ keeps_some part _ (λ e c. p.block (block_of e.0) (block_row_of e.1) c) ch.block _ ∙ keeps_some part _ (λ e c. p.code (code_of e.0) (spid_of e.1) c) ch.code _
       ∙ keeps_some part _ (λ e c. p.lrn (lrn_of e.0) (spid_of e.1) c) ch.lrn _ ∙ keeps_some part _ (λ k c. p.carrier (spid_of k) c) ch.carrier c
 
 abbrev by_get : {K V : Type 0} {R : K → K → Ordering} → K → FinMap R V → Option V
@@ -148,11 +164,11 @@ by_get k m = get m k
 abbrev unit_pair : ℕ → ℕ × Unit {0}
 unit_pair k = (k, tt)
 
-module _ (ch : Changes) (c : Content) where
-  carriers_left : (k : ℕ) → get (made ch c).carriers k ≡ put_row ◌==◌ (option_map unit_pair (option_map spid_of ch.carrier)) k (get c.carriers k)
+module _ (ch : Changes) (row : Option ClockCode) (c : Content) where
+  carriers_left : (k : ℕ) → get (made ch row c).carriers k ≡ put_row ◌==◌ (option_map unit_pair (option_map spid_of ch.carrier)) k (get c.carriers k)
   carriers_left k =
-      ap (by_get k) (past_lists (λ m. m.carriers) ch (record { version = λ k v c. refl; no_version = λ k c. refl; broadcast = λ k v c. refl; no_broadcast = λ k c. refl; wait = λ k v c. refl; no_wait = λ k c. refl }) (singles ch c))
-      ∙ ap (by_get k) (keeps_some (λ m. m.carriers) (λ r. with_clock (clock_row_of r)) (λ r c. refl) ch.clock _ ∙ keeps_some (λ m. m.carriers) (λ e. with_block (block_of e.0) (block_row_of e.1)) (λ e c. refl) ch.block _
+      ap (by_get k) (past_lists (λ m. m.carriers) ch (record { version = λ k v c. refl; no_version = λ k c. refl; broadcast = λ k v c. refl; no_broadcast = λ k c. refl; wait = λ k v c. refl; no_wait = λ k c. refl }) (singles ch row c))
+      ∙ ap (by_get k) (clock_keeps (λ m. m.carriers) (λ c sets clock. refl) ch.clock ch.set row _ ∙ keeps_some (λ m. m.carriers) (λ e. with_block (block_of e.0) (block_row_of e.1)) (λ e c. refl) ch.block _
       ∙ keeps_some (λ m. m.carriers) (λ e. with_code (code_of e.0) (spid_of e.1)) (λ e c. refl) ch.code _ ∙ keeps_some (λ m. m.carriers) (λ e. with_lrn (lrn_of e.0) (spid_of e.1)) (λ e c. refl) ch.lrn _)
       ∙ one_put nat_cmp nat_cmp_total ◌==◌ number_ties (λ m. m.carriers) spid_of (λ _. tt) (λ k. with_carrier (spid_of k)) (λ x c. refl) ch.carrier c k ∙ ap (λ o. put_row ◌==◌ o k (get c.carriers k)) (twice ch.carrier)
     where
@@ -160,61 +176,112 @@ module _ (ch : Changes) (c : Content) where
       twice None = refl
       twice (Some x) = refl
 
-  lrns_left : (k : ℕ) → get (made ch c).lrns k ≡ put_row ◌==◌ (option_map (λ e. (lrn_of e.0, spid_of e.1)) ch.lrn) k (get c.lrns k)
+  lrns_left : (k : ℕ) → get (made ch row c).lrns k ≡ put_row ◌==◌ (option_map (λ e. (lrn_of e.0, spid_of e.1)) ch.lrn) k (get c.lrns k)
   lrns_left k =
-      ap (by_get k) (past_lists (λ m. m.lrns) ch (record { version = λ k v c. refl; no_version = λ k c. refl; broadcast = λ k v c. refl; no_broadcast = λ k c. refl; wait = λ k v c. refl; no_wait = λ k c. refl }) (singles ch c))
-      ∙ ap (by_get k) (keeps_some (λ m. m.lrns) (λ r. with_clock (clock_row_of r)) (λ r c. refl) ch.clock _ ∙ keeps_some (λ m. m.lrns) (λ e. with_block (block_of e.0) (block_row_of e.1)) (λ e c. refl) ch.block _ ∙ keeps_some (λ m. m.lrns) (λ e. with_code (code_of e.0) (spid_of e.1)) (λ e c. refl) ch.code _)
+      ap (by_get k) (past_lists (λ m. m.lrns) ch (record { version = λ k v c. refl; no_version = λ k c. refl; broadcast = λ k v c. refl; no_broadcast = λ k c. refl; wait = λ k v c. refl; no_wait = λ k c. refl }) (singles ch row c))
+      ∙ ap (by_get k) (clock_keeps (λ m. m.lrns) (λ c sets clock. refl) ch.clock ch.set row _ ∙ keeps_some (λ m. m.lrns) (λ e. with_block (block_of e.0) (block_row_of e.1)) (λ e c. refl) ch.block _ ∙ keeps_some (λ m. m.lrns) (λ e. with_code (code_of e.0) (spid_of e.1)) (λ e c. refl) ch.code _)
       ∙ one_put nat_cmp nat_cmp_total ◌==◌ number_ties (λ m. m.lrns) (λ e. lrn_of e.0) (λ e. spid_of e.1) (λ e. with_lrn (lrn_of e.0) (spid_of e.1)) (λ x c. refl) ch.lrn _ k
       ∙ ap (λ m. put_row ◌==◌ (option_map (λ e. (lrn_of e.0, spid_of e.1)) ch.lrn) k (get m k)) (keeps_some (λ m. m.lrns) (λ k. with_carrier (spid_of k)) (λ k c. refl) ch.carrier _)
 
-  codes_left : (k : ℕ) → get (made ch c).codes k ≡ put_row ◌==◌ (option_map (λ e. (code_of e.0, spid_of e.1)) ch.code) k (get c.codes k)
+  codes_left : (k : ℕ) → get (made ch row c).codes k ≡ put_row ◌==◌ (option_map (λ e. (code_of e.0, spid_of e.1)) ch.code) k (get c.codes k)
   codes_left k =
-      ap (by_get k) (past_lists (λ m. m.codes) ch (record { version = λ k v c. refl; no_version = λ k c. refl; broadcast = λ k v c. refl; no_broadcast = λ k c. refl; wait = λ k v c. refl; no_wait = λ k c. refl }) (singles ch c))
-      ∙ ap (by_get k) (keeps_some (λ m. m.codes) (λ r. with_clock (clock_row_of r)) (λ r c. refl) ch.clock _ ∙ keeps_some (λ m. m.codes) (λ e. with_block (block_of e.0) (block_row_of e.1)) (λ e c. refl) ch.block _)
+      ap (by_get k) (past_lists (λ m. m.codes) ch (record { version = λ k v c. refl; no_version = λ k c. refl; broadcast = λ k v c. refl; no_broadcast = λ k c. refl; wait = λ k v c. refl; no_wait = λ k c. refl }) (singles ch row c))
+      ∙ ap (by_get k) (clock_keeps (λ m. m.codes) (λ c sets clock. refl) ch.clock ch.set row _ ∙ keeps_some (λ m. m.codes) (λ e. with_block (block_of e.0) (block_row_of e.1)) (λ e c. refl) ch.block _)
       ∙ one_put nat_cmp nat_cmp_total ◌==◌ number_ties (λ m. m.codes) (λ e. code_of e.0) (λ e. spid_of e.1) (λ e. with_code (code_of e.0) (spid_of e.1)) (λ x c. refl) ch.code _ k
       ∙ ap (λ m. put_row ◌==◌ (option_map (λ e. (code_of e.0, spid_of e.1)) ch.code) k (get m k)) (keeps_some (λ m. m.codes) (λ e. with_lrn (lrn_of e.0) (spid_of e.1)) (λ e c. refl) ch.lrn _ ∙ keeps_some (λ m. m.codes) (λ k. with_carrier (spid_of k)) (λ k c. refl) ch.carrier _)
 
-  blocks_left : (k : ℕ) → get (made ch c).blocks k ≡ put_row ◌==◌ (option_map (λ e. (block_of e.0, block_row_of e.1)) ch.block) k (get c.blocks k)
+  blocks_left : (k : ℕ) → get (made ch row c).blocks k ≡ put_row ◌==◌ (option_map (λ e. (block_of e.0, block_row_of e.1)) ch.block) k (get c.blocks k)
   blocks_left k =
-      ap (by_get k) (past_lists (λ m. m.blocks) ch (record { version = λ k v c. refl; no_version = λ k c. refl; broadcast = λ k v c. refl; no_broadcast = λ k c. refl; wait = λ k v c. refl; no_wait = λ k c. refl }) (singles ch c))
-      ∙ ap (by_get k) (keeps_some (λ m. m.blocks) (λ r. with_clock (clock_row_of r)) (λ r c. refl) ch.clock _)
+      ap (by_get k) (past_lists (λ m. m.blocks) ch (record { version = λ k v c. refl; no_version = λ k c. refl; broadcast = λ k v c. refl; no_broadcast = λ k c. refl; wait = λ k v c. refl; no_wait = λ k c. refl }) (singles ch row c))
+      ∙ ap (by_get k) (clock_keeps (λ m. m.blocks) (λ c sets clock. refl) ch.clock ch.set row _)
       ∙ one_put nat_cmp nat_cmp_total ◌==◌ number_ties (λ m. m.blocks) (λ e. block_of e.0) (λ e. block_row_of e.1) (λ e. with_block (block_of e.0) (block_row_of e.1)) (λ x c. refl) ch.block _ k
       ∙ ap (λ m. put_row ◌==◌ (option_map (λ e. (block_of e.0, block_row_of e.1)) ch.block) k (get m k)) (keeps_some (λ m. m.blocks) (λ e. with_code (code_of e.0) (spid_of e.1)) (λ e c. refl) ch.code _ ∙ keeps_some (λ m. m.blocks) (λ e. with_lrn (lrn_of e.0) (spid_of e.1)) (λ e c. refl) ch.lrn _ ∙ keeps_some (λ m. m.blocks) (λ k. with_carrier (spid_of k)) (λ k c. refl) ch.carrier _)
 
-  clock_left : (made ch c).clock ≡ option_or (option_map clock_row_of ch.clock) c.clock
-  clock_left = past_lists (λ m. m.clock) ch (record { version = λ k v c. refl; no_version = λ k c. refl; broadcast = λ k v c. refl; no_broadcast = λ k c. refl; wait = λ k v c. refl; no_wait = λ k c. refl }) (singles ch c) ∙ go ch.clock _ (keeps_some (λ m. m.clock) (λ e. with_block (block_of e.0) (block_row_of e.1)) (λ e c. refl) ch.block _ ∙ keeps_some (λ m. m.clock) (λ e. with_code (code_of e.0) (spid_of e.1)) (λ e c. refl) ch.code _ ∙ keeps_some (λ m. m.clock) (λ e. with_lrn (lrn_of e.0) (spid_of e.1)) (λ e c. refl) ch.lrn _ ∙ keeps_some (λ m. m.clock) (λ k. with_carrier (spid_of k)) (λ k c. refl) ch.carrier _)
-    where
-      go : (o : Option ClockCode) (m : Content) → m.clock ≡ c.clock → (if_some (λ r. with_clock (clock_row_of r)) o m).clock ≡ option_or (option_map clock_row_of o) c.clock
-      go None m same = same
-      go (Some r) m same = refl
+  -- the content before the clock's row and the sets are written
+  abbrev before : Content
+  before =
+      if_some (λ e. with_block (block_of e.0) (block_row_of e.1)) ch.block (if_some (λ e. with_code (code_of e.0) (spid_of e.1)) ch.code
+      (if_some (λ e. with_lrn (lrn_of e.0) (spid_of e.1)) ch.lrn (if_some (λ k. with_carrier (spid_of k)) ch.carrier c)))
 
-  versions_left : (k : ℕ) → get (made ch c).versions k ≡ put_rows ◌==◌ (items_of ch.versions) k (get c.versions k)
+  before_clock : before.clock ≡ c.clock
+  before_clock =
+      keeps_some (λ m. m.clock) (λ e. with_block (block_of e.0) (block_row_of e.1)) (λ e c. refl) ch.block _ ∙ keeps_some (λ m. m.clock) (λ e. with_code (code_of e.0) (spid_of e.1)) (λ e c. refl) ch.code _
+      ∙ keeps_some (λ m. m.clock) (λ e. with_lrn (lrn_of e.0) (spid_of e.1)) (λ e c. refl) ch.lrn _ ∙ keeps_some (λ m. m.clock) (λ k. with_carrier (spid_of k)) (λ k c. refl) ch.carrier _
+
+  before_sets : before.sets ≡ c.sets
+  before_sets =
+      keeps_some (λ m. m.sets) (λ e. with_block (block_of e.0) (block_row_of e.1)) (λ e c. refl) ch.block _ ∙ keeps_some (λ m. m.sets) (λ e. with_code (code_of e.0) (spid_of e.1)) (λ e c. refl) ch.code _
+      ∙ keeps_some (λ m. m.sets) (λ e. with_lrn (lrn_of e.0) (spid_of e.1)) (λ e c. refl) ch.lrn _ ∙ keeps_some (λ m. m.sets) (λ k. with_carrier (spid_of k)) (λ k c. refl) ch.carrier _
+
+  clock_left : (IsTrue (go_by_clock ch) → option_map clock_row_of row ≡ c.clock) → ((r : ClockRow) → c.clock ≡ Some r → get c.sets r.present.number ≡ Some r.present.windows) → (made ch row c).clock ≡ clock_after (option_map clock_move_of ch.clock) (option_map set_of ch.set) c.clock
+  clock_left is joins = past_lists (λ m. m.clock) ch (record { version = λ k v c. refl; no_version = λ k c. refl; broadcast = λ k v c. refl; no_broadcast = λ k c. refl; wait = λ k v c. refl; no_wait = λ k c. refl }) (singles ch row c)
+      ∙ go ch.clock ch.set row before before_clock before_sets is
+    where
+      go : (moved : Option MoveCode) (set : Option SetCode) (row : Option ClockCode) (m : Content) → m.clock ≡ c.clock → m.sets ≡ c.sets → (IsTrue (is_some moved || is_some set) → option_map clock_row_of row ≡ c.clock)
+          → (clock_made moved set row m).clock ≡ clock_after (option_map clock_move_of moved) (option_map set_of set) c.clock
+      go None None row m same sets is = same
+      go (Some t) None None m same sets is = same ∙ sym (is refl) ∙ ap (option_map (λ (r : ClockRow). record r { minute = t.minute.number; next_id = t.next_id })) (is refl)
+      go (Some t) None (Some r) m same sets is =
+          ap (λ (s : FinMap nat_cmp Windows). option_map (clock_row t.minute.number t.next_id r.present.number) (get s r.present.number)) sets
+          ∙ ap (option_map (clock_row t.minute.number t.next_id r.present.number)) (joins (clock_row_of r) (sym (is refl)))
+          ∙ ap (option_map (λ (r : ClockRow). record r { minute = t.minute.number; next_id = t.next_id })) (is refl)
+      go (Some t) (Some s) row m same sets is = refl
+      go None (Some s) (Some r) m same sets is = ap (option_map (λ (r : ClockRow). record r { present = set_of s })) (is refl)
+      go None (Some s) None m same sets is = same ∙ sym (is refl) ∙ ap (option_map (λ (r : ClockRow). record r { present = set_of s })) (is refl)
+
+  sets_left : (k : ℕ) → get (made ch row c).sets k ≡ put_row ◌==◌ (option_map (λ (s : WindowSet). (s.number, s.windows)) (option_map set_of ch.set)) k (get c.sets k)
+  sets_left k =
+      ap (by_get k) (past_lists (λ m. m.sets) ch (record { version = λ k v c. refl; no_version = λ k c. refl; broadcast = λ k v c. refl; no_broadcast = λ k c. refl; wait = λ k v c. refl; no_wait = λ k c. refl }) (singles ch row c))
+      ∙ go ch.clock ch.set row before ∙ ap (λ m. put_row ◌==◌ (option_map (λ (s : WindowSet). (s.number, s.windows)) (option_map set_of ch.set)) k (get m k)) before_sets
+    where
+      at : (s : SetCode) (m : FinMap nat_cmp Windows) → get (insert m s.number (windows_of s.windows)) k ≡ (if s.number == k then Some (windows_of s.windows) else get m k)
+      at s m = get-insert nat_cmp_total m s.number (windows_of s.windows) k ∙ ap (λ b. cond b (Some (windows_of s.windows)) (get m k)) (number_ties s.number k) ∙ if_cond _ (Some (windows_of s.windows)) (get m k)
+
+      go : (moved : Option MoveCode) (set : Option SetCode) (row : Option ClockCode) (m : Content) → get (clock_made moved set row m).sets k ≡ put_row ◌==◌ (option_map (λ (s : WindowSet). (s.number, s.windows)) (option_map set_of set)) k (get m.sets k)
+      go None None row m = refl
+      go (Some t) None None m = refl
+      go (Some t) None (Some r) m = refl
+      go (Some t) (Some s) row m = at s m.sets
+      go None (Some s) (Some r) m = at s m.sets
+      go None (Some s) None m = at s m.sets
+
+  versions_left : (k : ℕ) → get (made ch row c).versions k ≡ put_rows ◌==◌ (items_of ch.versions) k (get c.versions k)
   versions_left k =
       let ps = items_of ch.versions in
       ap (by_get k) (keeps_all (λ m. m.versions) (λ k. without_wait (wait_key_of k)) (λ k c. refl) (items_of ch.taken_waits) _ ∙ keeps_all (λ m. m.versions) (λ k. without_broadcast (broadcast_key_of k)) (λ k c. refl) (items_of ch.taken_broadcasts) _ ∙ keeps_all (λ m. m.versions) (λ e. with_wait (wait_key_of e.0) (subject_of e.1)) (λ e c. refl) ch.waits.items _ ∙ keeps_all (λ m. m.versions) (λ e. with_broadcast (broadcast_key_of e.0) (broadcast_row_of e.1)) (λ e c. refl) (items_of ch.broadcasts) _)
       ∙ all_put nat_cmp nat_cmp_total ◌==◌ number_ties (λ m. m.versions) (λ e. e.0) (λ e. e.1) (λ e. with_version e.0 e.1) (λ x c. refl) ps _ k
-      ∙ ap (λ l. put_rows ◌==◌ l k (get (all_made (λ e. without_version e.0) ps (singles ch c)).versions k)) (pairs_map ps)
-      ∙ ap (put_rows ◌==◌ ps k) (all_taken nat_cmp nat_cmp_total ◌==◌ number_ties (λ m. m.versions) (λ e. e.0) (λ e. without_version e.0) (λ x c. refl) ps (singles ch c) k)
-      ∙ put_again ◌==◌ k ps _ ∙ ap (λ m. put_rows ◌==◌ ps k (get m k)) (past_singles (λ m. m.versions) ch (record { carrier = λ k c. refl; lrn = λ k v c. refl; code = λ k v c. refl; block = λ k v c. refl; clock = λ v c. refl }) c)
+      ∙ ap (λ l. put_rows ◌==◌ l k (get (all_made (λ e. without_version e.0) ps (singles ch row c)).versions k)) (pairs_map ps)
+      ∙ ap (put_rows ◌==◌ ps k) (all_taken nat_cmp nat_cmp_total ◌==◌ number_ties (λ m. m.versions) (λ e. e.0) (λ e. without_version e.0) (λ x c. refl) ps (singles ch row c) k)
+      ∙ put_again ◌==◌ k ps _ ∙ ap (λ m. put_rows ◌==◌ ps k (get m k)) (past_singles (λ m. m.versions) ch (record { carrier = λ k c. refl; lrn = λ k v c. refl; code = λ k v c. refl; block = λ k v c. refl; clock = λ c sets clock. refl }) row c)
 
-  broadcasts_left : (k : BroadcastKey) → get (made ch c).broadcasts k
+  broadcasts_left : (k : BroadcastKey) → get (made ch row c).broadcasts k
       ≡ take_rows same_broadcast (map broadcast_key_of (items_of ch.taken_broadcasts)) k (put_rows same_broadcast (map (λ e. (broadcast_key_of e.0, broadcast_row_of e.1)) (items_of ch.broadcasts)) k (get c.broadcasts k))
   broadcasts_left k =
       ap (by_get k) (keeps_all (λ m. m.broadcasts) (λ k. without_wait (wait_key_of k)) (λ k c. refl) (items_of ch.taken_waits) _)
       ∙ all_taken broadcast_cmp broadcast_total same_broadcast broadcast_ties (λ m. m.broadcasts) broadcast_key_of (λ k. without_broadcast (broadcast_key_of k)) (λ x c. refl) (items_of ch.taken_broadcasts) _ k
       ∙ ap (take_rows same_broadcast (map broadcast_key_of (items_of ch.taken_broadcasts)) k) (ap (by_get k) (keeps_all (λ m. m.broadcasts) (λ e. with_wait (wait_key_of e.0) (subject_of e.1)) (λ e c. refl) ch.waits.items _)
       ∙ all_put broadcast_cmp broadcast_total same_broadcast broadcast_ties (λ m. m.broadcasts) (λ e. broadcast_key_of e.0) (λ e. broadcast_row_of e.1) (λ e. with_broadcast (broadcast_key_of e.0) (broadcast_row_of e.1)) (λ x c. refl) (items_of ch.broadcasts) _ k
-      ∙ ap (λ m. put_rows same_broadcast (map (λ e. (broadcast_key_of e.0, broadcast_row_of e.1)) (items_of ch.broadcasts)) k (get m k)) (keeps_all (λ m. m.broadcasts) (λ e. with_version e.0 e.1) (λ e c. refl) (items_of ch.versions) _ ∙ keeps_all (λ m. m.broadcasts) (λ e. without_version e.0) (λ e c. refl) (items_of ch.versions) _ ∙ past_singles (λ m. m.broadcasts) ch (record { carrier = λ k c. refl; lrn = λ k v c. refl; code = λ k v c. refl; block = λ k v c. refl; clock = λ v c. refl }) c))
+      ∙ ap (λ m. put_rows same_broadcast (map (λ e. (broadcast_key_of e.0, broadcast_row_of e.1)) (items_of ch.broadcasts)) k (get m k)) (keeps_all (λ m. m.broadcasts) (λ e. with_version e.0 e.1) (λ e c. refl) (items_of ch.versions) _ ∙ keeps_all (λ m. m.broadcasts) (λ e. without_version e.0) (λ e c. refl) (items_of ch.versions) _ ∙ past_singles (λ m. m.broadcasts) ch (record { carrier = λ k c. refl; lrn = λ k v c. refl; code = λ k v c. refl; block = λ k v c. refl; clock = λ c sets clock. refl }) row c))
 
-  waits_left : (k : WaitKey) → get (made ch c).waits k ≡ take_rows same_wait (map wait_key_of (items_of ch.taken_waits)) k (put_rows same_wait (map (λ e. (wait_key_of e.0, subject_of e.1)) ch.waits.items) k (get c.waits k))
+  waits_left : (k : WaitKey) → get (made ch row c).waits k ≡ take_rows same_wait (map wait_key_of (items_of ch.taken_waits)) k (put_rows same_wait (map (λ e. (wait_key_of e.0, subject_of e.1)) ch.waits.items) k (get c.waits k))
   waits_left k =
       all_taken wait_cmp wait_total same_wait wait_ties (λ m. m.waits) wait_key_of (λ k. without_wait (wait_key_of k)) (λ x c. refl) (items_of ch.taken_waits) _ k
       ∙ ap (take_rows same_wait (map wait_key_of (items_of ch.taken_waits)) k) (ap (by_get k) (keeps_all (λ m. m.waits) (λ k. without_broadcast (broadcast_key_of k)) (λ k c. refl) (items_of ch.taken_broadcasts) _)
       ∙ all_put wait_cmp wait_total same_wait wait_ties (λ m. m.waits) (λ e. wait_key_of e.0) (λ e. subject_of e.1) (λ e. with_wait (wait_key_of e.0) (subject_of e.1)) (λ x c. refl) ch.waits.items _ k
-      ∙ ap (λ m. put_rows same_wait (map (λ e. (wait_key_of e.0, subject_of e.1)) ch.waits.items) k (get m k)) (keeps_all (λ m. m.waits) (λ e. with_broadcast (broadcast_key_of e.0) (broadcast_row_of e.1)) (λ e c. refl) (items_of ch.broadcasts) _ ∙ keeps_all (λ m. m.waits) (λ e. with_version e.0 e.1) (λ e c. refl) (items_of ch.versions) _ ∙ keeps_all (λ m. m.waits) (λ e. without_version e.0) (λ e c. refl) (items_of ch.versions) _ ∙ past_singles (λ m. m.waits) ch (record { carrier = λ k c. refl; lrn = λ k v c. refl; code = λ k v c. refl; block = λ k v c. refl; clock = λ v c. refl }) c))
+      ∙ ap (λ m. put_rows same_wait (map (λ e. (wait_key_of e.0, subject_of e.1)) ch.waits.items) k (get m k)) (keeps_all (λ m. m.waits) (λ e. with_broadcast (broadcast_key_of e.0) (broadcast_row_of e.1)) (λ e c. refl) (items_of ch.broadcasts) _ ∙ keeps_all (λ m. m.waits) (λ e. with_version e.0 e.1) (λ e c. refl) (items_of ch.versions) _ ∙ keeps_all (λ m. m.waits) (λ e. without_version e.0) (λ e c. refl) (items_of ch.versions) _ ∙ past_singles (λ m. m.waits) ch (record { carrier = λ k c. refl; lrn = λ k v c. refl; code = λ k v c. refl; block = λ k v c. refl; clock = λ c sets clock. refl }) row c))
 
-  pub changed : IsChanged (changes_of ch) c (made ch c)
-  changed = record { carriers = carriers_left; lrns = lrns_left; codes = codes_left; blocks = blocks_left; versions = versions_left; broadcasts = broadcasts_left; waits = waits_left; clock = clock_left }
+  pub changed : (IsTrue (go_by_clock ch) → option_map clock_row_of row ≡ c.clock) → ((r : ClockRow) → c.clock ≡ Some r → get c.sets r.present.number ≡ Some r.present.windows) → IsChanged (changes_of ch) c (made ch row c)
+  changed is joins = record {
+    carriers = carriers_left;
+    lrns = lrns_left;
+    codes = codes_left;
+    blocks = blocks_left;
+    versions = versions_left;
+    broadcasts = broadcasts_left;
+    waits = waits_left;
+    sets = sets_left;
+    clock = clock_left is joins;
+  }
 
 -- ---- one more of many
 

@@ -12,3 +12,4 @@ pub mod MappedLemmas
 pub mod RoutedLemmas
 pub mod BlockLemmas
 pub mod WholeLemmas
+pub mod MovingLemmas

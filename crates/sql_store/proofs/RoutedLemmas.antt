@@ -20,9 +20,10 @@ use Rattle.delivery.specs.declared.mirror.RoutedRow.{RoutedRow}
 use Rattle.meaning.specs.Content.{VersionRow, subject_if}
 use Rattle.settle.specs.Reads.{AreInForce, IsRouted}
 use Rattle.settle.specs.declared.rows.NumberedRow.{NumberedRow}
-use Rattle.sql_rows.specs.Content.{content_in}
+use Rattle.sql_rows.specs.Content.{bare_in, content_in, nexts_in}
+use Rattle.sql_rows.proofs.Rerouted.{bare-of, whole-of}
 use Rattle.sql_rows.specs.Values.{number_in, subject_from, subject_number}
-use Rattle.sql_rows.specs.Versions.{shown_of, version_in}
+use Rattle.sql_rows.specs.Versions.{rerouted, shown_of, version_in}
 use Rattle.sql_rows.proofs.DueLemmas.{has_permuted}
 use Rattle.sql_rows.proofs.Inversions.{bind_some, map_some, number_small, reads, subject_same}
 use Rattle.sql_rows.proofs.Listed.{from_mapped, has_mapped}
@@ -31,7 +32,7 @@ use Rattle.sql_rows.proofs.Orders.{same_number}
 use Rattle.sql_rows.proofs.Picked.{Picks}
 use Rattle.sql_rows.proofs.QueriesListed.{IsAmong, version_seen}
 use Rattle.sql_store.specs.Routed.{routed_in, routed_seen}
-use Rattle.sql_store.proofs.ListLemmas.{all_there}
+use Rattle.sql_store.proofs.ListLemmas.{all_had, all_there}
 use Rattle.sql_store.proofs.MappedLemmas.{from_filter_mapped, has_filter_mapped}
 
 -- ---- one row
@@ -49,9 +50,9 @@ routes_from v s r is =
 small : (n : ℕ) → nat_lt n 9223372036854775808 ≡ true → n ≤ 9223372036854775807
 small n h = grind (arith, nat_tests)
 
-holds_small : (db : Trees) (id : ℕ) (row : VersionRow) (s : Subject) → get (content_in db).versions id ≡ Some row → row.holds ≡ Some s → subject_number s ≤ 9223372036854775807
+holds_small : (db : Trees) (id : ℕ) (row : VersionRow) (s : Subject) → get (bare_in db).versions id ≡ Some row → row.holds ≡ Some s → subject_number s ≤ 9223372036854775807
 holds_small db id row s got holds =
-    let f = entry_from nat_cmp nat_cmp_total version_in shown_of same_number (db 5) id row got in
+    let f = entry_from nat_cmp nat_cmp_total version_in shown_of same_number (db 18) id row got in
     let it = reads (shown_of f.row) (id, row) f.reads in
     let n = bind_some subject_from (number_in (column f.row 2)) row.subject it.subject in
     let own : subject_number row.subject ≤ 9223372036854775807 = subst (λ n. n ≤ 9223372036854775807) (subject_same n.0 row.subject n.2) (small n.0 (number_small (column f.row 2) n.0 n.1)) in
@@ -75,9 +76,9 @@ rows_rise (r ∷ rs) n whole each = sorted_from_all_adjacent (on_total (λ (r : 
 abbrev in_row : NumberedRow → Option (Subject × Routing)
 in_row v = routed_in v.row
 
-pub routed_are : (db : Trees) (found : List NumberedRow) (rows items : List RoutedRow) → Picks version_seen (content_in db).versions (λ id v. IsAmong 0 9223372036854775807 v.holds) found
-    → map routed_seen rows ≡ filter_map in_row found → IsPermutation rows items → Rises items → AreInForce (content_in db) items
-routed_are db found rows items picks are same rises = record {
+bare_routed : (db : Trees) (found : List NumberedRow) (rows items : List RoutedRow) → Picks version_seen (bare_in db).versions (λ id v. IsAmong 0 9223372036854775807 v.holds) found
+    → map routed_seen rows ≡ filter_map in_row found → IsPermutation rows items → Rises items → AreInForce (bare_in db) items
+bare_routed db found rows items picks are same rises = record {
   each = λ s routing routed.
       let among : IsAmong 0 9223372036854775807 routed.1.holds = subst (IsAmong 0 9223372036854775807) (sym routed.3) (omega arith, holds_small db routed.0 routed.1 s routed.2 routed.3) in
       let x = picks.each routed.0 routed.1 routed.2 among in
@@ -85,10 +86,25 @@ routed_are db found rows items picks are same rises = record {
       let at = has_filter_mapped in_row found x.0 (s, routing) x.1 told in
       let r = from_mapped routed_seen rows (s, routing) (subst (λ l. Has l (s, routing)) (sym are) at) in
       (r.0, contains_had items r.0 (has_permuted rows items r.0 same r.1), ap (λ (e : Subject × Routing). e.0) (sym r.2), ap (λ (e : Subject × Routing). e.1) (sym r.2));
-  only = all_there (λ (r : RoutedRow). IsRouted (content_in db) (subject_of r.subject) (routing_of r.routing)) items (λ r at.
+  only = all_there (λ (r : RoutedRow). IsRouted (bare_in db) (subject_of r.subject) (routing_of r.routing)) items (λ r at.
       let before = has_permuted items rows r (IsPermutation-sym rows items same) at in
       let x = from_filter_mapped in_row found (routed_seen r) (subst (λ l. Has l (routed_seen r)) are (has_mapped routed_seen rows r before)) in
       let told = routes_from x.0.row (subject_of r.subject) (routing_of r.routing) x.2 in
       (x.0.id, x.0.row, (picks.only x.0 x.1).0, told.0, told.1));
   rises = λ once. rises;
 }
+
+-- a row that sends a modify is in force with the routing that it has
+pub routed_are : (db : Trees) (found : List NumberedRow) (rows items : List RoutedRow) → Picks version_seen (bare_in db).versions (λ id v. IsAmong 0 9223372036854775807 v.holds) found
+    → map routed_seen rows ≡ filter_map in_row found → IsPermutation rows items → Rises items → AreInForce (content_in db) items
+routed_are db found rows items picks are same rises =
+    let bare = bare_routed db found rows items picks are same rises in
+    record {
+      each = λ s routing routed.
+          let b = bare-of db routed.0 routed.1 routed.2 in
+          bare.each s routing (routed.0, b.0, b.1, ap (λ (v : VersionRow). v.holds) b.2 ∙ routed.3, ap (λ (v : VersionRow). v.routing) b.2 ∙ routed.4);
+      only = all_there (λ (r : RoutedRow). IsRouted (content_in db) (subject_of r.subject) (routing_of r.routing)) items (λ r at.
+          let b = all_had (λ (r : RoutedRow). IsRouted (bare_in db) (subject_of r.subject) (routing_of r.routing)) items bare.only r at in
+          (b.0, rerouted (get (nexts_in (db 16)) b.0) b.1, whole-of db b.0 b.1 b.2, b.3, b.4));
+      rises = λ once. rises;
+    }

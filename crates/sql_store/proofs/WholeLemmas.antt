@@ -1,6 +1,7 @@
 -- What the rows of a database are once all of them were read.
 use Rattle.std.proofs.Common.{◌≡◌, List, [], ◌∷◌, map, filter, Bool, true, false, Option, Some, inl, inr, refl, sym, ap, subst, ◌∙◌, true≢false}
-use Rattle.std.specs.FinMap.{get-empty}
+use Rattle.std.specs.FinMap.{FinMap, empty, get, get-empty, same_map, nat_cmp-IsAntisymmetric}
+use Rattle.std.specs.Cmp.{nat_cmp_total}
 use Rattle.std.specs.List.{list_all}
 use Rattle.std.specs.Ordering.{nat_cmp}
 use Rattle.std.specs.List.Sorted.{IsPermutation}
@@ -9,16 +10,21 @@ use Rattle.sqlite.specs.Program.{overlay}
 use Rattle.sqlite.specs.Tree.{Trees}
 use Rattle.sqlite_rules.specs.Lists.{Has}
 use Rattle.sqlite_rules.proofs.ListLemmas.{has_kept}
-use Rattle.meaning.specs.Content.{ClockRow, empty_content}
-use Rattle.sql_rows.specs.Content.{block_row_in, block_shown, broadcast_in, broadcast_shown, carrier_in, carrier_shown, clock_in, clock_shown, content_in, lrn_row_in, code_row_in, owner_shown, wait_in, wait_shown}
+use Rattle.std.specs.Prelude.{option_and_then, option_map}
+use Rattle.meaning.specs.Content.{VersionRow, empty_content}
+use Rattle.numbers.specs.Routings.{Routing}
+use Rattle.sql_rows.specs.Over.{over}
+use Rattle.sql_rows.proofs.Over.{get-over}
+use Rattle.sql_rows.specs.Clocks.{StoredClock, with_windows}
+use Rattle.sql_rows.specs.Content.{block_row_in, block_shown, broadcast_in, broadcast_shown, carrier_in, carrier_shown, clock_in, clock_shown, next_row_in, next_shown, set_in, set_shown, old_clock_in, old_clock_shown, nexts_in, content_in, lrn_row_in, code_row_in, owner_shown, wait_in, wait_shown}
 use Rattle.sql_rows.specs.Found.{AreRead}
 use Rattle.sql_rows.specs.Statements.{shown_by}
-use Rattle.sql_rows.specs.Versions.{shown_of, version_in}
-use Rattle.sql_rows.specs.declared.statement.Table.TheVariants.{Carrier, Lrn, Code, Block, Version, Broadcast, Wait, Clock}
+use Rattle.sql_rows.specs.Versions.{rerouted, old_shown_of, old_version_in, shown_of, version_in}
+use Rattle.sql_rows.specs.declared.statement.Table.TheVariants.{Carrier, Lrn, Code, Block, Version, Broadcast, Wait, Clock, NextRouting, WindowSet, OldVersion, OldClock}
 use Rattle.sql_rows.proofs.DueLemmas.{has_permuted}
 use Rattle.sql_rows.proofs.Listed.{has_mapped}
 use Rattle.sql_rows.proofs.QueryLemmas.{plain_answer}
-use Rattle.sql_store.specs.Whole.{AreRegistryRead, AreVersionsBlank, AreVersionsRead, EachReads, IsRead, IsRegistryBlank, ReadsAll, ReadsRegistry, ReadsVersions}
+use Rattle.sql_store.specs.Whole.{AreAddedBlank, AreRegistryRead, AreVersionsBlank, AreVersionsRead, EachReads, IsMoved, IsRead, IsRegistryBlank, ReadsAdded, ReadsAll, ReadsRegistry, ReadsVersions}
 
 -- ---- one table
 
@@ -89,34 +95,66 @@ module _ (db : Trees) (a b c d : Bool) where
   module _ (versions : IsRead Version version_in db a) (broadcasts : IsRead Broadcast broadcast_in db b) (waits : IsRead Wait wait_in db c) (clock : IsRead Clock clock_in db d) where
     versions_read : AreVersionsRead db
     versions_read = record {
-      versions = each_reads version_in shown_of (db 5) versions.1.0 versions.0 (plain_answer 5 [] (shown_by Version) (overlay db []) [] versions.1.0 versions.1.1) versions.1.2;
+      versions = each_reads version_in shown_of (db 18) versions.1.0 versions.0 (plain_answer 18 [] (shown_by Version) (overlay db []) [] versions.1.0 versions.1.1) versions.1.2;
       broadcasts = each_reads broadcast_in broadcast_shown (db 8) broadcasts.1.0 broadcasts.0 (plain_answer 8 [] (shown_by Broadcast) (overlay db []) [] broadcasts.1.0 broadcasts.1.1) broadcasts.1.2;
       waits = each_reads wait_in wait_shown (db 10) waits.1.0 waits.0 (plain_answer 10 [] (shown_by Wait) (overlay db []) [] waits.1.0 waits.1.1) waits.1.2;
-      clock = each_reads clock_in clock_shown (db 12) clock.1.0 clock.0 (plain_answer 12 [] (shown_by Clock) (overlay db []) [] clock.1.0 clock.1.1) clock.1.2;
+      clock = each_reads clock_in clock_shown (db 21) clock.1.0 clock.0 (plain_answer 21 [] (shown_by Clock) (overlay db []) [] clock.1.0 clock.1.1) clock.1.2;
     }
 
     versions_blank : every (a ∷ b ∷ c ∷ d ∷ []) ≡ true → AreVersionsBlank db
     versions_blank all = let each = four_true a b c d all in record {
-      versions = is_blank version_in shown_of (db 5) versions.1.0 versions.0 (plain_answer 5 [] (shown_by Version) (overlay db []) [] versions.1.0 versions.1.1) versions.1.2 (versions.2 each.0);
+      versions = is_blank version_in shown_of (db 18) versions.1.0 versions.0 (plain_answer 18 [] (shown_by Version) (overlay db []) [] versions.1.0 versions.1.1) versions.1.2 (versions.2 each.0);
       broadcasts = is_blank broadcast_in broadcast_shown (db 8) broadcasts.1.0 broadcasts.0 (plain_answer 8 [] (shown_by Broadcast) (overlay db []) [] broadcasts.1.0 broadcasts.1.1) broadcasts.1.2 (broadcasts.2 each.1.0);
       waits = is_blank wait_in wait_shown (db 10) waits.1.0 waits.0 (plain_answer 10 [] (shown_by Wait) (overlay db []) [] waits.1.0 waits.1.1) waits.1.2 (waits.2 each.1.1.0);
-      clock = is_blank clock_in clock_shown (db 12) clock.1.0 clock.0 (plain_answer 12 [] (shown_by Clock) (overlay db []) [] clock.1.0 clock.1.1) clock.1.2 (clock.2 each.1.1.1);
+      clock = is_blank clock_in clock_shown (db 21) clock.1.0 clock.0 (plain_answer 21 [] (shown_by Clock) (overlay db []) [] clock.1.0 clock.1.1) clock.1.2 (clock.2 each.1.1.1);
     }
 
     pub versions_told : ReadsVersions db (every (a ∷ b ∷ c ∷ d ∷ []))
     versions_told = record { read = versions_read; none = versions_blank }
 
--- tables without rows have no content
-blank_is_empty : (db : Trees) → IsRegistryBlank db → AreVersionsBlank db → content_in db ≡ empty_content
-blank_is_empty db registry versions = rw (registry.carriers, registry.lrns, registry.codes, registry.blocks, versions.versions, versions.broadcasts, versions.waits, versions.clock) (ap (λ o. record empty_content { clock = o }) (get-empty {X = ClockRow} nat_cmp 0))
+two_true : (a b : Bool) → every (a ∷ b ∷ []) ≡ true → (a ≡ true) × (b ≡ true)
+two_true true true e = (refl, refl)
+two_true true false e = absurd (true≢false (sym e))
+two_true false b e = absurd (true≢false (sym e))
 
-pub all_told : (db : Trees) (a b : Bool) → ReadsRegistry db a → ReadsVersions db b → ReadsAll db (every (a ∷ b ∷ []))
-all_told db a b registry versions = record {
-  whole = record { registry = registry.read; versions = versions.read };
-  none = λ both. let each = two_true a b both in blank_is_empty db (registry.none each.0) (versions.none each.1);
+three_true : (a b c : Bool) → every (a ∷ b ∷ c ∷ []) ≡ true → (a ≡ true) × ((b ≡ true) × (c ≡ true))
+three_true true true true e = (refl, (refl, refl))
+three_true true true false e = absurd (true≢false (sym e))
+three_true true false c e = absurd (true≢false (sym e))
+three_true false b c e = absurd (true≢false (sym e))
+
+module _ (db : Trees) (a b : Bool) where
+  module _ (nexts : IsRead NextRouting next_row_in db a) (sets : IsRead WindowSet set_in db b) where
+    pub added_told : ReadsAdded db (every (a ∷ b ∷ []))
+    added_told = record {
+      read = record {
+        nexts = each_reads next_row_in next_shown (db 16) nexts.1.0 nexts.0 (plain_answer 16 [] (shown_by NextRouting) (overlay db []) [] nexts.1.0 nexts.1.1) nexts.1.2;
+        sets = each_reads set_in set_shown (db 17) sets.1.0 sets.0 (plain_answer 17 [] (shown_by WindowSet) (overlay db []) [] sets.1.0 sets.1.1) sets.1.2;
+      };
+      none = λ all. let each = two_true a b all in record {
+        nexts = is_blank next_row_in next_shown (db 16) nexts.1.0 nexts.0 (plain_answer 16 [] (shown_by NextRouting) (overlay db []) [] nexts.1.0 nexts.1.1) nexts.1.2 (nexts.2 each.0);
+        sets = is_blank set_in set_shown (db 17) sets.1.0 sets.0 (plain_answer 17 [] (shown_by WindowSet) (overlay db []) [] sets.1.0 sets.1.1) sets.1.2 (sets.2 each.1);
+      };
+    }
+
+  pub moved_told : IsRead OldVersion old_version_in db a → IsRead OldClock old_clock_in db b → every (a ∷ b ∷ []) ≡ true → IsMoved db
+  moved_told versions clock all = let each = two_true a b all in record {
+    versions = is_blank old_version_in old_shown_of (db 5) versions.1.0 versions.0 (plain_answer 5 [] (shown_by OldVersion) (overlay db []) [] versions.1.0 versions.1.1) versions.1.2 (versions.2 each.0);
+    clock = is_blank old_clock_in old_clock_shown (db 12) clock.1.0 clock.0 (plain_answer 12 [] (shown_by OldClock) (overlay db []) [] clock.1.0 clock.1.1) clock.1.2 (clock.2 each.1);
+  }
+
+none_over : (more : FinMap nat_cmp Routing) → over rerouted (empty {X = VersionRow} {R = nat_cmp}) more ≡ empty
+none_over more = same_map nat_cmp_total nat_cmp-IsAntisymmetric _ _ (λ k. get-over rerouted (empty {X = VersionRow} {R = nat_cmp}) more k ∙ ap (option_map (rerouted (get more k))) (get-empty {X = VersionRow} nat_cmp k) ∙ sym (get-empty {X = VersionRow} nat_cmp k))
+
+-- tables without rows have no content
+blank_is_empty : (db : Trees) → IsRegistryBlank db → AreVersionsBlank db → AreAddedBlank db → content_in db ≡ empty_content
+blank_is_empty db registry versions added =
+    rw (registry.carriers, registry.lrns, registry.codes, registry.blocks, versions.versions, versions.broadcasts, versions.waits, versions.clock, added.nexts, added.sets)
+    (ap (λ m. record empty_content { versions = m; clock = option_and_then (with_windows empty) (get (empty {X = StoredClock} {R = nat_cmp}) 0) }) (none_over (nexts_in []))
+    ∙ ap (λ o. record empty_content { clock = option_and_then (with_windows empty) o }) (get-empty {X = StoredClock} nat_cmp 0))
+
+pub all_told : (db : Trees) (a b c : Bool) → ReadsRegistry db a → ReadsVersions db b → ReadsAdded db c → IsMoved db → ReadsAll db (every (a ∷ b ∷ c ∷ []))
+all_told db a b c registry versions added moved = record {
+  whole = record { registry = registry.read; versions = versions.read; added = added.read; moved = moved };
+  none = λ all. let each = three_true a b c all in blank_is_empty db (registry.none each.0) (versions.none each.1.0) (added.none each.1.1);
 }
-  where
-    two_true : (a b : Bool) → every (a ∷ b ∷ []) ≡ true → (a ≡ true) × (b ≡ true)
-    two_true true true e = (refl, refl)
-    two_true true false e = absurd (true≢false (sym e))
-    two_true false b e = absurd (true≢false (sym e))

@@ -7,3 +7,5 @@ pub mod Queues
 pub mod Routed
 pub mod Blocks
 pub mod Whole
+pub mod Found
+pub mod Moving

@@ -1,5 +1,5 @@
 -- What the store's connection keeps, and what its calls leave.
-use Rattle.std.specs.Prelude.{◌≡◌, false, true, Bool, IsTrue, refl, not}
+use Rattle.std.specs.Prelude.{◌≡◌, ℕ, pos, [], ◌∷◌, Option, Some, None, false, true, Bool, IsTrue, refl, not}
 use Rattle.std.proofs.Common.{sym, ap, ◌∙◌, true≢false}
 use Rattle.sqlite.specs.Store.{Ghosts}
 use Rattle.sqlite.specs.Schema.{Schema}
@@ -17,7 +17,11 @@ use Rattle.sqlite.specs.Held.{Held, state}
 use Rattle.meaning.specs.Content.{Content}
 use Rattle.sql_rows.specs.Tables.{the_schema}
 use Rattle.sql_rows.specs.Shaped.{AreShaped}
-use Rattle.sql_rows.specs.Content.{content_in}
+use Rattle.sql_rows.specs.Content.{content_in, next_entry, next_params, stored}
+use Rattle.sql_rows.specs.Written.{Removed, Replaced}
+use Rattle.sql_rows.specs.declared.statement.Table.TheVariants.{NextRouting}
+use Rattle.numbers.specs.Routings.{Routing}
+use Rattle.sqlite.specs.declared.types.Value.TheVariants.{Int}
 
 -- ---- between calls
 
@@ -108,6 +112,11 @@ pub record Writes (old new : State) (done : Bool) (Did : Database → Database �
   pub wrote : IsTrue done → HasCleanDisk new → IsInside old → Wrote old new Did
   pub kept : IsTrue new.is_open → Kept old new
   pub survives : Survives old new (λ _. ⊥)
+
+-- the routing that a version sends was put, or what stood there was taken away
+abbrev pub IsNextPut : ℕ → Option Routing → Database → Database → Type 0
+IsNextPut id None old new = Removed NextRouting (Int (pos id) ∷ []) old new
+IsNextPut id (Some r) old new = Replaced NextRouting (Int (pos id) ∷ []) (next_params id r) old new × (next_entry (stored (next_params id r)) ≡ Some (id, r))
 
 -- a call in a transaction makes this change of the content, where it does not fail
 pub record Makes (old new : State) (done : Bool) (change : Content → Content) : Type 0 where

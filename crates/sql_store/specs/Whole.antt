@@ -4,7 +4,7 @@ use Rattle.sqlite.specs.Order.{Row}
 use Rattle.sqlite.specs.Tree.{Trees}
 use Rattle.sqlite_rules.specs.Lists.{Has}
 use Rattle.meaning.specs.Content.{empty_content}
-use Rattle.sql_rows.specs.Content.{block_entry, broadcast_entry, carrier_entry, clock_entry, content_in, lrn_entry, code_entry, wait_entry}
+use Rattle.sql_rows.specs.Content.{block_entry, broadcast_entry, carrier_entry, clock_entry, content_in, lrn_entry, next_entry, set_entry, code_entry, wait_entry}
 use Rattle.sql_rows.specs.Found.{IsListAnswer}
 use Rattle.sql_rows.specs.Versions.{version_entry}
 use Rattle.sql_rows.specs.declared.statement.Query.TheVariants.{All}
@@ -27,10 +27,15 @@ pub record AreRegistryRead (db : Trees) : Type 0 where
 
 -- those of the versions and of what is sent, and the clock's
 pub record AreVersionsRead (db : Trees) : Type 0 where
-  pub versions : EachReads version_entry (db 5)
+  pub versions : EachReads version_entry (db 18)
   pub broadcasts : EachReads broadcast_entry (db 8)
   pub waits : EachReads wait_entry (db 10)
-  pub clock : EachReads clock_entry (db 12)
+  pub clock : EachReads clock_entry (db 21)
+
+-- the routings that versions send, and the sets of windows
+pub record AreAddedRead (db : Trees) : Type 0 where
+  pub nexts : EachReads next_entry (db 16)
+  pub sets : EachReads set_entry (db 17)
 
 pub record IsRegistryBlank (db : Trees) : Type 0 where
   pub carriers : db 0 ≡ []
@@ -39,9 +44,18 @@ pub record IsRegistryBlank (db : Trees) : Type 0 where
   pub blocks : db 4 ≡ []
 
 pub record AreVersionsBlank (db : Trees) : Type 0 where
-  pub versions : db 5 ≡ []
+  pub versions : db 18 ≡ []
   pub broadcasts : db 8 ≡ []
   pub waits : db 10 ≡ []
+  pub clock : db 21 ≡ []
+
+pub record AreAddedBlank (db : Trees) : Type 0 where
+  pub nexts : db 16 ≡ []
+  pub sets : db 17 ≡ []
+
+-- the tables of an earlier form have no row
+pub record IsMoved (db : Trees) : Type 0 where
+  pub versions : db 5 ≡ []
   pub clock : db 12 ≡ []
 
 -- the tables were read, and `blank` tells that they have no row
@@ -53,10 +67,16 @@ pub record ReadsVersions (db : Trees) (blank : Bool) : Type 0 where
   pub read : AreVersionsRead db
   pub none : blank ≡ true → AreVersionsBlank db
 
+pub record ReadsAdded (db : Trees) (blank : Bool) : Type 0 where
+  pub read : AreAddedRead db
+  pub none : blank ≡ true → AreAddedBlank db
+
 -- no row of a database is left out of its content
 pub record IsWhole (db : Trees) : Type 0 where
   pub registry : AreRegistryRead db
   pub versions : AreVersionsRead db
+  pub added : AreAddedRead db
+  pub moved : IsMoved db
 
 pub record ReadsAll (db : Trees) (blank : Bool) : Type 0 where
   pub whole : IsWhole db

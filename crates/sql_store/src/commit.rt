@@ -2,20 +2,22 @@
 ghost use Rattle.std.specs.Prelude.{◌≡◌, false, IsTrue, is_ok, map, option_map};
 ghost use Rattle.sqlite.specs.Held.{state};
 ghost use Rattle.numbers.specs.Views.{subject_of};
-ghost use Rattle.settle.specs.Views.{spid_of, lrn_of, code_of, block_of, block_row_of, clock_row_of, broadcast_row_of, broadcast_key_of, wait_key_of};
+ghost use Rattle.settle.specs.Views.{spid_of, lrn_of, code_of, block_of, block_row_of, broadcast_row_of, broadcast_key_of, wait_key_of};
 ghost use Rattle.settle.specs.Changes.{changes_of, IsChanged};
 ghost use Rattle.sql_store.specs.Store.{IsOurs, Makes, Turned};
-ghost use Rattle.sql_store.specs.Changes.{singles, lists, made, all_made, if_some, with_carrier, with_lrn, with_code, with_block, with_clock, with_version, without_version, with_broadcast, without_broadcast, with_wait, without_wait};
+ghost use Rattle.sql_store.specs.Changes.{singles, lists, made, all_made, if_some, with_carrier, with_lrn, with_code, with_block, clock_made, IsChangedOver, with_version, without_version, with_broadcast, without_broadcast, with_wait, without_wait};
 
+use crate::lookups::clock;
 use crate::rows::{
-    put_block, put_broadcast, put_carrier, put_clock, put_code, put_lrn, put_version, put_wait,
-    take_broadcast, take_version, take_wait,
+    put_block, put_broadcast, put_carrier, put_clock, put_code, put_lrn, put_set, put_version,
+    put_wait, take_broadcast, take_version, take_wait,
 };
 use delivery::Broadcast;
 use numbers::{BlockId, CodeId, Lrn, Spid, Subject};
-use settle::{BlockRow, BroadcastKey, Changes, ClockRow, VersionRow, WaitKey};
-use sql_rows::Fault;
+use settle::{BlockRow, BroadcastKey, Changes, ClockMove, ClockRow, VersionRow, WaitKey};
+use sql_rows::{Fault, StoredClock};
 use sqlite::{Alter, Connection, Transaction};
+use windows::WindowSet;
 
 // No row of these ids is left, so that none stands in the way of another.
 fn clear_versions<S: Alter>(
@@ -153,28 +155,66 @@ fn donate<S: Alter>(
     }
 }
 
-fn set_clock<S: Alter>(tx: &mut Transaction<'_, S>, clock: Option<ClockRow>) -> Result<(), Fault>
+// The clock's row as it was stands in `row`: a move keeps its set, and a set its minute and its next
+// id.
+fn set_clock<S: Alter>(
+    tx: &mut Transaction<'_, S>,
+    moved: Option<ClockMove>,
+    set: Option<WindowSet>,
+    row: Option<ClockRow>,
+) -> Result<(), Fault>
     ensures same_reference { tx.new.conn.ghost_name ≡ tx.old.conn.ghost_name }
     ensures makes { Makes (state S.Store tx.old.conn.now) (state S.Store tx.new.conn.now)
-        (is_ok result) (if_some (λ r. with_clock (clock_row_of r)) clock) }
+        (is_ok result) (clock_made moved set row) }
 {
-    match clock {
-        Some(row) => put_clock(tx, &row),
-        None => Ok(()),
+    match (moved, set, row) {
+        (None, None, _) => Ok(()),
+        (Some(_), None, None) => Ok(()),
+        (Some(moved), None, Some(row)) => put_clock(
+            tx,
+            &StoredClock {
+                minute: moved.minute,
+                next_id: moved.next_id,
+                present: row.present.number,
+            },
+        ),
+        (Some(moved), Some(set), _) => put_set(
+            tx,
+            &StoredClock {
+                minute: moved.minute,
+                next_id: moved.next_id,
+                present: set.number,
+            },
+            &set.windows,
+        ),
+        (None, Some(set), Some(row)) => put_set(
+            tx,
+            &StoredClock {
+                minute: row.minute,
+                next_id: row.next_id,
+                present: set.number,
+            },
+            &set.windows,
+        ),
+        (None, Some(_), None) => Err(Fault::Device),
     }
 }
 
 // The rows of which there is at most one.
-fn write_singles<S: Alter>(tx: &mut Transaction<'_, S>, changes: &Changes) -> Result<(), Fault>
+fn write_singles<S: Alter>(
+    tx: &mut Transaction<'_, S>,
+    changes: &Changes,
+    row: Option<ClockRow>,
+) -> Result<(), Fault>
     ensures same_reference { tx.new.conn.ghost_name ≡ tx.old.conn.ghost_name }
     ensures makes { Makes (state S.Store tx.old.conn.now) (state S.Store tx.new.conn.now)
-        (is_ok result) (singles changes.now) }
+        (is_ok result) (singles changes.now row) }
 {
     register(tx, changes.carrier)?;
     assign_lrn(tx, changes.lrn)?;
     open_code(tx, changes.code)?;
     donate(tx, changes.block)?;
-    set_clock(tx, changes.clock)?;
+    set_clock(tx, changes.clock, changes.set, row)?;
     Ok(())
 }
 
@@ -194,17 +234,41 @@ fn write_lists<S: Alter>(tx: &mut Transaction<'_, S>, changes: &Changes) -> Resu
 }
 
 // All rows.
-fn write<S: Alter>(tx: &mut Transaction<'_, S>, changes: &Changes) -> Result<(), Fault>
+fn write<S: Alter>(
+    tx: &mut Transaction<'_, S>,
+    changes: &Changes,
+    row: Option<ClockRow>,
+) -> Result<(), Fault>
     ensures same_reference { tx.new.conn.ghost_name ≡ tx.old.conn.ghost_name }
     ensures makes { Makes (state S.Store tx.old.conn.now) (state S.Store tx.new.conn.now)
-        (is_ok result) (made changes.now) }
+        (is_ok result) (made changes.now row) }
 {
-    write_singles(tx, changes)?;
+    write_singles(tx, changes, row)?;
     write_lists(tx, changes)?;
     Ok(())
 }
 
-/// Makes all changes in one transaction, or none.
+// Makes all changes in one transaction, or none. Where they go by the clock's row, it stands in
+// `row`.
+fn commit_over<S: Alter>(
+    conn: &mut Connection<S>,
+    changes: &Changes,
+    row: Option<ClockRow>,
+) -> Result<(), Fault>
+    requires ours { IsTrue (state S.Store conn.old).is_open → IsOurs (state S.Store conn.old) }
+    requires idle { conn.old.in_transaction ≡ false }
+    ensures turned { Turned (state S.Store conn.old) (state S.Store conn.new) (is_ok result)
+        (IsChangedOver changes.now row) }
+    ensures idle { conn.new.in_transaction ≡ false }
+{
+    let mut tx = conn.transaction();
+    write(&mut tx, changes, row)?;
+    tx.commit()?;
+    Ok(())
+}
+
+/// Makes all changes in one transaction, or none. Where they move the clock or set the windows anew,
+/// the clock's row is read first.
 pub(crate) fn commit<S: Alter>(conn: &mut Connection<S>, changes: &Changes) -> Result<(), Fault>
     requires ours { IsTrue (state S.Store conn.old).is_open → IsOurs (state S.Store conn.old) }
     requires idle { conn.old.in_transaction ≡ false }
@@ -212,8 +276,9 @@ pub(crate) fn commit<S: Alter>(conn: &mut Connection<S>, changes: &Changes) -> R
         (IsChanged (changes_of changes.now)) }
     ensures idle { conn.new.in_transaction ≡ false }
 {
-    let mut tx = conn.transaction();
-    write(&mut tx, changes)?;
-    tx.commit()?;
-    Ok(())
+    if changes.clock.is_none() && changes.set.is_none() {
+        return commit_over(conn, changes, None);
+    }
+    let row = clock(conn)?;
+    commit_over(conn, changes, row)
 }

@@ -6,6 +6,7 @@ mod change;
 mod commit;
 mod lists;
 mod lookups;
+mod moving;
 mod once;
 mod opening;
 mod order;

@@ -2,20 +2,32 @@
 ghost use Rattle.std.specs.Prelude.{◌≡◌, false, IsTrue, IfOk, is_ok, is_some, option_map};
 ghost use Rattle.std.specs.FinMap.{get};
 ghost use Rattle.sqlite.specs.Held.{state};
-ghost use Rattle.numbers.specs.Views.{subject_of};
+ghost use Rattle.sqlite.specs.State.{HasCleanDisk};
+ghost use Rattle.sqlite.specs.Values.{bound};
+ghost use Rattle.numbers.specs.Views.{routing_of, subject_of};
+ghost use Rattle.meaning.specs.Views.{status_of};
+ghost use Rattle.version.specs.Views.{windows_of};
+ghost use Rattle.sql_rows.specs.Clocks.{clock_of};
+ghost use Rattle.sql_rows.specs.Content.{IsRoutedAs, clocks_in, nexts_in};
+ghost use Rattle.sql_rows.specs.Versions.{modified_to, next_of};
+ghost use Rattle.sql_store.specs.Found.{IsVersionFound};
 ghost use Rattle.settle.specs.Views.{spid_of, lrn_of, code_of, block_of, block_row_of, clock_row_of, broadcast_row_of, broadcast_key_of};
 ghost use Rattle.settle.specs.Reads.{IsInForce, IsOpen, IsLeastDue};
 ghost use Rattle.sql_store.specs.Store.{IsOurs, Looked, content_at};
 
 use crate::select::find;
 use delivery::Broadcast;
-use numbers::{BlockId, CodeId, Lrn, Minute, Spid, Subject};
+use meaning::{Send, Status};
+use numbers::{BlockId, CodeId, Lrn, Minute, Routing, Spid, Subject};
 use settle::{BlockRow, BroadcastKey, ClockRow, NumberedRow, VersionRow};
 use sql_rows::{
-    Fault, KeyedBlock, KeyedBroadcast, KeyedClock, KeyedCode, KeyedLrn, Query, minute, number,
-    spid_bytes, subject, text,
+    Fault, KeyedBlock, KeyedBroadcast, KeyedClock, KeyedCode, KeyedLrn, KeyedRouting, KeyedSet,
+    Query, StoredClock, minute, number, spid_bytes, subject, text,
 };
+use sqlite::types::ValueRef;
 use sqlite::{Alter, Connection};
+use version::Version;
+use windows::{WindowSet, Windows};
 
 /// Whether a carrier is registered.
 pub(crate) fn carrier<S: Alter>(conn: &mut Connection<S>, spid: Spid) -> Result<bool, Fault>
@@ -94,7 +106,45 @@ pub(crate) fn block<S: Alter>(
     }
 }
 
-/// The clock's row, if it was written.
+/// The windows of the set of this number.
+pub(crate) fn window_set<S: Alter>(
+    conn: &mut Connection<S>,
+    of: u16,
+) -> Result<Option<Windows>, Fault>
+    requires ours { IsTrue (state S.Store conn.old).is_open → IsOurs (state S.Store conn.old) }
+    requires idle { conn.old.in_transaction ≡ false }
+    ensures value { IsTrue (state S.Store conn.new).is_open
+        → IfOk result (λ o. option_map windows_of o ≡ get (content_at (state S.Store
+        conn.old)).sets of) }
+    ensures looked { Looked (state S.Store conn.old) (state S.Store conn.new) (is_ok result) }
+    ensures idle { conn.new.in_transaction ≡ false }
+{
+    let params = [number(u64::from(of))];
+    let found: Option<KeyedSet> = find(conn, Query::WindowSetNumbered, &params)?;
+    match found {
+        Some(found) => Ok(Some(found.set.windows)),
+        None => Ok(None),
+    }
+}
+
+// The clock's row as it is stored.
+fn stored_clock<S: Alter>(conn: &mut Connection<S>) -> Result<Option<StoredClock>, Fault>
+    requires ours { IsTrue (state S.Store conn.old).is_open → IsOurs (state S.Store conn.old) }
+    requires idle { conn.old.in_transaction ≡ false }
+    ensures value { IsTrue (state S.Store conn.new).is_open
+        → IfOk result (λ o. option_map clock_of o
+        ≡ get (clocks_in ((state S.Store conn.old).now.trees 21)) 0) }
+    ensures looked { Looked (state S.Store conn.old) (state S.Store conn.new) (is_ok result) }
+    ensures idle { conn.new.in_transaction ≡ false }
+{
+    let found: Option<KeyedClock> = find(conn, Query::ClockNumbered, &[number(0)])?;
+    match found {
+        Some(found) => Ok(Some(found.row)),
+        None => Ok(None),
+    }
+}
+
+/// The clock's row, if it was written. The windows are those of the set of its number.
 pub(crate) fn clock<S: Alter>(conn: &mut Connection<S>) -> Result<Option<ClockRow>, Fault>
     requires ours { IsTrue (state S.Store conn.old).is_open → IsOurs (state S.Store conn.old) }
     requires idle { conn.old.in_transaction ≡ false }
@@ -104,9 +154,110 @@ pub(crate) fn clock<S: Alter>(conn: &mut Connection<S>) -> Result<Option<ClockRo
     ensures looked { Looked (state S.Store conn.old) (state S.Store conn.new) (is_ok result) }
     ensures idle { conn.new.in_transaction ≡ false }
 {
-    let found: Option<KeyedClock> = find(conn, Query::ClockNumbered, &[number(0)])?;
+    let stored = stored_clock(conn)?;
+    let Some(row) = stored else {
+        return Ok(None);
+    };
+    let found = window_set(conn, row.present)?;
     match found {
-        Some(found) => Ok(Some(found.row)),
+        Some(windows) => Ok(Some(ClockRow {
+            minute: row.minute,
+            next_id: row.next_id,
+            present: WindowSet {
+                number: row.present,
+                windows,
+            },
+        })),
+        None => Err(Fault::Device),
+    }
+}
+
+// The routing that the version with this id sends.
+fn next_routing<S: Alter>(conn: &mut Connection<S>, id: u64) -> Result<Option<Routing>, Fault>
+    requires ours { IsTrue (state S.Store conn.old).is_open → IsOurs (state S.Store conn.old) }
+    requires idle { conn.old.in_transaction ≡ false }
+    ensures value { IsTrue (state S.Store conn.new).is_open
+        → IfOk result (λ o. option_map routing_of o
+        ≡ get (nexts_in ((state S.Store conn.old).now.trees 16)) id) }
+    ensures looked { Looked (state S.Store conn.old) (state S.Store conn.new) (is_ok result) }
+    ensures idle { conn.new.in_transaction ≡ false }
+{
+    if id >= 9_223_372_036_854_775_808 {
+        // No row has such an id. A connection that is shut says so at a look-up alone.
+        clock(conn)?;
+        return Ok(None);
+    }
+    let found: Option<KeyedRouting> = find(conn, Query::NextRoutingNumbered, &[number(id)])?;
+    match found {
+        Some(found) => Ok(Some(found.routing)),
+        None => Ok(None),
+    }
+}
+
+fn is_modified(status: Status) -> bool
+    ensures { result ≡ is_some (next_of (status_of status)) }
+{
+    matches!(status, Status::Sending(Send::Modify(_)))
+}
+
+fn modified_to(row: &VersionRow, routing: Routing) -> VersionRow
+    ensures { result ≡ modified_to (routing_of routing) row.now }
+{
+    VersionRow {
+        version: Version {
+            status: Status::Sending(Send::Modify(routing)),
+            ..row.version
+        },
+        deadline: row.deadline,
+        is_in_force: row.is_in_force,
+        is_open: row.is_open,
+    }
+}
+
+// The row with the routing that it sends, which has a table of its own.
+fn whole<S: Alter>(conn: &mut Connection<S>, found: NumberedRow) -> Result<NumberedRow, Fault>
+    requires ours { IsTrue (state S.Store conn.old).is_open → IsOurs (state S.Store conn.old) }
+    requires idle { conn.old.in_transaction ≡ false }
+    requires open { HasCleanDisk (state S.Store conn.old)
+        → IsTrue (state S.Store conn.old).is_open }
+    ensures value { IsTrue (state S.Store conn.new).is_open
+        → IfOk result (IsRoutedAs (state S.Store conn.old).now.trees found) }
+    ensures looked { Looked (state S.Store conn.old) (state S.Store conn.new) (is_ok result) }
+    ensures idle { conn.new.in_transaction ≡ false }
+{
+    if !is_modified(found.row.version.status) {
+        return Ok(found);
+    }
+    let next = next_routing(conn, found.id)?;
+    match next {
+        Some(routing) => Ok(NumberedRow {
+            id: found.id,
+            row: modified_to(&found.row, routing),
+        }),
+        None => Ok(found),
+    }
+}
+
+// The only version that answers a query, if there is one, with the routing that it sends.
+fn find_whole<S: Alter>(
+    conn: &mut Connection<S>,
+    query: Query,
+    params: &[ValueRef<'_>],
+) -> Result<Option<NumberedRow>, Fault>
+    requires ours { IsTrue (state S.Store conn.old).is_open → IsOurs (state S.Store conn.old) }
+    requires idle { conn.old.in_transaction ≡ false }
+    ensures value { IsTrue (state S.Store conn.new).is_open
+        → IfOk result (IsVersionFound query (state S.Store conn.old).now.trees
+        (bound params.now)) }
+    ensures looked { Looked (state S.Store conn.old) (state S.Store conn.new) (is_ok result) }
+    ensures idle { conn.new.in_transaction ≡ false }
+{
+    let found: Option<NumberedRow> = find(conn, query, params)?;
+    match found {
+        Some(bare) => {
+            let row = whole(conn, bare)?;
+            Ok(Some(row))
+        }
         None => Ok(None),
     }
 }
@@ -128,7 +279,7 @@ pub(crate) fn version<S: Alter>(
         clock(conn)?;
         return Ok(None);
     }
-    let found: Option<NumberedRow> = find(conn, Query::VersionNumbered, &[number(id)])?;
+    let found = find_whole(conn, Query::VersionNumbered, &[number(id)])?;
     match found {
         Some(found) => Ok(Some(found.row)),
         None => Ok(None),
@@ -147,7 +298,7 @@ pub(crate) fn version_in_force<S: Alter>(
     ensures looked { Looked (state S.Store conn.old) (state S.Store conn.new) (is_ok result) }
     ensures idle { conn.new.in_transaction ≡ false }
 {
-    let found: Option<NumberedRow> = find(conn, Query::VersionInForce, &[subject(of)])?;
+    let found = find_whole(conn, Query::VersionInForce, &[subject(of)])?;
     Ok(found)
 }
 
@@ -163,7 +314,7 @@ pub(crate) fn open_version<S: Alter>(
     ensures looked { Looked (state S.Store conn.old) (state S.Store conn.new) (is_ok result) }
     ensures idle { conn.new.in_transaction ≡ false }
 {
-    let found: Option<NumberedRow> = find(conn, Query::VersionOpen, &[subject(of)])?;
+    let found = find_whole(conn, Query::VersionOpen, &[subject(of)])?;
     Ok(found)
 }
 
@@ -179,7 +330,7 @@ pub(crate) fn least_due<S: Alter>(
     ensures looked { Looked (state S.Store conn.old) (state S.Store conn.new) (is_ok result) }
     ensures idle { conn.new.in_transaction ≡ false }
 {
-    let found: Option<NumberedRow> = find(conn, Query::VersionDue, &[minute(now)])?;
+    let found = find_whole(conn, Query::VersionDue, &[minute(now)])?;
     Ok(found)
 }
 

@@ -7,12 +7,14 @@ ghost use Rattle.sqlite.specs.Steps.{IsFresh, over_memory};
 ghost use Rattle.sqlite_trees.specs.View.{IsClean, doubt};
 ghost use Rattle.meaning.specs.Content.{empty_content};
 ghost use Rattle.sql_rows.specs.Content.{content_in};
-ghost use Rattle.sql_rows.specs.Tables.{no_schema};
+ghost use Rattle.sql_rows.specs.Tables.{no_schema, the_schema};
+ghost use Rattle.sql_store.specs.Moving.{IsOfSomeForm};
 ghost use Rattle.sql_store.specs.Refusal.{IsUnharmed};
 ghost use Rattle.sql_store.specs.Whole.{IsWhole, ReadsAll};
 
 use crate::SqlStore;
-use crate::schema::is_ours;
+use crate::moving::migrate;
+use crate::schema::{form_of, is_ours};
 use crate::whole::read_all;
 use settle::StoreFault;
 use sql_rows::Fault;
@@ -20,8 +22,8 @@ use sqlite::{Alter, Connection, Error, FileFrom, FileStore, MemStore, Start};
 use sqlite_schema::schema::Schema;
 use std::alloc::Global;
 
-// All tables, and then the indexes: so the trees have the numbers of the schema, and keep them when
-// another program writes the file anew.
+// The tables of the first form, and then their indexes; then those that came later, as a file of an
+// earlier form gets them: so the trees have the numbers of the schema.
 const TABLES: &str = "\
     BEGIN; \
     CREATE TABLE carrier (spid TEXT NOT NULL PRIMARY KEY) STRICT; \
@@ -49,6 +51,22 @@ const TABLES: &str = "\
     CREATE INDEX version_deadline ON version (deadline); \
     CREATE INDEX wait_subject ON wait (subject, spid); \
     CREATE INDEX wait_broadcast ON wait (id, attempt); \
+    CREATE TABLE next_routing (id INTEGER PRIMARY KEY, lrn INTEGER NOT NULL, cic INTEGER) \
+    STRICT; \
+    CREATE TABLE window_set (number INTEGER PRIMARY KEY, initial_concurrence INTEGER NOT NULL, \
+    final_concurrence INTEGER NOT NULL, conflict_restriction INTEGER NOT NULL, \
+    conflict_resolution INTEGER NOT NULL, conflict_expiration INTEGER NOT NULL, \
+    cancellation_initial INTEGER NOT NULL, cancellation_final INTEGER NOT NULL, \
+    pending_retention INTEGER NOT NULL, broadcast INTEGER NOT NULL) STRICT; \
+    CREATE TABLE version2 (id INTEGER PRIMARY KEY, subject INTEGER NOT NULL, old TEXT NOT NULL, \
+    new TEXT NOT NULL, due INTEGER NOT NULL, lrn INTEGER, cic INTEGER, old_at INTEGER, new_at \
+    INTEGER, status TEXT NOT NULL, sends TEXT NOT NULL, since INTEGER NOT NULL, attempt INTEGER \
+    NOT NULL, release INTEGER, spent INTEGER NOT NULL, protective INTEGER NOT NULL, \
+    cancelled_by TEXT, deadline INTEGER, holds INTEGER NOT NULL UNIQUE, opens INTEGER NOT NULL \
+    UNIQUE, held INTEGER NOT NULL) STRICT; \
+    CREATE TABLE clock2 (one INTEGER PRIMARY KEY, now INTEGER NOT NULL, next_id INTEGER NOT \
+    NULL, present INTEGER NOT NULL) STRICT; \
+    CREATE INDEX version2_deadline ON version2 (deadline); \
     COMMIT";
 
 /// What is handed back with the fault, where a file is refused.
@@ -138,6 +156,39 @@ impl<S: Alter + Drop> SqlStore<S> {
         }
     }
 
+    /// Makes a database of an earlier form one of this form, in one transaction, and takes it: its
+    /// windows are set 1, and each version holds that.
+    ///
+    /// # Errors
+    ///
+    /// `Storage` where the schema is none of an earlier form, a row of the versions or of the clock
+    /// does not read, or the device failed, with the database, which is as it was.
+    pub fn moved(alloc: Global, store: S) -> Result<SqlStore<S>, (StoreFault, S)>
+        requires { IsClean (S.Store.view store) → IsFresh (S.Store.view store) }
+        ensures open { IfOk result (λ s. HasCleanDisk (state S.Store s.conn) → IsTrue (state
+            S.Store s.conn).is_open) }
+        ensures content { IfOk result (λ s. IsTrue (state S.Store s.conn).is_open
+            → IsOfSomeForm (S.Store.view store).trees (state S.Store s.conn).now.trees) }
+        ensures none { IfOk result (λ s. s.failures ≡ 0) }
+        ensures clean { IfOk result (λ s. doubt (S.Store.view store).is_clean ≤ doubt (state
+            S.Store s.conn).is_clean) }
+        ensures err_clean { IfErr result (λ e. doubt (S.Store.view store).is_clean ≤ doubt
+            (S.Store.view e.1).is_clean) }
+        ensures err { IfErr result (λ e. IsClean (S.Store.view e.1) → IsTrue (S.Store.view
+            e.1).is_open → (S.Store.view e.1).trees ≡ (S.Store.view store).trees) }
+    {
+        match Connection::over(alloc, store) {
+            Ok(mut conn) => match form_of(conn.schema()) {
+                Some(form) => match migrate(&mut conn, form) {
+                    Ok(()) => Ok(SqlStore { conn, failures: 0 }),
+                    Err(fault) => Err((told(fault), conn.into_store())),
+                },
+                None => Err((StoreFault::Storage, conn.into_store())),
+            },
+            Err((error, store)) => Err((fault_of(error), store)),
+        }
+    }
+
     // Takes a database if its tables are the schema's and each row reads, and tells whether there
     // is none.
     fn taken(alloc: Global, store: S) -> Result<(SqlStore<S>, bool), (StoreFault, S)>
@@ -204,6 +255,7 @@ impl<S: Alter + Drop> SqlStore<S> {
         ensures reads { IfOk result (λ e. HasCleanDisk (state S.Store e.0.conn) → ReadsAll (state
             S.Store e.0.conn).now.trees e.1) }
         ensures none { IfOk result (λ e. e.0.failures ≡ 0) }
+        ensures ours { IfOk result (λ e. (state S.Store conn).now.schema ≡ the_schema) }
         ensures err { IfErr result (λ e. IsUnharmed S.Store conn e.1) }
     {
         if !is_ours(conn.schema()) {
@@ -237,6 +289,7 @@ impl<S: Alter + Drop> SqlStore<S> {
         ensures whole { IfOk result (λ s. HasCleanDisk (state S.Store s.conn) → IsWhole (state
             S.Store s.conn).now.trees) }
         ensures none { IfOk result (λ s. s.failures ≡ 0) }
+        ensures ours { IfOk result (λ s. (state S.Store conn).now.schema ≡ the_schema) }
         ensures err { IfErr result (λ e. IsUnharmed S.Store conn e.1) }
     {
         match SqlStore::adopted(alloc, conn) {
@@ -268,26 +321,59 @@ impl<S: Alter + Drop> SqlStore<S> {
         }
     }
 
-    /// Takes a connection: one that lists nothing yet gets the tables and is an empty store, and
-    /// any other has to be of our tables, as `adopt` asks.
+    // Makes a connection's database of an earlier form one of this form, and takes it. What is not
+    // committed is rolled back.
+    fn adopt_moved(
+        alloc: Global,
+        conn: Connection<S>,
+    ) -> Result<SqlStore<S>, (StoreFault, Refused<S>)>
+        ensures open { IfOk result (λ s. HasCleanDisk (state S.Store s.conn) → IsTrue (state
+            S.Store s.conn).is_open) }
+        ensures moved { IfOk result (λ s. HasCleanDisk (state S.Store s.conn) → IsOfSomeForm
+            (state S.Store conn).committed.trees (state S.Store s.conn).now.trees) }
+        ensures none { IfOk result (λ s. s.failures ≡ 0) }
+        ensures err { IfErr result (λ e. IsUnharmed S.Store conn e.1) }
+    {
+        let store = conn.into_store();
+        if store.is_broken() {
+            return Err((StoreFault::Storage, Refused::Store(store)));
+        }
+        match SqlStore::moved(alloc, store) {
+            Ok(it) => Ok(it),
+            Err((fault, store)) => Err((fault, Refused::Store(store))),
+        }
+    }
+
+    /// Takes a connection: one that lists nothing yet gets the tables and is an empty store, one of
+    /// an earlier form is made one of this form, and any other has to be of our tables, as `adopt`
+    /// asks.
     ///
     /// # Errors
     ///
-    /// As those of `adopt` and of `create`.
+    /// As those of `adopt`, of `create` and of `moved`.
     pub fn open(alloc: Global, conn: Connection<S>) -> Result<SqlStore<S>, (StoreFault, Refused<S>)>
         ensures open { IfOk result (λ s. HasCleanDisk (state S.Store s.conn) → IsTrue (state
             S.Store s.conn).is_open) }
         ensures new { IfOk result (λ s. HasCleanDisk (state S.Store s.conn) → (state S.Store
             conn).now.schema ≡ no_schema → content_in (state S.Store s.conn).now.trees
             ≡ empty_content) }
-        ensures found { IfOk result (λ s. HasCleanDisk (state S.Store s.conn) → ¬ ((state S.Store
-            conn).now.schema ≡ no_schema) → content_in (state S.Store s.conn).now.trees
+        ensures found { IfOk result (λ s. HasCleanDisk (state S.Store s.conn) → (state S.Store
+            conn).now.schema ≡ the_schema → content_in (state S.Store s.conn).now.trees
             ≡ content_in (state S.Store conn).committed.trees) }
+        ensures moved { IfOk result (λ s. HasCleanDisk (state S.Store s.conn) → ¬ ((state S.Store
+            conn).now.schema ≡ no_schema) → ¬ ((state S.Store conn).now.schema ≡ the_schema) →
+            IsOfSomeForm (state S.Store conn).committed.trees (state S.Store s.conn).now.trees) }
         ensures none { IfOk result (λ s. s.failures ≡ 0) }
         ensures err { IfErr result (λ e. ¬ ((state S.Store conn).now.schema ≡ no_schema) →
             IsUnharmed S.Store conn e.1) }
     {
         if !is_blank(conn.schema()) {
+            if form_of(conn.schema()).is_some() {
+                return match SqlStore::adopt_moved(alloc, conn) {
+                    Ok(it) => Ok(it),
+                    Err(refused) => Err(refused),
+                };
+            }
             return SqlStore::adopt(alloc, conn);
         }
         match SqlStore::create(alloc, conn) {

@@ -1,20 +1,27 @@
 //! A row of each table put or taken away.
-ghost use Rattle.std.specs.Prelude.{◌≡◌, is_ok};
+ghost use Rattle.std.specs.Prelude.{◌≡◌, ◌<◌, Some, None, is_ok};
 ghost use Rattle.sqlite.specs.Held.{state};
-ghost use Rattle.numbers.specs.Views.{subject_of};
-ghost use Rattle.settle.specs.Views.{spid_of, lrn_of, code_of, block_of, block_row_of, clock_row_of, broadcast_row_of, broadcast_key_of, wait_key_of};
-ghost use Rattle.sql_store.specs.Store.{Makes};
-ghost use Rattle.sql_store.specs.Changes.{with_carrier, with_lrn, with_code, with_block, with_clock, with_version, without_version, with_broadcast, without_broadcast, with_wait, without_wait};
+ghost use Rattle.numbers.specs.Views.{routing_of, subject_of};
+ghost use Rattle.settle.specs.Views.{spid_of, lrn_of, code_of, block_of, block_row_of, broadcast_row_of, broadcast_key_of, wait_key_of};
+ghost use Rattle.sql_store.specs.Store.{IsNextPut, Makes, Writes};
+ghost use Rattle.meaning.specs.Views.{status_of};
+ghost use Rattle.version.specs.Views.{windows_of};
+ghost use Rattle.sql_rows.specs.Clocks.{clock_of};
+ghost use Rattle.sql_rows.specs.Versions.{next_of};
+ghost use Rattle.sql_store.specs.Changes.{with_carrier, with_lrn, with_code, with_block, with_clock, with_set, with_version, without_version, with_broadcast, without_broadcast, with_wait, without_wait};
 
 use crate::change::{replace, take};
 use delivery::Broadcast;
-use numbers::{BlockId, CodeId, Lrn, Spid, Subject};
-use settle::{BlockRow, BroadcastKey, ClockRow, VersionRow, WaitKey};
+use meaning::{Send, Status};
+use numbers::{BlockId, CodeId, Lrn, Routing, Spid, Subject};
+use settle::{BlockRow, BroadcastKey, VersionRow, WaitKey};
 use sql_rows::{
-    Fault, Table, block_params, broadcast_key, broadcast_params, clock_params, fits, fits_block,
-    number, spid_bytes, text, version_params, wait_key, wait_params,
+    Fault, StoredClock, Table, block_params, broadcast_key, broadcast_params, clock_params, fits,
+    fits_block, is_set_number, next_params, number, set_params, spid_bytes, text, version_params,
+    wait_key, wait_params,
 };
 use sqlite::{Alter, Transaction};
+use windows::{WindowSet, Windows};
 
 /// Registers a carrier.
 pub(crate) fn put_carrier<S: Alter>(tx: &mut Transaction<'_, S>, spid: Spid) -> Result<(), Fault>
@@ -79,20 +86,84 @@ pub(crate) fn put_block<S: Alter>(
     Ok(())
 }
 
-/// Puts the clock's row.
-pub(crate) fn put_clock<S: Alter>(tx: &mut Transaction<'_, S>, row: &ClockRow) -> Result<(), Fault>
+/// Puts the clock's row, with the number of its set.
+pub(crate) fn put_clock<S: Alter>(
+    tx: &mut Transaction<'_, S>,
+    row: &StoredClock,
+) -> Result<(), Fault>
     ensures same_reference { tx.new.conn.ghost_name ≡ tx.old.conn.ghost_name }
     ensures makes { Makes (state S.Store tx.old.conn.now) (state S.Store tx.new.conn.now)
-        (is_ok result) (with_clock (clock_row_of row.now)) }
+        (is_ok result) (with_clock (clock_of row.now)) }
 {
-    if row.next_id >= 9_223_372_036_854_775_808 {
+    if row.next_id >= 9_223_372_036_854_775_808 || !is_set_number(row.present) {
         return Err(Fault::Device);
     }
     replace(tx, Table::Clock, &[number(0)], &clock_params(row))?;
     Ok(())
 }
 
-/// Puts a version's row.
+/// Puts a set of windows, and the clock's row with its number: it is the present set from then on.
+pub(crate) fn put_set<S: Alter>(
+    tx: &mut Transaction<'_, S>,
+    row: &StoredClock,
+    windows: &Windows,
+) -> Result<(), Fault>
+    ensures same_reference { tx.new.conn.ghost_name ≡ tx.old.conn.ghost_name }
+    ensures makes { Makes (state S.Store tx.old.conn.now) (state S.Store tx.new.conn.now)
+        (is_ok result) (with_set (clock_of row.now) (windows_of windows.now)) }
+{
+    if row.next_id >= 9_223_372_036_854_775_808 || !is_set_number(row.present) {
+        return Err(Fault::Device);
+    }
+    let set = WindowSet {
+        number: row.present,
+        windows: *windows,
+    };
+    let key = number(u64::from(row.present));
+    replace(tx, Table::WindowSet, &[key], &set_params(&set))?;
+    replace(tx, Table::Clock, &[number(0)], &clock_params(row))?;
+    Ok(())
+}
+
+fn put_routing<S: Alter>(
+    tx: &mut Transaction<'_, S>,
+    id: u64,
+    routing: Routing,
+) -> Result<(), Fault>
+    requires { id < 9223372036854775808 }
+    ensures same_reference { tx.new.conn.ghost_name ≡ tx.old.conn.ghost_name }
+    ensures writes { Writes (state S.Store tx.old.conn.now) (state S.Store tx.new.conn.now)
+        (is_ok result) (IsNextPut id (Some (routing_of routing))) }
+{
+    let params = next_params(id, routing);
+    replace(tx, Table::NextRouting, &[number(id)], &params)?;
+    Ok(())
+}
+
+fn take_routing<S: Alter>(tx: &mut Transaction<'_, S>, id: u64) -> Result<(), Fault>
+    requires { id < 9223372036854775808 }
+    ensures same_reference { tx.new.conn.ghost_name ≡ tx.old.conn.ghost_name }
+    ensures writes { Writes (state S.Store tx.old.conn.now) (state S.Store tx.new.conn.now)
+        (is_ok result) (IsNextPut id None) }
+{
+    take(tx, Table::NextRouting, &[number(id)])?;
+    Ok(())
+}
+
+// Puts the routing that the version sends, or takes away what stands there.
+fn put_next<S: Alter>(tx: &mut Transaction<'_, S>, id: u64, status: Status) -> Result<(), Fault>
+    requires { id < 9223372036854775808 }
+    ensures same_reference { tx.new.conn.ghost_name ≡ tx.old.conn.ghost_name }
+    ensures writes { Writes (state S.Store tx.old.conn.now) (state S.Store tx.new.conn.now)
+        (is_ok result) (IsNextPut id (next_of (status_of status))) }
+{
+    match status {
+        Status::Sending(Send::Modify(routing)) => put_routing(tx, id, routing),
+        _ => take_routing(tx, id),
+    }
+}
+
+/// Puts a version's row, and the routing that it sends.
 pub(crate) fn put_version<S: Alter>(
     tx: &mut Transaction<'_, S>,
     id: u64,
@@ -109,10 +180,11 @@ pub(crate) fn put_version<S: Alter>(
     let new = spid_bytes(row.version.new_provider.number);
     let params = version_params(id, row, &old, &new);
     replace(tx, Table::Version, &[number(id)], &params)?;
+    put_next(tx, id, row.version.status)?;
     Ok(())
 }
 
-/// Takes a version's row away.
+/// Takes a version's row away, and the routing that it sends.
 pub(crate) fn take_version<S: Alter>(tx: &mut Transaction<'_, S>, id: u64) -> Result<(), Fault>
     ensures same_reference { tx.new.conn.ghost_name ≡ tx.old.conn.ghost_name }
     ensures makes { Makes (state S.Store tx.old.conn.now) (state S.Store tx.new.conn.now)
@@ -122,6 +194,7 @@ pub(crate) fn take_version<S: Alter>(tx: &mut Transaction<'_, S>, id: u64) -> Re
         return Err(Fault::Device);
     }
     take(tx, Table::Version, &[number(id)])?;
+    take_routing(tx, id)?;
     Ok(())
 }
 

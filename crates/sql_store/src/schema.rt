@@ -1,9 +1,11 @@
 //! Whether a schema is ours.
-ghost use Rattle.std.specs.Prelude.{◌≡◌, false, true, [], ◌∷◌, map, IsTrue};
+ghost use Rattle.std.specs.Prelude.{◌≡◌, false, true, [], ◌∷◌, map, IsTrue, IfSome};
 ghost use Rattle.sqlite_value.specs.Keys.{plain};
-ghost use Rattle.sql_rows.specs.Tables.{a_column, a_table, carrier_table, lrn_table, code_table, block_table, version_table, broadcast_table, wait_table, clock_columns, clock_table, later_tables, the_tables, an_index, wait_key, version_deadline, wait_subject, wait_broadcast, later_indexes, the_indexes, the_schema};
-ghost use Rattle.sql_store.specs.Wanted.{column_of};
+ghost use Rattle.sql_rows.specs.Tables.{a_column, a_table, carrier_table, lrn_table, code_table, block_table, old_version_table, broadcast_table, wait_table, clock_columns, old_clock_table, next_routing_table, set_columns, window_set_table, version_table, clock_table, later_tables, tables_with, new_tables, the_tables, an_index, wait_key, version_deadline, wait_subject, wait_broadcast, later_indexes, indexes_with, version2_deadline, new_indexes, the_indexes, the_schema};
+ghost use Rattle.sql_rows.specs.Moving.{schema_of};
+ghost use Rattle.sql_store.specs.Wanted.{column_of, form_tables};
 
+use sql_rows::Form;
 use sqlite_items::Items;
 use sqlite_schema::schema::{Column, Index, Kind, Schema, Table};
 use sqlite_value::keys::{Collation, Order};
@@ -200,8 +202,8 @@ fn is_block(table: &Table) -> bool
     )
 }
 
-fn is_version(table: &Table) -> bool
-    ensures { IsTrue result → table.now ≡ version_table }
+fn is_old_version(table: &Table) -> bool
+    ensures { IsTrue result → table.now ≡ old_version_table }
 {
     if !is_table(table, 5, b"version", Some(0), &[0]) {
         return false;
@@ -304,8 +306,8 @@ fn are_clock_columns(columns: &[Column]) -> bool
     )
 }
 
-fn is_clock(table: &Table) -> bool
-    ensures { IsTrue result → table.now ≡ clock_table }
+fn is_old_clock(table: &Table) -> bool
+    ensures { IsTrue result → table.now ≡ old_clock_table }
 {
     if !is_table(table, 12, b"clock", Some(0), &[0]) {
         return false;
@@ -316,44 +318,177 @@ fn is_clock(table: &Table) -> bool
     are_clock_columns(table.columns.as_slice())
 }
 
-fn are_later_tables(tables: &[Table]) -> bool
-    ensures { IsTrue result → tables.now ≡ later_tables }
+fn is_next_routing(table: &Table) -> bool
+    ensures { IsTrue result → table.now ≡ next_routing_table }
+{
+    if !is_table(table, 16, b"next_routing", Some(0), &[0]) {
+        return false;
+    }
+    if !has_no_key(table) {
+        return false;
+    }
+    are_columns(
+        table.columns.as_slice(),
+        &[
+            number_or_null(b"id"),
+            number(b"lrn"),
+            number_or_null(b"cic"),
+        ],
+    )
+}
+
+fn are_set_columns(columns: &[Column]) -> bool
+    ensures { IsTrue result → columns.now ≡ set_columns }
+{
+    are_columns(
+        columns,
+        &[
+            number_or_null(b"number"),
+            number(b"initial_concurrence"),
+            number(b"final_concurrence"),
+            number(b"conflict_restriction"),
+            number(b"conflict_resolution"),
+            number(b"conflict_expiration"),
+            number(b"cancellation_initial"),
+            number(b"cancellation_final"),
+            number(b"pending_retention"),
+            number(b"broadcast"),
+        ],
+    )
+}
+
+fn is_window_set(table: &Table) -> bool
+    ensures { IsTrue result → table.now ≡ window_set_table }
+{
+    if !is_table(table, 17, b"window_set", Some(0), &[0]) {
+        return false;
+    }
+    if !has_no_key(table) {
+        return false;
+    }
+    are_set_columns(table.columns.as_slice())
+}
+
+fn is_version(table: &Table) -> bool
+    ensures { IsTrue result → table.now ≡ version_table }
+{
+    if !is_table(table, 18, b"version2", Some(0), &[0]) {
+        return false;
+    }
+    if !has_two_keys(table, &[19], &[20]) {
+        return false;
+    }
+    are_columns(
+        table.columns.as_slice(),
+        &[
+            number_or_null(b"id"),
+            number(b"subject"),
+            text(b"old"),
+            text(b"new"),
+            number(b"due"),
+            number_or_null(b"lrn"),
+            number_or_null(b"cic"),
+            number_or_null(b"old_at"),
+            number_or_null(b"new_at"),
+            text(b"status"),
+            text(b"sends"),
+            number(b"since"),
+            number(b"attempt"),
+            number_or_null(b"release"),
+            number(b"spent"),
+            number(b"protective"),
+            text_or_null(b"cancelled_by"),
+            number_or_null(b"deadline"),
+            number(b"holds"),
+            number(b"opens"),
+            number(b"held"),
+        ],
+    )
+}
+
+fn is_clock(table: &Table) -> bool
+    ensures { IsTrue result → table.now ≡ clock_table }
+{
+    if !is_table(table, 21, b"clock2", Some(0), &[0]) {
+        return false;
+    }
+    if !has_no_key(table) {
+        return false;
+    }
+    are_columns(
+        table.columns.as_slice(),
+        &[
+            number_or_null(b"one"),
+            number(b"now"),
+            number(b"next_id"),
+            number(b"present"),
+        ],
+    )
+}
+
+// The tables behind those of the first form, if these are there.
+fn behind_later_tables(tables: &[Table]) -> Option<&[Table]>
+    ensures { IfSome result (λ more. tables.now ≡ later_tables more.now) }
 {
     match tables {
-        [version, broadcast, wait, clock] => {
-            if !is_version(version) {
-                return false;
+        [version, broadcast, wait, clock, more @ ..] => {
+            if !is_old_version(version) {
+                return None;
             }
             if !is_broadcast(broadcast) {
-                return false;
+                return None;
             }
             if !is_wait(wait) {
-                return false;
+                return None;
             }
-            is_clock(clock)
+            if !is_old_clock(clock) {
+                return None;
+            }
+            Some(more)
         }
-        _ => false,
+        _ => None,
     }
 }
 
-fn are_tables(tables: &[Table]) -> bool
-    ensures { IsTrue result → tables.now ≡ the_tables }
+fn behind_tables(tables: &[Table]) -> Option<&[Table]>
+    ensures { IfSome result (λ more. tables.now ≡ tables_with more.now) }
 {
     match tables {
         [carrier, lrn, code, block, more @ ..] => {
             if !is_carrier(carrier) {
-                return false;
+                return None;
             }
             if !is_lrn(lrn) {
-                return false;
+                return None;
             }
             if !is_code(code) {
-                return false;
+                return None;
             }
             if !is_block(block) {
+                return None;
+            }
+            behind_later_tables(more)
+        }
+        _ => None,
+    }
+}
+
+// The tables that came later.
+fn are_new_tables(tables: &[Table]) -> bool
+    ensures { IsTrue result → tables.now ≡ new_tables }
+{
+    match tables {
+        [next, sets, version, clock] => {
+            if !is_next_routing(next) {
                 return false;
             }
-            are_later_tables(more)
+            if !is_window_set(sets) {
+                return false;
+            }
+            if !is_version(version) {
+                return false;
+            }
+            is_clock(clock)
         }
         _ => false,
     }
@@ -408,39 +543,49 @@ fn is_wait_broadcast(index: &Index) -> bool
     is_index(index, b"wait_broadcast", 15, 10, &[3, 4], false)
 }
 
-fn are_later_indexes(indexes: &[Index]) -> bool
-    ensures { IsTrue result → indexes.now ≡ later_indexes }
+fn is_version2_deadline(index: &Index) -> bool
+    ensures { IsTrue result → index.now ≡ version2_deadline }
+{
+    is_index(index, b"version2_deadline", 22, 18, &[18], false)
+}
+
+fn behind_later_indexes(indexes: &[Index]) -> Option<&[Index]>
+    ensures { IfSome result (λ more. indexes.now ≡ later_indexes more.now) }
 {
     match indexes {
-        [wait, deadline, subject, waits] => {
+        [wait, deadline, subject, waits, more @ ..] => {
             if !is_wait_key(wait) {
-                return false;
+                return None;
             }
             if !is_version_deadline(deadline) {
-                return false;
+                return None;
             }
             if !is_wait_subject(subject) {
-                return false;
+                return None;
             }
-            is_wait_broadcast(waits)
+            if !is_wait_broadcast(waits) {
+                return None;
+            }
+            Some(more)
         }
-        _ => false,
+        _ => None,
     }
 }
 
-fn are_indexes(indexes: &[Index]) -> bool
-    ensures { IsTrue result → indexes.now ≡ the_indexes }
+// The indexes behind those of the first form, if these are there.
+fn behind_indexes(indexes: &[Index]) -> Option<&[Index]>
+    ensures { IfSome result (λ more. indexes.now ≡ indexes_with more.now) }
 {
     match indexes {
         [carrier, holds, opens, broadcast, more @ ..] => {
             if !is_index(carrier, b"sqlite_autoindex_carrier_1", 1, 0, &[1], true) {
-                return false;
+                return None;
             }
             if !is_index(holds, b"sqlite_autoindex_version_1", 6, 5, &[19], true) {
-                return false;
+                return None;
             }
             if !is_index(opens, b"sqlite_autoindex_version_2", 7, 5, &[20], true) {
-                return false;
+                return None;
             }
             if !is_index(
                 broadcast,
@@ -450,11 +595,46 @@ fn are_indexes(indexes: &[Index]) -> bool
                 &[1, 2],
                 true,
             ) {
+                return None;
+            }
+            behind_later_indexes(more)
+        }
+        _ => None,
+    }
+}
+
+fn are_new_indexes(indexes: &[Index]) -> bool
+    ensures { IsTrue result → indexes.now ≡ new_indexes }
+{
+    match indexes {
+        [holds, opens, deadline] => {
+            if !is_index(holds, b"sqlite_autoindex_version2_1", 19, 18, &[19], true) {
                 return false;
             }
-            are_later_indexes(more)
+            if !is_index(opens, b"sqlite_autoindex_version2_2", 20, 18, &[20], true) {
+                return false;
+            }
+            is_version2_deadline(deadline)
         }
         _ => false,
+    }
+}
+
+fn are_tables(tables: &[Table]) -> bool
+    ensures { IsTrue result → tables.now ≡ the_tables }
+{
+    match behind_tables(tables) {
+        Some(more) => are_new_tables(more),
+        None => false,
+    }
+}
+
+fn are_indexes(indexes: &[Index]) -> bool
+    ensures { IsTrue result → indexes.now ≡ the_indexes }
+{
+    match behind_indexes(indexes) {
+        Some(more) => are_new_indexes(more),
+        None => false,
     }
 }
 
@@ -465,4 +645,32 @@ pub(crate) fn is_ours(schema: &Schema) -> bool
     are_tables(schema.tables.as_slice())
         && are_indexes(schema.indexes.as_slice())
         && schema.views.is_empty()
+}
+
+fn form_by(tables: &[Table]) -> Option<Form>
+    ensures { IfSome result (λ f. tables.now ≡ form_tables f) }
+{
+    match tables {
+        [] => Some(Form::First),
+        [next] => {
+            if is_next_routing(next) {
+                Some(Form::Modify)
+            } else {
+                None
+            }
+        }
+        _ => None,
+    }
+}
+
+/// The earlier form whose schema this is, if it is one's.
+pub(crate) fn form_of(schema: &Schema) -> Option<Form>
+    ensures { IfSome result (λ f. schema.now ≡ schema_of f) }
+{
+    let tables = behind_tables(schema.tables.as_slice())?;
+    let indexes = behind_indexes(schema.indexes.as_slice())?;
+    if !indexes.is_empty() || !schema.views.is_empty() {
+        return None;
+    }
+    form_by(tables)
 }

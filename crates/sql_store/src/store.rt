@@ -14,6 +14,7 @@ use settle::{
 use sql_rows::Fault;
 use sqlite::{Alter, Connection};
 use version::NumberInUse;
+use windows::Windows;
 
 /// The rows of a register in the tables of a database. `S` is where the database stands: a file, or
 /// memory.
@@ -82,6 +83,13 @@ impl<S: Alter> Store for SqlStore<S> {
 
     fn block(&mut self, block: BlockId) -> Result<Option<BlockRow>, StoreFault> {
         counted(&mut self.failures, lookups::block(&mut self.conn, block))
+    }
+
+    fn window_set(&mut self, number: u16) -> Result<Option<Windows>, StoreFault> {
+        counted(
+            &mut self.failures,
+            lookups::window_set(&mut self.conn, number),
+        )
     }
 
     fn version(&mut self, id: u64) -> Result<Option<VersionRow>, StoreFault> {

@@ -1,16 +1,16 @@
 //! All rows of a database read once.
-ghost use Rattle.std.specs.Prelude.{◌≡◌, false, IsTrue, IfOk, is_ok};
+ghost use Rattle.std.specs.Prelude.{◌≡◌, false, IsTrue, IfOk, OnOk, is_ok};
 ghost use Rattle.std.specs.List.{list_all};
 ghost use Rattle.sqlite.specs.Held.{state};
 ghost use Rattle.sql_store.specs.Store.{IsOurs, Looked};
-ghost use Rattle.sql_store.specs.Whole.{IsRead, ReadsAll, ReadsRegistry, ReadsVersions};
+ghost use Rattle.sql_store.specs.Whole.{IsMoved, IsRead, ReadsAdded, ReadsAll, ReadsRegistry, ReadsVersions};
 
 use crate::select::find_all;
 use numbers::Spid;
 use settle::NumberedRow;
 use sql_rows::{
-    Fault, KeyedBlock, KeyedBroadcast, KeyedClock, KeyedCode, KeyedLrn, KeyedWait, Query, Stored,
-    Table,
+    Fault, KeyedBlock, KeyedBroadcast, KeyedClock, KeyedCode, KeyedLrn, KeyedRouting, KeyedSet,
+    KeyedWait, OldClock, OldVersion, Query, Stored, Table,
 };
 use sqlite::{Alter, Connection};
 
@@ -66,8 +66,39 @@ fn read_versions<S: Alter>(conn: &mut Connection<S>) -> Result<bool, Fault>
     Ok(are_blank(&[versions, broadcasts, waits, clock]))
 }
 
+// Reads the routings that versions send and the sets of windows, and tells whether there is none.
+fn read_added<S: Alter>(conn: &mut Connection<S>) -> Result<bool, Fault>
+    requires ours { IsTrue (state S.Store conn.old).is_open → IsOurs (state S.Store conn.old) }
+    requires idle { conn.old.in_transaction ≡ false }
+    ensures value { IsTrue (state S.Store conn.new).is_open
+        → IfOk result (ReadsAdded (state S.Store conn.old).now.trees) }
+    ensures looked { Looked (state S.Store conn.old) (state S.Store conn.new) (is_ok result) }
+    ensures idle { conn.new.in_transaction ≡ false }
+{
+    let nexts = read::<KeyedRouting, S>(conn, Table::NextRouting)?;
+    let sets = read::<KeyedSet, S>(conn, Table::WindowSet)?;
+    Ok(are_blank(&[nexts, sets]))
+}
+
+// Sees that the tables of an earlier form have no row: one that stands there is a fault.
+fn see_moved<S: Alter>(conn: &mut Connection<S>) -> Result<(), Fault>
+    requires ours { IsTrue (state S.Store conn.old).is_open → IsOurs (state S.Store conn.old) }
+    requires idle { conn.old.in_transaction ≡ false }
+    ensures value { IsTrue (state S.Store conn.new).is_open
+        → OnOk result (IsMoved (state S.Store conn.old).now.trees) }
+    ensures looked { Looked (state S.Store conn.old) (state S.Store conn.new) (is_ok result) }
+    ensures idle { conn.new.in_transaction ≡ false }
+{
+    let versions = read::<OldVersion, S>(conn, Table::OldVersion)?;
+    let clock = read::<OldClock, S>(conn, Table::OldClock)?;
+    if !are_blank(&[versions, clock]) {
+        return Err(Fault::Device);
+    }
+    Ok(())
+}
+
 /// Reads every row once, and tells whether there is none. A row that does not read is a fault of
-/// the device.
+/// the device, and so is one in a table of an earlier form.
 pub(crate) fn read_all<S: Alter>(conn: &mut Connection<S>) -> Result<bool, Fault>
     requires ours { IsTrue (state S.Store conn.old).is_open → IsOurs (state S.Store conn.old) }
     requires idle { conn.old.in_transaction ≡ false }
@@ -78,5 +109,7 @@ pub(crate) fn read_all<S: Alter>(conn: &mut Connection<S>) -> Result<bool, Fault
 {
     let registry = read_registry(conn)?;
     let versions = read_versions(conn)?;
-    Ok(are_blank(&[registry, versions]))
+    let added = read_added(conn)?;
+    see_moved(conn)?;
+    Ok(are_blank(&[registry, versions, added]))
 }

@@ -7,6 +7,8 @@ mod deeds;
 #[cfg(test)]
 mod files;
 #[cfg(test)]
+mod moved;
+#[cfg(test)]
 mod program;
 #[cfg(test)]
 mod refused;

@@ -75,32 +75,40 @@ fn first_other(
 }
 
 // A value that is none of its column's type.
-static SPOILED: [&str; 25] = [
+static SPOILED: [&str; 33] = [
     "UPDATE carrier SET spid = 'AAAAA' WHERE spid = 'AAAA'",
     "UPDATE carrier SET spid = 'aaaa' WHERE spid = 'AAAA'",
     "UPDATE lrn SET spid = 'AAAAA' WHERE lrn = 2025440000",
     "UPDATE code SET spid = 'bbbb' WHERE code = 202533",
     "UPDATE block SET donor = 'BBBBB' WHERE block = 2025337",
-    "UPDATE version SET old = 'BBBBB' WHERE id = 1",
-    "UPDATE version SET new = 'aaaa' WHERE id = 1",
-    "UPDATE version SET status = 'gone' WHERE id = 1",
-    "UPDATE version SET spent = 2 WHERE id = 1",
-    "UPDATE version SET protective = 2 WHERE id = 1",
-    "UPDATE version SET deadline = -1 WHERE id = 1",
-    "UPDATE version SET subject = 1025331234, holds = 1025331234 WHERE id = 1",
-    "UPDATE version SET holds = 2025331235 WHERE id = 1",
-    "UPDATE version SET opens = 2025337009 WHERE id = 2",
-    "UPDATE version SET due = 1099511627776 WHERE id = 1",
-    "UPDATE version SET cic = 10000 WHERE id = 1",
-    "UPDATE version SET sends = 'update' WHERE id = 2",
+    "UPDATE version2 SET old = 'BBBBB' WHERE id = 1",
+    "UPDATE version2 SET new = 'aaaa' WHERE id = 1",
+    "UPDATE version2 SET status = 'gone' WHERE id = 1",
+    "UPDATE version2 SET spent = 2 WHERE id = 1",
+    "UPDATE version2 SET protective = 2 WHERE id = 1",
+    "UPDATE version2 SET deadline = -1 WHERE id = 1",
+    "UPDATE version2 SET subject = 1025331234, holds = 1025331234 WHERE id = 1",
+    "UPDATE version2 SET holds = 2025331235 WHERE id = 1",
+    "UPDATE version2 SET opens = 2025337009 WHERE id = 2",
+    "UPDATE version2 SET due = 1099511627776 WHERE id = 1",
+    "UPDATE version2 SET cic = 10000 WHERE id = 1",
+    "UPDATE version2 SET sends = 'update' WHERE id = 2",
     "UPDATE broadcast SET action = 'none' WHERE id = 2",
     "UPDATE broadcast SET cic = 10000 WHERE id = 2",
     "UPDATE broadcast SET subject = 1025331234 WHERE id = 2",
     "UPDATE wait SET spid = 'aaaa' WHERE spid = 'AAAA'",
     "UPDATE wait SET subject = 1025337001 WHERE id = 2",
-    "UPDATE clock SET now = 1099511627776",
-    "UPDATE clock SET broadcast = 0",
-    "UPDATE clock SET pending_retention = 525601",
+    "UPDATE clock2 SET now = 1099511627776",
+    "UPDATE clock2 SET present = 0",
+    "UPDATE clock2 SET present = 1001",
+    "UPDATE window_set SET broadcast = 0",
+    "UPDATE window_set SET pending_retention = 525601",
+    "UPDATE window_set SET number = 0",
+    "UPDATE window_set SET number = 1001",
+    "UPDATE version2 SET held = 0 WHERE id = 1",
+    "UPDATE version2 SET held = 1001 WHERE id = 1",
+    "UPDATE next_routing SET lrn = 10000000000",
+    "UPDATE next_routing SET cic = 10000",
 ];
 
 #[test]
@@ -112,14 +120,16 @@ fn a_value_of_no_type_is_refused(rt: HostRuntime) {
 }
 
 // The last value that is one of its column's type.
-static TAKEN: [&str; 7] = [
+static TAKEN: [&str; 9] = [
     "UPDATE carrier SET spid = 'ZZ99' WHERE spid = 'AAAA'",
-    "UPDATE version SET deadline = 0 WHERE id = 1",
-    "UPDATE version SET due = 1099511627775 WHERE id = 1",
-    "UPDATE version SET cic = 9999 WHERE id = 1",
-    "UPDATE clock SET now = 1099511627775",
-    "UPDATE clock SET broadcast = 1",
-    "UPDATE clock SET pending_retention = 525600",
+    "UPDATE version2 SET deadline = 0 WHERE id = 1",
+    "UPDATE version2 SET due = 1099511627775 WHERE id = 1",
+    "UPDATE version2 SET cic = 9999 WHERE id = 1",
+    "UPDATE clock2 SET now = 1099511627775",
+    "UPDATE window_set SET broadcast = 1",
+    "UPDATE window_set SET pending_retention = 525600",
+    "UPDATE version2 SET held = 1000 WHERE id = 1",
+    "UPDATE next_routing SET cic = 9999",
 ];
 
 #[test]
@@ -130,10 +140,10 @@ fn the_last_value_of_a_type_is_taken(rt: HostRuntime) {
 // Keys of no subject, routing number, code or block, another clock than the one, and what stands
 // for no subject in another row.
 static KEYS: [&str; 7] = [
-    "UPDATE clock SET one = 1",
-    "UPDATE version SET holds = -7 WHERE id = 2",
-    "UPDATE version SET opens = -7 WHERE id = 1",
-    "UPDATE version SET holds = -1 WHERE id = 1",
+    "UPDATE clock2 SET one = 1",
+    "UPDATE version2 SET holds = -7 WHERE id = 2",
+    "UPDATE version2 SET opens = -7 WHERE id = 1",
+    "UPDATE version2 SET holds = -1 WHERE id = 1",
     "UPDATE lrn SET lrn = 10000000000 WHERE lrn = 2025440000",
     "UPDATE code SET code = 102533 WHERE code = 202533",
     "UPDATE block SET block = 2021337 WHERE block = 2025337",
@@ -148,9 +158,9 @@ fn a_key_of_nothing_is_refused(rt: HostRuntime) {
 }
 
 // The version of this row is not in force.
-static NOT_IN_FORCE: [&str; 1] = ["UPDATE version SET holds = -1 - id WHERE id = 1"];
+static NOT_IN_FORCE: [&str; 1] = ["UPDATE version2 SET holds = -1 - id WHERE id = 1"];
 
-const NULL_IN_FORCE: &str = "UPDATE version SET holds = NULL WHERE id = 1";
+const NULL_IN_FORCE: &str = "UPDATE version2 SET holds = NULL WHERE id = 1";
 
 // The database itself refuses the statement.
 fn is_no_statement(alloc: Global, statement: &str) -> Option<bool> {
@@ -164,12 +174,28 @@ fn what_is_not_in_force_has_a_number_of_its_own(rt: HostRuntime) {
     assert!(rt; is_no_statement(rt.alloc(), NULL_IN_FORCE) == Some(true));
 }
 
+// A row in a table that an earlier form of the file had in place of another.
+static EARLIER_ROWS: [&str; 2] = [
+    "INSERT INTO version SELECT id, subject, old, new, due, lrn, cic, old_at, new_at, status, \
+     sends, since, attempt, release, spent, protective, cancelled_by, deadline, holds, opens FROM \
+     version2",
+    "INSERT INTO clock SELECT one, now, next_id, 60, 60, 30, 120, 1000, 60, 60, 500, 15 FROM clock2",
+];
+
+#[test]
+fn a_row_of_an_earlier_form_is_refused(rt: HostRuntime) {
+    let wanted = Some(StoreFault::Storage);
+    assert_eq!(rt; first_other(rt.alloc(), &EARLIER_ROWS, wanted), None);
+}
+
 // Something more or less than the tables and the indexes.
-static LISTED_OTHERWISE: [&str; 4] = [
+static LISTED_OTHERWISE: [&str; 6] = [
     "CREATE TABLE more (one INTEGER PRIMARY KEY) STRICT",
-    "CREATE INDEX more ON version (old)",
+    "CREATE INDEX more ON version2 (old)",
     "CREATE VIEW more AS SELECT spid FROM carrier",
     "DROP INDEX version_deadline",
+    "DROP INDEX version2_deadline",
+    "DROP TABLE next_routing",
 ];
 
 #[test]
@@ -204,7 +230,7 @@ fn is_made_so(
 }
 
 // A column of another type, or with another rule, and one more.
-static EDITS: [Edit<'static>; 6] = [
+static EDITS: [Edit<'static>; 8] = [
     ("donor TEXT NOT NULL", "donor BLOB NOT NULL"),
     ("due INTEGER NOT NULL", "due ANY NOT NULL"),
     ("status TEXT NOT NULL", "status TEXT"),
@@ -214,6 +240,8 @@ static EDITS: [Edit<'static>; 6] = [
         "since INTEGER NOT NULL",
         "since INTEGER NOT NULL, more INTEGER",
     ),
+    ("held INTEGER NOT NULL", "held INTEGER"),
+    ("present INTEGER NOT NULL", "present ANY NOT NULL"),
 ];
 
 // The first of the edits with which a file is not refused; and one that changes nothing is taken.

@@ -5,7 +5,7 @@ use std::alloc::Global;
 use std::io::Write;
 
 // What the file lists, and each table in the order of its key.
-static QUERIES: [&str; 9] = [
+static QUERIES: [&str; 13] = [
     "SELECT type, name, tbl_name, sql FROM sqlite_schema",
     "SELECT * FROM carrier ORDER BY spid",
     "SELECT * FROM lrn ORDER BY lrn",
@@ -15,6 +15,10 @@ static QUERIES: [&str; 9] = [
     "SELECT * FROM broadcast ORDER BY id, attempt",
     "SELECT * FROM wait ORDER BY spid, minute, id, attempt",
     "SELECT * FROM clock ORDER BY one",
+    "SELECT * FROM next_routing ORDER BY id",
+    "SELECT * FROM window_set ORDER BY number",
+    "SELECT * FROM version2 ORDER BY id",
+    "SELECT * FROM clock2 ORDER BY one",
 ];
 
 fn add_value(value: ValueRef<'_>, text: &mut Vec<u8>) -> Option<()> {

@@ -5,7 +5,9 @@ use crate::files::{
     Calls, ENDLESS, Fused, Held, copy_of, done_in, files_with, held_in, rows_in, told_stories,
 };
 use crate::said::{Said, Story, is_accepted, is_unavailable};
-use crate::stories::{ACKNOWLEDGEMENT, ACTIVATION, ASSIGNMENT, DONATION, JUMP, NEWCOMER, Trial};
+use crate::stories::{
+    ACKNOWLEDGEMENT, ACTIVATION, ASSIGNMENT, DONATION, JUMP, MODIFIED, MODIFY, NEWCOMER, Trial,
+};
 use sqlite::{Files, Options};
 use sqlite_disk::{Crash, Disk};
 use std::alloc::Global;
@@ -474,6 +476,16 @@ fn an_activation_that_is_stopped(rt: HostRuntime) {
 #[test]
 fn a_last_acknowledgement_that_is_stopped(rt: HostRuntime) {
     assert_eq!(rt; first_wrong(rt.alloc(), &ACKNOWLEDGEMENT), None);
+}
+
+#[test]
+fn a_modify_that_is_stopped(rt: HostRuntime) {
+    assert_eq!(rt; first_wrong(rt.alloc(), &MODIFY), None);
+}
+
+#[test]
+fn a_last_acknowledgement_of_a_modify_that_is_stopped(rt: HostRuntime) {
+    assert_eq!(rt; first_wrong(rt.alloc(), &MODIFIED), None);
 }
 
 #[test]

@@ -148,8 +148,29 @@ const THREE_DONATED: Said<'static> = (
     r#"{"block":"2025337","lrn":"2025330000","used":["001","002","003"]}"#,
 );
 
-/// A number in force with a carrier code, and a block of which three numbers are sent.
-pub static PORT: [Story<'static>; 4] = [OPENING, CREATED, SENT, &[ACKNOWLEDGED, THREE_DONATED]];
+// The number is routed with no carrier code from now on.
+const REROUTED: Said<'static> = (
+    "AAAA",
+    "/subscriptionVersionModify",
+    r#"{"id":1,"lrn":"2025440000"}"#,
+);
+
+// All carriers but BBBB acknowledge that.
+const REROUTED_SENT: Story<'static> = &[
+    ACKNOWLEDGED,
+    REROUTED,
+    ("AAAA", "/downloads/acknowledge", r#"{"attempt":2,"id":1}"#),
+    ("CCCC", "/downloads/acknowledge", r#"{"attempt":2,"id":1}"#),
+];
+
+/// A number in force with a carrier code, which is being taken from it, and a block of which three
+/// numbers are sent.
+pub static PORT: [Story<'static>; 4] = [
+    OPENING,
+    CREATED,
+    SENT,
+    &[ACKNOWLEDGED, THREE_DONATED, REROUTED],
+];
 
 /// A download is sent to each of three carriers.
 pub static ACTIVATION: Trial<'static> = Trial {
@@ -163,6 +184,20 @@ pub static ACKNOWLEDGEMENT: Trial<'static> = Trial {
     stories: &[OPENING, CREATED, SENT],
     steps: &[],
     request: ACKNOWLEDGED,
+};
+
+/// A routing is modified, and sent to each of three carriers.
+pub static MODIFY: Trial<'static> = Trial {
+    stories: &[OPENING, CREATED, SENT, &[ACKNOWLEDGED]],
+    steps: &[],
+    request: REROUTED,
+};
+
+/// The last acknowledgement of a modify puts the routing in the place of the earlier one.
+pub static MODIFIED: Trial<'static> = Trial {
+    stories: &[OPENING, CREATED, SENT, REROUTED_SENT],
+    steps: &[],
+    request: ("BBBB", "/downloads/acknowledge", r#"{"attempt":2,"id":1}"#),
 };
 
 /// Three numbers of a block are in use: each is made a version, and sent to each carrier.

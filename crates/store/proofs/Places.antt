@@ -1,5 +1,5 @@
 -- A row put into a table that no index goes with, and put back.
-use Rattle.std.proofs.Common.{◌≡◌, Option, Some, refl, ap, sym, ◌∙◌, subst}
+use Rattle.std.proofs.Common.{◌≡◌, ℕ, Option, Some, refl, ap, sym, ◌∙◌, subst}
 use Rattle.std.specs.Prelude.{IsSome, OnErr, Result, Ok, Err}
 use Rattle.std.specs.declared.cmp.Ordering.{Ordering}
 use Rattle.std.specs.Ordering.{on}
@@ -17,8 +17,9 @@ use Rattle.delivery.specs.declared.broadcast.Broadcast.{Broadcast}
 use Rattle.settle.specs.declared.rows.BlockRow.{BlockRow}
 use Rattle.settle.specs.declared.rows.BroadcastKey.{BroadcastKey}
 use Rattle.settle.specs.declared.rows.ClockRow.{ClockRow}
+use Rattle.windows.specs.declared.window.Windows.{Windows}
 use Rattle.store.specs.Maps.{map_of, set, IsSame, IsSet}
-use Rattle.store.specs.Places.{Place, IsPutAt, carriers, lrns, codes, blocks, broadcasts}
+use Rattle.store.specs.Places.{Place, IsPutAt, carriers, lrns, codes, blocks, broadcasts, sets}
 use Rattle.store.specs.Tables.{content_of, KeepIndexes, IsKept, IsSpare, AddNoSpare}
 use Rattle.store.specs.Tables.IndexKey.{Held, Opened, Due}
 use Rattle.store.specs.declared.tables.Tables.{Tables}
@@ -88,11 +89,11 @@ module _ {K X L Y : Type 0} {R : L → L → Ordering} (place : Place K X L Y R)
 -- ---- each of the tables
 
 -- other rows in tables that no index goes with make no key spare
-beside_indexes : (t : Tables) (a : BTreeMap Spid (Unit {0})) (b : BTreeMap Lrn Spid) (c : BTreeMap CodeId Spid) (d : BTreeMap BlockId BlockRow) (e : BTreeMap BroadcastKey Broadcast) →
-    AddNoSpare t (record t { carriers = a; lrns = b; codes = c; blocks = d; broadcasts = e })
-beside_indexes t a b c d e (Held k) spare = spare
-beside_indexes t a b c d e (Opened k) spare = spare
-beside_indexes t a b c d e (Due k) spare = spare
+beside_indexes : (t : Tables) (a : BTreeMap Spid (Unit {0})) (b : BTreeMap Lrn Spid) (c : BTreeMap CodeId Spid) (d : BTreeMap BlockId BlockRow) (e : BTreeMap BroadcastKey Broadcast) (f : BTreeMap ℕ Windows) →
+    AddNoSpare t (record t { carriers = a; lrns = b; codes = c; blocks = d; broadcasts = e; sets = f })
+beside_indexes t a b c d e f (Held k) spare = spare
+beside_indexes t a b c d e f (Opened k) spare = spare
+beside_indexes t a b c d e f (Due k) spare = spare
 
 -- nor do another clock, and other downloads
 pub beside_taken : (t : Tables) (clock : Option ClockRow) (e : BTreeMap BroadcastKey Broadcast) (w : FinMap wait_cmp Subject) → AddNoSpare t (record t { clock = clock; broadcasts = e; waits = w })
@@ -114,7 +115,7 @@ carriers-is = record {
   same = λ c. refl;
   again = λ c a b. refl;
   keeps = λ t m. (all-kept t, all-kept t);
-  spares = λ t m. beside_indexes t m t.lrns t.codes t.blocks t.broadcasts;
+  spares = λ t m. beside_indexes t m t.lrns t.codes t.blocks t.broadcasts t.sets;
 }
 
 pub lrns-is : IsPlace lrns
@@ -127,7 +128,7 @@ lrns-is = record {
   same = λ c. refl;
   again = λ c a b. refl;
   keeps = λ t m. (all-kept t, all-kept t);
-  spares = λ t m. beside_indexes t t.carriers m t.codes t.blocks t.broadcasts;
+  spares = λ t m. beside_indexes t t.carriers m t.codes t.blocks t.broadcasts t.sets;
 }
 
 pub codes-is : IsPlace codes
@@ -140,7 +141,7 @@ codes-is = record {
   same = λ c. refl;
   again = λ c a b. refl;
   keeps = λ t m. (all-kept t, all-kept t);
-  spares = λ t m. beside_indexes t t.carriers t.lrns m t.blocks t.broadcasts;
+  spares = λ t m. beside_indexes t t.carriers t.lrns m t.blocks t.broadcasts t.sets;
 }
 
 pub blocks-is : IsPlace blocks
@@ -153,7 +154,7 @@ blocks-is = record {
   same = λ c. refl;
   again = λ c a b. refl;
   keeps = λ t m. (all-kept t, all-kept t);
-  spares = λ t m. beside_indexes t t.carriers t.lrns t.codes m t.broadcasts;
+  spares = λ t m. beside_indexes t t.carriers t.lrns t.codes m t.broadcasts t.sets;
 }
 
 pub broadcasts-is : IsPlace broadcasts
@@ -166,5 +167,18 @@ broadcasts-is = record {
   same = λ c. refl;
   again = λ c a b. refl;
   keeps = λ t m. (all-kept t, all-kept t);
-  spares = λ t m. beside_indexes t t.carriers t.lrns t.codes t.blocks m;
+  spares = λ t m. beside_indexes t t.carriers t.lrns t.codes t.blocks m t.sets;
+}
+
+pub sets-is : IsPlace sets
+sets-is = record {
+  total = nat_cmp_total;
+  exact = nat_cmp-IsAntisymmetric;
+  seen = λ t. refl;
+  writes = λ t m. refl;
+  holds = λ t m. refl;
+  same = λ c. refl;
+  again = λ c a b. refl;
+  keeps = λ t m. (all-kept t, all-kept t);
+  spares = λ t m. beside_indexes t t.carriers t.lrns t.codes t.blocks t.broadcasts m;
 }

@@ -8,11 +8,12 @@ use Rattle.std.specs.FinMap.{FinMap, get, nat_cmp-IsAntisymmetric}
 use Rattle.numbers.specs.Views.{subject_of}
 use Rattle.meaning.specs.Content.{Content, VersionRow, broadcast_cmp}
 use Rattle.delivery.specs.declared.broadcast.Broadcast.{Broadcast}
-use Rattle.settle.specs.Changes.{Changes, IsChanged, changes_of}
+use Rattle.settle.specs.Changes.{Changes, IsChanged, changes_of, clock_move_of}
 use Rattle.settle.specs.Lists.{items_of}
-use Rattle.settle.specs.Views.{spid_of, lrn_of, code_of, block_of, block_row_of, clock_row_of, broadcast_key_of, broadcast_row_of, wait_key_of}
+use Rattle.settle.specs.Views.{spid_of, lrn_of, code_of, block_of, block_row_of, broadcast_key_of, broadcast_row_of, wait_key_of}
 use Rattle.settle.specs.declared.changes.Changes.{Changes as ChangesCode}
 use Rattle.settle.specs.declared.rows.BroadcastKey.{BroadcastKey as BroadcastKeyCode}
+use Rattle.version.specs.Views.{set_of}
 use Rattle.store.specs.Maps.{IsSet, set}
 use Rattle.store.specs.Places.{broadcasts}
 use Rattle.store.specs.Steps.{PutsNoOthers}
@@ -33,7 +34,8 @@ sole-changes c others vs bs versions sent = λ i. record {
   lrn = option_map (λ e. (lrn_of e.0, spid_of e.1)) (others.lrn i);
   code = option_map (λ e. (code_of e.0, spid_of e.1)) (others.code i);
   block = option_map (λ e. (block_of e.0, block_row_of e.1)) (others.block i);
-  clock = option_map clock_row_of c.clock;
+  clock = option_map clock_move_of c.clock;
+  set = option_map set_of c.set;
   versions = versions i;
   broadcasts = map (λ e. (broadcast_key_of e.0, broadcast_row_of e.1)) (sent i);
   waits = map (λ e. (wait_key_of e.0, subject_of e.1)) (others.waits i);

@@ -14,6 +14,9 @@ use Rattle.delivery.specs.declared.broadcast.Broadcast.{Broadcast}
 use Rattle.settle.specs.Views.{spid_of, lrn_of, code_of, block_of, block_row_of, broadcast_key_of, broadcast_row_of}
 use Rattle.settle.specs.declared.rows.BlockRow.{BlockRow as BlockRowCode}
 use Rattle.settle.specs.declared.rows.BroadcastKey.{BroadcastKey as BroadcastKeyCode}
+use Rattle.meaning.specs.Windows.{Windows}
+use Rattle.version.specs.Views.{windows_of}
+use Rattle.windows.specs.declared.window.Windows.{Windows as WindowsCode}
 use Rattle.store.specs.Maps.{IsSet}
 use Rattle.store.specs.declared.tables.Tables.{Tables}
 
@@ -74,6 +77,16 @@ broadcasts = record {
   with_table = λ t m. record t { broadcasts = m };
   column = λ c. c.broadcasts;
   with_column = λ c m. record c { broadcasts = m };
+}
+
+abbrev pub sets : Place ℕ WindowsCode ℕ Windows nat_cmp
+sets = record {
+  key = λ number. number;
+  row = windows_of;
+  table = λ t. t.sets;
+  with_table = λ t m. record t { sets = m };
+  column = λ c. c.sets;
+  with_column = λ c m. record c { sets = m };
 }
 
 -- the row is put at the key of the map, and `before` was there

@@ -10,6 +10,7 @@ use settle::{
     WaitKey,
 };
 use version::NumberInUse;
+use windows::Windows;
 
 /// How often a device fails.
 #[derive(Clone, Copy, Debug, PartialEq, Eq)]
@@ -143,6 +144,11 @@ impl<S: Store> Store for Flaky<S> {
     fn block(&mut self, block: BlockId) -> Result<Option<BlockRow>, StoreFault> {
         self.meet()?;
         counted(&mut self.failures, self.store.block(block))
+    }
+
+    fn window_set(&mut self, number: u16) -> Result<Option<Windows>, StoreFault> {
+        self.meet()?;
+        counted(&mut self.failures, self.store.window_set(number))
     }
 
     fn version(&mut self, id: u64) -> Result<Option<VersionRow>, StoreFault> {

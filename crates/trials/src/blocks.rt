@@ -20,6 +20,7 @@ fn row(subject: Subject, is_in_force: bool, is_open: bool) -> Option<VersionRow>
         new_at: None,
         status: Status::Pending,
         since: Minute::ZERO,
+        held: 1,
         attempt: 0,
         is_conflict_spent: false,
         is_protective: false,

@@ -8,6 +8,7 @@ use settle::{
 };
 use std::cell::Cell;
 use version::NumberInUse;
+use windows::Windows;
 
 /// Another store, and how many commits it was asked for.
 #[derive(Drop)]
@@ -49,6 +50,10 @@ impl<S: Store> Store for Counted<'_, S> {
 
     fn block(&mut self, block: BlockId) -> Result<Option<BlockRow>, StoreFault> {
         self.store.block(block)
+    }
+
+    fn window_set(&mut self, number: u16) -> Result<Option<Windows>, StoreFault> {
+        self.store.window_set(number)
     }
 
     fn version(&mut self, id: u64) -> Result<Option<VersionRow>, StoreFault> {

@@ -4,8 +4,8 @@
 //! within calls would end this test by the depth of the stack.
 use crate::commands::{create_of, does, routing};
 use crate::port::{FIRST_PORT, Texts, asked, is_served, new_register};
-use calls::Command;
-use meaning::{Action, Status};
+use calls::{Command, Reply};
+use meaning::{Send, Status};
 use numbers::{Minute, Spid};
 use register::Register;
 use std::alloc::{AllocError, Global};
@@ -67,8 +67,10 @@ fn sends_all(alloc: Global, register: &mut Desk) -> Option<()> {
 fn acknowledges_all(register: &mut Desk, caller: Spid) -> Option<u64> {
     let mut sending = 0u64;
     for id in 1..=COUNT {
-        let view = register.acknowledge(caller, id, 1).ok()?;
-        if view.version.status == Status::Sending(Action::Create) {
+        let Reply::Shown(view) = register.acknowledge(caller, id, 1).ok()? else {
+            return None;
+        };
+        if view.version.status == Status::Sending(Send::Create) {
             sending = sending.saturating_add(1);
         }
     }

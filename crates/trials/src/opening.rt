@@ -1,5 +1,8 @@
 //! Opening a store, and opening it again.
 use crate::port::{Said, WINDOWS, after_the_first_port, hears, opened, stream_of, whole};
+use calls::{Command, Reply};
+use meaning::Refusal;
+use numbers::Spid;
 use register::{OpenFault, Register};
 use std::alloc::Global;
 use std::process::Abort;
@@ -72,4 +75,73 @@ fn is_handed_back<T: Abort + AllocGlobal>(rt: &T) -> Option<()> {
 #[test]
 fn other_windows_are_refused_and_the_store_handed_back(rt: HostRuntime) {
     assert!(rt; is_handed_back(&rt).is_some());
+}
+
+// The administrator sets the other windows.
+static SET_ANEW: [Said<'static>; 1] = [(
+    "NPAC",
+    "/windows",
+    r#"{"broadcast":16,"cancellation_final":60,"cancellation_initial":60,"conflict_expiration":1000,"conflict_resolution":120,"conflict_restriction":30,"final_concurrence":60,"initial_concurrence":60,"pending_retention":500}"#,
+    r#"{"now":0,"set":2}"#,
+)];
+
+// A store that was opened with the windows of the tests, and whose present ones are the others.
+fn store_set_anew<T: Abort + AllocGlobal>(rt: &T) -> Option<MemoryStore> {
+    let mut register = after_the_first_port(rt.alloc())?;
+    let texts = stream_of(rt.alloc(), &SET_ANEW)?;
+    let mut reader = texts.asked.as_bytes();
+    hears(
+        rt,
+        &mut register,
+        &mut reader,
+        texts.answered.as_str(),
+        whole(1),
+    );
+    Some(register.close())
+}
+
+// It is refused with its first windows, and goes on with the present ones.
+fn goes_on_with_the_present<T: Abort + AllocGlobal>(rt: &T) -> Option<()> {
+    let first = Windows::from_toml(rt.alloc(), WINDOWS).ok()?;
+    let store = store_set_anew(rt)?;
+    let (store, fault) = Register::open(rt.alloc(), store, &first).err()?;
+    assert_eq!(rt; fault, OpenFault::WindowsDiffer);
+    let present = other_windows(rt.alloc())?;
+    let mut register = Register::open(rt.alloc(), store, &present).ok()?;
+    goes_on(rt, &mut register)
+}
+
+#[test]
+fn a_store_is_opened_with_its_present_windows(rt: HostRuntime) {
+    assert!(rt; goes_on_with_the_present(&rt).is_some());
+}
+
+// How often the administrator sets the windows before a refusal, and then why it, and another
+// caller, is refused.
+fn sets_in(alloc: Global, register: &mut Register<MemoryStore>) -> Option<(u16, [Refusal; 2])> {
+    let command = Command::SetWindows {
+        windows: Windows::from_toml(alloc, WINDOWS).ok()?,
+    };
+    for count in 1..2000u16 {
+        match register.do_it(Spid::NPAC, &command) {
+            Ok(Reply::WindowsSet { now: _, number }) if number == count.saturating_add(1) => {}
+            Ok(_) => return None,
+            Err(refusal) => {
+                let other = register.do_it(Spid::read("AAAA")?, &command).err()?;
+                return Some((count, [refusal, other]));
+            }
+        }
+    }
+    None
+}
+
+fn sets(alloc: Global) -> Option<(u16, [Refusal; 2])> {
+    let mut register = after_the_first_port(alloc)?;
+    sets_in(alloc, &mut register)
+}
+
+#[test]
+fn a_thousand_sets_are_all(rt: HostRuntime) {
+    let wanted = Some((1000, [Refusal::Full, Refusal::NotAdmin]));
+    assert_eq!(rt; sets(rt.alloc()), wanted);
 }

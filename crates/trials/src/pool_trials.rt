@@ -1,10 +1,29 @@
 //! A block is donated, assigned and released, and who serves its numbers meanwhile.
 use crate::commands::routing;
-use meaning::{Action, Refusal, Status};
+use meaning::{Refusal, Send, Status};
 use numbers::{BlockId, Line, Minute, Routing, Spid, Subject, Tn};
 use pool::{Assignment, BlockFacts, Donation, Plan, Server, ServingFacts, release, serving};
 use std::alloc::Global;
 use version::{ID_LIMIT, NumberInUse, Step, Version};
+use windows::{Window, WindowSet, Windows};
+
+const DAY: Window = Window { minutes: 1440 };
+
+// The present windows.
+const PRESENT: WindowSet = WindowSet {
+    number: 2,
+    windows: Windows {
+        initial_concurrence: DAY,
+        final_concurrence: DAY,
+        conflict_restriction: DAY,
+        conflict_resolution: DAY,
+        conflict_expiration: DAY,
+        cancellation_initial: DAY,
+        cancellation_final: DAY,
+        pending_retention: DAY,
+        broadcast: DAY,
+    },
+};
 
 // A number of the block by its line, and whether it has a version in force and an open one.
 type InUse = (u64, bool, bool);
@@ -90,7 +109,13 @@ fn planned(
         used,
         routing: routing()?,
     };
-    Some(donation.plan(alloc, Spid::read(caller)?, facts, Minute::new(700)?))
+    Some(donation.plan(
+        alloc,
+        Spid::read(caller)?,
+        facts,
+        Minute::new(700)?,
+        &PRESENT,
+    ))
 }
 
 // The protective version of a number of BBBB's at 700, by hand.
@@ -105,8 +130,9 @@ fn protective(tn: Tn, routing: Routing) -> Option<Version> {
         routing: Some(routing),
         old_at: None,
         new_at: None,
-        status: Status::Sending(Action::Create),
+        status: Status::Sending(Send::Create),
         since: minute,
+        held: 2,
         attempt: 1,
         is_conflict_spent: false,
         is_protective: true,
@@ -351,8 +377,9 @@ fn assigned() -> Option<Version> {
         routing: Some(routing()?),
         old_at: None,
         new_at: None,
-        status: Status::Sending(Action::Create),
+        status: Status::Sending(Send::Create),
         since: minute,
+        held: 2,
         attempt: 1,
         is_conflict_spent: false,
         is_protective: false,
@@ -365,7 +392,7 @@ fn made(caller: &str, facts: &BlockFacts<'_>) -> Option<Result<Version, Refusal>
         holder: Spid::read("CCCC")?,
         routing: routing()?,
     };
-    Some(assignment.made(Spid::read(caller)?, facts, Minute::new(700)?))
+    Some(assignment.made(Spid::read(caller)?, facts, Minute::new(700)?, &PRESENT))
 }
 
 // The status of the block's last version, and whether the block is taken by it.
@@ -373,8 +400,8 @@ fn lasts() -> [(Status, bool); 6] {
     [
         (Status::Failed, false),
         (Status::Old, false),
-        (Status::Sending(Action::Create), true),
-        (Status::Sending(Action::Delete), true),
+        (Status::Sending(Send::Create), true),
+        (Status::Sending(Send::Delete), true),
         (Status::Active, true),
         (Status::PartialFailure, true),
     ]
@@ -386,6 +413,7 @@ fn earlier(status: Status) -> Option<Version> {
         new_provider: Spid::read("AAAA")?,
         status,
         since: Minute::new(650)?,
+        held: 1,
         ..assigned()?
     })
 }
@@ -503,7 +531,7 @@ fn an_assignment_is_refused(rt: HostRuntime) {
 // ---- releases
 
 fn released(caller: &str, facts: &BlockFacts<'_>) -> Option<Result<Step, Refusal>> {
-    Some(release(Spid::read(caller)?, facts, Minute::new(800)?))
+    Some(release(Spid::read(caller)?, facts, Minute::new(800)?, &PRESENT))
 }
 
 // Whether the caller's release of AAAA's block at 800 sends the delete of this attempt.
@@ -513,12 +541,13 @@ fn is_released(caller: &str, attempt: u64) -> Option<bool> {
         ..active()?
     };
     let version = Version {
-        status: Status::Sending(Action::Delete),
+        status: Status::Sending(Send::Delete),
         since: Minute::new(800)?,
+        held: 2,
         attempt,
         ..last
     };
-    let sends = Some(Action::Delete);
+    let sends = Some(Send::Delete);
     Some(released(caller, &facts(&DONATED, Some(last), &[]))? == Ok(Step { version, sends }))
 }
 

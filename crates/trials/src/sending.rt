@@ -1,7 +1,7 @@
 //! Versions that begin to send at once.
 use crate::commands::routing;
 use delivery::Broadcast;
-use meaning::{Action, Status};
+use meaning::{Action, Send, Status};
 use numbers::{Minute, Spid, Subject, Tn};
 use settle::{BroadcastKey, Changes, WaitKey, begin_sending_each};
 use std::alloc::Global;
@@ -31,8 +31,9 @@ fn sent(number: &str, attempt: u64) -> Option<Version> {
         routing: Some(routing()?),
         old_at: None,
         new_at: None,
-        status: Status::Sending(Action::Create),
+        status: Status::Sending(Send::Create),
         since: minute,
+        held: 1,
         attempt,
         is_conflict_spent: false,
         is_protective: true,
@@ -48,7 +49,7 @@ fn begun(alloc: Global, versions: &[(u64, Version)]) -> Option<Changes> {
     begin_sending_each(
         alloc,
         versions,
-        Action::Create,
+        Send::Create,
         Minute::new(700)?,
         &WINDOWS,
         &[Spid::read("AAAA")?, Spid::read("BBBB")?],

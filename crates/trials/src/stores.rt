@@ -7,6 +7,19 @@ use settle::{BlockRow, BroadcastKey, Changes, Few, Store, VersionRow, WaitKey};
 use std::alloc::Global;
 use store::MemoryStore;
 use version::Version;
+use windows::{Window, WindowSet, Windows};
+
+const WINDOWS: Windows = Windows {
+    initial_concurrence: Window { minutes: 540 },
+    final_concurrence: Window { minutes: 540 },
+    conflict_restriction: Window { minutes: 1080 },
+    conflict_resolution: Window { minutes: 360 },
+    conflict_expiration: Window { minutes: 43_200 },
+    cancellation_initial: Window { minutes: 540 },
+    cancellation_final: Window { minutes: 540 },
+    pending_retention: Window { minutes: 43_200 },
+    broadcast: Window { minutes: 15 },
+};
 
 #[derive(Clone, Copy)]
 struct Sample {
@@ -41,6 +54,7 @@ fn row(sample: &Sample) -> VersionRow {
         new_at: None,
         status: Status::Active,
         since: Minute::ZERO,
+        held: 1,
         attempt: 1,
         is_conflict_spent: false,
         is_protective: false,
@@ -79,6 +93,10 @@ fn changes(alloc: Global, sample: &Sample) -> Option<Changes> {
         lrn: Some((sample.lrn, sample.carrier)),
         code: Some((sample.code, sample.carrier)),
         block: Some((sample.block, row)),
+        set: Some(WindowSet {
+            number: 1,
+            windows: WINDOWS,
+        }),
         ..Changes::none(alloc)
     };
     add_version(&mut changes, sample)?;
@@ -95,14 +113,16 @@ fn another_wait() -> Option<WaitKey> {
     })
 }
 
-// Whether a clock, a carrier, a routing number, a code and a block stand under the sample's keys.
-fn registered(store: &mut MemoryStore, sample: &Sample) -> Option<[bool; 5]> {
+// Whether a clock, a carrier, a routing number, a code and a block stand under the sample's keys, and
+// the first set of windows.
+fn registered(store: &mut MemoryStore, sample: &Sample) -> Option<[bool; 6]> {
     Some([
         store.clock().ok()?.is_some(),
         store.carrier(sample.carrier).ok()?,
         store.lrn(sample.lrn).ok()? == Some(sample.carrier),
         store.code(sample.code).ok()? == Some(sample.carrier),
         store.block(sample.block).ok()?.is_some(),
+        store.window_set(1).ok()? == Some(WINDOWS),
     ])
 }
 
@@ -151,7 +171,7 @@ fn is_read(store: &mut MemoryStore, sample: &Sample, done: bool) -> Option<bool>
     let registered = registered(store, sample)?;
     let ported = ported(store, sample)?;
     let lists = [waiting(store, sample)?, listed(store)?];
-    let are_rows = registered == [false, done, done, done, done];
+    let are_rows = registered == [false, done, done, done, done, done];
     let are_versions = ported == [done, done, false, done, !done];
     let are_lists = lists == [[usize::from(done); 4]; 2];
     Some(are_rows && are_versions && are_lists && store.failures() == 0)

@@ -1,9 +1,11 @@
 //! One port of a number: created from both sides, activated, completed, and ended by minutes.
-use crate::commands::{create_of, routing};
-use meaning::{Action, Refusal, Side, Status};
+use crate::commands::{create_of, routed_to, routing};
+use meaning::{Refusal, Send, Side, Status};
 use numbers::{Minute, Spid};
-use version::{Create, CreateFacts, Created, Creator, Phase, Version, VersionCommand};
-use windows::{Window, Windows};
+use version::{
+    Create, CreateFacts, Created, Creator, ID_LIMIT, Phase, Told, Version, VersionCommand,
+};
+use windows::{Window, WindowSet, Windows};
 
 const WINDOWS: Windows = Windows {
     initial_concurrence: Window { minutes: 540 },
@@ -15,6 +17,12 @@ const WINDOWS: Windows = Windows {
     cancellation_final: Window { minutes: 540 },
     pending_retention: Window { minutes: 43_200 },
     broadcast: Window { minutes: 15 },
+};
+
+// The present windows are another set of the same.
+const PRESENT: WindowSet = WindowSet {
+    number: 2,
+    windows: WINDOWS,
 };
 
 fn create(creator: Creator) -> Option<Create> {
@@ -37,7 +45,7 @@ fn facts(opened: Option<Version>) -> Option<CreateFacts> {
 fn first() -> Option<Version> {
     let create = create(Creator::OldProvider { authorized: true })?;
     let facts = facts(None)?;
-    match create.apply(create.old_provider, &facts, Minute::new(600)?, &WINDOWS) {
+    match create.apply(create.old_provider, &facts, Minute::new(600)?, &PRESENT) {
         Ok(Created::First(version)) => Some(version),
         _ => None,
     }
@@ -47,7 +55,7 @@ fn second() -> Option<Version> {
     let routing = routing()?;
     let create = create(Creator::NewProvider { routing })?;
     let facts = facts(Some(first()?))?;
-    match create.apply(create.new_provider, &facts, Minute::new(700)?, &WINDOWS) {
+    match create.apply(create.new_provider, &facts, Minute::new(700)?, &PRESENT) {
         Ok(Created::Second { id: 6, version }) => Some(version),
         _ => None,
     }
@@ -103,16 +111,17 @@ fn activated(both: &Version, number: u64) -> Option<Result<Version, Refusal>> {
     let step = both.commanded(
         VersionCommand::Activate,
         both.new_provider,
-        false,
+        Told::nothing(),
         minute,
         &WINDOWS,
+        &PRESENT,
     );
     Some(step.map(|step| step.version))
 }
 
 // Whether it is refused before its due minute, and sent in it.
 fn is_sent_when_due(both: &Version) -> Option<bool> {
-    let sent = both.sending(Action::Create, Minute::new(5000)?);
+    let sent = both.sending(Send::Create, Minute::new(5000)?, &PRESENT);
     let is_early = activated(both, 4999)? == Err(Refusal::BeforeDue);
     Some(is_early && activated(both, 5000)? == Ok(sent) && sent.attempt == 1)
 }
@@ -121,8 +130,11 @@ fn is_sent_when_due(both: &Version) -> Option<bool> {
 fn is_completed(both: &Version) -> Option<bool> {
     let sent = activated(both, 5000)?.ok()?;
     let minute = Minute::new(5003)?;
-    let active = sent.completed(minute);
-    Some(active == sent.entering(Status::Active, minute) && active.deadline(&WINDOWS).is_none())
+    let active = sent.completed(minute, &PRESENT);
+    Some(
+        active == sent.entering(Status::Active, minute, &PRESENT)
+            && active.deadline(&WINDOWS).is_none(),
+    )
 }
 
 // A status, whether a broadcast was acknowledged, and the status after its window.
@@ -142,14 +154,10 @@ fn ended() -> [Ended; 8] {
             false,
             Status::Canceled,
         ),
-        (
-            Status::Sending(Action::Create),
-            true,
-            Status::PartialFailure,
-        ),
-        (Status::Sending(Action::Create), false, Status::Failed),
-        (Status::Sending(Action::Delete), true, Status::Old),
-        (Status::Sending(Action::Delete), false, Status::Active),
+        (Status::Sending(Send::Create), true, Status::PartialFailure),
+        (Status::Sending(Send::Create), false, Status::Failed),
+        (Status::Sending(Send::Delete), true, Status::Old),
+        (Status::Sending(Send::Delete), false, Status::Active),
     ]
 }
 
@@ -157,9 +165,9 @@ fn ended() -> [Ended; 8] {
 fn is_ended(both: &Version, end: Minute, row: Ended) -> bool {
     let (status, is_acknowledged, after) = row;
     let fired = both
-        .entering(status, Minute::ZERO)
-        .fired(end, is_acknowledged);
-    fired == both.entering(after, end)
+        .entering(status, Minute::ZERO, &PRESENT)
+        .fired(end, &PRESENT, is_acknowledged);
+    fired == both.entering(after, end, &PRESENT)
 }
 
 fn are_ended(both: &Version) -> Option<bool> {
@@ -169,8 +177,8 @@ fn are_ended(both: &Version) -> Option<bool> {
             return Some(false);
         }
     }
-    let planned = both.entering(Status::DisconnectPending(end), Minute::ZERO);
-    Some(planned.fired(end, false) == both.sending(Action::Delete, end))
+    let planned = both.entering(Status::DisconnectPending(end), Minute::ZERO, &PRESENT);
+    Some(planned.fired(end, &PRESENT, false) == both.sending(Send::Delete, end, &PRESENT))
 }
 
 // What a second create, an activation and the end of a window make of it.
@@ -187,4 +195,89 @@ fn goes_on() -> Option<[bool; 4]> {
 #[test]
 fn a_second_create_goes_on(rt: HostRuntime) {
     assert_eq!(rt; goes_on(), Some([true; 4]));
+}
+
+// ---- what is wrong with a modify, from the least refusal to the greatest
+
+const REFUSALS: [Refusal; 5] = [
+    Refusal::BadLrn,
+    Refusal::NotYours,
+    Refusal::Busy,
+    Refusal::WrongStatus,
+    Refusal::Full,
+];
+
+// Of 32 ways to be wrong, those with the bit of a refusal are wrong by it.
+const BITS: [usize; 5] = [1, 2, 4, 8, 16];
+
+fn is_wrong(way: usize, bit: usize) -> bool {
+    way & bit != 0
+}
+
+// The least refusal of a way.
+fn least(way: usize) -> Option<Refusal> {
+    for (refusal, bit) in REFUSALS.iter().zip(BITS.iter()) {
+        if is_wrong(way, *bit) {
+            return Some(*refusal);
+        }
+    }
+    None
+}
+
+// A version that is modified, wrong by its status and its attempts where the way says so.
+fn standing(way: usize) -> Option<Version> {
+    let minute = Minute::new(5003)?;
+    let active = second()?.entering(Status::Active, minute, &PRESENT);
+    Some(Version {
+        status: if is_wrong(way, 8) {
+            Status::PartialFailure
+        } else {
+            Status::Active
+        },
+        attempt: if is_wrong(way, 16) {
+            ID_LIMIT - 1
+        } else {
+            ID_LIMIT - 2
+        },
+        ..active
+    })
+}
+
+// Why the modify is refused, if it is.
+fn modify_refusal(way: usize) -> Option<Option<Refusal>> {
+    let version = standing(way)?;
+    let told = Told {
+        is_another_open: is_wrong(way, 4),
+        is_lrn_good: !is_wrong(way, 1),
+    };
+    let caller = if is_wrong(way, 2) {
+        version.old_provider
+    } else {
+        version.new_provider
+    };
+    let routing = routed_to("2025440001")?;
+    let step = version.commanded(
+        VersionCommand::ModifyRouting { routing },
+        caller,
+        told,
+        Minute::new(5004)?,
+        &WINDOWS,
+        &PRESENT,
+    );
+    Some(step.err())
+}
+
+// The first way of which another refusal is told.
+fn first_other_refusal() -> Option<usize> {
+    for way in 0..32 {
+        if modify_refusal(way) != Some(least(way)) {
+            return Some(way);
+        }
+    }
+    None
+}
+
+#[test]
+fn a_modify_is_refused_by_the_least_refusal(rt: HostRuntime) {
+    assert_eq!(rt; first_other_refusal(), None);
 }

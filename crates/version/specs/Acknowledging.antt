@@ -1,6 +1,7 @@
 -- What an acknowledgement makes of its version.
 use Rattle.std.specs.Prelude.{ℕ, Bool, true, false, ◌&&◌, ◌==◌, if◌then◌else◌}
 use Rattle.meaning.specs.Statuses.{Status, Pending, Conflict, CancelPending, Sending, Active, PartialFailure, Failed, DisconnectPending, Old, Canceled}
+use Rattle.meaning.specs.Windows.{WindowSet}
 use Rattle.meaning.specs.Versions.{Version}
 use Rattle.meaning.specs.Changes.{completed}
 use Rattle.version.specs.declared.version.Version.{Version as VersionCode}
@@ -22,5 +23,5 @@ is_sending Old = false
 is_sending Canceled = false
 
 -- the version whose newest broadcast got its last acknowledgement, or stays
-abbrev pub completed_if : Bool → (minute : ℕ) → Version → Version
-completed_if completes minute v = if completes then completed v.status minute v else v
+abbrev pub completed_if : WindowSet → Bool → (minute : ℕ) → Version → Version
+completed_if present completes minute v = if completes then completed present v.status minute v else v

@@ -11,10 +11,11 @@ mod deadline;
 mod disconnect;
 mod firing;
 mod in_use;
+mod modify;
 mod phase;
 mod version;
 
-pub use command::{Step, VersionCommand};
+pub use command::{Step, Told, VersionCommand};
 pub use create::{Create, CreateFacts, Created, Creator};
 pub use in_use::NumberInUse;
 pub use phase::Phase;

@@ -7,7 +7,7 @@ use Rattle.numbers.specs.Subjects.{Subject, subject_eq}
 use Rattle.meaning.specs.Versions.{Broadcast, Version, with_number, is_among, is_withdrawn, waiters, unacknowledged}
 use Rattle.meaning.specs.Changes.{acknowledged_broadcast, acknowledged_by, changed_at, of_id}
 use Rattle.meaning.specs.History.{Acknowledges}
-use Rattle.meaning.specs.Reading.{State, SubjectVersion, Download, record_now, version_of_id, download, downloads_of, downloads_acknowledged, first_of, is_before, queue}
+use Rattle.meaning.specs.Reading.{State, SubjectVersion, Download, record_now, version_of_id, download, downloads_of, downloads_acknowledged, first_of, is_before, queue, set_now}
 use Rattle.meaning.specs.Refusals.{Requests, refusal, tests, is_download, is_preceded}
 use Rattle.meaning.specs.Machine.{IsHistory}
 use Rattle.meaning.proofs.Small.{equal_numbers, true-false, and_first, and_second, denied, some_is}
@@ -27,6 +27,7 @@ use Rattle.meaning.proofs.Copies.Followed.{IsNext, IsMarkedNow, thinned_is, next
 use Rattle.meaning.proofs.Copies.Steps.{changed_placed}
 use Rattle.meaning.proofs.Copies.Order.{IsLower, AreLower}
 use Rattle.meaning.proofs.Copies.Passing.{completed_own}
+use Rattle.meaning.specs.Windows.{WindowSet}
 
 -- ---- one of a list is marked
 
@@ -95,7 +96,7 @@ module _ (id attempt : ℕ) where
 
 -- ---- an acknowledgement marks
 
-module _ (c id attempt : ℕ) where
+module _ (w : WindowSet) (c id attempt : ℕ) where
   own_marked : (i : ℕ) → (i == id) ≡ true → (bs : List Broadcast) → own_of (Carrier c) i (map (acknowledged_broadcast c attempt) bs) ≡ map (mark id attempt) (own_of (Carrier c) i bs)
   own_marked i same [] = refl
   own_marked i same (b ∷ bs) =
@@ -127,15 +128,15 @@ module _ (c id attempt : ℕ) where
       none [] = tt
       none (x ∷ xs) = (λ stands. ap (λ b. b && (x.attempt == attempt)) differs, none xs)
 
-  placed_marked : (minute : ℕ) (vs : List Version) → AllByRecursion HasBegun vs → placed (Carrier c) (map (of_id id (acknowledged_by c attempt minute)) vs) ≡ map (mark id attempt) (placed (Carrier c) vs)
+  placed_marked : (minute : ℕ) (vs : List Version) → AllByRecursion HasBegun vs → placed (Carrier c) (map (of_id id (acknowledged_by w c attempt minute)) vs) ≡ map (mark id attempt) (placed (Carrier c) vs)
   placed_marked minute [] begun = refl
   placed_marked minute (v ∷ vs) begun =
-      ap (λ ps. own (Carrier c) (of_id id (acknowledged_by c attempt minute) v) ++ ps) (placed_marked minute vs begun.1)
+      ap (λ ps. own (Carrier c) (of_id id (acknowledged_by w c attempt minute) v) ++ ps) (placed_marked minute vs begun.1)
       ∙ ap (λ ps. ps ++ map (mark id attempt) (placed (Carrier c) vs)) (go (v.id == id) refl)
       ∙ sym (map_append (mark id attempt) (own (Carrier c) v) (placed (Carrier c) vs))
     where
-      go : (b : Bool) → (v.id == id) ≡ b → own (Carrier c) (if b then acknowledged_by c attempt minute v else v) ≡ map (mark id attempt) (own (Carrier c) v)
-      go true e = completed_own (Carrier c) [] tt c attempt minute v begun.0 ∙ own_marked v.id e v.broadcasts
+      go : (b : Bool) → (v.id == id) ≡ b → own (Carrier c) (if b then acknowledged_by w c attempt minute v else v) ≡ map (mark id attempt) (own (Carrier c) v)
+      go true e = completed_own w (Carrier c) [] tt c attempt minute v begun.0 ∙ own_marked v.id e v.broadcasts
       go false e = others_unmarked v.id e v.broadcasts
 
 -- ---- the broadcasts of a version
@@ -297,10 +298,10 @@ module _ (st : State) (is : IsHistory st.windows st.history st.now) (s : Subject
     olds = placed (Carrier c) versions
 
     abbrev news : List Placed
-    news = placed (Carrier c) (changed_at st.now (of_id id (acknowledged_by c attempt st.now)) versions)
+    news = placed (Carrier c) (changed_at (set_now st) st.now (of_id id (acknowledged_by (set_now st) c attempt st.now)) versions)
 
     marked : news ≡ map (mark id attempt) olds
-    marked = changed_placed (Carrier c) st.now (of_id id (acknowledged_by c attempt st.now)) versions ∙ placed_marked c id attempt st.now versions (versions_kept begun_kept st.windows s st.history st.now is)
+    marked = changed_placed (set_now st) (Carrier c) st.now (of_id id (acknowledged_by (set_now st) c attempt st.now)) versions ∙ placed_marked (set_now st) c id attempt st.now versions (versions_kept begun_kept st.windows s st.history st.now is)
 
     -- where it is of another subject nothing changes
     pub elsewhere_next : first_of acknowledged ≡ None → IsNext st.now olds news

@@ -8,6 +8,7 @@ use Rattle.meaning.specs.Versions.{Broadcast, with_number, is_open_broadcast}
 use Rattle.meaning.specs.Changes.{on_newest, outcome_at_end, acknowledged_broadcast, joined_broadcast}
 use Rattle.meaning.proofs.Lists.{each}
 use Rattle.meaning.proofs.Moves.{MovesKeep}
+use Rattle.meaning.specs.Windows.{WindowSet}
 
 abbrev pub AllBy : ℕ → List Broadcast → Type 0
 AllBy m bs = AllByRecursion (λ (b : Broadcast). b.minute ≤ m) bs
@@ -35,8 +36,8 @@ closed_dated m outcome [] by = tt
 closed_dated m outcome (b ∷ bs) by = by
 
 -- every move keeps it
-pub dated_kept : MovesKeep (λ m cs v. AllBy m v.broadcasts)
-dated_kept = record {
+pub dated_kept : (w : WindowSet) → MovesKeep w (λ m cs v. AllBy m v.broadcasts)
+dated_kept w = record {
   later = λ m n cs v up is. each (λ b by. omega arith) v.broadcasts is;
   joined = λ c m cs v is. joined_dated c m v.broadcasts is;
   made_old = λ m cs id old_provider new_provider due some. tt;
@@ -54,6 +55,7 @@ dated_kept = record {
   activated = λ m cs v may is. (omega arith, is);
   disconnected = λ m cs v may is. (omega arith, is);
   released = λ m cs v from is. (omega arith, is);
+  modified = λ routing m cs v may is. (omega arith, is);
   ended = λ action m cs v from is. closed_dated m (outcome_at_end v.broadcasts) v.broadcasts is;
   answered = λ c attempt m cs v may is. answered_dated c attempt m v.broadcasts is;
   closed = λ c attempt action m cs v may is. closed_dated m AllAcknowledged (map (acknowledged_broadcast c attempt) v.broadcasts) (answered_dated c attempt m v.broadcasts is);

@@ -7,7 +7,7 @@ use Rattle.numbers.specs.Routings.{Routing}
 use Rattle.meaning.specs.Windows.{Windows}
 use Rattle.meaning.specs.Versions.{Record}
 use Rattle.meaning.specs.Judge.{judge}
-use Rattle.meaning.specs.History.{Entry, replay}
+use Rattle.meaning.specs.History.{Entry, replay, present_set}
 use Rattle.meaning.specs.Reading.{SubjectVersion, Download, registers, starting_row, copy_of, downloads_acknowledged, first_of, routing_in_force}
 use Rattle.meaning.specs.Machine.{IsHistory}
 use Rattle.meaning.proofs.Small.{true-false}
@@ -140,7 +140,7 @@ acknowledged_now w c s h e = first_of (flat_map (downloads_acknowledged c e.call
 
 -- what is to be shown of minutes and entries, for the carrier and the subject
 pub record FollowsCopies (w : Windows) (c : ℕ) (s : Subject) : Type 0 where
-  pub minute : (h : List Entry) (m : ℕ) → IsHistory w h m → IsNext (suc m) (placed (Carrier c) (replay w s h m).versions) (placed (Carrier c) (judge w (suc m) (replay w s h m)).versions)
+  pub minute : (h : List Entry) (m : ℕ) → IsHistory w h m → IsNext (suc m) (placed (Carrier c) (replay w s h m).versions) (placed (Carrier c) (judge (present_set w h) (suc m) (replay w s h m)).versions)
   pub starts : (h : List Entry) (e : Entry) → IsHistory w (e ∷ h) e.minute → registers c e.request ≡ true → NoneMarked (placed (Carrier c) (record_after w s h e).versions)
   pub passes : (h : List Entry) (e : Entry) → IsHistory w (e ∷ h) e.minute → registers c e.request ≡ false → acknowledged_now w c s h e ≡ None →
       IsNext e.minute (placed (Carrier c) (replay w s h e.minute).versions) (placed (Carrier c) (record_after w s h e).versions)
@@ -153,10 +153,10 @@ pub record IsFollowed (w : Windows) (c : ℕ) (s : Subject) (h : List Entry) (m 
   pub copy : copy_of w c s h ≡ held (starting_row w c s h) (placed (Carrier c) r.versions)
 
 module _ (w : Windows) (c : ℕ) (s : Subject) (follows : FollowsCopies w c s) where
-  after_minute : (h : List Entry) (m : ℕ) → IsHistory w h m → IsFollowed w c s h m (replay w s h m) → IsFollowed w c s h (suc m) (judge w (suc m) (replay w s h m))
+  after_minute : (h : List Entry) (m : ℕ) → IsHistory w h m → IsFollowed w c s h m (replay w s h m) → IsFollowed w c s h (suc m) (judge (present_set w h) (suc m) (replay w s h m))
   after_minute h m is before = record {
-    marked = next_in_order (suc m) (placed (Carrier c) (replay w s h m).versions) (placed (Carrier c) (judge w (suc m) (replay w s h m)).versions) (follows.minute h m is) before.marked;
-    copy = before.copy ∙ next_held (suc m) (starting_row w c s h) (placed (Carrier c) (replay w s h m).versions) (placed (Carrier c) (judge w (suc m) (replay w s h m)).versions) (follows.minute h m is);
+    marked = next_in_order (suc m) (placed (Carrier c) (replay w s h m).versions) (placed (Carrier c) (judge (present_set w h) (suc m) (replay w s h m)).versions) (follows.minute h m is) before.marked;
+    copy = before.copy ∙ next_held (suc m) (starting_row w c s h) (placed (Carrier c) (replay w s h m).versions) (placed (Carrier c) (judge (present_set w h) (suc m) (replay w s h m)).versions) (follows.minute h m is);
   }
 
   abbrev olds : List Entry → Entry → List Placed

@@ -3,7 +3,7 @@ use Rattle.std.proofs.Common.{◌≡◌, ℕ, Bool, true, false, cond, not, ◌&
 use Rattle.std.specs.Prelude.{⊤, filter, find, option_and_then, if◌then◌else◌}
 use Rattle.std.specs.List.{list_any, AllByRecursion}
 use Rattle.numbers.specs.Subjects.{Subject, subject_eq}
-use Rattle.meaning.specs.declared.words.Action.{Action}
+use Rattle.meaning.specs.Statuses.{Send}
 use Rattle.meaning.specs.Statuses.{Status, Pending, Conflict, CancelPending, Sending, Active, PartialFailure, Failed, DisconnectPending, Old, Canceled}
 use Rattle.meaning.specs.Versions.{Broadcast, Version, in_force, in_force_status, is_among, is_withdrawn, is_open_broadcast, is_open_outcome}
 use Rattle.meaning.specs.Reading.{State, SubjectVersion, Download, record_now, all_versions, any_open}
@@ -105,7 +105,7 @@ all_closed st is none s = each_there (λ (v : Version). AllClosed v.broadcasts) 
 steady_is : (v : Version) → HasBegun v → AllClosed v.broadcasts → is_steady v.status ≡ in_force v
 steady_is v begun closed = go v.status refl
   where
-    sends : (action : Action) → v.status ≡ Sending action → false ≡ in_force_status (Sending action)
+    sends : (action : Send) → v.status ≡ Sending action → false ≡ in_force_status (Sending action)
     sends action e =
         let has : HasBegunAs (Sending action) v.broadcasts = subst (λ x. HasBegunAs x v.broadcasts) e begun in
         true-false (is_open_broadcast has.0) (ap is_open_outcome has.3) (subst AllClosed has.2 closed).0

@@ -4,7 +4,7 @@ use Rattle.std.specs.Prelude.{filter, find, option_and_then, if◌then◌else◌
 use Rattle.std.specs.List.{AllByRecursion}
 use Rattle.numbers.specs.Subjects.{Subject, Number, Block}
 use Rattle.numbers.specs.Routings.{Routing}
-use Rattle.meaning.specs.declared.words.Action.TheVariants.{Create, Delete}
+use Rattle.meaning.specs.Statuses.{Create, Delete, Modify}
 use Rattle.meaning.specs.declared.words.Outcome.TheVariants.{Open}
 use Rattle.meaning.specs.Statuses.{Status, Pending, Conflict, CancelPending, Sending, Active, PartialFailure, Failed, DisconnectPending, Old, Canceled}
 use Rattle.meaning.specs.Windows.{Windows}
@@ -95,6 +95,7 @@ module _ (s : Subject) where
       go t Old e f g = old (ap is_old e)
       go t (Sending Create) e f g = sends_none t e g
       go t (Sending Delete) e f g = cc
+      go t (Sending (Modify routing)) e f g = cc
       go t Active e f g = cc
       go t PartialFailure e f g = cc
       go t (DisconnectPending release) e f g = cc
@@ -117,9 +118,9 @@ module _ (s : Subject) where
       saying : (status : Status) → v.status ≡ status → in_force_status status ≡ true → Says v.routing v.broadcasts → Say (routing_of_first (v ∷ vs)) (placed Closed (v ∷ vs))
       saying status e f says = forced (ap in_force_status e ∙ f) (says_first v.id v.routing v.broadcasts (placed Closed vs) says (rest_marked (ap (λ t. t || is_old v.status) (ap in_force_status e ∙ f))))
 
-      sending : (bs : List Broadcast) → v.broadcasts ≡ bs → in_force v ≡ true → Opens None (Says v.routing) bs → Say v.routing (own_of Closed v.id bs ++ placed Closed vs)
-      sending [] e f opens = absurd opens
-      sending (b ∷ bs) e f opens = subst (λ ps. Say v.routing (ps ++ placed Closed vs)) (sym (open_own v.id b bs opens.0))
+      sending : (put : Option Routing) (bs : List Broadcast) → v.broadcasts ≡ bs → in_force v ≡ true → Opens put (Says v.routing) bs → Say v.routing (own_of Closed v.id bs ++ placed Closed vs)
+      sending put [] e f opens = absurd opens
+      sending put (b ∷ bs) e f opens = subst (λ ps. Say v.routing (ps ++ placed Closed vs)) (sym (open_own v.id b bs opens.0))
           (unmarked_first v.routing (place Closed v.id b) (own_of Closed v.id bs ++ placed Closed vs) (open_unmarked v.id b opens.0) (says_first v.id v.routing bs (placed Closed vs) opens.2 (rest_marked (ap (λ t. t || is_old v.status) f))))
 
       -- all of it is withdrawn
@@ -139,7 +140,8 @@ module _ (s : Subject) where
       go later t Failed e f = passing later Failed e refl refl (told_in v Failed e told.0)
       go later t Canceled e f = passing later Canceled e refl refl (told_in v Canceled e told.0)
       go later t (Sending Create) e f = none_sent t (sym (ap (open_by t) e) ∙ f)
-      go later t (Sending Delete) e f = forced (ap in_force_status e) (sending v.broadcasts refl (ap in_force_status e) (told_in v (Sending Delete) e told.0))
+      go later t (Sending Delete) e f = forced (ap in_force_status e) (sending None v.broadcasts refl (ap in_force_status e) (told_in v (Sending Delete) e told.0))
+      go later t (Sending (Modify routing)) e f = forced (ap in_force_status e) (sending (Some routing) v.broadcasts refl (ap in_force_status e) (told_in v (Sending (Modify routing)) e told.0))
       go later t Active e f = saying Active e refl (told_in v Active e told.0)
       go later t PartialFailure e f = saying PartialFailure e refl (told_in v PartialFailure e told.0)
       go later t (DisconnectPending release) e f = saying (DisconnectPending release) e refl (told_in v (DisconnectPending release) e told.0)

@@ -4,7 +4,7 @@ use Rattle.std.specs.Prelude.{◌==◌, flat_map, if◌then◌else◌}
 use Rattle.numbers.specs.Subjects.{Subject}
 use Rattle.meaning.specs.Windows.{Windows}
 use Rattle.meaning.specs.Judge.{judge}
-use Rattle.meaning.specs.History.{Request, Commands, Acknowledges, Entry, effect, replay}
+use Rattle.meaning.specs.History.{Request, Commands, Acknowledges, Entry, effect, replay, present_set}
 use Rattle.meaning.specs.Reading.{SubjectVersion, Download, registers, downloads_of, downloads_acknowledged, first_of}
 use Rattle.meaning.specs.Machine.{IsHistory}
 use Rattle.meaning.specs.Laws.{CopyIsPublished}
@@ -23,8 +23,8 @@ use Rattle.meaning.proofs.Copies.Answering.{elsewhere_next, here_answers}
 -- ---- the order
 
 module _ (w : Windows) (s : Subject) where
-  fall_minute : (h : List Entry) (m : ℕ) → IsHistory w h m → MinutesFall (placed Nobody (replay w s h m).versions) → MinutesFall (placed Nobody (judge w (suc m) (replay w s h m)).versions)
-  fall_minute h m is fall = next_fall (suc m) (placed Nobody (replay w s h m).versions) (placed Nobody (judge w (suc m) (replay w s h m)).versions) (minute_next Nobody w s h m is tt)
+  fall_minute : (h : List Entry) (m : ℕ) → IsHistory w h m → MinutesFall (placed Nobody (replay w s h m).versions) → MinutesFall (placed Nobody (judge (present_set w h) (suc m) (replay w s h m)).versions)
+  fall_minute h m is fall = next_fall (suc m) (placed Nobody (replay w s h m).versions) (placed Nobody (judge (present_set w h) (suc m) (replay w s h m)).versions) (minute_next Nobody w s h m is tt)
       (placed_up Nobody w s h m (suc m) is (omega arith)) fall
 
   fall_entry : (h : List Entry) (e : Entry) → IsHistory w (e ∷ h) e.minute → MinutesFall (placed Nobody (replay w s h e.minute).versions) → MinutesFall (placed Nobody (record_after w s h e).versions)

@@ -4,11 +4,11 @@ use Rattle.std.specs.Prelude.{⊤, ◌==◌, nat_lt, filter}
 use Rattle.std.specs.List.{AllByRecursion}
 use Rattle.std.proofs.lemmas.Bool.Decides.{nat_tests}
 use Rattle.numbers.specs.Subjects.{Subject}
-use Rattle.meaning.specs.Windows.{Windows}
+use Rattle.meaning.specs.Windows.{Windows, WindowSet}
 use Rattle.meaning.specs.Versions.{Broadcast, Version, in_force, is_among, is_withdrawn}
 use Rattle.meaning.specs.Changes.{changed_at, retired}
 use Rattle.meaning.specs.Judge.{judge, judged_version}
-use Rattle.meaning.specs.History.{Entry, effect, replay, makes, made_by, made_version, with_made, done_to, next_after, id_among, donor_of, assigned_block, subject_of_id}
+use Rattle.meaning.specs.History.{Entry, effect, replay, makes, made_by, made_version, with_made, done_to, next_after, id_among, donor_of, assigned_block, subject_of_id, present_set}
 use Rattle.meaning.specs.Reading.{is_before}
 use Rattle.meaning.specs.Machine.{IsHistory}
 use Rattle.meaning.proofs.Lists.{each, each_two}
@@ -41,21 +41,21 @@ module _ (f : Version → Version) (same : (v : Version) → (f v).id ≡ v.id) 
   falling_each [] are = tt
   falling_each (v ∷ vs) are = (subst (λ k. AllBelow k (map f vs)) (sym (same v)) (below_each v.id vs are.0), falling_each vs are.1)
 
-module _ (minute : ℕ) (change : Version → Version) (same : (v : Version) → (change v).id ≡ v.id) where
-  below_changed : (id : ℕ) (vs : List Version) → AllBelow id vs → AllBelow id (changed_at minute change vs)
+module _ (w : WindowSet) (minute : ℕ) (change : Version → Version) (same : (v : Version) → (change v).id ≡ v.id) where
+  below_changed : (id : ℕ) (vs : List Version) → AllBelow id vs → AllBelow id (changed_at w minute change vs)
   below_changed id [] below = tt
   below_changed id (v ∷ vs) below = (
     subst (λ k. k < id) (sym (same v)) below.0,
-    below_each (retired (not (in_force v) && in_force (change v)) minute) (retired-id (not (in_force v) && in_force (change v)) minute) id (changed_at minute change vs) (below_changed id vs below.1),
+    below_each (retired w (not (in_force v) && in_force (change v)) minute) (retired-id w (not (in_force v) && in_force (change v)) minute) id (changed_at w minute change vs) (below_changed id vs below.1),
   )
 
-  falling_changed : (vs : List Version) → AreFalling vs → AreFalling (changed_at minute change vs)
+  falling_changed : (vs : List Version) → AreFalling vs → AreFalling (changed_at w minute change vs)
   falling_changed [] are = tt
   falling_changed (v ∷ vs) are =
-      let f : Version → Version = retired (not (in_force v) && in_force (change v)) minute in
-      let keeps : (u : Version) → (f u).id ≡ u.id = retired-id (not (in_force v) && in_force (change v)) minute in (
-        subst (λ k. AllBelow k (map f (changed_at minute change vs))) (sym (same v)) (below_each f keeps v.id (changed_at minute change vs) (below_changed v.id vs are.0)),
-        falling_each f keeps (changed_at minute change vs) (falling_changed vs are.1),
+      let f : Version → Version = retired w (not (in_force v) && in_force (change v)) minute in
+      let keeps : (u : Version) → (f u).id ≡ u.id = retired-id w (not (in_force v) && in_force (change v)) minute in (
+        subst (λ k. AllBelow k (map f (changed_at w minute change vs))) (sym (same v)) (below_each f keeps v.id (changed_at w minute change vs) (below_changed v.id vs are.0)),
+        falling_each f keeps (changed_at w minute change vs) (falling_changed vs are.1),
       )
 
 -- an id that was given is below the next
@@ -71,29 +71,29 @@ given_below made s id past (v ∷ vs) given = (go (nat_lt v.id id) refl, given_b
         let both : None ≡ Some s = sym none ∙ given.0 in cc
 
 module _ (w : Windows) (s : Subject) where
-  falling_minute : (h : List Entry) (m : ℕ) → IsHistory w h m → AreFalling (replay w s h m).versions → AreFalling (judge w (suc m) (replay w s h m)).versions
+  falling_minute : (h : List Entry) (m : ℕ) → IsHistory w h m → AreFalling (replay w s h m).versions → AreFalling (judge (present_set w h) (suc m) (replay w s h m)).versions
   unfolding judge
-  falling_minute h m is are = falling_changed (suc m) (judged_version w (replay w s h m).carriers (suc m)) (judged_version-id w (replay w s h m).carriers (suc m)) (replay w s h m).versions are
+  falling_minute h m is are = falling_changed (present_set w h) (suc m) (judged_version (present_set w h) (replay w s h m).carriers (suc m)) (judged_version-id (present_set w h) (replay w s h m).carriers (suc m)) (replay w s h m).versions are
 
   falling_entry : (h : List Entry) (e : Entry) → IsHistory w (e ∷ h) e.minute → AreFalling (replay w s h e.minute).versions → AreFalling (record_after w s h e).versions
   unfolding effect
   falling_entry h e is are = go (id_among s (next_after (made_by w h)) (makes e.request (λ t. replay w t h e.minute))) refl
     where
       change : Version → Version
-      change = done_to s e.caller e.minute (replay w s h e.minute).carriers e.request
+      change = done_to (present_set w h) s e.caller e.minute (replay w s h e.minute).carriers e.request
 
-      same : (v : Version) → (done_to s e.caller e.minute (replay w s h e.minute).carriers e.request v).id ≡ v.id
-      same = done_to-id s e.caller e.minute (replay w s h e.minute).carriers e.request
+      same : (v : Version) → (done_to (present_set w h) s e.caller e.minute (replay w s h e.minute).carriers e.request v).id ≡ v.id
+      same = done_to-id (present_set w h) s e.caller e.minute (replay w s h e.minute).carriers e.request
 
       go : (o : Option ℕ) → id_among s (next_after (made_by w h)) (makes e.request (λ t. replay w t h e.minute)) ≡ o →
-          AreFalling (with_made o (λ id. made_version id e.caller e.minute (replay w s h e.minute).carriers (donor_of (assigned_block e.request) h) e.request) (changed_at e.minute change (replay w s h e.minute).versions))
-      go None f = falling_changed e.minute change same (replay w s h e.minute).versions are
+          AreFalling (with_made o (λ id. made_version (present_set w h) id e.caller e.minute (replay w s h e.minute).carriers (donor_of (assigned_block e.request) h) e.request) (changed_at (present_set w h) e.minute change (replay w s h e.minute).versions))
+      go None f = falling_changed (present_set w h) e.minute change same (replay w s h e.minute).versions are
       go (Some id) f = (
-        subst (λ k. AllBelow k (changed_at e.minute change (replay w s h e.minute).versions)) (sym (made_version-id id e.caller e.minute (replay w s h e.minute).carriers (donor_of (assigned_block e.request) h) e.request))
-            (below_changed e.minute change same id (replay w s h e.minute).versions
+        subst (λ k. AllBelow k (changed_at (present_set w h) e.minute change (replay w s h e.minute).versions)) (sym (made_version-id (present_set w h) id e.caller e.minute (replay w s h e.minute).carriers (donor_of (assigned_block e.request) h) e.request))
+            (below_changed (present_set w h) e.minute change same id (replay w s h e.minute).versions
             (given_below (made_by w h) s id (id_among-from s (next_after (made_by w h)) id (makes e.request (λ t. replay w t h e.minute)) f) (replay w s h e.minute).versions
             (given_now (record { windows = w; history = h; now = e.minute }) is.3 s))),
-        falling_changed e.minute change same (replay w s h e.minute).versions are,
+        falling_changed (present_set w h) e.minute change same (replay w s h e.minute).versions are,
       )
 
   -- every record of every history

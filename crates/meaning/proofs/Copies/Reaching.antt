@@ -9,6 +9,7 @@ use Rattle.meaning.specs.Changes.{on_newest, outcome_at_end, acknowledged_broadc
 use Rattle.meaning.proofs.Rising.{among-with_number}
 use Rattle.meaning.proofs.Moves.{MovesKeep}
 use Rattle.meaning.proofs.Copies.Told.{end_closes}
+use Rattle.meaning.specs.Windows.{WindowSet}
 
 abbrev pub Reaches : List ℕ → Broadcast → Type 0
 Reaches cs b = b.outcome ≡ Open → (k : ℕ) → is_among k cs ≡ true → is_among k b.recipients ≡ true
@@ -43,8 +44,8 @@ joined_reach cs c (b ∷ bs) all = (go (is_open_broadcast b) refl, joined_reach 
     go false e = λ opened k is. let no : true ≡ false = sym (ap is_open_outcome opened) ∙ e in cc
 
 -- every move keeps it
-pub reach_kept : MovesKeep (λ m cs v. AllReach cs v.broadcasts)
-reach_kept = record {
+pub reach_kept : (w : WindowSet) → MovesKeep w (λ m cs v. AllReach cs v.broadcasts)
+reach_kept w = record {
   later = λ m n cs v up is. is;
   joined = λ c m cs v is. joined_reach cs c v.broadcasts is;
   made_old = λ m cs id old_provider new_provider due some. tt;
@@ -62,6 +63,7 @@ reach_kept = record {
   activated = λ m cs v may is. (λ opened k among. among, is);
   disconnected = λ m cs v may is. (λ opened k among. among, is);
   released = λ m cs v from is. (λ opened k among. among, is);
+  modified = λ routing m cs v may is. (λ opened k among. among, is);
   ended = λ action m cs v from is. closed_reach cs (outcome_at_end v.broadcasts) v.broadcasts (end_closes v.broadcasts) is;
   answered = λ c attempt m cs v may is. answered_reach cs c attempt v.broadcasts is;
   closed = λ c attempt action m cs v may is. closed_reach cs AllAcknowledged (map (acknowledged_broadcast c attempt) v.broadcasts) (λ e. cc) (answered_reach cs c attempt v.broadcasts is);

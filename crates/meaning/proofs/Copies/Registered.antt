@@ -9,7 +9,7 @@ use Rattle.meaning.specs.Windows.{Windows}
 use Rattle.meaning.specs.Versions.{Broadcast, Version, Record, is_among, with_number, is_withdrawn, is_open_broadcast}
 use Rattle.meaning.specs.Changes.{joined_broadcast, joined_by, changed_at}
 use Rattle.meaning.specs.Judge.{judge}
-use Rattle.meaning.specs.History.{Request, Commands, Entry, carriers, carrier_named, carrier_added, effect, replay, makes, made_by, made_version, with_made, done_to, next_after, id_among, donor_of, assigned_block}
+use Rattle.meaning.specs.History.{Request, Commands, Entry, carriers, carrier_named, carrier_added, effect, replay, makes, made_by, made_version, with_made, done_to, next_after, id_among, donor_of, assigned_block, present_set}
 use Rattle.meaning.specs.Reading.{registers, is_carrier, starting_row, routing_in_force}
 use Rattle.meaning.specs.Refusals.{Requests, refusal, npac}
 use Rattle.meaning.specs.Machine.{IsHistory}
@@ -80,8 +80,8 @@ module _ (w : Windows) (c : ℕ) (s : Subject) where
   lasts : (h : List Entry) (m : ℕ) → is_among c (carriers h) ≡ true → is_among c (replay w s h m).carriers ≡ true
   lasts h m known = ap (is_among c) (record-carriers w h s m) ∙ known
 
-  after_minute : (h : List Entry) (m : ℕ) → IsHistory w h m → SaysStart h m (replay w s h m) → SaysStart h (suc m) (judge w (suc m) (replay w s h m))
-  after_minute h m is says known = next_says (suc m) (starting_row w c s h) (placed (Unsent c) (replay w s h m).versions) (placed (Unsent c) (judge w (suc m) (replay w s h m)).versions)
+  after_minute : (h : List Entry) (m : ℕ) → IsHistory w h m → SaysStart h m (replay w s h m) → SaysStart h (suc m) (judge (present_set w h) (suc m) (replay w s h m))
+  after_minute h m is says known = next_says (suc m) (starting_row w c s h) (placed (Unsent c) (replay w s h m).versions) (placed (Unsent c) (judge (present_set w h) (suc m) (replay w s h m)).versions)
       (minute_next (Unsent c) w s h m is (lasts h m known)) (says known)
 
   -- a registration of the carrier
@@ -99,10 +99,10 @@ module _ (w : Windows) (c : ℕ) (s : Subject) where
           let free : is_among c (carriers h) ≡ false = subst (λ k. is_among k (carriers h) ≡ false) same
           (or_first (is_carrier (record { windows = w; history = h; now = e.minute }) spid) (spid == npac)
           (accepted_command (record { windows = w; history = h; now = e.minute }) e.caller (RegisterCarrier spid) (subst (λ q. refusal (record { windows = w; history = h; now = e.minute }) (Requests e.caller q) ≡ None) f ok)).carrier_taken) in
-          subst (λ q. placed (Unsent c) (with_made (id_among s (next_after (made_by w h)) (makes q (λ t. replay w t h e.minute))) (λ id. made_version id e.caller e.minute (replay w s h e.minute).carriers (donor_of (assigned_block q) h) q)
-          (changed_at e.minute (done_to s e.caller e.minute (replay w s h e.minute).carriers q) (replay w s h e.minute).versions)) ≡ placed Closed (replay w s h e.minute).versions) (sym f)
-          (subst (λ k. placed (Unsent c) (changed_at e.minute (joined_by k) (replay w s h e.minute).versions) ≡ placed Closed (replay w s h e.minute).versions) (sym same)
-          (changed_placed (Unsent c) e.minute (joined_by c) (replay w s h e.minute).versions ∙ joined_placed c (carriers h) free (replay w s h e.minute).versions known))
+          subst (λ q. placed (Unsent c) (with_made (id_among s (next_after (made_by w h)) (makes q (λ t. replay w t h e.minute))) (λ id. made_version (present_set w h) id e.caller e.minute (replay w s h e.minute).carriers (donor_of (assigned_block q) h) q)
+          (changed_at (present_set w h) e.minute (done_to (present_set w h) s e.caller e.minute (replay w s h e.minute).carriers q) (replay w s h e.minute).versions)) ≡ placed Closed (replay w s h e.minute).versions) (sym f)
+          (subst (λ k. placed (Unsent c) (changed_at (present_set w h) e.minute (joined_by k) (replay w s h e.minute).versions) ≡ placed Closed (replay w s h e.minute).versions) (sym same)
+          (changed_placed (present_set w h) (Unsent c) e.minute (joined_by c) (replay w s h e.minute).versions ∙ joined_placed c (carriers h) free (replay w s h e.minute).versions known))
       go _ f r ok = cc
 
   after_entry : (h : List Entry) (e : Entry) → IsHistory w (e ∷ h) e.minute → SaysStart h e.minute (replay w s h e.minute) → SaysStart (e ∷ h) e.minute (record_after w s h e)

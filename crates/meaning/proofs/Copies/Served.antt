@@ -3,20 +3,20 @@ use Rattle.std.proofs.Common.{◌≡◌, ℕ, suc, Bool, true, false, not, ◌&&
 use Rattle.std.specs.Prelude.{⊤, nat_lt, if◌then◌else◌}
 use Rattle.std.specs.List.{AllByRecursion}
 use Rattle.numbers.specs.Subjects.{Subject, Number, Block, subject_eq}
-use Rattle.meaning.specs.Commands.{RegisterCarrier, OldProviderCreate, NewProviderCreate, VersionCommand, OnVersion, Activate, PutInConflict, RemoveFromConflict, Cancel, OldProviderCancellationAcknowledge, NewProviderCancellationAcknowledge, Disconnect, Release}
-use Rattle.meaning.specs.declared.words.Action.{Action}
-use Rattle.meaning.specs.declared.words.Action.TheVariants.{Create, Delete}
+use Rattle.meaning.specs.Commands.{RegisterCarrier, OldProviderCreate, NewProviderCreate, VersionCommand, OnVersion, Activate, PutInConflict, RemoveFromConflict, Cancel, OldProviderCancellationAcknowledge, NewProviderCancellationAcknowledge, Disconnect, ModifyRouting, Release}
+use Rattle.meaning.specs.Statuses.{Send}
+use Rattle.meaning.specs.Statuses.{Create, Delete, Modify}
 use Rattle.meaning.specs.declared.words.Outcome.{Outcome}
 use Rattle.meaning.specs.declared.words.Outcome.TheVariants.{Open, AllAcknowledged, NoneAcknowledged}
 use Rattle.meaning.specs.declared.words.Side.{Side}
 use Rattle.meaning.specs.declared.words.Side.TheVariants.{OldProvider, NewProvider}
 use Rattle.meaning.specs.Statuses.{Status, Pending, Conflict, CancelPending, Sending, Active, PartialFailure, Failed, DisconnectPending, Old, Canceled}
-use Rattle.meaning.specs.Windows.{Windows}
+use Rattle.meaning.specs.Windows.{Windows, WindowSet}
 use Rattle.meaning.specs.Versions.{Version, Record, in_force, in_force_status, open_by, sends_create, version_with}
 use Rattle.meaning.specs.Changes.{enters, sent, status_after, outcome_at_end, completed, acknowledged_by, nobody_is_missing, changed_at, retired}
 use Rattle.meaning.specs.Judge.{is_over, ended, judged_version, judge}
-use Rattle.meaning.specs.History.{Request, Entry, Commands, Acknowledges, effect, replay, made_by, makes, made_version, with_made, done_to, change_of, cancelled_by, side_of, awaits_creates, has_both_creates, disconnected, with_old_create, with_new_create, lacks_old_create, lacks_new_create, next_after, id_among, donor_of, assigned_block}
-use Rattle.meaning.specs.Reading.{State, record_now}
+use Rattle.meaning.specs.History.{Request, Entry, Commands, Acknowledges, effect, replay, made_by, makes, made_version, with_made, done_to, change_of, cancelled_by, side_of, awaits_creates, has_both_creates, disconnected, with_old_create, with_new_create, lacks_old_create, lacks_new_create, next_after, id_among, donor_of, assigned_block, present_set}
+use Rattle.meaning.specs.Reading.{State, record_now, set_now}
 use Rattle.meaning.specs.Conditions.{is_active, can_activate, is_pending, is_conflict, is_cancel_pending}
 use Rattle.meaning.specs.Refusals.{Requests, refusal}
 use Rattle.meaning.specs.Machine.{IsHistory}
@@ -56,6 +56,7 @@ Follows takes change v = follows takes v.status (change v).status ≡ true
 follows_itself : (takes : Bool) (status : Status) → follows takes status status ≡ true
 follows_itself takes (Sending Create) = refl
 follows_itself takes (Sending Delete) = refl
+follows_itself takes (Sending (Modify routing)) = refl
 follows_itself takes Pending = refl
 follows_itself takes Conflict = refl
 follows_itself takes (CancelPending by) = refl
@@ -72,6 +73,7 @@ pub closed_sends_none : (s : Subject) (status : Status) → open_by s status ≡
 closed_sends_none (Number n) (Sending Create) closed = cc
 closed_sends_none (Block b) (Sending Create) closed = cc
 closed_sends_none s (Sending Delete) closed = refl
+closed_sends_none s (Sending (Modify routing)) closed = refl
 closed_sends_none s _ closed = refl
 
 -- what neither is in force nor sends a create stays out of force
@@ -131,60 +133,62 @@ taker takes old new step out now = go takes (in_force_status old) (is_old old) (
 
 -- ---- a change of each version keeps it
 
-retired_served : (b : Bool) (minute : ℕ) (vs : List Version) → AreServed vs → AreServed (map (retired b minute) vs)
-retired_served b minute [] are = tt
-retired_served b minute (v ∷ vs) are = (go b (in_force v) refl, retired_served b minute vs are.1)
+retired_served : (w : WindowSet) (b : Bool) (minute : ℕ) (vs : List Version) → AreServed vs → AreServed (map (retired w b minute) vs)
+retired_served w b minute [] are = tt
+retired_served w b minute (v ∷ vs) are = (go b (in_force v) refl, retired_served w b minute vs are.1)
   where
     force_served : in_force v ≡ true → is_served v.status ≡ true
     force_served e = ap (λ t. t || is_old v.status) e
 
-    go : (x y : Bool) → in_force v ≡ y → is_served (if x && y then enters Old minute v else v).status ≡ true → NoneInForce (map (retired b minute) vs)
-    go true true e is = retired-none b minute vs (are.0 (force_served e))
-    go true false e is = retired-none b minute vs (are.0 is)
-    go false y e is = retired-none b minute vs (are.0 is)
+    go : (x y : Bool) → in_force v ≡ y → is_served (if x && y then enters w Old minute v else v).status ≡ true → NoneInForce (map (retired w b minute) vs)
+    go true true e is = retired-none w b minute vs (are.0 (force_served e))
+    go true false e is = retired-none w b minute vs (are.0 is)
+    go false y e is = retired-none w b minute vs (are.0 is)
 
-module _ (s : Subject) (takes : Bool) (minute : ℕ) (change : Version → Version) where
-  none_changed : (vs : List Version) → AllByRecursion (Follows takes change) vs → NoneOpen s vs → NoneInForce vs → NoneInForce (changed_at minute change vs)
+module _ (w : WindowSet) (s : Subject) (takes : Bool) (minute : ℕ) (change : Version → Version) where
+  none_changed : (vs : List Version) → AllByRecursion (Follows takes change) vs → NoneOpen s vs → NoneInForce vs → NoneInForce (changed_at w minute change vs)
   none_changed [] steps closed out = tt
   none_changed (v ∷ vs) steps closed out =
-      (stays_out takes v.status (change v).status steps.0 (closed_sends_none s v.status closed.0) out.0, retired-none (not (in_force v) && in_force (change v)) minute (changed_at minute change vs) (none_changed vs steps.1 closed.1 out.1))
+      (stays_out takes v.status (change v).status steps.0 (closed_sends_none s v.status closed.0) out.0, retired-none w (not (in_force v) && in_force (change v)) minute (changed_at w minute change vs) (none_changed vs steps.1 closed.1 out.1))
 
   newest_served : (v : Version) (vs : List Version) → AllByRecursion (Follows takes change) (v ∷ vs) → NoneOpen s vs → AreServed (v ∷ vs) →
-      is_served (change v).status ≡ true → NoneInForce (map (retired (not (in_force v) && in_force (change v)) minute) (changed_at minute change vs))
+      is_served (change v).status ≡ true → NoneInForce (map (retired w (not (in_force v) && in_force (change v)) minute) (changed_at w minute change vs))
   newest_served v vs steps closed are = go (in_force v) (in_force (change v)) refl refl
     where
-      quiet : (b : Bool) → is_served v.status ≡ true → NoneInForce (map (retired b minute) (changed_at minute change vs))
-      quiet b is = retired-none b minute (changed_at minute change vs) (none_changed vs steps.1 closed (are.0 is))
+      quiet : (b : Bool) → is_served v.status ≡ true → NoneInForce (map (retired w b minute) (changed_at w minute change vs))
+      quiet b is = retired-none w b minute (changed_at w minute change vs) (none_changed vs steps.1 closed (are.0 is))
 
-      go : (x y : Bool) → in_force v ≡ x → in_force (change v) ≡ y → is_served (change v).status ≡ true → NoneInForce (map (retired (not x && y) minute) (changed_at minute change vs))
+      go : (x y : Bool) → in_force v ≡ x → in_force (change v) ≡ y → is_served (change v).status ≡ true → NoneInForce (map (retired w (not x && y) minute) (changed_at w minute change vs))
       go true y e f is = quiet (not true && y) (ap (λ t. t || is_old v.status) e)
-      go false true e f is = retired-all minute (changed_at minute change vs)
+      go false true e f is = retired-all w minute (changed_at w minute change vs)
       go false false e f is = quiet (not false && false) (was_served takes v.status (change v).status steps.0 f is)
 
-  behind_served : (vs : List Version) → AllByRecursion (Follows takes change) vs → NoneOpen s vs → AreServed vs → AreServed (changed_at minute change vs)
+  behind_served : (vs : List Version) → AllByRecursion (Follows takes change) vs → NoneOpen s vs → AreServed vs → AreServed (changed_at w minute change vs)
   behind_served [] steps closed are = tt
   behind_served (v ∷ vs) steps closed are =
-      (newest_served v vs steps closed.1 are, retired_served (not (in_force v) && in_force (change v)) minute (changed_at minute change vs) (behind_served vs steps.1 closed.1 are.1))
+      (newest_served v vs steps closed.1 are, retired_served w (not (in_force v) && in_force (change v)) minute (changed_at w minute change vs) (behind_served vs steps.1 closed.1 are.1))
 
-  changed_served : (vs : List Version) → AllByRecursion (Follows takes change) vs → AreSound s vs → AreServed vs → AreServed (changed_at minute change vs)
+  changed_served : (vs : List Version) → AllByRecursion (Follows takes change) vs → AreSound s vs → AreServed vs → AreServed (changed_at w minute change vs)
   changed_served [] steps sound are = tt
   changed_served (v ∷ vs) steps sound are =
-      (newest_served v vs steps sound.0 are, retired_served (not (in_force v) && in_force (change v)) minute (changed_at minute change vs) (behind_served vs steps.1 sound.0 are.1))
+      (newest_served v vs steps sound.0 are, retired_served w (not (in_force v) && in_force (change v)) minute (changed_at w minute change vs) (behind_served vs steps.1 sound.0 are.1))
 
 -- ---- minutes
 
-closed_follows : (action : Action) (outcome : Outcome) → follows true (Sending action) (status_after action outcome) ≡ true
+closed_follows : (action : Send) (outcome : Outcome) → follows true (Sending action) (status_after action outcome) ≡ true
 closed_follows Create Open = refl
 closed_follows Create NoneAcknowledged = refl
 closed_follows Create _ = refl
 closed_follows Delete Open = refl
 closed_follows Delete _ = refl
+closed_follows (Modify routing) Open = refl
+closed_follows (Modify routing) _ = refl
 
-pub judged_follows : (w : Windows) (everyone : List ℕ) (j : ℕ) (v : Version) → Follows true (judged_version w everyone j) v
+pub judged_follows : (w : WindowSet) (everyone : List ℕ) (j : ℕ) (v : Version) → Follows true (judged_version w everyone j) v
 unfolding judged_version
-judged_follows w everyone j v = go (is_over w j v v.status) v.status refl
+judged_follows w everyone j v = go (is_over j v v.status) v.status refl
   where
-    go : (b : Bool) (status : Status) → v.status ≡ status → follows true v.status (if b then ended everyone j v status else v).status ≡ true
+    go : (b : Bool) (status : Status) → v.status ≡ status → follows true v.status (if b then ended w everyone j v status else v).status ≡ true
     go false status e = follows_itself true v.status
     go true Pending e = ap (λ x. follows true x Canceled) e
     go true Conflict e = ap (λ x. follows true x Canceled) e
@@ -211,9 +215,9 @@ awaiting_follows Pending is = refl
 awaiting_follows Conflict is = refl
 awaiting_follows _ is = cc
 
-old_follows : (authorized : Bool) (minute : ℕ) (v : Version) → awaits_creates v.status ≡ true → follows false v.status (with_old_create authorized minute v).status ≡ true
-old_follows true minute v awaits = follows_itself false v.status
-old_follows false minute v awaits = awaiting_follows v.status awaits
+old_follows : (w : WindowSet) (authorized : Bool) (minute : ℕ) (v : Version) → awaits_creates v.status ≡ true → follows false v.status (with_old_create w authorized minute v).status ≡ true
+old_follows w true minute v awaits = follows_itself false v.status
+old_follows w false minute v awaits = awaiting_follows v.status awaits
 
 activated_follows : (status : Status) → not (can_activate status) ≡ false → follows false status (Sending Create) ≡ true
 activated_follows Pending may = refl
@@ -232,77 +236,79 @@ cancel_follows : (status : Status) → not (is_cancel_pending status) ≡ false 
 cancel_follows (CancelPending by) may = refl
 cancel_follows _ may = cc
 
-waiting_follows : (caller minute : ℕ) (v : Version) (status : Status) → v.status ≡ status → follows false status Canceled ≡ true → ((by : Side) → follows false status (CancelPending by) ≡ true) → (b : Bool) →
-    follows false v.status (if b then enters (CancelPending (side_of caller v.old_provider)) minute v else enters Canceled minute v).status ≡ true
-waiting_follows caller minute v status e one other true = ap (λ x. follows false x (CancelPending (side_of caller v.old_provider))) e ∙ other (side_of caller v.old_provider)
-waiting_follows caller minute v status e one other false = ap (λ x. follows false x Canceled) e ∙ one
+waiting_follows : (w : WindowSet) (caller minute : ℕ) (v : Version) (status : Status) → v.status ≡ status → follows false status Canceled ≡ true → ((by : Side) → follows false status (CancelPending by) ≡ true) → (b : Bool) →
+    follows false v.status (if b then enters w (CancelPending (side_of caller v.old_provider)) minute v else enters w Canceled minute v).status ≡ true
+waiting_follows w caller minute v status e one other true = ap (λ x. follows false x (CancelPending (side_of caller v.old_provider))) e ∙ other (side_of caller v.old_provider)
+waiting_follows w caller minute v status e one other false = ap (λ x. follows false x Canceled) e ∙ one
 
-cancelled_follows : (caller minute : ℕ) (v : Version) (status : Status) → v.status ≡ status → follows false v.status (cancelled_by status caller minute v).status ≡ true
-cancelled_follows caller minute v Pending e = waiting_follows caller minute v Pending e refl (λ by. refl) (has_both_creates v.old_at v.new_at)
-cancelled_follows caller minute v Conflict e = waiting_follows caller minute v Conflict e refl (λ by. refl) (has_both_creates v.old_at v.new_at)
-cancelled_follows caller minute v Failed e = ap (λ x. follows false x Canceled) e
-cancelled_follows caller minute v (DisconnectPending release) e = ap (λ x. follows false x Active) e
-cancelled_follows caller minute v _ e = follows_itself false v.status
+cancelled_follows : (w : WindowSet) (caller minute : ℕ) (v : Version) (status : Status) → v.status ≡ status → follows false v.status (cancelled_by w status caller minute v).status ≡ true
+cancelled_follows w caller minute v Pending e = waiting_follows w caller minute v Pending e refl (λ by. refl) (has_both_creates v.old_at v.new_at)
+cancelled_follows w caller minute v Conflict e = waiting_follows w caller minute v Conflict e refl (λ by. refl) (has_both_creates v.old_at v.new_at)
+cancelled_follows w caller minute v Failed e = ap (λ x. follows false x Canceled) e
+cancelled_follows w caller minute v (DisconnectPending release) e = ap (λ x. follows false x Active) e
+cancelled_follows w caller minute v _ e = follows_itself false v.status
 
-disconnected_follows : (release : Option ℕ) (everyone : List ℕ) (minute : ℕ) (v : Version) → v.status ≡ Active → follows false v.status (disconnected release everyone minute v).status ≡ true
-disconnected_follows None everyone minute v active = ap (λ x. follows false x (Sending Delete)) active
-disconnected_follows (Some release) everyone minute v active =
-    either false v.status (nat_lt minute release) (enters (DisconnectPending release) minute v) (sent Delete everyone minute v) (λ later. ap (λ x. follows false x (DisconnectPending release)) active)
+disconnected_follows : (w : WindowSet) (release : Option ℕ) (everyone : List ℕ) (minute : ℕ) (v : Version) → v.status ≡ Active → follows false v.status (disconnected w release everyone minute v).status ≡ true
+disconnected_follows w None everyone minute v active = ap (λ x. follows false x (Sending Delete)) active
+disconnected_follows w (Some release) everyone minute v active =
+    either false v.status (nat_lt minute release) (enters w (DisconnectPending release) minute v) (sent w Delete everyone minute v) (λ later. ap (λ x. follows false x (DisconnectPending release)) active)
     (ap (λ x. follows false x (Sending Delete)) active)
 
-acknowledged_follows : (c attempt minute : ℕ) (v : Version) → follows true v.status (acknowledged_by c attempt minute v).status ≡ true
-acknowledged_follows c attempt minute v =
-    either true v.status (nobody_is_missing (answered_by c attempt v).broadcasts) (completed v.status minute (answered_by c attempt v)) (answered_by c attempt v) (λ all. go v.status refl) (follows_itself true v.status)
+acknowledged_follows : (w : WindowSet) (c attempt minute : ℕ) (v : Version) → follows true v.status (acknowledged_by w c attempt minute v).status ≡ true
+acknowledged_follows w c attempt minute v =
+    either true v.status (nobody_is_missing (answered_by c attempt v).broadcasts) (completed w v.status minute (answered_by c attempt v)) (answered_by c attempt v) (λ all. go v.status refl) (follows_itself true v.status)
   where
-    go : (status : Status) → v.status ≡ status → follows true v.status (completed status minute (answered_by c attempt v)).status ≡ true
+    go : (status : Status) → v.status ≡ status → follows true v.status (completed w status minute (answered_by c attempt v)).status ≡ true
     go (Sending action) e = ap (λ x. follows true x (status_after action AllAcknowledged)) e ∙ closed_follows action AllAcknowledged
     go PartialFailure e = ap (λ x. follows true x Active) e
     go _ e = follows_itself true v.status
 
 module _ (st : State) (s : Subject) (given : AreGiven (made_by st.windows st.history) s (record_now st s).versions) where
   change_follows : (caller id : ℕ) (everyone : List ℕ) (c : VersionCommand) → AcceptedCommand st caller (OnVersion id c) → (v : Version) → version_with id (record_now st s) ≡ Some v →
-      follows false v.status (change_of caller st.now everyone c v).status ≡ true
+      follows false v.status (change_of (set_now st) caller st.now everyone c v).status ≡ true
   change_follows caller id everyone Activate accepted v found = activated_follows v.status (named_test st s given id v (λ u. not (can_activate u.status)) found accepted.wrong_status)
   change_follows caller id everyone PutInConflict accepted v found = pending_follows v.status (named_test st s given id v (λ u. not (is_pending u.status)) found accepted.wrong_status)
   change_follows caller id everyone RemoveFromConflict accepted v found = conflict_follows v.status (named_test st s given id v (λ u. not (is_conflict u.status)) found accepted.wrong_status)
-  change_follows caller id everyone Cancel accepted v found = cancelled_follows caller st.now v v.status refl
+  change_follows caller id everyone Cancel accepted v found = cancelled_follows (set_now st) caller st.now v v.status refl
   change_follows caller id everyone OldProviderCancellationAcknowledge accepted v found = cancel_follows v.status (named_test st s given id v (λ u. not (is_cancel_pending u.status)) found accepted.wrong_status)
   change_follows caller id everyone NewProviderCancellationAcknowledge accepted v found = cancel_follows v.status (named_test st s given id v (λ u. not (is_cancel_pending u.status)) found accepted.wrong_status)
   change_follows caller id everyone (Disconnect release) accepted v found =
-      disconnected_follows release everyone st.now v (is_active-is v.status (named_test st s given id v (λ u. not (is_active u.status)) found accepted.wrong_status))
+      disconnected_follows (set_now st) release everyone st.now v (is_active-is v.status (named_test st s given id v (λ u. not (is_active u.status)) found accepted.wrong_status))
+  change_follows caller id everyone (ModifyRouting lrn cic) accepted v found =
+      ap (λ x. follows false x (Sending (Modify (record { lrn = lrn; cic = cic })))) (is_active-is v.status (named_test st s given id v (λ u. not (is_active u.status)) found accepted.wrong_status))
 
   pub done_follows : (caller : ℕ) (everyone : List ℕ) (request : Request) → refusal st (Requests caller request) ≡ None →
-      AllByRecursion (Follows (is_answer request) (done_to s caller st.now everyone request)) (record_now st s).versions
+      AllByRecursion (Follows (is_answer request) (done_to (set_now st) s caller st.now everyone request)) (record_now st s).versions
   done_follows caller everyone (Commands (OldProviderCreate tn old_provider new_provider due authorized)) ok =
-      everywhere (λ v. either false v.status (subject_eq s (Number tn) && lacks_old_create old_provider new_provider v) (with_old_create authorized st.now v) v
-      (λ lacks. old_follows authorized st.now v (and_first (awaits_creates v.status) _ (and_first _ _ (and_second (subject_eq s (Number tn)) (lacks_old_create old_provider new_provider v) lacks)))) (follows_itself false v.status))
+      everywhere (λ v. either false v.status (subject_eq s (Number tn) && lacks_old_create old_provider new_provider v) (with_old_create (set_now st) authorized st.now v) v
+      (λ lacks. old_follows (set_now st) authorized st.now v (and_first (awaits_creates v.status) _ (and_first _ _ (and_second (subject_eq s (Number tn)) (lacks_old_create old_provider new_provider v) lacks)))) (follows_itself false v.status))
       (record_now st s).versions
   done_follows caller everyone (Commands (NewProviderCreate tn old_provider new_provider due lrn cic)) ok =
       everywhere (λ v. either false v.status (subject_eq s (Number tn) && lacks_new_create old_provider new_provider v) (with_new_create (record { lrn = lrn; cic = cic }) st.now v) v (λ lacks. follows_itself false v.status)
       (follows_itself false v.status)) (record_now st s).versions
   done_follows caller everyone (Commands (OnVersion id c)) ok =
-      of_id-each (λ v u. follows false v.status u.status ≡ true) (λ v. follows_itself false v.status) (made_by st.windows st.history) s id (change_of caller st.now everyone c) (record_now st s).versions given
+      of_id-each (λ v u. follows false v.status u.status ≡ true) (λ v. follows_itself false v.status) (made_by st.windows st.history) s id (change_of (set_now st) caller st.now everyone c) (record_now st s).versions given
       (λ v found. change_follows caller id everyone c (accepted_command st caller (OnVersion id c) ok) v found)
   done_follows caller everyone (Commands (Release block)) ok =
-      everywhere (λ v. either false v.status (subject_eq s (Block block) && in_force v) (sent Delete everyone st.now v) v
+      everywhere (λ v. either false v.status (subject_eq s (Block block) && in_force v) (sent (set_now st) Delete everyone st.now v) v
       (λ is. ap (λ t. if t then true else (if is_old v.status then false else false)) (and_second (subject_eq s (Block block)) (in_force v) is)) (follows_itself false v.status)) (record_now st s).versions
   done_follows caller everyone (Acknowledges id attempt) ok =
-      of_id-each (λ v u. follows true v.status u.status ≡ true) (λ v. follows_itself true v.status) (made_by st.windows st.history) s id (acknowledged_by caller attempt st.now) (record_now st s).versions given
-      (λ v found. acknowledged_follows caller attempt st.now v)
+      of_id-each (λ v u. follows true v.status u.status ≡ true) (λ v. follows_itself true v.status) (made_by st.windows st.history) s id (acknowledged_by (set_now st) caller attempt st.now) (record_now st s).versions given
+      (λ v found. acknowledged_follows (set_now st) caller attempt st.now v)
   done_follows caller everyone (Commands (RegisterCarrier spid)) ok = everywhere (λ v. follows_itself false v.status) (record_now st s).versions
   done_follows caller everyone (Commands _) ok = everywhere (λ v. follows_itself false v.status) (record_now st s).versions
 
-pub made_unserved : (id caller minute : ℕ) (everyone : List ℕ) (donor : Option ℕ) (request : Request) → is_served (made_version id caller minute everyone donor request).status ≡ false
-made_unserved id caller minute everyone donor (Commands (OldProviderCreate tn old_provider new_provider due true)) = refl
-made_unserved id caller minute everyone donor (Commands (OldProviderCreate tn old_provider new_provider due false)) = refl
-made_unserved id caller minute everyone donor _ = refl
+pub made_unserved : (w : WindowSet) (id caller minute : ℕ) (everyone : List ℕ) (donor : Option ℕ) (request : Request) → is_served (made_version w id caller minute everyone donor request).status ≡ false
+made_unserved w id caller minute everyone donor (Commands (OldProviderCreate tn old_provider new_provider due true)) = refl
+made_unserved w id caller minute everyone donor (Commands (OldProviderCreate tn old_provider new_provider due false)) = refl
+made_unserved w id caller minute everyone donor _ = refl
 
 module _ (w : Windows) (s : Subject) where
-  after_minute : (h : List Entry) (m : ℕ) → IsHistory w h m → AreServed (replay w s h m).versions → AreServed (judge w (suc m) (replay w s h m)).versions
+  after_minute : (h : List Entry) (m : ℕ) → IsHistory w h m → AreServed (replay w s h m).versions → AreServed (judge (present_set w h) (suc m) (replay w s h m)).versions
   unfolding judge
   after_minute h m is are =
       let r : Record = replay w s h m in
-      changed_served s true (suc m) (judged_version w r.carriers (suc m)) r.versions (everywhere (judged_follows w r.carriers (suc m)) r.versions) (sound_now (record { windows = w; history = h; now = m }) is s) are
+      changed_served (present_set w h) s true (suc m) (judged_version (present_set w h) r.carriers (suc m)) r.versions (everywhere (judged_follows (present_set w h) r.carriers (suc m)) r.versions) (sound_now (record { windows = w; history = h; now = m }) is s) are
 
   after_entry : (h : List Entry) (e : Entry) → IsHistory w (e ∷ h) e.minute → AreServed (replay w s h e.minute).versions → AreServed (record_after w s h e).versions
   unfolding effect
@@ -310,14 +316,14 @@ module _ (w : Windows) (s : Subject) where
       let r : Record = replay w s h e.minute in
       let st : State = record { windows = w; history = h; now = e.minute } in
       with_new (id_among s (next_after (made_by w h)) (makes e.request (record_now st)))
-      (changed_served s (is_answer e.request) e.minute (done_to s e.caller e.minute r.carriers e.request) r.versions (done_follows st s (given_now st is.3 s) e.caller r.carriers e.request is.2) (sound_now st is.3 s) are)
+      (changed_served (present_set w h) s (is_answer e.request) e.minute (done_to (present_set w h) s e.caller e.minute r.carriers e.request) r.versions (done_follows st s (given_now st is.3 s) e.caller r.carriers e.request is.2) (sound_now st is.3 s) are)
     where
       versions : List Version
-      versions = changed_at e.minute (done_to s e.caller e.minute (replay w s h e.minute).carriers e.request) (replay w s h e.minute).versions
+      versions = changed_at (present_set w h) e.minute (done_to (present_set w h) s e.caller e.minute (replay w s h e.minute).carriers e.request) (replay w s h e.minute).versions
 
-      with_new : (o : Option ℕ) → AreServed versions → AreServed (with_made o (λ id. made_version id e.caller e.minute (replay w s h e.minute).carriers (donor_of (assigned_block e.request) h) e.request) versions)
+      with_new : (o : Option ℕ) → AreServed versions → AreServed (with_made o (λ id. made_version (present_set w h) id e.caller e.minute (replay w s h e.minute).carriers (donor_of (assigned_block e.request) h) e.request) versions)
       with_new None now = now
-      with_new (Some id) now = (λ served. true-false _ served (made_unserved id e.caller e.minute (replay w s h e.minute).carriers (donor_of (assigned_block e.request) h) e.request), now)
+      with_new (Some id) now = (λ served. true-false _ served (made_unserved (present_set w h) id e.caller e.minute (replay w s h e.minute).carriers (donor_of (assigned_block e.request) h) e.request), now)
 
   -- every record of every history
   pub are_served : (h : List Entry) (m : ℕ) → IsHistory w h m → AreServed (replay w s h m).versions

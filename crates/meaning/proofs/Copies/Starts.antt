@@ -4,10 +4,10 @@ use Rattle.std.specs.Prelude.{◌==◌, if◌then◌else◌}
 use Rattle.std.specs.List.{AllByRecursion}
 use Rattle.numbers.specs.Subjects.{Subject}
 use Rattle.meaning.specs.Commands.{RegisterCarrier}
-use Rattle.meaning.specs.Windows.{Windows}
+use Rattle.meaning.specs.Windows.{Windows, WindowSet}
 use Rattle.meaning.specs.Versions.{Broadcast, Version, is_among, with_number, is_open_broadcast}
 use Rattle.meaning.specs.Changes.{joined_broadcast, joined_by, changed_at}
-use Rattle.meaning.specs.History.{Request, Commands, Entry, carriers, effect, replay, makes, made_by, made_version, with_made, done_to, next_after, id_among, donor_of, assigned_block}
+use Rattle.meaning.specs.History.{Request, Commands, Entry, carriers, effect, replay, makes, made_by, made_version, with_made, done_to, next_after, id_among, donor_of, assigned_block, present_set}
 use Rattle.meaning.specs.Reading.{State, registers, is_carrier}
 use Rattle.meaning.specs.Refusals.{Requests, refusal, npac}
 use Rattle.meaning.specs.Machine.{IsHistory}
@@ -23,7 +23,7 @@ use Rattle.meaning.proofs.Copies.{Carrier, stands_for, placed, NoneMarked, each_
 use Rattle.meaning.proofs.Copies.Steps.{changed_placed}
 
 -- one that is not among the carriers has acknowledged nothing
-module _ (c : ℕ) (cs : List ℕ) (out : is_among c cs ≡ false) where
+module _ (w : WindowSet) (c : ℕ) (cs : List ℕ) (out : is_among c cs ≡ false) where
   joined_none : (b : Broadcast) → AreKnown cs b → is_among c (joined_broadcast c b).acknowledged ≡ false
   joined_none b known = same (is_open_broadcast b) ∙ never (is_among c b.acknowledged) refl
     where
@@ -35,8 +35,8 @@ module _ (c : ℕ) (cs : List ℕ) (out : is_among c cs ≡ false) where
       same true = refl
       same false = refl
 
-  joined_all : (minute : ℕ) (vs : List Version) → AllByRecursion (IsKnown cs) vs → NoneMarked (placed (Carrier c) (changed_at minute (joined_by c) vs))
-  joined_all minute vs known = subst NoneMarked (sym (changed_placed (Carrier c) minute (joined_by c) vs))
+  joined_all : (minute : ℕ) (vs : List Version) → AllByRecursion (IsKnown cs) vs → NoneMarked (placed (Carrier c) (changed_at w minute (joined_by c) vs))
+  joined_all minute vs known = subst NoneMarked (sym (changed_placed w (Carrier c) minute (joined_by c) vs))
       (each_placed (Carrier c) (λ p. p.marked ≡ false) (map (joined_by c) vs)
       (each_mapped (joined_by c) (λ (v : Version). AllByRecursion (λ b. stands_for (Carrier c) b ≡ true → is_among c b.acknowledged ≡ false) v.broadcasts) vs
       (each (λ v all. each_mapped (joined_broadcast c) (λ b. stands_for (Carrier c) b ≡ true → is_among c b.acknowledged ≡ false) v.broadcasts (each (λ b is stands. joined_none b is) v.broadcasts all)) vs known)))
@@ -58,7 +58,7 @@ starts_none w c s h e is registered = go e.request refl registered is.2
         let free : is_among c (carriers h) ≡ false = subst (λ k. is_among k (carriers h) ≡ false) same
         (or_first (is_carrier (record { windows = w; history = h; now = e.minute }) spid) (spid == npac)
         (accepted_command (record { windows = w; history = h; now = e.minute }) e.caller (RegisterCarrier spid) (subst (λ q. refusal (record { windows = w; history = h; now = e.minute }) (Requests e.caller q) ≡ None) f ok)).carrier_taken) in
-        subst (λ q. NoneMarked (placed (Carrier c) (with_made (id_among s (next_after (made_by w h)) (makes q (λ t. replay w t h e.minute))) (λ id. made_version id e.caller e.minute (replay w s h e.minute).carriers (donor_of (assigned_block q) h) q)
-        (changed_at e.minute (done_to s e.caller e.minute (replay w s h e.minute).carriers q) (replay w s h e.minute).versions)))) (sym f)
-        (subst (λ k. NoneMarked (placed (Carrier c) (changed_at e.minute (joined_by k) (replay w s h e.minute).versions))) (sym same) (joined_all c (carriers h) free e.minute (replay w s h e.minute).versions known))
+        subst (λ q. NoneMarked (placed (Carrier c) (with_made (id_among s (next_after (made_by w h)) (makes q (λ t. replay w t h e.minute))) (λ id. made_version (present_set w h) id e.caller e.minute (replay w s h e.minute).carriers (donor_of (assigned_block q) h) q)
+        (changed_at (present_set w h) e.minute (done_to (present_set w h) s e.caller e.minute (replay w s h e.minute).carriers q) (replay w s h e.minute).versions)))) (sym f)
+        (subst (λ k. NoneMarked (placed (Carrier c) (changed_at (present_set w h) e.minute (joined_by k) (replay w s h e.minute).versions))) (sym same) (joined_all (present_set w h) c (carriers h) free e.minute (replay w s h e.minute).versions known))
     go _ f r ok = cc

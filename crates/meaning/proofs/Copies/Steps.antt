@@ -4,17 +4,17 @@ use Rattle.std.specs.Prelude.{⊤, filter, if◌then◌else◌}
 use Rattle.std.specs.List.{list_any, AllByRecursion}
 use Rattle.numbers.specs.Subjects.{Subject, Number, Block}
 use Rattle.numbers.specs.Routings.{Routing}
-use Rattle.meaning.specs.declared.words.Action.{Action}
-use Rattle.meaning.specs.declared.words.Action.TheVariants.{Create, Delete}
+use Rattle.meaning.specs.Statuses.{Send}
+use Rattle.meaning.specs.Statuses.{Create, Delete, Modify}
 use Rattle.meaning.specs.declared.words.Outcome.{Outcome}
 use Rattle.meaning.specs.declared.words.Outcome.TheVariants.{Open, SomeAcknowledged, NoneAcknowledged}
 use Rattle.meaning.specs.declared.words.Side.TheVariants.{OldProvider, NewProvider}
 use Rattle.meaning.specs.Statuses.{Status, Pending, Conflict, CancelPending, Sending, Failed, DisconnectPending, Canceled, Old}
-use Rattle.meaning.specs.Windows.{Windows}
+use Rattle.meaning.specs.Windows.{Windows, WindowSet}
 use Rattle.meaning.specs.Versions.{Broadcast, Version, Record, is_among, is_withdrawn, is_withdrawn_outcome, in_force, in_force_status, is_open, open_by}
-use Rattle.meaning.specs.Changes.{enters, sent, routing_sent, on_newest, outcome_at_end, changed_at, retired}
+use Rattle.meaning.specs.Changes.{enters, sent, action_of, routing_sent, on_newest, outcome_at_end, changed_at, retired}
 use Rattle.meaning.specs.Judge.{is_over, ended, judged_version, judge}
-use Rattle.meaning.specs.History.{Entry, replay}
+use Rattle.meaning.specs.History.{Entry, replay, present_set}
 use Rattle.meaning.specs.Machine.{IsHistory}
 use Rattle.meaning.specs.Sound.{NoneOpen, NoneInForce, ForceIsActive, AreSound}
 use Rattle.meaning.proofs.Small.{true-false, or_first, or_second}
@@ -79,13 +79,13 @@ withdrawn_own o id (b ∷ bs) all = ap (λ t. map (place o id) (cond t (b ∷ fi
     off false true e = refl
     off x false e = cc
 
-module _ (o : Look) (everyone : List ℕ) (lasts : Lasts o everyone) where
+module _ (w : WindowSet) (o : Look) (everyone : List ℕ) (lasts : Lasts o everyone) where
   -- a send puts one in front that nobody has acknowledged
-  pub sent_next : (action : Action) (minute : ℕ) (v : Version) → IsNext minute (own o v) (own o (sent action everyone minute v))
+  pub sent_next : (action : Send) (minute : ℕ) (v : Version) → IsNext minute (own o v) (own o (sent w action everyone minute v))
   sent_next action minute v = go (wants o everyone)
     where
       new : Broadcast
-      new = record { attempt = v.attempt + 1; minute = minute; action = action; routing = routing_sent action v; recipients = everyone; acknowledged = []; outcome = Open }
+      new = record { attempt = v.attempt + 1; minute = minute; action = action_of action; routing = routing_sent action v; recipients = everyone; acknowledged = []; outcome = Open }
 
       go : (b : Bool) → IsNext minute (own o v) (map (place o v.id) (cond (b && true) (new ∷ filter (stands_for o) v.broadcasts) (filter (stands_for o) v.broadcasts)))
       go true = inr (open_unmarked o everyone lasts new (λ k is. is) refl, refl, thinned_same (own o v))
@@ -102,7 +102,7 @@ module _ (o : Look) (everyone : List ℕ) (lasts : Lasts o everyone) where
       go true = ap (λ x. (let p : Placed = record { id = id; attempt = b.attempt; minute = b.minute; action = b.action; routing = b.routing; marked = x } in p) ∷ own_of o id rest) (close_same o everyone lasts b outcome)
       go false = refl
 
-  pub closed_same : (id : ℕ) (action : Action) (bs : List Broadcast) (outcome : Outcome) → HasBegunAs (Sending action) bs → is_withdrawn_outcome outcome ≡ false →
+  pub closed_same : (id : ℕ) (action : Send) (bs : List Broadcast) (outcome : Outcome) → HasBegunAs (Sending action) bs → is_withdrawn_outcome outcome ≡ false →
       own_of o id (on_newest (λ b. record b { outcome = outcome }) bs) ≡ own_of o id bs
   closed_same id action bs outcome begun stands =
       ap (λ xs. own_of o id (on_newest (λ b. record b { outcome = outcome }) xs)) begun.2 ∙ closed_newest id begun.0 begun.1 outcome begun.3 stands ∙ ap (own_of o id) (sym begun.2)
@@ -121,7 +121,7 @@ module _ (o : Look) (everyone : List ℕ) (lasts : Lasts o everyone) where
       go true false e = taken (own_of o id rest)
       go false y e = thinned_same (own_of o id rest)
 
-  end_thins : (id : ℕ) (action : Action) (bs : List Broadcast) → HasBegunAs (Sending action) bs → AllReach everyone bs → IsThinned (own_of o id bs) (own_of o id (on_newest (λ b. record b { outcome = outcome_at_end bs }) bs))
+  end_thins : (id : ℕ) (action : Send) (bs : List Broadcast) → HasBegunAs (Sending action) bs → AllReach everyone bs → IsThinned (own_of o id bs) (own_of o id (on_newest (λ b. record b { outcome = outcome_at_end bs }) bs))
   end_thins id action bs begun reach =
       subst (λ xs. IsThinned (own_of o id xs) (own_of o id (on_newest (λ b. record b { outcome = outcome_at_end xs }) xs))) (sym begun.2) (go begun.0.acknowledged refl)
     where
@@ -130,13 +130,13 @@ module _ (o : Look) (everyone : List ℕ) (lasts : Lasts o everyone) where
       go (k ∷ ks) e = thinned_is _ _ (closed_newest id begun.0 begun.1 SomeAcknowledged begun.3 refl)
 
   -- a minute sends only what is disconnect-pending
-  judged_sends : (w : Windows) (minute : ℕ) (v : Version) → HasBegun v → AllReach everyone v.broadcasts →
+  judged_sends : (minute : ℕ) (v : Version) → HasBegun v → AllReach everyone v.broadcasts →
       IsThinned (own o v) (own o (judged_version w everyone minute v)) ⊎ (IsNext minute (own o v) (own o (judged_version w everyone minute v)) × (is_planned v.status ≡ true))
   unfolding judged_version
-  judged_sends w minute v begun reach = go (is_over w minute v v.status) v.status refl
+  judged_sends minute v begun reach = go (is_over minute v v.status) v.status refl
     where
       go : (b : Bool) (status : Status) → v.status ≡ status →
-          IsThinned (own o v) (own o (if b then ended everyone minute v status else v)) ⊎ (IsNext minute (own o v) (own o (if b then ended everyone minute v status else v)) × (is_planned v.status ≡ true))
+          IsThinned (own o v) (own o (if b then ended w everyone minute v status else v)) ⊎ (IsNext minute (own o v) (own o (if b then ended w everyone minute v status else v)) × (is_planned v.status ≡ true))
       go false status e = inl (thinned_same (own o v))
       go true Pending e = inl (thinned_same (own o v))
       go true Conflict e = inl (thinned_same (own o v))
@@ -146,21 +146,21 @@ module _ (o : Look) (everyone : List ℕ) (lasts : Lasts o everyone) where
       go true (Sending action) e = inl (end_thins v.id action v.broadcasts (subst (λ x. HasBegunAs x v.broadcasts) e begun) reach)
       go true _ e = inl (thinned_same (own o v))
 
-module _ (o : Look) where
+module _ (w : WindowSet) (o : Look) where
   -- ---- the versions of a subject, each changed
 
-  pub retired_placed : (b : Bool) (minute : ℕ) (vs : List Version) → placed o (map (retired b minute) vs) ≡ placed o vs
+  pub retired_placed : (b : Bool) (minute : ℕ) (vs : List Version) → placed o (map (retired w b minute) vs) ≡ placed o vs
   retired_placed b minute [] = refl
-  retired_placed b minute (v ∷ vs) = ap (λ ps. ps ++ placed o (map (retired b minute) vs)) (go (b && in_force v)) ∙ ap (λ ps. own o v ++ ps) (retired_placed b minute vs)
+  retired_placed b minute (v ∷ vs) = ap (λ ps. ps ++ placed o (map (retired w b minute) vs)) (go (b && in_force v)) ∙ ap (λ ps. own o v ++ ps) (retired_placed b minute vs)
     where
-      go : (t : Bool) → own o (if t then enters Old minute v else v) ≡ own o v
+      go : (t : Bool) → own o (if t then enters w Old minute v else v) ≡ own o v
       go true = refl
       go false = refl
 
   -- a change of each version changes its own
-  pub changed_placed : (minute : ℕ) (change : Version → Version) (vs : List Version) → placed o (changed_at minute change vs) ≡ placed o (map change vs)
+  pub changed_placed : (minute : ℕ) (change : Version → Version) (vs : List Version) → placed o (changed_at w minute change vs) ≡ placed o (map change vs)
   changed_placed minute change [] = refl
-  changed_placed minute change (v ∷ vs) = ap (λ ps. own o (change v) ++ ps) (retired_placed (not (in_force v) && in_force (change v)) minute (changed_at minute change vs) ∙ changed_placed minute change vs)
+  changed_placed minute change (v ∷ vs) = ap (λ ps. own o (change v) ++ ps) (retired_placed (not (in_force v) && in_force (change v)) minute (changed_at w minute change vs) ∙ changed_placed minute change vs)
 
   module _ (minute : ℕ) (change : Version → Version) where
     abbrev pub Thins : Version → Type 0
@@ -170,22 +170,22 @@ module _ (o : Look) where
     abbrev pub SendsOnly : (Version → Bool) → Version → Type 0
     SendsOnly test v = Thins v ⊎ (IsNext minute (own o v) (own o (change v)) × (test v ≡ true))
 
-    first_placed : (v : Version) (vs : List Version) → placed o (changed_at minute change (v ∷ vs)) ≡ own o (change v) ++ placed o (changed_at minute change vs)
-    first_placed v vs = ap (λ ps. own o (change v) ++ ps) (retired_placed (not (in_force v) && in_force (change v)) minute (changed_at minute change vs))
+    first_placed : (v : Version) (vs : List Version) → placed o (changed_at w minute change (v ∷ vs)) ≡ own o (change v) ++ placed o (changed_at w minute change vs)
+    first_placed v vs = ap (λ ps. own o (change v) ++ ps) (retired_placed (not (in_force v) && in_force (change v)) minute (changed_at w minute change vs))
 
-    pub changed_thinned : (vs : List Version) → AllByRecursion Thins vs → IsThinned (placed o vs) (placed o (changed_at minute change vs))
+    pub changed_thinned : (vs : List Version) → AllByRecursion Thins vs → IsThinned (placed o vs) (placed o (changed_at w minute change vs))
     changed_thinned [] thin = tt
     changed_thinned (v ∷ vs) thin = subst (IsThinned (placed o (v ∷ vs))) (sym (first_placed v vs))
-        (thinned_append (own o v) (own o (change v)) (placed o vs) (placed o (changed_at minute change vs)) thin.0 (changed_thinned vs thin.1))
+        (thinned_append (own o v) (own o (change v)) (placed o vs) (placed o (changed_at w minute change vs)) thin.0 (changed_thinned vs thin.1))
 
     -- where none is sent
-    pub thins_next : (vs : List Version) → AllByRecursion Thins vs → IsNext minute (placed o vs) (placed o (changed_at minute change vs))
-    thins_next vs thin = next_thinned minute (placed o vs) (placed o (changed_at minute change vs)) (changed_thinned vs thin)
+    pub thins_next : (vs : List Version) → AllByRecursion Thins vs → IsNext minute (placed o vs) (placed o (changed_at w minute change vs))
+    thins_next vs thin = next_thinned minute (placed o vs) (placed o (changed_at w minute change vs)) (changed_thinned vs thin)
 
     -- where the newest alone may be sent
-    first_next : (v : Version) (vs : List Version) → IsNext minute (own o v) (own o (change v)) → AllByRecursion Thins vs → IsNext minute (placed o (v ∷ vs)) (placed o (changed_at minute change (v ∷ vs)))
+    first_next : (v : Version) (vs : List Version) → IsNext minute (own o v) (own o (change v)) → AllByRecursion Thins vs → IsNext minute (placed o (v ∷ vs)) (placed o (changed_at w minute change (v ∷ vs)))
     first_next v vs next thin = subst (IsNext minute (placed o (v ∷ vs))) (sym (first_placed v vs))
-        (next_append minute (own o v) (own o (change v)) (placed o vs) (placed o (changed_at minute change vs)) next (changed_thinned vs thin))
+        (next_append minute (own o v) (own o (change v)) (placed o vs) (placed o (changed_at w minute change vs)) next (changed_thinned vs thin))
 
     any_next : (test : Version → Bool) (v : Version) → SendsOnly test v → IsNext minute (own o v) (own o (change v))
     any_next test v (inl thin) = next_thinned minute (own o v) (own o (change v)) thin
@@ -202,7 +202,7 @@ module _ (o : Look) where
 
     -- where what is in force may be sent and none is open: nothing newer stands
     pub force_next : (s : Subject) (vs : List Version) → AllByRecursion IsTold vs → AreServed vs → NoneOpen s vs → AllByRecursion (SendsOnly in_force) vs →
-        IsNext minute (placed o vs) (placed o (changed_at minute change vs))
+        IsNext minute (placed o vs) (placed o (changed_at w minute change vs))
     force_next s [] told served closed sends = tt
     force_next s (v ∷ vs) told served closed sends = go (list_any in_force vs) refl (force_next s vs told.1 served.1 closed.1 sends.1)
       where
@@ -214,22 +214,22 @@ module _ (o : Look) where
         thin_out e (inl thin) = thin
         thin_out e (inr sent_one) = true-false (in_force v) sent_one.1 (or_first (in_force_status v.status) (is_old v.status) e)
 
-        go : (b : Bool) → list_any in_force vs ≡ b → IsNext minute (placed o vs) (placed o (changed_at minute change vs)) → IsNext minute (placed o (v ∷ vs)) (placed o (changed_at minute change (v ∷ vs)))
+        go : (b : Bool) → list_any in_force vs ≡ b → IsNext minute (placed o vs) (placed o (changed_at w minute change vs)) → IsNext minute (placed o (v ∷ vs)) (placed o (changed_at w minute change (v ∷ vs)))
         go false e later = first_next v vs (any_next in_force v sends.0) (none_sends in_force vs sends.1 e)
         go true e later =
             let unserved : is_served v.status ≡ false = out e (is_served v.status) refl in
             let none : own o v ≡ [] = withdrawn_own o v.id v.broadcasts (unserved_all s v.status v.routing v.broadcasts unserved closed.0 told.0) in
             let none_then : own o (change v) ≡ [] = thinned_none (own o v) (own o (change v)) none (thin_out unserved sends.0) in
             subst (IsNext minute (placed o (v ∷ vs))) (sym (first_placed v vs))
-            (subst (λ ps. IsNext minute (ps ++ placed o vs) (own o (change v) ++ placed o (changed_at minute change vs))) (sym none)
-            (subst (λ ps. IsNext minute (placed o vs) (ps ++ placed o (changed_at minute change vs))) (sym none_then) later))
+            (subst (λ ps. IsNext minute (ps ++ placed o vs) (own o (change v) ++ placed o (changed_at w minute change vs))) (sym none)
+            (subst (λ ps. IsNext minute (placed o vs) (ps ++ placed o (changed_at w minute change vs))) (sym none_then) later))
 
     none_open : (s : Subject) (vs : List Version) → NoneOpen s vs → list_any (is_open s) vs ≡ false
     none_open s [] closed = refl
     none_open s (v ∷ vs) closed = ap (λ b. b || list_any (is_open s) vs) closed.0 ∙ none_open s vs closed.1
 
     -- where the open one may be sent: it is the newest
-    pub open_next : (s : Subject) (vs : List Version) → AreSound s vs → AllByRecursion (SendsOnly (is_open s)) vs → IsNext minute (placed o vs) (placed o (changed_at minute change vs))
+    pub open_next : (s : Subject) (vs : List Version) → AreSound s vs → AllByRecursion (SendsOnly (is_open s)) vs → IsNext minute (placed o vs) (placed o (changed_at w minute change vs))
     open_next s [] sound sends = tt
     open_next s (v ∷ vs) sound sends = first_next v vs (any_next (is_open s) v sends.0) (none_sends (is_open s) vs sends.1 (none_open s vs sound.0))
 
@@ -250,19 +250,19 @@ module _ (o : Look) where
 
     -- where what is disconnect-pending may be sent: beside an open version there is none
     planned_next : (s : Subject) (vs : List Version) → AllByRecursion IsTold vs → AreServed vs → AreSound s vs → AllByRecursion (SendsOnly (λ (v : Version). is_planned v.status)) vs →
-        IsNext minute (placed o vs) (placed o (changed_at minute change vs))
+        IsNext minute (placed o vs) (placed o (changed_at w minute change vs))
     planned_next s [] told served sound sends = tt
     planned_next s (v ∷ vs) told served sound sends = go (is_open s v) refl
       where
-        go : (b : Bool) → is_open s v ≡ b → IsNext minute (placed o (v ∷ vs)) (placed o (changed_at minute change (v ∷ vs)))
+        go : (b : Bool) → is_open s v ≡ b → IsNext minute (placed o (v ∷ vs)) (placed o (changed_at w minute change (v ∷ vs)))
         go true e = first_next v vs (any_next (λ (u : Version). is_planned u.status) v sends.0) (active_rests vs (sound.2 e) sends.1)
         go false e = force_next s (v ∷ vs) told served (e, sound.0) (forces (v ∷ vs) sends)
 
 -- a minute
 pub minute_next : (o : Look) (w : Windows) (s : Subject) (h : List Entry) (m : ℕ) → IsHistory w h m → Lasts o (replay w s h m).carriers →
-    IsNext (suc m) (placed o (replay w s h m).versions) (placed o (judge w (suc m) (replay w s h m)).versions)
+    IsNext (suc m) (placed o (replay w s h m).versions) (placed o (judge (present_set w h) (suc m) (replay w s h m)).versions)
 unfolding judge
 minute_next o w s h m is lasts =
     let r : Record = replay w s h m in
-    planned_next o (suc m) (judged_version w r.carriers (suc m)) s r.versions (versions_kept told_kept w s h m is) (are_served w s h m is) (sound_now (record { windows = w; history = h; now = m }) is s)
-    (each_two (λ v begun reach. judged_sends o r.carriers lasts w (suc m) v begun reach) r.versions (versions_kept begun_kept w s h m is) (versions_kept reach_kept w s h m is))
+    planned_next (present_set w h) o (suc m) (judged_version (present_set w h) r.carriers (suc m)) s r.versions (versions_kept told_kept w s h m is) (are_served w s h m is) (sound_now (record { windows = w; history = h; now = m }) is s)
+    (each_two (λ v begun reach. judged_sends (present_set w h) o r.carriers lasts (suc m) v begun reach) r.versions (versions_kept begun_kept w s h m is) (versions_kept reach_kept w s h m is))

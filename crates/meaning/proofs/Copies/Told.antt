@@ -3,16 +3,17 @@ use Rattle.std.proofs.Common.{◌≡◌, ℕ, Bool, true, false, List, [], ◌�
 use Rattle.std.specs.Prelude.{⊤, ◌==◌, if◌then◌else◌}
 use Rattle.std.specs.List.{AllByRecursion}
 use Rattle.numbers.specs.Routings.{Routing}
-use Rattle.meaning.specs.declared.words.Action.{Action}
-use Rattle.meaning.specs.declared.words.Action.TheVariants.{Create, Delete}
+use Rattle.meaning.specs.Statuses.{Send}
+use Rattle.meaning.specs.Statuses.{Create, Delete, Modify}
 use Rattle.meaning.specs.declared.words.Outcome.{Outcome}
 use Rattle.meaning.specs.declared.words.Outcome.TheVariants.{Open, AllAcknowledged, SomeAcknowledged, NoneAcknowledged}
 use Rattle.meaning.specs.Statuses.{Status, Pending, Conflict, CancelPending, Sending, Active, PartialFailure, Failed, DisconnectPending, Old, Canceled}
 use Rattle.meaning.specs.Versions.{Broadcast, Version, with_number, is_open_broadcast, is_open_outcome, is_withdrawn, is_withdrawn_outcome}
-use Rattle.meaning.specs.Changes.{status_after, on_newest, outcome_at_end, acknowledged_broadcast, joined_broadcast}
+use Rattle.meaning.specs.Changes.{status_after, routing_after, on_newest, outcome_at_end, acknowledged_broadcast, joined_broadcast}
 use Rattle.meaning.specs.History.{awaits_creates}
 use Rattle.meaning.proofs.Lists.{each}
 use Rattle.meaning.proofs.Moves.{MovesKeep, MayActivate, is_before_sending, is_unserved, is_planned}
+use Rattle.meaning.specs.Windows.{WindowSet}
 
 -- ---- what is said of a version
 
@@ -39,6 +40,7 @@ Opens routing rest (b ∷ bs) = (b.outcome ≡ Open) × (b.routing ≡ routing) 
 abbrev pub IsToldAs : Status → Option Routing → List Broadcast → Type 0
 IsToldAs (Sending Create) routing bs = Opens routing AllWithdrawn bs
 IsToldAs (Sending Delete) routing bs = Opens None (Says routing) bs
+IsToldAs (Sending (Modify put)) routing bs = Opens (Some put) (Says routing) bs
 IsToldAs Active routing bs = Says routing bs
 IsToldAs PartialFailure routing bs = Says routing bs
 IsToldAs (DisconnectPending release) routing bs = Says routing bs
@@ -113,6 +115,7 @@ module _ (f : Broadcast → Broadcast) (same : (b : Broadcast) → ((f b).outcom
   told_same : (status : Status) (routing : Option Routing) (bs : List Broadcast) → IsToldAs status routing bs → IsToldAs status routing (map f bs)
   told_same (Sending Create) routing bs told = opens_same routing AllWithdrawn withdrawn_same bs told
   told_same (Sending Delete) routing bs told = opens_same None (Says routing) (says_same routing) bs told
+  told_same (Sending (Modify put)) routing bs told = opens_same (Some put) (Says routing) (says_same routing) bs told
   told_same Active routing bs told = says_same routing bs told
   told_same PartialFailure routing bs told = says_same routing bs told
   told_same (DisconnectPending release) routing bs told = says_same routing bs told
@@ -150,19 +153,22 @@ none_withdrawn : (routing : Option Routing) (bs : List Broadcast) → Opens rout
 none_withdrawn routing [] is = absurd is
 none_withdrawn routing (b ∷ bs) is = (refl, is.2)
 
-none_says : (routing : Option Routing) (bs : List Broadcast) → Opens None (Says routing) bs → Says routing (on_newest (λ b. record b { outcome = NoneAcknowledged }) bs)
-none_says routing [] is = absurd is
-none_says routing (b ∷ bs) is = ((refl, is.2.0), inl (refl, is.2.1))
+none_says : (put routing : Option Routing) (bs : List Broadcast) → Opens put (Says routing) bs → Says routing (on_newest (λ b. record b { outcome = NoneAcknowledged }) bs)
+none_says put routing [] is = absurd is
+none_says put routing (b ∷ bs) is = ((refl, is.2.0), inl (refl, is.2.1))
 
-closed_told : (action : Action) (outcome : Outcome) → (outcome ≡ Open → ⊥) → (routing : Option Routing) (bs : List Broadcast) → IsToldAs (Sending action) routing bs →
-    IsToldAs (status_after action outcome) routing (on_newest (λ b. record b { outcome = outcome }) bs)
+closed_told : (action : Send) (outcome : Outcome) → (outcome ≡ Open → ⊥) → (routing : Option Routing) (bs : List Broadcast) → IsToldAs (Sending action) routing bs →
+    IsToldAs (status_after action outcome) (routing_after action outcome routing) (on_newest (λ b. record b { outcome = outcome }) bs)
 closed_told action Open closed routing bs told = absurd (closed refl)
 closed_told Create AllAcknowledged closed routing bs told = closing_says routing AllWithdrawn withdrawn_closed AllAcknowledged refl refl bs told
 closed_told Create SomeAcknowledged closed routing bs told = closing_says routing AllWithdrawn withdrawn_closed SomeAcknowledged refl refl bs told
 closed_told Create NoneAcknowledged closed routing bs told = none_withdrawn routing bs told
 closed_told Delete AllAcknowledged closed routing bs told = tt
 closed_told Delete SomeAcknowledged closed routing bs told = tt
-closed_told Delete NoneAcknowledged closed routing bs told = none_says routing bs told
+closed_told Delete NoneAcknowledged closed routing bs told = none_says None routing bs told
+closed_told (Modify put) AllAcknowledged closed routing bs told = closing_says (Some put) (Says routing) (λ xs says. says.0) AllAcknowledged refl refl bs told
+closed_told (Modify put) SomeAcknowledged closed routing bs told = closing_says (Some put) (Says routing) (λ xs says. says.0) SomeAcknowledged refl refl bs told
+closed_told (Modify put) NoneAcknowledged closed routing bs told = none_says (Some put) routing bs told
 
 pub end_closes : (bs : List Broadcast) → outcome_at_end bs ≡ Open → ⊥
 end_closes [] is = cc
@@ -180,8 +186,8 @@ pub told_in : (v : Version) (status : Status) → v.status ≡ status → IsTold
 told_in v status e told = subst (λ x. IsToldAs x v.routing v.broadcasts) e told
 
 -- every move keeps it
-pub told_kept : MovesKeep (λ m cs v. IsTold v)
-told_kept = record {
+pub told_kept : (w : WindowSet) → MovesKeep w (λ m cs v. IsTold v)
+told_kept w = record {
   later = λ m n cs v up told. told;
   joined = λ c m cs v told. told_same (joined_broadcast c) (joined_same c) v.status v.routing v.broadcasts told;
   made_old = λ m cs id old_provider new_provider due some. tt;
@@ -199,6 +205,7 @@ told_kept = record {
   activated = λ m cs v may told. (refl, refl, activated_told cs v may told);
   disconnected = λ m cs v may told. (refl, refl, told_in v Active may.0 told);
   released = λ m cs v from told. (refl, refl, planned_told v.status v.routing v.broadcasts from told);
+  modified = λ routing m cs v may told. (refl, refl, told_in v Active may.0 told);
   ended = λ action m cs v from told. closed_told action (outcome_at_end v.broadcasts) (end_closes v.broadcasts) v.routing v.broadcasts (told_in v (Sending action) from told);
   answered = λ c attempt m cs v may told. answered_told c attempt v.status v.routing v.broadcasts told;
   closed = λ c attempt action m cs v may told. closed_told action AllAcknowledged (λ e. cc) v.routing (map (acknowledged_broadcast c attempt) v.broadcasts)

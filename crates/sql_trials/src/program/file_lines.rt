@@ -22,6 +22,12 @@ const CARRIERS: &str = "POST /carriers HTTP/1.1\r\nx-spid: NPAC\r\ncontent-lengt
 const CLOCK: &str = "POST /clock HTTP/1.1\r\nx-spid: NPAC\r\ncontent-length: 14\r\n\r\n\
     {\"minute\":100}";
 
+// The windows of `wide.toml`.
+const WIDE: &str = "POST /windows HTTP/1.1\r\nx-spid: NPAC\r\ncontent-length: 217\r\n\r\n\
+    {\"broadcast\":16,\"cancellation_final\":60,\"cancellation_initial\":60,\
+    \"conflict_expiration\":1000,\"conflict_resolution\":120,\"conflict_restriction\":30,\
+    \"final_concurrence\":60,\"initial_concurrence\":60,\"pending_retention\":500}";
+
 // Each carrier acknowledges the first download.
 const ACKNOWLEDGED: &str = "POST /downloads/acknowledge HTTP/1.1\r\nx-spid: AAAA\r\n\
     content-length: 20\r\n\r\n{\"attempt\":1,\"id\":1}POST /downloads/acknowledge HTTP/1.1\r\n\
@@ -343,6 +349,31 @@ static KEPT: [Row<'static>; 1] = [(
     NO_TEXT,
 )];
 
+// The administrator sets other windows: the file goes on with these, and no more with the first.
+static RETUNED: [Row<'static>; 3] = [
+    (
+        "npacd export --windows good.toml --db files.db --feed wide.http",
+        "",
+        0,
+        Some("subject,lrn,cic\n2025331234,2025440000,\n"),
+        NO_TEXT,
+    ),
+    (
+        "npacd export --windows good.toml --db files.db",
+        "",
+        1,
+        NO_TEXT,
+        Some("npacd: windows_differ\n"),
+    ),
+    (
+        "npacd export --windows wide.toml --db files.db",
+        "",
+        0,
+        Some("subject,lrn,cic\n2025331234,2025440000,\n"),
+        NO_TEXT,
+    ),
+];
+
 // The files of the rows, in the folder that the test's own are in.
 fn make_files<T: Files + AllocGlobal + Env>(rt: &T) -> io::Result<()> {
     env::set_current_dir(rt, env::temp_dir(rt)?)?;
@@ -350,6 +381,7 @@ fn make_files<T: Files + AllocGlobal + Env>(rt: &T) -> io::Result<()> {
     fs::write(rt, "narrow.toml", "broadcast = 15\n")?;
     let wide = WINDOWS.replace(rt.alloc(), "broadcast = 15\n", "broadcast = 16\n")?;
     fs::write(rt, "wide.toml", wide)?;
+    fs::write(rt, "wide.http", WIDE)?;
     fs::write(rt, "carriers.http", CARRIERS)?;
     fs::write(rt, "closed.http", LAST)?;
     fs::write(rt, "cut.http", CUT)?;
@@ -365,6 +397,7 @@ fn files_are_carried_out(rt: HostRuntime) {
     assert_eq!(rt; first_wrong(&rt, &STORED), None);
     assert_eq!(rt; first_wrong(&rt, &FAULTS), None);
     assert_eq!(rt; first_wrong(&rt, &KEPT), None);
+    assert_eq!(rt; first_wrong(&rt, &RETUNED), None);
     assert_eq!(rt; first_unbroken(&rt), None);
 }
 

@@ -157,13 +157,7 @@ static DUE_AT_100: [Row<'static>; 4] = [
 
 static SILENT_OLD_PROVIDER: [Row<'static>; 3] = [
     (0, "AAAA", NEW, CREATE, INITIAL),
-    (
-        119,
-        "AAAA",
-        ACTIVATE,
-        FIRST,
-        r#"{"error":"not_concurred","number":16}"#,
-    ),
+    (119, "AAAA", ACTIVATE, FIRST, NOT_CONCURRED),
     (120, "AAAA", ACTIVATE, FIRST, SENT_AT_120),
 ];
 
@@ -198,6 +192,41 @@ static CLOSED_WITH_ONE_ACKNOWLEDGEMENT: [Row<'static>; 7] = [
         r#"{"uri":"tel:+12025331234;npdi;rn=+12025440000"}"#,
     ),
     (215, "CCCC", "/versions/1", "", CLOSED_AT_215),
+];
+
+const CREATE_OF_ANOTHER: &str =
+    r#"{"due":60,"lrn":"2025440000","new":"AAAA","old":"BBBB","tn":"2025331235"}"#;
+
+const ANOTHER: &str = r#"{"id":2}"#;
+
+// The nine windows, those of concurrence shorter.
+const SHORTER: &str = concat!(
+    r#"{"broadcast":15,"cancellation_final":60,"cancellation_initial":60,"#,
+    r#""conflict_expiration":1000,"conflict_resolution":120,"conflict_restriction":30,"#,
+    r#""final_concurrence":10,"initial_concurrence":10,"pending_retention":500}"#
+);
+
+const ANOTHER_INITIAL: &str = concat!(
+    r#"{"attempt":0,"cic":null,"due":60,"id":2,"lrn":"2025440000","new":"AAAA","old":"BBBB","#,
+    r#""phase":"initial","release":null,"since":50,"status":"pending","subject":"2025331235"}"#
+);
+
+const ANOTHER_SENT_AT_70: &str = concat!(
+    r#"{"attempt":1,"cic":null,"due":60,"id":2,"lrn":"2025440000","new":"AAAA","old":"BBBB","#,
+    r#""phase":null,"release":null,"since":70,"status":"sending","subject":"2025331235"}"#
+);
+
+const NOT_CONCURRED: &str = r#"{"error":"not_concurred","number":16}"#;
+
+// The windows are set anew between two creates: each goes by those of its own minute.
+static RETUNED: [Row<'static>; 7] = [
+    (0, "AAAA", NEW, CREATE, INITIAL),
+    (50, "NPAC", "/windows", SHORTER, r#"{"now":50,"set":2}"#),
+    (50, "AAAA", NEW, CREATE_OF_ANOTHER, ANOTHER_INITIAL),
+    (69, "AAAA", ACTIVATE, ANOTHER, NOT_CONCURRED),
+    (70, "AAAA", ACTIVATE, ANOTHER, ANOTHER_SENT_AT_70),
+    (119, "AAAA", ACTIVATE, FIRST, NOT_CONCURRED),
+    (120, "AAAA", ACTIVATE, FIRST, SENT_AT_120),
 ];
 
 // The minute 30 is below the present one.
@@ -348,6 +377,7 @@ where
             && is_story(rt, listener, &SILENT_NEW_PROVIDER)?
             && is_story(rt, listener, &SILENT_NEW_PROVIDER_IN_ONE_JUMP)?
             && is_story(rt, listener, &CLOSED_WITH_ONE_ACKNOWLEDGEMENT)?
+            && is_story(rt, listener, &RETUNED)?
             && is_story(rt, listener, &MINUTE_BELOW)?,
     )
 }

@@ -1,4 +1,4 @@
-//! Each of the nine actions of a bulk file accepted and refused, and which version it takes.
+//! Each of the ten actions of a bulk file accepted and refused, and which version it takes.
 use crate::files::started::{Desk, acknowledge_all, runs, started};
 use std::alloc::Global;
 
@@ -9,6 +9,14 @@ const PORTS: &str =
 
 const PORTED: &str =
     "row,subject,result,id\n1,2025331001,ok,1\n2,2025331001,busy,\n3,2025331001,ok,1\n4,2025331001,busy,\n5,2025331001,before_due,\n6,2025331001,ok,1\n7,2025331001,wrong_status,\n8,2025331001,too_early,\n9,2025331001,ok,1\n10,2025331001,not_yours,\n11,2025331001,ok,1\n12,2025331001,not_yours,\n13,2025331001,ok,1\n14,2025331001,not_found,\n15,2025331002,ok,2\n16,2025331002,ok,2\n17,2025331002,ok,2\n18,2025331002,ok,2\n19,2025331003,ok,3\n20,2025331003,ok,3\n21,2025331003,ok,3\n22,2025331003,not_found,\n";
+
+// The third is in force, and is routed anew: to a routing number of another carrier, by another
+// carrier, where the number has nothing in force, as it should, and once more.
+const MODIFIES: &str =
+    "caller,action,subject,old,new,due,lrn,cic,flag\nAAAA,subscriptionVersionModify,2025331003,,,,2025550000,,\nCCCC,subscriptionVersionModify,2025331003,,,,2025440000,,\nAAAA,subscriptionVersionModify,2025331001,,,,2025440000,,\nAAAA,subscriptionVersionModify,2025331003,,,,2025440000,0288,\nAAAA,subscriptionVersionModify,2025331003,,,,2025440000,,\n";
+
+const MODIFIED: &str =
+    "row,subject,result,id\n1,2025331003,bad_lrn,\n2,2025331003,not_yours,\n3,2025331001,not_found,\n4,2025331003,ok,3\n5,2025331003,wrong_status,\n";
 
 // The third is in force, and another port of it is open: a disconnect takes the one in force, a
 // cancel the open one, and then, where there is none, the one in force.
@@ -30,8 +38,10 @@ const TWICE_RUN: &str =
 fn are_answered_in(alloc: Global, register: &mut Desk) -> Option<bool> {
     let ported = runs(alloc, register, PORTS.as_bytes(), PORTED, Ok(22));
     acknowledge_all(register, 3, 1)?;
+    let modified = runs(alloc, register, MODIFIES.as_bytes(), MODIFIED, Ok(5));
+    acknowledge_all(register, 3, 2)?;
     let returned = runs(alloc, register, RETURNS.as_bytes(), RETURNED, Ok(6));
-    Some(ported && returned)
+    Some(ported && modified && returned)
 }
 
 fn are_answered(alloc: Global) -> Option<bool> {

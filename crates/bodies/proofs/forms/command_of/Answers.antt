@@ -20,3 +20,6 @@ returns-in-OnVersion-clause-none g c = rw c.in-OnVersion.is c.on_version.ensures
 
 pub returns-in-OnBlock-clause-none : goal.returns-in-OnBlock-clause-none
 returns-in-OnBlock-clause-none g c = rw c.in-OnBlock.is c.on_block.ensures.none
+
+pub returns-in-Windows-clause-none : goal.returns-in-Windows-clause-none
+returns-in-Windows-clause-none g c = rw c.in-Windows.is c.set_windows.ensures.none

@@ -6,7 +6,7 @@ use Rattle.messages.proofs.paths.insert_paths.Goals as goal
 
 pub returns-clause-paths : goal.returns-clause-paths
 unfolding matchit_on_literals
-returns-clause-paths c = rw (c.in_ok-insert-8.ensures.1, c.in_ok-insert-7.ensures.1, c.in_ok-insert-6.ensures.1, c.in_ok-insert-5.ensures.1, c.in_ok-insert-4.ensures.1, c.in_ok-insert-3.ensures.1, c.in_ok-insert-2.ensures.1, c.in_ok-insert.ensures.1, c.requires) refl
+returns-clause-paths c = rw (c.in_ok-insert-9.ensures.1, c.in_ok-insert-8.ensures.1, c.in_ok-insert-7.ensures.1, c.in_ok-insert-6.ensures.1, c.in_ok-insert-5.ensures.1, c.in_ok-insert-4.ensures.1, c.in_ok-insert-3.ensures.1, c.in_ok-insert-2.ensures.1, c.in_ok-insert.ensures.1, c.requires) refl
 
 pub returns-in_err-insert-clause-memory : goal.returns-in_err-insert-clause-memory
 unfolding matchit_on_literals
@@ -47,3 +47,10 @@ pub returns-in_err-insert-8-clause-memory : goal.returns-in_err-insert-8-clause-
 unfolding matchit_on_literals
 returns-in_err-insert-8-clause-memory c =
     only_memory (codes "/query") c.insert-7.new.self c.in_err-insert-8.field-0.0 _ (search rules) c.in_err-insert-8.ensures.1 (rw (c.in_ok-insert-7.ensures.1, c.in_ok-insert-6.ensures.1, c.in_ok-insert-5.ensures.1, c.in_ok-insert-4.ensures.1, c.in_ok-insert-3.ensures.1, c.in_ok-insert-2.ensures.1, c.in_ok-insert.ensures.1, c.requires) refl)
+
+pub returns-in_err-insert-9-clause-memory : goal.returns-in_err-insert-9-clause-memory
+unfolding matchit_on_literals
+returns-in_err-insert-9-clause-memory c =
+    only_memory (codes "/windows") c.insert-8.new.self c.in_err-insert-9.field-0.0 _ (search rules)
+    c.in_err-insert-9.ensures.1
+    (rw (c.in_ok-insert-8.ensures.1, c.in_ok-insert-7.ensures.1, c.in_ok-insert-6.ensures.1, c.in_ok-insert-5.ensures.1, c.in_ok-insert-4.ensures.1, c.in_ok-insert-3.ensures.1, c.in_ok-insert-2.ensures.1, c.in_ok-insert.ensures.1, c.requires) refl)

@@ -6,7 +6,7 @@ use Rattle.messages.proofs.paths.insert_version_paths.Goals as goal
 
 pub returns-clause-paths : goal.returns-clause-paths
 unfolding matchit_on_literals
-returns-clause-paths c = rw (c.in_ok-insert-7.ensures.1, c.in_ok-insert-6.ensures.1, c.in_ok-insert-5.ensures.1, c.in_ok-insert-4.ensures.1, c.in_ok-insert-3.ensures.1, c.in_ok-insert-2.ensures.1, c.in_ok-insert.ensures.1, c.requires) refl
+returns-clause-paths c = rw (c.in_ok-insert-8.ensures.1, c.in_ok-insert-7.ensures.1, c.in_ok-insert-6.ensures.1, c.in_ok-insert-5.ensures.1, c.in_ok-insert-4.ensures.1, c.in_ok-insert-3.ensures.1, c.in_ok-insert-2.ensures.1, c.in_ok-insert.ensures.1, c.requires) refl
 
 pub returns-in_err-insert-clause-memory : goal.returns-in_err-insert-clause-memory
 unfolding matchit_on_literals
@@ -42,3 +42,8 @@ pub returns-in_err-insert-7-clause-memory : goal.returns-in_err-insert-7-clause-
 unfolding matchit_on_literals
 returns-in_err-insert-7-clause-memory c =
     only_memory (codes "/subscriptionVersionDisconnect") c.insert-6.new.self c.in_err-insert-7.field-0.0 _ (search rules) c.in_err-insert-7.ensures.1 (rw (c.in_ok-insert-6.ensures.1, c.in_ok-insert-5.ensures.1, c.in_ok-insert-4.ensures.1, c.in_ok-insert-3.ensures.1, c.in_ok-insert-2.ensures.1, c.in_ok-insert.ensures.1, c.requires) refl)
+
+pub returns-in_err-insert-8-clause-memory : goal.returns-in_err-insert-8-clause-memory
+unfolding matchit_on_literals
+returns-in_err-insert-8-clause-memory c =
+    only_memory (codes "/subscriptionVersionModify") c.insert-7.new.self c.in_err-insert-8.field-0.0 _ (search rules) c.in_err-insert-8.ensures.1 (rw (c.in_ok-insert-7.ensures.1, c.in_ok-insert-6.ensures.1, c.in_ok-insert-5.ensures.1, c.in_ok-insert-4.ensures.1, c.in_ok-insert-3.ensures.1, c.in_ok-insert-2.ensures.1, c.in_ok-insert.ensures.1, c.requires) refl)

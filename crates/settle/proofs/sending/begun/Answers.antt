@@ -2,10 +2,14 @@ use Rattle.std.proofs.Common.{[], ap, ◌∙◌}
 use Rattle.numbers.specs.Views.{subject_of}
 use Rattle.meaning.specs.Content.{BroadcastKey, BroadcastRow}
 use Rattle.meaning.proofs.Shown.{some_is}
+use Rattle.version.specs.Views.{routings_of}
+use Rattle.meaning.specs.Views.{send_of}
 use Rattle.settle.specs.Sending.{begun_row}
+use Rattle.settle.proofs.FiredCode.{begun_as}
 use Rattle.settle.proofs.sending.begun.Goals as goal
 
 pub returns : goal.returns
 returns c =
     ap (λ (row : BroadcastRow). let key : BroadcastKey = record { id = c.args.id; attempt = c.args.version.now.attempt } in (key, row))
-    (some_is _ _ (c.send.ensures 0 []) ∙ ap (begun_row c.args.minute.number c.args.action (subject_of c.args.version.now.subject)) c.routing_for-routing.ensures)
+    (some_is _ _ (c.send.ensures 0 []) ∙ begun_as c.args.minute.number c.action.result (send_of c.args.send) (subject_of c.args.version.now.subject) (routings_of c.routing_for-routing.result) c.action.ensures
+    ∙ ap (begun_row c.args.minute.number (send_of c.args.send) (subject_of c.args.version.now.subject)) c.routing_for-routing.ensures)

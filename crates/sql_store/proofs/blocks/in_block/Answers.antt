@@ -8,6 +8,7 @@ use Rattle.sql_store.specs.Blocks.{AreNumbers, number_in_use}
 use Rattle.sql_store.specs.Store.{content_at}
 use Rattle.sql_store.specs.declared.blocks.Standing.TheVariants.{Open}
 use Rattle.sql_store.proofs.BlockLemmas.{block_is}
+use Rattle.sql_store.proofs.CallLemmas.{looked_ours}
 use Rattle.sql_store.proofs.blocks.in_block.Goals as goal
 
 pub returns-clause-value : goal.returns-clause-value
@@ -25,3 +26,6 @@ returns-clause-value g c up =
     subst (AreInBlock (content_at old) block) (sym are)
     (block_is (content_at old) block in_force opened _ (c.in_ok-in_force.ensures.value mid_up) two c.put_in_order.ensures.rises
     (λ x at. subst (λ l. Has l x) listed (c.put_in_order.ensures.only x at)) (λ x at. c.put_in_order.ensures.each x (subst (λ l. Has l x) (sym listed) at)))
+
+pub numbers-requires-2-clause-ours : goal.numbers-requires-2-clause-ours
+numbers-requires-2-clause-ours g c = looked_ours (state g.S.Store c.args.conn.now) (state g.S.Store c.numbers.new.conn) _ c.requires.ours c.in_ok-in_force.ensures.looked

@@ -8,9 +8,9 @@ use Rattle.sql_rows.specs.Versions.{version_in}
 use Rattle.sql_rows.proofs.QueriesListed.{version_seen}
 use Rattle.sqlite.specs.Values.{bound}
 use Rattle.sql_store.specs.Blocks.{number_by, query_by}
-use Rattle.sql_store.specs.Store.{content_at}
+use Rattle.sql_rows.specs.Content.{bare_in}
 use Rattle.sql_store.proofs.LookupLemmas.{two_bound}
-use Rattle.sql_store.proofs.BlockLemmas.{numbers_are, standing_picked}
+use Rattle.sql_store.proofs.BlockLemmas.{numbers_are, numbers_whole, standing_picked}
 use Rattle.sql_store.proofs.blocks.numbers.Goals as goal
 
 pub returns-clause-value : goal.returns-clause-value
@@ -24,4 +24,4 @@ returns-clause-value g c up =
     let asked = subst (λ q. IsListAnswer q version_in old.now.trees (bound (c.number.result ∷ c.number-2.result ∷ [])) (map version_seen found)) c.query.ensures (c.in_ok-found.ensures.value up) in
     let answer = subst (λ p. IsListAnswer (query_by c.args.standing) version_in old.now.trees p (map version_seen found)) params asked in
     let are = c.in_ok-tns.ensures ∙ ap (filter_map (λ (v : NumberedRow). number_by c.args.standing v.row)) c.as_slice.ensures.value in
-    numbers_are (content_at old) c.args.standing block found _ (standing_picked old.now.trees (c.requires.ours was).shaped c.args.standing (block * 1000) (block * 1000 + 999) found answer) are
+    numbers_whole old.now.trees c.args.standing block _ (numbers_are (bare_in old.now.trees) c.args.standing block found _ (standing_picked old.now.trees (c.requires.ours was).shaped c.args.standing (block * 1000) (block * 1000 + 999) found answer) are)

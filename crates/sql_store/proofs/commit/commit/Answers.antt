@@ -1,41 +1,30 @@
-use Rattle.std.proofs.Common.{rules, ◌≡◌, true, false, is_ok, sym, subst}
+use Rattle.std.proofs.Common.{rules, ◌≡◌, false, is_ok, sym, subst}
+use Rattle.std.specs.Prelude.{option_map}
+use Rattle.sqlite.specs.Effect.{Database}
 use Rattle.sqlite.specs.Held.{state}
 use Rattle.settle.specs.Changes.{changes_of, IsChanged}
+use Rattle.settle.specs.Views.{clock_row_of}
+use Rattle.sql_rows.specs.Content.{content_in}
 use Rattle.sql_store.specs.Store.{Turned}
-use Rattle.sql_store.specs.Changes.{made}
-use Rattle.sql_store.proofs.CallLemmas.{clean_if_open, begun, rolled_back, uncommitted, committed}
-use Rattle.sql_store.proofs.Changed.{changed}
+use Rattle.sql_store.specs.Changes.{IsChangedOver}
+use Rattle.sql_store.proofs.CallLemmas.{looked_ours, looked_turned, looked_unturned}
 use Rattle.sql_store.proofs.commit.commit.Goals as goal
 
-pub returns-in_err-write-clause-turned : goal.returns-in_err-write-clause-turned
-returns-in_err-write-clause-turned g c =
-    let Becomes = IsChanged (changes_of c.args.changes.now) in
+pub returns-in_err-row-clause-turned : goal.returns-in_err-row-clause-turned
+returns-in_err-row-clause-turned g c =
     let old = state g.S.Store c.args.conn.now in
-    let mid = state g.S.Store c.write.new.tx.conn.now in
-    let end = state g.S.Store c.drop-tx.new.self.0 in
-    let same : c.drop-tx.new.self.0 ≡ c.conn-1.given.0 = search rules in
+    let new = state g.S.Store c.clock.new.conn in
     let fails : is_ok c.from_residual.result ≡ false = search rules in
-    let b = begun g.S.Store c.args.conn.now c.transaction-tx.result.conn.now mid false (made c.args.changes.now) c.transaction-tx.ensures.begun c.in_err-write.ensures.makes c.requires.ours in
-    subst (λ d. Turned old (state g.S.Store c.conn-1.given.0) d Becomes) (sym fails) (subst (λ h. Turned old (state g.S.Store h) false Becomes) same (rolled_back old mid end (made c.args.changes.now) Becomes c.requires.ours (clean_if_open end.is_clean end.is_open (g.met.S.Store.shut_if_dirty _)) b c.drop-tx.ensures.undone c.drop-tx.ensures.survives))
+    subst (λ d. Turned old new d (IsChanged (changes_of c.args.changes.now))) (sym fails) (looked_unturned old new (IsChanged (changes_of c.args.changes.now)) c.requires.ours c.in_err-row.ensures.looked)
 
-pub returns-in_err-commit-clause-turned : goal.returns-in_err-commit-clause-turned
-returns-in_err-commit-clause-turned g c =
-    let Becomes = IsChanged (changes_of c.args.changes.now) in
-    let old = state g.S.Store c.args.conn.now in
-    let mid = state g.S.Store c.write.new.tx.conn.now in
-    let end = state g.S.Store c.commit.new.self.0 in
-    let same : c.commit.new.self.0 ≡ c.conn-2-1.given.0 = search rules in
-    let fails : is_ok c.from_residual-in_err-commit.result ≡ false = search rules in
-    let b = begun g.S.Store c.args.conn.now c.transaction-tx.result.conn.now mid true (made c.args.changes.now) c.transaction-tx.ensures.begun c.in_ok-write.ensures.makes c.requires.ours in
-    subst (λ d. Turned old (state g.S.Store c.conn-2-1.given.0) d Becomes) (sym fails) (subst (λ h. Turned old (state g.S.Store h) false Becomes) same (uncommitted old mid end (made c.args.changes.now) Becomes c.requires.ours (clean_if_open end.is_clean end.is_open (g.met.S.Store.shut_if_dirty _))
-    (λ was. changed c.args.changes.now _) b c.commit.ensures.survives _ c.in_err-commit.ensures.err))
+pub commit_over-requires-2-clause-ours : goal.commit_over-requires-2-clause-ours
+commit_over-requires-2-clause-ours g c = looked_ours (state g.S.Store c.args.conn.now) (state g.S.Store c.clock.new.conn) _ c.requires.ours c.in_ok-row.ensures.looked
 
 pub returns-clause-turned : goal.returns-clause-turned
 returns-clause-turned g c =
-    let Becomes = IsChanged (changes_of c.args.changes.now) in
     let old = state g.S.Store c.args.conn.now in
-    let mid = state g.S.Store c.write.new.tx.conn.now in
-    let end = state g.S.Store c.commit.new.self.0 in
-    let same : c.commit.new.self.0 ≡ c.conn-2-1.given.0 = search rules in
-    let b = begun g.S.Store c.args.conn.now c.transaction-tx.result.conn.now mid true (made c.args.changes.now) c.transaction-tx.ensures.begun c.in_ok-write.ensures.makes c.requires.ours in
-    subst (λ h. Turned old (state g.S.Store h) true Becomes) same (committed old mid end (made c.args.changes.now) Becomes c.requires.ours (clean_if_open end.is_clean end.is_open (g.met.S.Store.shut_if_dirty _)) (λ was. changed c.args.changes.now _) b c.commit.ensures.survives (λ clean. (c.in_ok-commit.ensures.ok clean).1))
+    let mid = state g.S.Store c.clock.new.conn in
+    let new = state g.S.Store c.commit_over-2.new.conn in
+    looked_turned old mid new (IsChangedOver c.args.changes.now c.in_ok-row.row) (IsChanged (changes_of c.args.changes.now)) c.in_ok-row.ensures.looked
+    (λ up after turns. turns (λ moves. subst (λ (d : Database). option_map clock_row_of c.in_ok-row.row ≡ (content_in d.trees).clock) (sym (c.in_ok-row.ensures.looked.same up).now) (c.in_ok-row.ensures.value up)))
+    (is_ok c.commit_over-2.result) c.commit_over-2.ensures.turned

@@ -11,6 +11,7 @@ use Rattle.sql_rows.proofs.QueriesListed.{wait_seen, waits_of_picked}
 use Rattle.sql_store.specs.Lists.{is_waiting}
 use Rattle.sql_store.specs.Store.{content_at}
 use Rattle.sql_store.proofs.WaiterLemmas.{key_at, no_great_wait, no_waiters, waiters_are}
+use Rattle.sql_store.proofs.CallLemmas.{looked_ours}
 use Rattle.sql_store.proofs.lists.waiters.Goals as goal
 use Rattle.sql_store.proofs.lists.waiters.Goals.{then-key-ge9223372036854775808-via-then-key-ge9223372036854775808, then-key-ge9223372036854775808-via-else-key-ge9223372036854775808+then-key-ge9223372036854775808-2}
 
@@ -47,3 +48,6 @@ returns-clause-value g c up =
     let there = c.in_ok-waiters.ensures ∙ ap (λ w. filter (is_waiting w c.args.minute.number) c.as_slice.result.now) c.as_slice-2.ensures.value ∙ ap (filter (is_waiting waits c.args.minute.number)) c.as_slice.ensures.value in
     subst (AreWaiters (content_at old) c.args.minute.number key.id key.attempt) (sym there)
     (subst (λ (d : Database). AreWaiters (content_in d.trees) c.args.minute.number key.id key.attempt (filter (is_waiting waits c.args.minute.number) carriers)) same result)
+
+pub find_all-requires-clause-ours : goal.find_all-requires-clause-ours
+find_all-requires-clause-ours g c = looked_ours (state g.S.Store c.args.conn.now) (state g.S.Store c.carriers.new.conn) _ c.requires.ours c.in_ok-carriers.ensures.looked

@@ -1,9 +1,24 @@
+use Rattle.std.proofs.Common.{◌≡◌, subst}
+use Rattle.std.specs.FinMap.{get}
+use Rattle.std.specs.Prelude.{option_map}
 use Rattle.sqlite.specs.Held.{state}
-use Rattle.sql_store.proofs.LookupLemmas.{clock_is}
+use Rattle.sqlite.specs.Effect.{Database}
+use Rattle.version.specs.Views.{windows_of}
+use Rattle.sql_rows.specs.Content.{content_in}
+use Rattle.sql_store.proofs.LookupLemmas.{no_clock, the_clock}
+use Rattle.sql_store.proofs.CallLemmas.{looked_ours}
 use Rattle.sql_store.proofs.lookups.clock.Goals as goal
 
-pub returns-in-Some-clause-value : goal.returns-in-Some-clause-value
-returns-in-Some-clause-value g c up = clock_is (state g.S.Store c.args.conn.now).now.trees c.number.result c.number.ensures c.in_ok-found.found _ c.in-Some.is (c.in_ok-found.ensures.value up)
+pub returns-in-Some-found-clause-value : goal.returns-in-Some-found-clause-value
+returns-in-Some-found-clause-value g c up =
+    let old = (state g.S.Store c.args.conn.now).now in
+    let second = c.in_ok-found.ensures.looked.same up in
+    let first = c.in_ok-stored.ensures.looked.same second.was_open in
+    the_clock old.trees c.in_ok-stored.stored c.in-Some.row c.in_ok-found.found c.in-Some-found.windows c.in-Some.is (c.in_ok-stored.ensures.value second.was_open) c.in-Some-found.is
+    (subst (λ (d : Database). option_map windows_of c.in_ok-found.found ≡ get (content_in d.trees).sets c.in-Some.row.present) first.now (c.in_ok-found.ensures.value up))
 
-pub returns-in-None-clause-value : goal.returns-in-None-clause-value
-returns-in-None-clause-value g c up = clock_is (state g.S.Store c.args.conn.now).now.trees c.number.result c.number.ensures c.in_ok-found.found _ c.in-None.is (c.in_ok-found.ensures.value up)
+pub returns-in_default-clause-value : goal.returns-in_default-clause-value
+returns-in_default-clause-value g c up = no_clock (state g.S.Store c.args.conn.now).now.trees c.in_ok-stored.stored c.in_default.is (c.in_ok-stored.ensures.value up)
+
+pub window_set-requires-clause-ours : goal.window_set-requires-clause-ours
+window_set-requires-clause-ours g c = looked_ours (state g.S.Store c.args.conn.now) (state g.S.Store c.stored_clock.new.conn) _ c.requires.ours c.in_ok-stored.ensures.looked

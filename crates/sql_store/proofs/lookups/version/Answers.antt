@@ -1,6 +1,6 @@
 use Rattle.std.proofs.Common.{◌≡◌, nat_lt, false, sym, arith}
 use Rattle.sqlite.specs.Held.{state}
-use Rattle.sql_rows.proofs.FoundLemmas.{no_great_id}
+use Rattle.sql_rows.proofs.Rerouted.{no_great_version}
 use Rattle.sql_store.proofs.LookupLemmas.{version_is}
 use Rattle.sql_store.proofs.lookups.version.Goals as goal
 
@@ -14,4 +14,4 @@ pub returns-then-id-ge9223372036854775808-clause-value :
     goal.returns-then-id-ge9223372036854775808-clause-value
 returns-then-id-ge9223372036854775808-clause-value g c up =
     let great : nat_lt c.args.id 9223372036854775808 ≡ false = grind arith in
-    sym (no_great_id (state g.S.Store c.args.conn.now).now.trees c.args.id great)
+    sym (no_great_version (state g.S.Store c.args.conn.now).now.trees c.args.id great)

@@ -5,7 +5,7 @@ use Rattle.sqlite.specs.Effect.{Database}
 use Rattle.sql_rows.specs.Content.{content_in}
 use Rattle.sql_store.specs.Queues.{AreTold, IsNext}
 use Rattle.sql_store.specs.Store.{content_at}
-use Rattle.sql_store.proofs.CallLemmas.{looked_then}
+use Rattle.sql_store.proofs.CallLemmas.{looked_ours, looked_then}
 use Rattle.sql_store.proofs.QueueLemmas.{one_more_fits, told_next}
 use Rattle.sql_store.proofs.queue.first_told.Goals as goal
 
@@ -28,3 +28,6 @@ loop-wait-preserved g c =
           (told_next (content_at first) c.args.waits.now c.loop-wait.wait-index c.wait-item.result c.loop-wait-test.true c.wait-item.is c.loop-wait.downloads.items (c.loop-wait.invariant.told was) download is);
       most = subst (λ l. length l ≤ c.args.many) (sym put) (one_more_fits c.loop-wait.downloads.items download c.args.many (let low = c.if-len-many.false in omega arith));
     }
+
+pub next-requires-clause-ours : goal.next-requires-clause-ours
+next-requires-clause-ours g c = looked_ours (state g.S.Store c.args.conn.now) (state g.S.Store c.loop-wait.conn) true c.requires.ours c.loop-wait.invariant.looked

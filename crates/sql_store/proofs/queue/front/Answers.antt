@@ -5,6 +5,7 @@ use Rattle.sql_rows.specs.Content.{content_in}
 use Rattle.sql_store.specs.Queues.{AreFirstTold}
 use Rattle.sql_store.specs.Store.{content_at}
 use Rattle.sql_store.proofs.QueueLemmas.{first_are}
+use Rattle.sql_store.proofs.CallLemmas.{looked_ours}
 use Rattle.sql_store.proofs.queue.front.Goals as goal
 
 pub returns-clause-value : goal.returns-clause-value
@@ -17,3 +18,6 @@ returns-clause-value g c up =
     let told = subst (λ w. AreFirstTold (content_at (state g.S.Store c.queue.new.conn)) c.args.many w downloads) c.as_slice.ensures.value (c.in_ok-downloads.ensures.value up) in
     first_are (content_at old) c.args.spid.number c.args.many waits downloads (c.in_ok-waits.ensures.value mid_up)
     (subst (λ (d : Database). AreFirstTold (content_in d.trees) c.args.many waits downloads) same told)
+
+pub first_told-requires-clause-ours : goal.first_told-requires-clause-ours
+first_told-requires-clause-ours g c = looked_ours (state g.S.Store c.args.conn.now) (state g.S.Store c.queue.new.conn) _ c.requires.ours c.in_ok-waits.ensures.looked

@@ -1,15 +1,40 @@
-use Rattle.std.proofs.Common.{sym, subst}
+use Rattle.std.proofs.Common.{sym, subst, ◌∙◌}
 use Rattle.sqlite.specs.Held.{state}
 use Rattle.sqlite.specs.Effect.{Database}
-use Rattle.sql_store.specs.Whole.{ReadsAll, ReadsVersions}
+use Rattle.sql_store.specs.Whole.{IsMoved, ReadsAdded, ReadsAll, ReadsVersions}
+use Rattle.sql_store.proofs.CallLemmas.{looked_ours}
 use Rattle.sql_store.proofs.WholeLemmas.{all_told}
 use Rattle.sql_store.proofs.whole.read_all.Goals as goal
 
 pub returns-clause-value : goal.returns-clause-value
 returns-clause-value g c up =
     let db = (state g.S.Store c.args.conn.now).now.trees in
-    let second = c.in_ok-versions.ensures.looked.same up in
+    let fourth = c.in_ok-see_moved.ensures.looked.same up in
+    let third = c.in_ok-added.ensures.looked.same fourth.was_open in
+    let second = c.in_ok-versions.ensures.looked.same third.was_open in
     let first = c.in_ok-registry.ensures.looked.same second.was_open in
+    let two = second.now ∙ first.now in
+    let three = third.now ∙ two in
     subst (ReadsAll db) (sym c.are_blank.ensures)
-    (all_told db c.in_ok-registry.registry c.in_ok-versions.versions (c.in_ok-registry.ensures.value second.was_open)
-    (subst (λ (d : Database). ReadsVersions d.trees c.in_ok-versions.versions) first.now (c.in_ok-versions.ensures.value up)))
+    (all_told db c.in_ok-registry.registry c.in_ok-versions.versions c.in_ok-added.added (c.in_ok-registry.ensures.value second.was_open)
+    (subst (λ (d : Database). ReadsVersions d.trees c.in_ok-versions.versions) first.now (c.in_ok-versions.ensures.value third.was_open))
+    (subst (λ (d : Database). ReadsAdded d.trees c.in_ok-added.added) two (c.in_ok-added.ensures.value fourth.was_open))
+    (subst (λ (d : Database). IsMoved d.trees) three (c.in_ok-see_moved.ensures.value up)))
+
+pub read_versions-requires-clause-ours : goal.read_versions-requires-clause-ours
+read_versions-requires-clause-ours g c = looked_ours (state g.S.Store c.args.conn.now) (state g.S.Store c.read_registry.new.conn) _ c.requires.ours c.in_ok-registry.ensures.looked
+
+pub read_added-requires-clause-ours : goal.read_added-requires-clause-ours
+read_added-requires-clause-ours g c =
+    let a = state g.S.Store c.args.conn.now in
+    let b = state g.S.Store c.read_registry.new.conn in
+    let d = state g.S.Store c.read_versions.new.conn in
+    looked_ours b d _ (looked_ours a b _ c.requires.ours c.in_ok-registry.ensures.looked) c.in_ok-versions.ensures.looked
+
+pub see_moved-requires-clause-ours : goal.see_moved-requires-clause-ours
+see_moved-requires-clause-ours g c =
+    let a = state g.S.Store c.args.conn.now in
+    let b = state g.S.Store c.read_registry.new.conn in
+    let d = state g.S.Store c.read_versions.new.conn in
+    let e = state g.S.Store c.read_added.new.conn in
+    looked_ours d e _ (looked_ours b d _ (looked_ours a b _ c.requires.ours c.in_ok-registry.ensures.looked) c.in_ok-versions.ensures.looked) c.in_ok-added.ensures.looked

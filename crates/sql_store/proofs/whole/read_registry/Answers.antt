@@ -5,6 +5,7 @@ use Rattle.sql_rows.specs.Content.{block_row_in, code_row_in, lrn_row_in}
 use Rattle.sql_rows.specs.declared.statement.Table.TheVariants.{Lrn, Code, Block}
 use Rattle.sql_store.specs.Whole.{IsRead, ReadsRegistry}
 use Rattle.sql_store.proofs.WholeLemmas.{registry_told}
+use Rattle.sql_store.proofs.CallLemmas.{looked_ours}
 use Rattle.sql_store.proofs.whole.read_registry.Goals as goal
 
 pub returns-clause-value : goal.returns-clause-value
@@ -21,3 +22,12 @@ returns-clause-value g c up =
     (subst (λ (d : Database). IsRead Lrn lrn_row_in d.trees c.in_ok-lrns.lrns) first.now (c.in_ok-lrns.ensures.value third.was_open))
     (subst (λ (d : Database). IsRead Code code_row_in d.trees c.in_ok-codes.codes) two (c.in_ok-codes.ensures.value fourth.was_open))
     (subst (λ (d : Database). IsRead Block block_row_in d.trees c.in_ok-blocks.blocks) three (c.in_ok-blocks.ensures.value up)))
+
+pub read-requires-2-clause-ours : goal.read-requires-2-clause-ours
+read-requires-2-clause-ours g c = looked_ours (state g.S.Store c.args.conn.now) (state g.S.Store c.read.new.conn) _ c.requires.ours c.in_ok-carriers.ensures.looked
+
+pub read-requires-3-clause-ours : goal.read-requires-3-clause-ours
+read-requires-3-clause-ours g c = looked_ours (state g.S.Store c.read.new.conn) (state g.S.Store c.read-2.new.conn) _ (looked_ours (state g.S.Store c.args.conn.now) (state g.S.Store c.read.new.conn) _ c.requires.ours c.in_ok-carriers.ensures.looked) c.in_ok-lrns.ensures.looked
+
+pub read-requires-4-clause-ours : goal.read-requires-4-clause-ours
+read-requires-4-clause-ours g c = looked_ours (state g.S.Store c.read-2.new.conn) (state g.S.Store c.read-3.new.conn) _ (looked_ours (state g.S.Store c.read.new.conn) (state g.S.Store c.read-2.new.conn) _ (looked_ours (state g.S.Store c.args.conn.now) (state g.S.Store c.read.new.conn) _ c.requires.ours c.in_ok-carriers.ensures.looked) c.in_ok-lrns.ensures.looked) c.in_ok-codes.ensures.looked

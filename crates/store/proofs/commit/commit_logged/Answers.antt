@@ -8,11 +8,14 @@ use Rattle.store.proofs.Undone.{indexed-kept}
 use Rattle.store.proofs.commit.commit_logged.Goals as goal
 
 pub forget-init : goal.forget-init
-forget-init c = record {
-  left = (c.put_rows.new.tables, c.in-Ok.ensures.logged c.args.tables.now (subst (λ l. ArePut l c.args.tables.now c.args.tables.now) (sym c.requires.empty) refl), c.finish.ensures.spares);
-  indexed = c.finish.ensures.indexed;
-  same = refl;
-}
+forget-init c =
+    let put = c.in-Ok.ensures.logged c.args.tables.now
+    (subst (λ l. ArePut l c.args.tables.now c.args.tables.now) (sym c.requires.empty) refl) in
+    record {
+      left = (put.0, put.1, λ k spare. put.2 k (c.finish.ensures.spares k spare));
+      indexed = c.finish.ensures.indexed;
+      same = refl;
+    }
 
 pub forget-preserved : goal.forget-preserved
 forget-preserved c = record {

@@ -5,6 +5,7 @@ use Rattle.meaning.specs.RefusalNumbers.{number_of}
 use Rattle.pool.specs.Donations.{tn_subject, donation_refusal, AreProtective}
 use Rattle.pool.proofs.Planned.{refused, answered, handed, within, planned}
 use Rattle.pool.proofs.donation.Donation.plan.Goals as goal
+use Rattle.version.specs.Views.{set_of}
 
 pub returns-in_err-check_donor-clause-refused : goal.returns-in_err-check_donor-clause-refused
 returns-in_err-check_donor-clause-refused c =
@@ -33,7 +34,7 @@ returns-clause-accepted c =
 
 pub returns-clause-planned : goal.returns-clause-planned
 returns-clause-planned c =
-    planned c.args.caller.number c.args.minute.number c.args.self.now c.args.facts.now c.in_ok-used.used c.in_ok-made.made.items c.in_ok-versions.field-0.items
+    planned (set_of c.args.present.now) c.args.caller.number c.args.minute.number c.args.self.now c.args.facts.now c.in_ok-used.used c.in_ok-made.made.items c.in_ok-versions.field-0.items
     c.in_ok-used.ensures c.in_ok-made.ensures
-    (subst (λ (ts : List Tn). AreProtective c.args.caller.number c.args.minute.number c.args.self.now c.args.facts.now.next_id (map tn_subject ts) c.in_ok-versions.field-0.items)
+    (subst (λ (ts : List Tn). AreProtective (set_of c.args.present.now) c.args.caller.number c.args.minute.number c.args.self.now c.args.facts.now.next_id (map tn_subject ts) c.in_ok-versions.field-0.items)
     c.deref.ensures.value c.in_ok-versions.ensures)

@@ -1,6 +1,7 @@
 use Rattle.std.proofs.Common.{◌≤◌, subst, arith}
 use Rattle.sqlite.specs.Held.{Held, state}
 use Rattle.sqlite_trees.specs.View.{doubt}
+use Rattle.sql_store.proofs.CallLemmas.{looked_ours}
 use Rattle.sql_store.proofs.OpeningLemmas.{falls}
 use Rattle.sql_store.proofs.store.SqlStore.read.Goals as goal
 
@@ -14,3 +15,9 @@ returns-in-Err-clause-err_clean g c =
     subst (λ (h : Held _). doubt (g.S.Store.view h.store).is_clean ≤ doubt (g.S.Store.view c.into_store.result).is_clean) c.into_connection.ensures c.into_store.ensures.quiet.clean
     in
     omega (arith, before, after)
+
+pub invariant_of-self : goal.invariant_of-self
+invariant_of-self g c = record { ours = looked_ours (state g.S.Store c.args.self.conn) (state g.S.Store c.read_all.new.conn) _ c.args.self.ours c.read_all.ensures.looked; idle = c.read_all.ensures.idle }
+
+pub invariant_of-self-in-Err : goal.invariant_of-self-in-Err
+invariant_of-self-in-Err g c = record { ours = looked_ours (state g.S.Store c.args.self.conn) (state g.S.Store c.read_all.new.conn) _ c.args.self.ours c.read_all.ensures.looked; idle = c.read_all.ensures.idle }

@@ -1,0 +1,119 @@
+-- What only reads, step after step.
+use Rattle.std.proofs.Common.{◌≡◌, ℕ, ◌∙◌}
+use Rattle.std.specs.Prelude.{⊤, Result, Err}
+use Rattle.std.proofs.Math.Nat.{le_trans}
+use Rattle.meaning.specs.Content.{Content}
+use Rattle.meaning.specs.Refusals.{Input}
+use Rattle.meaning.specs.declared.refusal.Refusal.{Refusal}
+use Rattle.meaning.specs.declared.refusal.Refusal.TheVariants.{Storage}
+use Rattle.settle.specs.Faults.{refusal_of}
+use Rattle.settle.specs.Owing.{IsAnswered, Reads, SaysStorage}
+use Rattle.settle.specs.declared.store.StoreFault.{StoreFault}
+use Rattle.settle.specs.declared.store.StoreFault.TheVariants.{Storage as StorageFault}
+use Rattle.settle.proofs.Risen.{risen-since}
+use Rattle.register.specs.Settling.{SaysOnceSettled}
+use Rattle.register.proofs.Composed.{fault_is_none}
+use Rattle.register.proofs.Unfailing.{storage_by}
+
+module _ {S : Type 0} {IsUsable IsHonest : S → Type 0} {MayLeave : S → Content → Type 0}
+    {content : S → Content} {failed : S → ℕ} {a b : S} where
+  -- one after another, both answered
+  pub reads_on : {d : S} {A P B Q : Type 0} → Reads IsUsable IsHonest MayLeave content failed a b A
+      P → A → Reads IsUsable IsHonest MayLeave content failed b d B Q → B →
+      Reads IsUsable IsHonest MayLeave content failed a d ⊤ ⊥
+  reads_on first found second answered = record {
+    same = λ usable. let mid = second.same usable in let start = first.same mid.0 in
+        (start.0, mid.1 ∙ start.1);
+    honest = λ is. first.honest (second.honest is);
+    stays = λ all usable is. second.stays answered (first.stays found usable (second.honest is)) is;
+    rises = le_trans first.rises second.rises;
+    storage = λ never. absurd never;
+    left = λ is m may. first.left (second.honest is) m (second.left is m may);
+  }
+
+  -- and then a fault of the store
+  pub reads_fault : {d : S} {A P B Q : Type 0} {X : Type 0} {c : Content} →
+      Reads IsUsable IsHonest MayLeave content failed a b A P → A →
+      Reads IsUsable IsHonest MayLeave content failed b d B Q →
+      (result : Result X Refusal) (fault : StoreFault) → result ≡ Err (refusal_of fault) →
+      (fault ≡ StorageFault → Q) →
+      Reads IsUsable IsHonest MayLeave content failed a d (IsAnswered result)
+      (SaysStorage (IsUsable d) c (result ≡ Err Storage))
+  reads_fault {d = d} first found second result fault is says = record {
+    same = λ usable. let mid = second.same usable in let start = first.same mid.0 in
+        (start.0, mid.1 ∙ start.1);
+    honest = λ honest. first.honest (second.honest honest);
+    stays = λ answered. absurd (fault_is_none result fault is answered);
+    rises = le_trans first.rises second.rises;
+    storage = λ told. risen-since (failed a) (failed b) (failed d) first.rises second.rises
+        (second.storage (says (storage_by result fault is told.says)));
+    left = λ honest m may. first.left (second.honest honest) m (second.left honest m may);
+  }
+
+  -- and then a refusal that says no storage
+  pub reads_refused : {A Says : Type 0} → Reads IsUsable IsHonest MayLeave content failed a b ⊤ ⊥ →
+      (Says → ⊥) → Reads IsUsable IsHonest MayLeave content failed a b A Says
+  reads_refused read never = record {
+    same = read.same;
+    honest = read.honest;
+    stays = λ answered. read.stays tt;
+    rises = read.rises;
+    storage = λ says. absurd (never says);
+    left = read.left;
+  }
+
+  -- and then what only reads, whatever it says
+  pub reads_then : {d : S} {A P B Q Says : Type 0} → Reads IsUsable IsHonest MayLeave content failed
+      a b A P → A → Reads IsUsable IsHonest MayLeave content failed b d B Q → (Says → Q) →
+      Reads IsUsable IsHonest MayLeave content failed a d B Says
+  reads_then {d = d} first found second turn = record {
+    same = λ usable. let mid = second.same usable in let start = first.same mid.0 in
+        (start.0, mid.1 ∙ start.1);
+    honest = λ honest. first.honest (second.honest honest);
+    stays = λ answered usable honest. second.stays answered (first.stays found usable
+        (second.honest honest)) honest;
+    rises = le_trans first.rises second.rises;
+    storage = λ says. risen-since (failed a) (failed b) (failed d) first.rises second.rises
+        (second.storage (turn says));
+    left = λ honest m may. first.left (second.honest honest) m (second.left honest m may);
+  }
+
+  -- and then what only reads, by what is answered and said then
+  pub reads_past : {d : S} {A P B Q Answers Says : Type 0} →
+      Reads IsUsable IsHonest MayLeave content failed a b A P → A →
+      Reads IsUsable IsHonest MayLeave content failed b d B Q → (Answers → B) → (Says → Q) →
+      Reads IsUsable IsHonest MayLeave content failed a d Answers Says
+  reads_past {d = d} first found second answers turn = record {
+    same = λ usable. let mid = second.same usable in let start = first.same mid.0 in
+        (start.0, mid.1 ∙ start.1);
+    honest = λ honest. first.honest (second.honest honest);
+    stays = λ answered usable honest.
+        second.stays (answers answered) (first.stays found usable (second.honest honest)) honest;
+    rises = le_trans first.rises second.rises;
+    storage = λ says. risen-since (failed a) (failed b) (failed d) first.rises second.rises
+        (second.storage (turn says));
+    left = λ honest m may. first.left (second.honest honest) m (second.left honest m may);
+  }
+
+  -- by what it says of storage
+  pub reads_saying : {A P Says : Type 0} → Reads IsUsable IsHonest MayLeave content failed a b A P →
+      (Says → P) → Reads IsUsable IsHonest MayLeave content failed a b A Says
+  reads_saying read turn = record {
+    same = read.same;
+    honest = read.honest;
+    stays = read.stays;
+    rises = read.rises;
+    storage = λ says. read.storage (turn says);
+    left = read.left;
+  }
+
+-- what a call says that settled its subjects
+pub stored : {Usable Says : Type 0} {c : Content} {input : Input} →
+    SaysOnceSettled Usable c input Says → SaysStorage Usable c Says
+stored says = record {
+  usable = says.usable;
+  st = says.st;
+  represents = says.stands.represents;
+  written = says.stands.written;
+  says = says.says;
+}

@@ -1,0 +1,120 @@
+//! A request whose subjects are settled.
+ghost use Rattle.settle.specs.Owing.{IsAnswered, Leaves, Owes, Reads};
+ghost use Rattle.std.specs.Prelude.{◌≡◌, Err, OnOk};
+ghost use Rattle.meaning.specs.History.{Commands};
+ghost use Rattle.meaning.specs.Refusals.{Requests};
+ghost use Rattle.calls.specs.Calls.{command_of, replied, reply_of};
+ghost use Rattle.settle.specs.Changes.{changes_of, no_changes};
+ghost use Rattle.register.specs.Crashes.{ComesSettled};
+ghost use Rattle.register.specs.Deciding.{Decides};
+ghost use Rattle.register.specs.Requesting.{request_of};
+ghost use Rattle.register.specs.Settling.{AnswersSettled, SaysOnceSettled};
+
+use crate::acknowledgement::acknowledge;
+use crate::change::change_version;
+use crate::clock::set_windows;
+use crate::create::create;
+use crate::pooling::{assign, donate, release};
+use crate::registration::{open_code, register_carrier, register_routing_number};
+use crate::request::Request;
+use calls::{Command, Reply};
+use meaning::Refusal;
+use numbers::Spid;
+use pool::Donation;
+use settle::{Changes, Store};
+use std::alloc::Global;
+
+// What the command comes to. Nothing is written.
+fn decide_command<S: Store>(
+    alloc: Global,
+    store: &mut S,
+    changes: &mut Changes,
+    caller: Spid,
+    command: &Command,
+) -> Result<Reply, Refusal>
+    requires { changes_of changes.old ≡ no_changes }
+    ensures decides { S.IsUsable store.new → Decides (S.content store.old)
+        (Requests caller.number (Commands (command_of command.now))) (changes_of changes.new)
+        result }
+    ensures reads { Reads S.IsUsable S.IsHonest S.MayLeave S.content S.failed store.old store.new
+        (IsAnswered result) (SaysOnceSettled (S.IsUsable store.new) (S.content store.old)
+        (Requests caller.number (Commands (command_of command.now)))
+        (result ≡ Err Refusal.Storage)) }
+    ensures open { OnOk result (S.IsHonest store.new → S.IsUsable store.new) }
+{
+    match command {
+        Command::RegisterCarrier { spid } => {
+            register_carrier(alloc, store, changes, caller, *spid)
+        },
+        Command::RegisterRoutingNumber { lrn } => {
+            register_routing_number(store, changes, caller, *lrn)
+        }
+        Command::OpenCode { code, spid } => open_code(store, changes, caller, *code, *spid),
+        Command::Create(ported) => create(store, changes, caller, ported),
+        Command::OnVersion { id, command } => {
+            change_version(alloc, store, changes, caller, *id, *command)
+        }
+        Command::Donate {
+            block,
+            used,
+            routing,
+        } => {
+            let donation = Donation {
+                block: *block,
+                used,
+                routing: *routing,
+            };
+            donate(alloc, store, changes, caller, &donation)
+        }
+        Command::Assign(assignment) => assign(alloc, store, changes, caller, assignment),
+        Command::Release { block } => release(alloc, store, changes, caller, *block),
+        Command::SetWindows { windows } => set_windows(store, changes, caller, windows),
+    }
+}
+
+// What the request comes to. Nothing is written.
+fn decide<S: Store>(
+    alloc: Global,
+    store: &mut S,
+    changes: &mut Changes,
+    caller: Spid,
+    request: Request<'_>,
+) -> Result<Reply, Refusal>
+    requires { changes_of changes.old ≡ no_changes }
+    ensures decides { S.IsUsable store.new → Decides (S.content store.old)
+        (Requests caller.number (request_of request.entry)) (changes_of changes.new)
+        result }
+    ensures reads { Reads S.IsUsable S.IsHonest S.MayLeave S.content S.failed store.old store.new
+        (IsAnswered result) (SaysOnceSettled (S.IsUsable store.new) (S.content store.old)
+        (Requests caller.number (request_of request.entry)) (result ≡ Err Refusal.Storage)) }
+    ensures open { OnOk result (S.IsHonest store.new → S.IsUsable store.new) }
+{
+    match request {
+        Request::Command(command) => decide_command(alloc, store, changes, caller, command),
+        Request::Acknowledge { id, attempt } => acknowledge(store, changes, caller, id, attempt),
+    }
+}
+
+/// Carries out a request whose subjects are settled: what it comes to is decided by what stands,
+/// and written in one commit.
+pub fn carry_out<S: Store>(
+    alloc: Global,
+    store: &mut S,
+    caller: Spid,
+    request: Request<'_>,
+) -> Result<Reply, Refusal>
+    ensures answers { S.IsUsable store.new
+        → AnswersSettled (S.content store.old) (S.content store.new)
+        (Requests caller.number (request_of request.entry)) (replied reply_of result) }
+    ensures left { Leaves S.IsHonest S.MayLeave store.old store.new (λ m. S.IsUsable store.old
+        × ComesSettled (S.content store.old)
+        (Requests caller.number (request_of request.entry)) m) }
+    ensures owes { Owes S.IsUsable S.IsHonest S.failed store.old store.new
+        (IsAnswered result) (SaysOnceSettled (S.IsUsable store.new) (S.content store.old)
+        (Requests caller.number (request_of request.entry)) (result ≡ Err Refusal.Storage)) }
+{
+    let mut changes = Changes::none(alloc);
+    let reply = decide(alloc, store, &mut changes, caller, request)?;
+    store.commit(&changes)?;
+    Ok(reply)
+}

@@ -1,0 +1,29 @@
+-- The clock's row as it is stored, and as a file of an earlier form has it.
+use Rattle.std.specs.Prelude.{ℕ, Some, None, Option, option_map}
+use Rattle.std.specs.Ordering.{nat_cmp}
+use Rattle.std.specs.FinMap.{FinMap, get}
+use Rattle.meaning.specs.Content.{ClockRow}
+use Rattle.meaning.specs.Windows.{Windows}
+use Rattle.version.specs.Views.{windows_of}
+use Rattle.sql_rows.specs.declared.keyed.StoredClock.{StoredClock as StoredCode}
+use Rattle.sql_rows.specs.declared.keyed.OldClock.{OldClock}
+
+-- of the present set the number alone
+pub record StoredClock : Type 0 where
+  pub minute : ℕ
+  pub next_id : ℕ
+  pub present : ℕ
+
+abbrev pub clock_of : StoredCode → StoredClock
+clock_of c = record { minute = c.minute.number; next_id = c.next_id; present = c.present }
+
+abbrev pub clock_row : ℕ → ℕ → ℕ → Windows → ClockRow
+clock_row minute next_id present windows = record { minute = minute; next_id = next_id; present = record { number = present; windows = windows } }
+
+-- the windows of an earlier form are set 1
+abbrev pub old_clock_of : OldClock → ClockRow
+old_clock_of c = clock_row c.minute.number c.next_id 1 (windows_of c.windows)
+
+-- the row with the windows of its set, if the set is there
+abbrev pub with_windows : FinMap nat_cmp Windows → StoredClock → Option ClockRow
+with_windows sets c = option_map (clock_row c.minute c.next_id c.present) (get sets c.present)

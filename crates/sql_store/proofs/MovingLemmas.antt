@@ -1,0 +1,533 @@
+-- What is made of a file of an earlier form.
+use Rattle.std.proofs.Common.{◌≡◌, ◌⊎◌, inl, inr, ℕ, pos, List, [], ◌∷◌, map, Bool, true, false, cond, Option, Some, None, Result, Ok, Err, IsTrue, refl, sym, ap, subst, ◌∙◌, true≢false, arith, drop, drop-cons, add-one, zero, suc, ◌+◌, ◌<◌, ◌≤◌, length, get_or}
+use Rattle.std.specs.Prelude.{not, option_and_then, option_map, option_to_list}
+use Rattle.std.specs.Cmp.{eq_by_cmp_equiv, nat_cmp_total}
+use Rattle.std.specs.FinMap.{FinMap, empty, get, insert, get-empty, get-insert, same_map, nat_cmp-IsAntisymmetric}
+use Rattle.std.specs.Ordering.{eq_by_cmp, nat_cmp}
+use Rattle.sqlite.specs.Clock.{timed}
+use Rattle.sqlite.specs.declared.error.Error.{Error}
+use Rattle.sqlite.specs.declared.types.Value.TheVariants.{Int, Null}
+use Rattle.sqlite.specs.Effect.{Database}
+use Rattle.sqlite.specs.Held.{Held, state}
+use Rattle.sqlite.specs.Listing.{understood}
+use Rattle.sqlite.specs.Order.{Row}
+use Rattle.sqlite.specs.Program.{overlay}
+use Rattle.sqlite.specs.Query.{IsAnswer}
+use Rattle.sqlite.specs.State.{State, CommitsShowing, Executes, ExecutesInside, FailsToQuery, HasCleanDisk, IsRolledBack, IsUnchanged, Shown, Shows, Survives}
+use Rattle.sqlite.specs.Steps.{FailsToCommit}
+use Rattle.sqlite.specs.Store.{Ghosts}
+use Rattle.sqlite.specs.Tree.{Trees}
+use Rattle.sqlite.specs.View.{IsShaped}
+use Rattle.sqlite.proofs.Callers.{IsPlain, reads_as, survives_begin}
+use Rattle.sqlite.proofs.StateLemmas.{survives_then, survives_weaker}
+use Rattle.sqlite_rules.specs.Lists.{Has}
+use Rattle.sqlite_rules.proofs.PlaceLemmas.{tied_same}
+use Rattle.sqlite_trees.specs.declared.store.Shape.TheVariants.{Table as AsTable}
+use Rattle.meaning.specs.Content.{ClockRow, Content, VersionRow}
+use Rattle.version.specs.Views.{windows_of}
+use Rattle.sql_rows.specs.Clocks.{StoredClock, clock_row, old_clock_of, with_windows}
+use Rattle.sql_rows.specs.Content.{content_in, old_clock_in, old_clock_shown, old_clock_entry, stored_clock, versions_in}
+use Rattle.sql_rows.specs.Former.{content_with, next_rows, old_clock, old_content_in, old_versions_in}
+use Rattle.sql_rows.specs.Found.{IsListAnswer}
+use Rattle.sql_rows.specs.Moving.{IsCleared, IsMade, schema_after, schema_before, schema_of, table_of_old}
+use Rattle.sql_rows.specs.Shaped.{AreShaped}
+use Rattle.sql_rows.specs.Statements.{all_text, query_of, query_test, shown_by}
+use Rattle.sql_rows.specs.Tables.{the_schema}
+use Rattle.sql_rows.specs.Versions.{bare, old_shown_of, old_version_entry, old_version_in, version_entry, version_params, version_row}
+use Rattle.sql_rows.specs.Written.{IsFrame, Replaced}
+use Rattle.sql_rows.specs.declared.keyed.OldClock.{OldClock as ClockCode}
+use Rattle.sql_rows.specs.declared.moving.Form.{Form}
+use Rattle.sql_rows.specs.declared.moving.Form.TheVariants.{First, Modify}
+use Rattle.sql_rows.specs.declared.moving.NewTable.TheVariants as made
+use Rattle.sql_rows.specs.declared.moving.OldTable.{OldTable}
+use Rattle.sql_rows.specs.declared.moving.OldTable.TheVariants as former
+use Rattle.sql_rows.specs.declared.statement.Query.TheVariants.{All}
+use Rattle.sql_rows.specs.declared.statement.Table.TheVariants.{Carrier, Lrn, Code, Block, OldVersion, Broadcast, Wait, OldClock, NextRouting, WindowSet, Version, Clock}
+use Rattle.sql_rows.specs.declared.version_row.OldVersion.{OldVersion as OldRow}
+use Rattle.sql_rows.proofs.Formers.{clock_seen, old_bare, old_clock_is, old_picked, old_rows, old_seen}
+use Rattle.sql_rows.proofs.Orders.{same_number}
+use Rattle.sql_rows.proofs.Picked.{Picks}
+use Rattle.sql_rows.proofs.MovingLemmas.{old_query_is, old_query_plain, old_query_unlisted}
+use Rattle.sql_rows.proofs.PutLemmas.{version_left}
+use Rattle.sql_rows.proofs.StatementLemmas.{query_selects}
+use Rattle.sql_rows.proofs.TableLemmas.{old_clock_framed, old_version_framed, versions_framed}
+use Rattle.sql_store.specs.Changes.{if_some, with_set}
+use Rattle.sql_store.specs.Moving.{Alters, AreOldShaped, ArePutBut, IsBarePut, IsBegun, IsBegunAs, IsCarriedOver, IsFilled, IsGrown, IsIndexed, IsOfForm, IsRebuilt, IsRebuiltAs, Moves, all_in}
+use Rattle.sql_store.specs.Store.{IsInside, IsOurs, IsSame, Kept, Looked, Makes, Writes, Wrote}
+use Rattle.sql_store.specs.Whole.{IsMoved}
+use Rattle.sql_store.proofs.CallLemmas.{both_survive, call_keeps, earlier, fails_open, fails_same, kept_then, looked_then, query_commits_nothing, shown_open, shown_same}
+
+-- ---- calls in turn
+
+-- a statement in a transaction
+pub statement_alters : {S A : Type 0} (g : Ghosts S) (old new : Held S) (P : State → Type 0) → (P (state g old) → IsTrue (state g old).in_transaction) → (sql : List ℕ) (params : Row) (r : Result ℕ Error) (done : Bool) (Did : Database → Database → Type 0)
+    → (IsTrue (state g new).is_open → HasCleanDisk (state g new)) → ((state g old).in_transaction ≡ false → A × (new ≡ old))
+    → (HasCleanDisk (state g new) → IsTrue (state g old).in_transaction → ExecutesInside 0 sql params (state g old) (state g new) r) → Survives (state g old) (state g new) (λ _. ⊥)
+    → (IsTrue done → (count : ℕ) × (r ≡ Ok count)) → ((count : ℕ) → P (state g old) → Executes sql params (state g old) (state g new) (Ok count) → Did (state g old).now (state g new).now) → Alters P (state g old) (state g new) done Did
+statement_alters g old new P inside sql params r done Did clean_of ended runs survives counts means = record {
+  altered = λ ok clean begun.
+      let n = counts ok in
+      let h = subst (ExecutesInside 0 sql params (state g old) (state g new)) n.1 (runs clean (inside begun)) in
+      record { is_open = h.1.is_open; inside = h.1.mode; committed = h.1.committed_is; did = means n.0 begun h.0 };
+  kept = λ up. call_keeps g old new sql params r up ended (runs (clean_of up));
+  survives = survives;
+}
+
+-- one after the other
+abbrev pub Both : (Database → Database → Type 0) → (Database → Database → Type 0) → Database → Database → Type 0
+Both One Two old new = (mid : Database) × One old mid × Two mid new
+
+module _ (a b c : State) (P Q : State → Type 0) (One Two : Database → Database → Type 0) where
+  pub does_then : (done : Bool) → Alters P a b true One → Alters Q b c done Two → (P a → Wrote a b One → Q b) → Alters P a c done (Both One Two)
+  does_then done one two between = record {
+    altered = λ ok clean begun.
+        let first = one.altered refl (earlier a b c two.survives clean) begun in
+        let second = two.altered ok clean (between begun first) in
+        record { is_open = second.is_open; inside = second.inside; committed = second.committed ∙ first.committed; did = (b.now, first.did, second.did) };
+    kept = kept_then a b c one.kept two.kept;
+    survives = both_survive a b c one.survives two.survives;
+  }
+
+  pub does_stop : (Would : Database → Database → Type 0) → Alters P a b true One → Alters Q b c false Two → Alters P a c false Would
+  does_stop Would one two = record {
+    altered = λ no. absurd (true≢false (sym no));
+    kept = kept_then a b c one.kept two.kept;
+    survives = both_survive a b c one.survives two.survives;
+  }
+
+module _ (a b : State) where
+  pub alters_as : (P Q : State → Type 0) (done : Bool) (Did Would : Database → Database → Type 0) → Alters P a b done Did → (Q a → P a) → (Q a → Did a.now b.now → Would a.now b.now) → Alters Q a b done Would
+  alters_as P Q done Did Would it from means = record {
+    altered = λ ok clean begun. let w = it.altered ok clean (from begun) in record { is_open = w.is_open; inside = w.inside; committed = w.committed; did = means begun w.did };
+    kept = it.kept;
+    survives = it.survives;
+  }
+
+  pub alters_none : (P : State → Type 0) (Did Would : Database → Database → Type 0) → Alters P a b false Did → Alters P a b false Would
+  alters_none P Did Would it = record { altered = λ no. absurd (true≢false (sym no)); kept = it.kept; survives = it.survives }
+
+  pub from_writes : (done : Bool) (Did : Database → Database → Type 0) → Writes a b done Did → Alters IsInside a b done Did
+  from_writes done Did it = record { altered = it.wrote; kept = it.kept; survives = it.survives }
+
+  pub to_writes : (done : Bool) (Did : Database → Database → Type 0) → Alters IsInside a b done Did → Writes a b done Did
+  to_writes done Did it = record { wrote = it.altered; kept = it.kept; survives = it.survives }
+
+  -- a change of the content, and what it leaves
+  pub from_makes : (done : Bool) (change : Content → Content) → Makes a b done change → Alters IsInside a b done (λ old new. (new.schema ≡ the_schema) × AreShaped new.trees × (content_in new.trees ≡ change (content_in old.trees)))
+  from_makes done change it = record {
+    altered = λ ok clean inside. let s = it.made ok clean inside in record { is_open = s.inside.is_open; inside = s.inside.inside; committed = s.committed; did = (s.inside.schema, s.inside.shaped, s.is) };
+    kept = it.kept;
+    survives = it.survives;
+  }
+
+-- ---- tables made
+
+first_of : (old mid new : Database) → Both (IsMade made.NextRouting) (IsGrown Modify) old new → IsGrown First old new
+first_of old mid new both = record {
+  schema = both.2.schema;
+  sets = both.2.sets;
+  versions = both.2.versions;
+  clock = both.2.clock;
+  nexts = both.2.nexts ∙ both.1.blank;
+  same = (both.2.same.0 ∙ both.1.others.0, (both.2.same.1.0 ∙ both.1.others.1.0, (both.2.same.1.1.0 ∙ both.1.others.1.1.0, (both.2.same.1.1.1.0 ∙ both.1.others.1.1.1.0, (both.2.same.1.1.1.1.0 ∙ both.1.others.1.1.1.1.0, (both.2.same.1.1.1.1.1.0 ∙ both.1.others.1.1.1.1.1.0, (both.2.same.1.1.1.1.1.1.0 ∙ both.1.others.1.1.1.1.1.1.0, (both.2.same.1.1.1.1.1.1.1.0 ∙ both.1.others.1.1.1.1.1.1.1.0, tt))))))));
+}
+
+pub grown_first : (old new : Database) → Both (IsMade made.NextRouting) (IsGrown Modify) old new → IsGrown First old new
+grown_first old new both = first_of old both.0 new both
+
+pub grown_sets : (old new : Database) → Both (Both (Both (IsMade made.WindowSet) (IsMade made.Version)) (IsMade made.Clock)) IsIndexed old new → IsGrown Modify old new
+grown_sets old new it =
+    let a = it.1.1.1 in
+    let b = it.1.1.2 in
+    let c = it.1.2 in
+    let d = it.2.1 in
+    record {
+      schema = it.2.0;
+      sets = d.1.1.1.1.1.1.1.1.1.0 ∙ c.others.1.1.1.1.1.1.1.1.1.0 ∙ b.others.1.1.1.1.1.1.1.1.1.0 ∙ a.blank;
+      versions = d.1.1.1.1.1.1.1.1.1.1.0 ∙ c.others.1.1.1.1.1.1.1.1.1.1.0 ∙ b.blank;
+      clock = d.1.1.1.1.1.1.1.1.1.1.1.0 ∙ c.blank;
+      nexts = d.1.1.1.1.1.1.1.1.0 ∙ c.others.1.1.1.1.1.1.1.1.0 ∙ b.others.1.1.1.1.1.1.1.1.0 ∙ a.others.1.1.1.1.1.1.1.1.0;
+      same = (d.0 ∙ c.others.0 ∙ b.others.0 ∙ a.others.0, (d.1.0 ∙ c.others.1.0 ∙ b.others.1.0 ∙ a.others.1.0, (d.1.1.0 ∙ c.others.1.1.0 ∙ b.others.1.1.0 ∙ a.others.1.1.0, (d.1.1.1.0 ∙ c.others.1.1.1.0 ∙ b.others.1.1.1.0 ∙ a.others.1.1.1.0, (d.1.1.1.1.0 ∙ c.others.1.1.1.1.0 ∙ b.others.1.1.1.1.0 ∙ a.others.1.1.1.1.0, (d.1.1.1.1.1.0 ∙ c.others.1.1.1.1.1.0 ∙ b.others.1.1.1.1.1.0 ∙ a.others.1.1.1.1.1.0, (d.1.1.1.1.1.1.0 ∙ c.others.1.1.1.1.1.1.0 ∙ b.others.1.1.1.1.1.1.0 ∙ a.others.1.1.1.1.1.1.0, (d.1.1.1.1.1.1.1.0 ∙ c.others.1.1.1.1.1.1.1.0 ∙ b.others.1.1.1.1.1.1.1.0 ∙ a.others.1.1.1.1.1.1.1.0, (d.1.1.1.1.1.1.1.1.0 ∙ c.others.1.1.1.1.1.1.1.1.0 ∙ b.others.1.1.1.1.1.1.1.1.0 ∙ a.others.1.1.1.1.1.1.1.1.0, tt)))))))));
+    }
+
+-- a table with no row
+blank_shaped : (rows : List Row) → rows ≡ [] → IsShaped AsTable rows
+blank_shaped rows none = subst (IsShaped AsTable) (sym none) (tt, tt)
+
+same_shaped : (rows was : List Row) → rows ≡ was → IsShaped AsTable was → IsShaped AsTable rows
+same_shaped rows was same shaped = subst (IsShaped AsTable) (sym same) shaped
+
+pub grown_shaped : (f : Form) (old new : Database) → IsGrown f old new → AreOldShaped f old.trees → AreShaped new.trees
+grown_shaped First old new g shaped Carrier = same_shaped _ _ g.same.0 shaped.0
+grown_shaped First old new g shaped Lrn = same_shaped _ _ g.same.1.0 shaped.1.0
+grown_shaped First old new g shaped Code = same_shaped _ _ g.same.1.1.0 shaped.1.1.0
+grown_shaped First old new g shaped Block = same_shaped _ _ g.same.1.1.1.0 shaped.1.1.1.0
+grown_shaped First old new g shaped OldVersion = same_shaped _ _ g.same.1.1.1.1.0 shaped.1.1.1.1.0
+grown_shaped First old new g shaped Broadcast = same_shaped _ _ g.same.1.1.1.1.1.0 shaped.1.1.1.1.1.0
+grown_shaped First old new g shaped Wait = same_shaped _ _ g.same.1.1.1.1.1.1.0 shaped.1.1.1.1.1.1.0
+grown_shaped First old new g shaped OldClock = same_shaped _ _ g.same.1.1.1.1.1.1.1.0 shaped.1.1.1.1.1.1.1.0
+grown_shaped First old new g shaped NextRouting = blank_shaped _ g.nexts
+grown_shaped First old new g shaped WindowSet = blank_shaped _ g.sets
+grown_shaped First old new g shaped Version = blank_shaped _ g.versions
+grown_shaped First old new g shaped Clock = blank_shaped _ g.clock
+grown_shaped Modify old new g shaped Carrier = same_shaped _ _ g.same.0 shaped.0
+grown_shaped Modify old new g shaped Lrn = same_shaped _ _ g.same.1.0 shaped.1.0
+grown_shaped Modify old new g shaped Code = same_shaped _ _ g.same.1.1.0 shaped.1.1.0
+grown_shaped Modify old new g shaped Block = same_shaped _ _ g.same.1.1.1.0 shaped.1.1.1.0
+grown_shaped Modify old new g shaped OldVersion = same_shaped _ _ g.same.1.1.1.1.0 shaped.1.1.1.1.0
+grown_shaped Modify old new g shaped Broadcast = same_shaped _ _ g.same.1.1.1.1.1.0 shaped.1.1.1.1.1.0
+grown_shaped Modify old new g shaped Wait = same_shaped _ _ g.same.1.1.1.1.1.1.0 shaped.1.1.1.1.1.1.0
+grown_shaped Modify old new g shaped OldClock = same_shaped _ _ g.same.1.1.1.1.1.1.1.0 shaped.1.1.1.1.1.1.1.0
+grown_shaped Modify old new g shaped NextRouting = same_shaped _ _ g.nexts shaped.1.1.1.1.1.1.1.1.0
+grown_shaped Modify old new g shaped WindowSet = blank_shaped _ g.sets
+grown_shaped Modify old new g shaped Version = blank_shaped _ g.versions
+grown_shaped Modify old new g shaped Clock = blank_shaped _ g.clock
+
+-- what stands in the tables that stay is as it was
+grown_content : (f : Form) (old new : Database) → IsGrown f old new → (versions : FinMap nat_cmp VersionRow) (clock : Option ClockRow) → content_with Modify versions clock new.trees ≡ content_with f versions clock old.trees
+grown_content First old new g versions clock = rw (g.same.0, g.same.1.0, g.same.1.1.0, g.same.1.1.1.0, g.same.1.1.1.1.1.0, g.same.1.1.1.1.1.1.0, g.nexts) refl
+grown_content Modify old new g versions clock = rw (g.same.0, g.same.1.0, g.same.1.1.0, g.same.1.1.1.0, g.same.1.1.1.1.1.0, g.same.1.1.1.1.1.1.0, g.nexts) refl
+
+-- ---- rows put
+
+pub put_none : (a : State) (rows : List OldRow) → Writes a a true (ArePutBut rows rows)
+put_none a rows = record {
+  wrote = λ ok clean it. record { is_open = it.is_open; inside = it.inside; committed = refl; did = record { schema = λ e. e; shaped = λ s. s; versions = λ s. refl; frame = λ u other. refl } };
+  kept = λ up. record { was_open = up; committed = refl };
+  survives = record { clean = omega arith; shield = λ s. s; counts = omega arith; limit = refl; closes = λ clean up. inl up; crash = λ clean db may. inl may };
+}
+
+module _ (a b c : State) (x : OldRow) (more rows : List OldRow) where
+  one_put : Both (ArePutBut (x ∷ more) rows) (IsBarePut x.version.id x.version.row) a.now c.now → ArePutBut more rows a.now c.now
+  one_put it =
+      let m = it.0 in
+      let first = it.1 in
+      let r = it.2.0 in
+      record {
+        schema = λ has. (version_left m c.now x.version.id x.version.row it.2.1 r).0;
+        shaped = λ s. ((version_left m c.now x.version.id x.version.row it.2.1 r).1 (first.shaped s)).shaped;
+        versions = λ s. ap (all_in more) ((version_left m c.now x.version.id x.version.row it.2.1 r).1 (first.shaped s)).map ∙ first.versions s;
+        frame = λ u other. (version_left m c.now x.version.id x.version.row it.2.1 r).2 u other ∙ first.frame u other;
+      }
+
+  inside_put : IsInside a → Wrote a b (ArePutBut (x ∷ more) rows) → IsInside b
+  inside_put inside w = record { is_open = w.is_open; inside = w.inside; schema = w.did.schema inside.schema; shaped = w.did.shaped inside.shaped }
+
+  pub puts_then : Writes a b true (ArePutBut (x ∷ more) rows) → Writes b c true (IsBarePut x.version.id x.version.row) → Writes a c true (ArePutBut more rows)
+  puts_then first two =
+      to_writes a c true (ArePutBut more rows) (alters_as a c IsInside IsInside true (Both (ArePutBut (x ∷ more) rows) (IsBarePut x.version.id x.version.row)) (ArePutBut more rows)
+      (does_then a b c IsInside IsInside (ArePutBut (x ∷ more) rows) (IsBarePut x.version.id x.version.row) true (from_writes a b true (ArePutBut (x ∷ more) rows) first) (from_writes b c true (IsBarePut x.version.id x.version.row) two) inside_put)
+      (λ inside. inside) (λ inside it. one_put it))
+
+pub puts_stop : (a b c : State) (x : OldRow) (more rows : List OldRow) → Writes a b true (ArePutBut more rows) → Writes b c false (IsBarePut x.version.id x.version.row) → Writes a c false (ArePutBut [] rows)
+puts_stop a b c x more rows first two =
+    to_writes a c false (ArePutBut [] rows) (does_stop a b c IsInside IsInside (ArePutBut more rows) (IsBarePut x.version.id x.version.row) (ArePutBut [] rows) (from_writes a b true (ArePutBut more rows) first) (from_writes b c false (IsBarePut x.version.id x.version.row) two))
+
+pub one_left : (xs : List OldRow) (i : ℕ) (x : OldRow) → i < length xs → x ≡ get_or xs i x → drop i xs ≡ x ∷ drop (i + 1) xs
+one_left xs i x low item = drop-cons xs i x low ∙ ap (λ y. y ∷ drop (suc i) xs) (sym item) ∙ ap (λ k. x ∷ drop k xs) (sym (add-one i))
+
+pub none_dropped : (xs : List OldRow) (i : ℕ) → length xs ≤ i → drop i xs ≡ []
+none_dropped [] zero h = refl
+none_dropped [] (suc i) h = refl
+none_dropped (x ∷ xs) zero h = absurd (omega (arith, h))
+none_dropped (x ∷ xs) (suc i) h = none_dropped xs i (omega (arith, h))
+
+-- ---- all rows put, and the old tables emptied
+
+abbrev pub first_set : Option ClockCode → Content → Content
+first_set clock = if_some (λ (c : ClockCode). with_set (stored_clock c.minute.number c.next_id 1) (windows_of c.windows)) clock
+
+abbrev pub IsChangedBy : (Content → Content) → Database → Database → Type 0
+IsChangedBy change old new = (new.schema ≡ the_schema) × AreShaped new.trees × (content_in new.trees ≡ change (content_in old.trees))
+
+with_first : (versions : FinMap nat_cmp VersionRow) (clock : Option ClockCode) (db : Trees) → first_set clock (content_with Modify versions None db) ≡ content_with Modify versions (option_map old_clock_of clock) db
+with_first versions None db = refl
+with_first versions (Some c) db = refl
+
+pub cleared_shaped : (t : OldTable) (db next : Database) → IsCleared t db next → AreShaped db.trees → AreShaped next.trees
+cleared_shaped t db next it shaped u = old_rows t db.trees next.trees it.rows it.frame shaped u
+
+pub filled : (xs : List OldRow) (clock : Option ClockCode) (old new : Database) → AreShaped old.trees → Both (Both (Both (ArePutBut [] xs) (IsChangedBy (first_set clock))) (IsCleared former.Version)) (IsCleared former.Clock) old new → IsFilled xs clock old new
+filled xs clock a e shaped it =
+    let b = it.1.1.0 in
+    let c = it.1.0 in
+    let d = it.0 in
+    let put = it.1.1.1 in
+    let changed = it.1.1.2 in
+    let one = it.1.2 in
+    let two = it.2 in
+    record {
+      schema = two.schema;
+      shaped = cleared_shaped former.Clock d e two (cleared_shaped former.Version c d one changed.1);
+      moved = record { versions = two.frame OldVersion (λ same. omega arith) ∙ one.rows; clock = two.rows };
+      content = λ sets versions clocks.
+          old_clock_framed d.trees e.trees two.frame ∙ old_version_framed c.trees d.trees one.frame ∙ changed.2
+          ∙ ap (first_set clock) (put_content b put sets versions clocks) ∙ with_first (all_in xs empty) clock a.trees;
+    }
+  where
+    put_content : (b : Database) → ArePutBut [] xs a b → a.trees 17 ≡ [] → a.trees 18 ≡ [] → a.trees 21 ≡ [] → content_in b.trees ≡ content_with Modify (all_in xs empty) None a.trees
+    put_content b put sets versions clocks =
+        versions_framed a.trees b.trees put.frame
+        ∙ ap (λ m. content_over m) (put.versions shaped ∙ ap (λ rows. all_in xs (versions_in rows)) versions)
+        ∙ blank_over sets clocks
+      where
+        content_over : FinMap nat_cmp VersionRow → Content
+        content_over m = record (content_in a.trees) { versions = (content_with Modify m None a.trees).versions }
+
+        blank_over : a.trees 17 ≡ [] → a.trees 21 ≡ [] → content_over (all_in xs empty) ≡ content_with Modify (all_in xs empty) None a.trees
+        blank_over sets clocks = rw (sets, clocks) (ap (λ o. record (content_with Modify (all_in xs empty) None a.trees) { clock = option_and_then (with_windows empty) o }) (get-empty {X = StoredClock} nat_cmp 0))
+
+pub rebuilt : (f : Form) (xs : List OldRow) (clock : Option ClockCode) (old new : Database) → AreOldShaped f old.trees → Both (IsGrown f) (IsFilled xs clock) old new → IsRebuilt f xs clock old new
+rebuilt f xs clock old new shaped it = record {
+  schema = it.2.schema;
+  shaped = it.2.shaped;
+  moved = it.2.moved;
+  content = it.2.content it.1.sets it.1.versions it.1.clock ∙ grown_content f old it.0 it.1 (all_in xs empty) (option_map old_clock_of clock);
+}
+
+-- ---- the transaction, from its beginning to its end
+
+pub record BegunAs (old new : State) (done : Bool) (Did : Database → Database → Type 0) : Type 0 where
+  pub made : IsTrue done → HasCleanDisk new → IsTrue old.is_open → Wrote old new Did
+  pub kept : IsTrue new.is_open → Kept old new
+  pub survives : Survives old new (λ _. ⊥)
+
+pub begun_as : {S : Type 0} (g : Ghosts S) (f : Form) (old mid : Held S) (new : State) (done : Bool) (Did : Database → Database → Type 0) → mid ≡ record old { in_transaction = true } → Alters (IsBegunAs f) (state g mid) new done Did
+    → (IsTrue (state g old).is_open → IsOfForm f (state g old)) → BegunAs (state g old) new done Did
+begun_as g f old mid new done Did e alters ours = subst (λ h. Alters (IsBegunAs f) (state g h) new done Did → BegunAs (state g old) new done Did) (sym e) (λ m. record {
+  made = λ ok clean was.
+      let our = ours was in
+      let s = m.altered ok clean (record { begun = record { is_open = was; inside = refl; schema = our.schema }; shaped = our.shaped }) in
+      record { is_open = s.is_open; inside = s.inside; committed = s.committed; did = s.did };
+  kept = λ up. let k = m.kept up in record { was_open = k.was_open; committed = k.committed };
+  survives = survives_begin g old new (λ _. ⊥) m.survives;
+}) alters
+
+settled_as : (f : Form) (s : State) → IsOfForm f s → s.now ≡ s.committed
+settled_as f s ours i = record { schema = ours.same_schema i; trees = ours.same_trees i }
+
+module _ (f : Form) (xs : List OldRow) (clock : Option ClockCode) (old mid new : State) (ours : IsTrue old.is_open → IsOfForm f old) (clean_of : IsTrue new.is_open → HasCleanDisk new) where
+  undone : (done : Bool) → BegunAs old mid done (IsRebuilt f xs clock) → IsRolledBack mid new → IsTrue new.is_open → IsSame old new
+  undone done b r up =
+      let k = b.kept (r.was_open up) in
+      record { was_open = k.was_open; now = (r.undone up).0 ∙ k.committed ∙ sym (settled_as f old (ours k.was_open)); committed = (r.undone up).1 ∙ k.committed }
+
+  unmoved : (P : Trees → Type 0) → (IsTrue new.is_open → IsSame old new) → Survives old new P → (HasCleanDisk new → (db : Trees) → P db → IsTrue old.is_open → IsRebuiltAs f xs clock old.now.trees db) → Moves (IsRebuiltAs f xs clock) old new false
+  unmoved P same survives after = record {
+    becomes = λ no. absurd (true≢false (sym no));
+    ours = λ no. absurd (true≢false (sym no));
+    same = λ _. same;
+    was_open = λ up. (same up).was_open;
+    honest = λ done. omega (arith, done, survives.clean);
+    stays = λ no. absurd (true≢false (sym no));
+    crash = survives_weaker old new P _ after survives;
+  }
+
+  -- it was given up
+  pub given_up : BegunAs old mid false (IsRebuilt f xs clock) → (HasCleanDisk new → IsRolledBack mid new) → Survives mid new (λ _. ⊥) → Moves (IsRebuiltAs f xs clock) old new false
+  given_up b r survives = unmoved (λ _. ⊥) (λ up. undone false b (r (clean_of up)) up) (survives_then old mid new _ _ _ (λ clean db bad. bad) (λ clean db bad. bad) b.survives survives) (λ clean db none. absurd none)
+
+  module _ (b : BegunAs old mid true (IsRebuilt f xs clock)) (survives : Survives mid new (λ db. db ≡ mid.now.trees)) where
+    early : HasCleanDisk new → HasCleanDisk mid
+    early clean = omega (arith, clean, survives.clean)
+
+    after : HasCleanDisk new → (db : Trees) → db ≡ mid.now.trees → IsTrue old.is_open → IsRebuiltAs f xs clock old.now.trees db
+    after clean db is was = let did = (b.made refl (early clean) was).did in subst (IsRebuiltAs f xs clock old.now.trees) (sym is) (record { content = did.content; moved = did.moved })
+
+    all_survives : Survives old new (λ db. IsTrue old.is_open → IsRebuiltAs f xs clock old.now.trees db)
+    all_survives = survives_then old mid new _ _ _ (λ clean db none. absurd none) after b.survives survives
+
+    -- it did not commit
+    pub not_moved : (e : Error) → (HasCleanDisk new → FailsToCommit mid new e) → Moves (IsRebuiltAs f xs clock) old new false
+    not_moved e fails = unmoved _ (λ up. go up (fails (clean_of up))) all_survives (λ clean db h. h)
+      where
+        go : IsTrue new.is_open → FailsToCommit mid new e → IsSame old new
+        go up (inl it) = undone true b it.3 up
+        go up (inr it) =
+            let k = b.kept it.2.0.was_open in
+            absurd (true≢false (let inside : mid.in_transaction ≡ true = (b.made refl (early (clean_of up)) k.was_open).inside in sym inside ∙ it.1))
+
+    -- it committed
+    pub moved : (HasCleanDisk new → Shows mid new mid.now mid.now false) → Moves (IsRebuiltAs f xs clock) old new true
+    moved ok = record {
+      becomes = λ _ up. let s = ok (clean_of up) in after (clean_of up) new.now.trees (ap (λ (d : Database). d.trees) s.now_is) (b.kept s.was_open).was_open;
+      ours = λ _ up.
+          let s = ok (clean_of up) in
+          let did = (b.made refl (early (clean_of up)) (b.kept s.was_open).was_open).did in
+          record {
+            schema = ap (λ (d : Database). d.schema) s.now_is ∙ did.schema;
+            shaped = subst (λ (d : Database). AreShaped d.trees) (sym s.now_is) did.shaped;
+            same_schema = ap (λ (d : Database). d.schema) (s.now_is ∙ sym s.committed_is);
+            same_trees = ap (λ (d : Database). d.trees) (s.now_is ∙ sym s.committed_is);
+          };
+      same = λ no. absurd (true≢false (sym no));
+      was_open = λ up. (b.kept (ok (clean_of up)).was_open).was_open;
+      honest = λ done. omega (arith, done, all_survives.clean);
+      stays = λ _ was clean. (ok clean).is_open;
+      crash = all_survives;
+    }
+
+-- ---- what stood in the file is read first
+
+module _ (f : Form) (t : OldTable) (old new : State) (ours : IsTrue old.is_open → IsOfForm f old) where
+  abbrev text : List ℕ
+  text = all_text (table_of_old t)
+
+  plain : IsTrue old.is_open → IsPlain (understood old.now.schema text)
+  plain was = subst (λ k. IsPlain (understood k text)) (sym (ours was).schema) (old_query_plain f t)
+
+  same_as : IsTrue new.is_open → IsOfForm f old → IsUnchanged old new ⊎ IsRolledBack old new → IsSame old new
+  same_as is_open ours (inl it) = record { was_open = it.0.was_open; now = it.0.now_is; committed = it.0.committed_is }
+  same_as is_open ours (inr it) = record { was_open = it.was_open is_open; now = (it.undone is_open).0 ∙ sym (settled_as f old ours); committed = (it.undone is_open).1 }
+
+  pub old_looked : (rows : List Row) → (IsTrue new.is_open → HasCleanDisk new) → (HasCleanDisk new → Shown text [] old new rows) → Survives old new (CommitsShowing text [] old) → Looked old new true
+  old_looked rows clean shown survives = record {
+    same = λ up. let h = shown (clean up) in let was = shown_open text [] old new rows h in same_as up (ours was) (inl (shown_same text [] old new rows (plain was) h));
+    stays = λ ok done.
+        let was = shown_open text [] old new rows (shown done) in
+        (shown_same text [] old new rows (plain was) (shown done)).0.is_open;
+    honest = λ done. omega (arith, survives.clean, done);
+    survives = query_commits_nothing text [] old new (query_selects (All (table_of_old t))) survives;
+  }
+
+  pub old_unlooked : (e : Error) → (IsTrue new.is_open → HasCleanDisk new) → (HasCleanDisk new → FailsToQuery text [] old new e) → Survives old new (CommitsShowing text [] old) → Looked old new false
+  old_unlooked e clean fails survives = record {
+    same = λ up. let h = fails (clean up) in let was = fails_open text [] old new e up h in same_as up (ours was) (fails_same text [] old new e (plain was) h);
+    stays = λ no done. absurd (true≢false (sym no));
+    honest = λ done. omega (arith, survives.clean, done);
+    survives = query_commits_nothing text [] old new (query_selects (All (table_of_old t))) survives;
+  }
+
+  pub old_answers : (rows : List Row) → IsTrue old.is_open → Shown text [] old new rows → IsAnswer (query_of (All (table_of_old t))) (overlay old.now.trees []) [] rows
+  old_answers rows was shown = (reads_as text [] old new (schema_of f) (ours was).schema _ (old_query_is f t) (old_query_plain f t) (old_query_unlisted f t) rows shown).answer Null
+
+-- a file that was read is of its form still
+pub still_of : (f : Form) (a b : State) → IsSame a b → IsOfForm f a → IsOfForm f b
+still_of f a b same our = record {
+  schema = ap (λ (d : Database). d.schema) same.now ∙ our.schema;
+  shaped = subst (λ (d : Database). AreOldShaped f d.trees) (sym same.now) our.shaped;
+  same_schema = ap (λ (d : Database). d.schema) (same.now ∙ settled_as f a our ∙ sym same.committed);
+  same_trees = ap (λ (d : Database). d.trees) (same.now ∙ settled_as f a our ∙ sym same.committed);
+}
+
+pub old_still : (f : Form) (a b : State) (answered : Bool) → (IsTrue a.is_open → IsOfForm f a) → Looked a b answered → IsTrue b.is_open → IsOfForm f b
+old_still f a b answered ours looked up = let same = looked.same up in still_of f a b same (ours same.was_open)
+
+-- a read, and then the move
+module _ (a b d : State) (Turns Becomes : Trees → Trees → Type 0) (one : Looked a b true) (means : IsTrue b.is_open → (after : Trees) → Turns b.now.trees after → Becomes b.now.trees after) where
+  from_first : IsTrue b.is_open → (after : Trees) → Turns b.now.trees after → Becomes a.now.trees after
+  from_first was after h = subst (λ (db : Database). Becomes db.trees after) (one.same was).now (means was after h)
+
+  pub looked_moves : (done : Bool) → Moves Turns b d done → Moves Becomes a d done
+  looked_moves done two = record {
+    becomes = λ ok up. from_first (two.was_open up) d.now.trees (two.becomes ok up);
+    ours = two.ours;
+    same = λ no up.
+        let later = two.same no up in
+        let sooner = one.same later.was_open in
+        record { was_open = sooner.was_open; now = later.now ∙ sooner.now; committed = later.committed ∙ sooner.committed };
+    was_open = λ up. (one.same (two.was_open up)).was_open;
+    honest = λ done. one.honest (two.honest done);
+    stays = λ ok was clean. two.stays ok (one.stays refl (two.honest clean)) clean;
+    crash = survives_then a b d _ _ _ (λ clean db none. absurd none) (λ clean db h was. let up = one.stays refl (two.honest clean) in from_first up db (h up)) one.survives two.crash;
+  }
+
+pub looked_unmoved : (a b : State) (answered : Bool) (Becomes : Trees → Trees → Type 0) → Looked a b answered → Moves Becomes a b false
+looked_unmoved a b answered Becomes one = record {
+  becomes = λ no. absurd (true≢false (sym no));
+  ours = λ no. absurd (true≢false (sym no));
+  same = λ _. one.same;
+  was_open = λ up. (one.same up).was_open;
+  honest = one.honest;
+  stays = λ no. absurd (true≢false (sym no));
+  crash = survives_weaker a b _ _ (λ clean db none. absurd none) one.survives;
+}
+
+-- ---- the rows put are those that stood in the file
+
+data InAll (xs : List OldRow) (m : FinMap nat_cmp VersionRow) (k : ℕ) : Type 0 where
+  hit : (x : OldRow) → Has xs x → x.version.id ≡ k → get (all_in xs m) k ≡ Some (bare x.version.row) → InAll xs m k
+  miss : ((x : OldRow) → Has xs x → x.version.id ≡ k → ⊥) → get (all_in xs m) k ≡ get m k → InAll xs m k
+
+in_all : (xs : List OldRow) (m : FinMap nat_cmp VersionRow) (k : ℕ) → InAll xs m k
+in_all [] m k = miss (λ x h e. h) refl
+in_all (y ∷ ys) m k = go (in_all ys (insert m y.version.id (bare y.version.row)) k) (eq_by_cmp nat_cmp k y.version.id) refl
+  where
+    put : (b : Bool) → eq_by_cmp nat_cmp k y.version.id ≡ b → get (insert m y.version.id (bare y.version.row)) k ≡ cond b (Some (bare y.version.row)) (get m k)
+    put b tie = get-insert nat_cmp_total m y.version.id (bare y.version.row) k ∙ ap (λ b. cond b (Some (bare y.version.row)) (get m k)) tie
+
+    not_here : eq_by_cmp nat_cmp k y.version.id ≡ false → (x : OldRow) → x ≡ y → x.version.id ≡ k → ⊥
+    not_here tie x same is =
+        let here : y.version.id ≡ k = ap (λ (z : OldRow). z.version.id) (sym same) ∙ is in
+        true≢false (sym ((eq_by_cmp_equiv nat_cmp_total).refl k) ∙ ap (λ n. eq_by_cmp nat_cmp k n) (sym here) ∙ tie)
+
+    go : InAll ys (insert m y.version.id (bare y.version.row)) k → (b : Bool) → eq_by_cmp nat_cmp k y.version.id ≡ b → InAll (y ∷ ys) m k
+    go (hit x h same e) b tie = hit x (inr h) same e
+    go (miss none e) true tie = hit y (inl refl) (sym (same_number k y.version.id tie)) (e ∙ put true tie)
+    go (miss none e) false tie = miss (λ x h is. elim h [ inl same ↦ not_here tie x same is | inr more ↦ none x more is ]) (e ∙ put false tie)
+
+module _ (db : Trees) (shaped : IsShaped AsTable (db 5)) (xs : List OldRow) (answer : IsListAnswer (All OldVersion) old_version_in db [] (map old_seen xs)) where
+  pub versions_carried : all_in xs empty ≡ old_versions_in (db 5)
+  versions_carried = same_map nat_cmp_total nat_cmp-IsAntisymmetric _ _ (λ k. go k (in_all xs empty k))
+    where
+      p : Picks old_seen (old_versions_in (db 5)) (λ k v. Unit {0}) xs
+      p = old_picked db shaped xs answer
+
+      nothing : (k : ℕ) (o : Option VersionRow) → get (old_versions_in (db 5)) k ≡ o → ((x : OldRow) → Has xs x → x.version.id ≡ k → ⊥) → o ≡ None
+      nothing k None is none = refl
+      nothing k (Some v) is none = let x = p.each k v is tt in absurd (none x.0 x.1 (ap (λ (e : ℕ × VersionRow). e.0) x.2))
+
+      go : (k : ℕ) → InAll xs empty k → get (all_in xs empty) k ≡ get (old_versions_in (db 5)) k
+      go k (hit x h same e) =
+          let only = (p.only x h).0 in
+          e ∙ ap Some (old_bare db x.version.id x.version.row only) ∙ sym (ap (get (old_versions_in (db 5))) (sym same) ∙ only)
+      go k (miss none e) = e ∙ get-empty nat_cmp k ∙ sym (nothing k (get (old_versions_in (db 5)) k) refl none)
+
+none_of : {X Y : Type 0} (read : X → Y) (rows : List X) → map read rows ≡ [] → rows ≡ []
+none_of read [] e = refl
+none_of read (r ∷ rows) e = absurd cc
+
+one_of : {X Y : Type 0} (read : X → Y) (rows : List X) (y : Y) → map read rows ≡ y ∷ [] → (r : X) × (rows ≡ r ∷ []) × (read r ≡ y)
+one_of read [] y e = absurd cc
+one_of read (r ∷ []) y e = (r, refl, cc)
+one_of read (r ∷ s ∷ rows) y e = absurd (let same = ap length e in omega arith)
+
+pub clock_carried : (db : Trees) (clock : Option ClockCode) → IsListAnswer (All OldClock) old_clock_in db [] (map clock_seen (option_to_list clock)) → option_map old_clock_of clock ≡ old_clock (db 12)
+clock_carried db None h = sym (old_clock_is db None h.0 h.1 (none_of old_clock_in h.0 h.2))
+clock_carried db (Some c) h = sym (old_clock_is db (Some (clock_seen c)) h.0 h.1 (one_of old_clock_in h.0 (Some (clock_seen c)) h.2))
+
+pub old_shape : (f : Form) (db : Trees) → AreOldShaped f db → IsShaped AsTable (db 5)
+old_shape First db shaped = shaped.1.1.1.1.0
+old_shape Modify db shaped = shaped.1.1.1.1.0
+
+pub carried : (f : Form) (db after : Trees) (xs : List OldRow) (clock : Option ClockCode) → AreOldShaped f db → IsListAnswer (All OldVersion) old_version_in db [] (map old_seen xs)
+    → IsListAnswer (All OldClock) old_clock_in db [] (map clock_seen (option_to_list clock)) → IsRebuiltAs f xs clock db after → IsCarriedOver f db after
+carried f db after xs clock shaped versions clocks it = record {
+  content =
+      it.content ∙ ap (λ m. content_with f m (option_map old_clock_of clock) db) (versions_carried db (old_shape f db shaped) xs versions)
+      ∙ ap (λ o. content_with f (old_versions_in (db 5)) o db) (clock_carried db clock clocks);
+  moved = it.moved;
+}
+
+-- what was read before is what is carried over
+pub migrated : (f : Form) (a b d e : State) (done : Bool) (xs : List OldRow) (clocks : List ClockCode) (clock : Option ClockCode) → Looked a b true → Looked b d true → (IsTrue a.is_open → IsOfForm f a)
+    → (IsTrue b.is_open → IsListAnswer (All OldVersion) old_version_in a.now.trees [] (map old_seen xs)) → (IsTrue d.is_open → IsListAnswer (All OldClock) old_clock_in b.now.trees [] (map clock_seen clocks))
+    → clocks ≡ option_to_list clock → Moves (IsRebuiltAs f xs clock) d e done → Moves (IsCarriedOver f) a e done
+migrated f a b d e done xs clocks clock one two ours versions clocked is moves =
+    looked_moves a d e (IsRebuiltAs f xs clock) (IsCarriedOver f) (looked_then a b d true one two) (λ up after turns.
+    let second = two.same up in
+    let first = one.same second.was_open in
+    let same = second.now ∙ first.now in
+    carried f d.now.trees after xs clock (subst (λ (db : Database). AreOldShaped f db.trees) (sym same) (ours first.was_open).shaped)
+    (subst (λ (db : Database). IsListAnswer (All OldVersion) old_version_in db.trees [] (map old_seen xs)) (sym same) (versions second.was_open))
+    (subst (λ (db : Database). IsListAnswer (All OldClock) old_clock_in db.trees [] (map clock_seen (option_to_list clock))) (sym second.now) (subst (λ cs. IsListAnswer (All OldClock) old_clock_in b.now.trees [] (map clock_seen cs)) is (clocked up)))
+    turns) done moves
+
+pub no_item : {X : Type 0} (xs : List X) → length xs < 1 → xs ≡ []
+no_item [] h = refl
+no_item (x ∷ xs) h = absurd (omega (arith, h))
+
+pub one_item : {X : Type 0} (xs : List X) (x : X) → 1 ≤ length xs → length xs < 2 → x ≡ get_or xs 0 x → xs ≡ x ∷ []
+one_item [] x low high is = absurd (omega (arith, low))
+one_item (y ∷ []) x low high is = ap (λ z. z ∷ []) (sym is)
+one_item (y ∷ z ∷ xs) x low high is = absurd (omega (arith, high))

@@ -1,0 +1,127 @@
+-- A file of an earlier form made one of this form.
+use Rattle.std.specs.Prelude.{◌≡◌, ℕ, pos, Bool, List, [], ◌∷◌, Option, Some, None, IsTrue, not, option_map}
+use Rattle.std.specs.FinMap.{FinMap, empty, insert}
+use Rattle.std.specs.List.{AllByRecursion}
+use Rattle.std.specs.Ordering.{nat_cmp}
+use Rattle.sqlite.specs.Change.{KeepsRows}
+use Rattle.sqlite.specs.declared.types.Value.TheVariants.{Int}
+use Rattle.sqlite.specs.Effect.{Database}
+use Rattle.sqlite.specs.Schema.{Schema}
+use Rattle.sqlite.specs.State.{HasCleanDisk, State, Survives}
+use Rattle.sqlite.specs.Table.{Table as SqlTable}
+use Rattle.sqlite.specs.Tree.{Trees}
+use Rattle.sqlite.specs.View.{IsShaped}
+use Rattle.sqlite_trees.specs.declared.store.Shape.TheVariants.{Table as AsTable}
+use Rattle.meaning.specs.Content.{ClockRow, Content, VersionRow}
+use Rattle.sql_rows.specs.Clocks.{old_clock_of}
+use Rattle.sql_rows.specs.Content.{content_in, versions_in}
+use Rattle.sql_rows.specs.Former.{content_with, next_rows, old_content_in}
+use Rattle.sql_rows.specs.Moving.{schema_of}
+use Rattle.sql_rows.specs.Shaped.{AreShaped}
+use Rattle.sql_rows.specs.Tables.{the_schema}
+use Rattle.sql_rows.specs.Versions.{bare, version_entry, version_params, version_row}
+use Rattle.sql_rows.specs.Written.{IsFrame, Replaced}
+use Rattle.sql_rows.specs.declared.keyed.OldClock.{OldClock}
+use Rattle.sql_rows.specs.declared.moving.Form.{Form}
+use Rattle.sql_rows.specs.declared.moving.Form.TheVariants.{Modify}
+use Rattle.sql_rows.specs.declared.statement.Table.TheVariants.{Version}
+use Rattle.sql_rows.specs.declared.version_row.OldVersion.{OldVersion}
+use Rattle.sql_store.specs.Store.{IsOurs, IsSame, Kept, Wrote}
+use Rattle.sql_store.specs.Whole.{IsMoved}
+
+-- each table of the form has rowids that rise
+abbrev pub AreOldShaped : Form → Trees → Type 0
+AreOldShaped f db = AllByRecursion (λ (t : SqlTable). IsShaped AsTable (db t.tree)) (schema_of f).tables
+
+-- the tables are those of the form, and nothing is pending
+pub record IsOfForm (f : Form) (s : State) : Type 0 where
+  pub schema : s.now.schema ≡ schema_of f
+  pub shaped : AreOldShaped f s.now.trees
+  pub same_schema : s.now.schema ≡ s.committed.schema
+  pub same_trees : s.now.trees ≡ s.committed.trees
+
+-- ---- the contract
+
+-- the file is one of this form: its content is the old one, with its windows as set 1, and the tables of the earlier form are empty
+pub record IsCarriedOver (f : Form) (old new : Trees) : Type 0 where
+  pub content : content_in new ≡ old_content_in f old
+  pub moved : IsMoved new
+
+-- it was of some earlier form
+abbrev pub IsOfSomeForm : (old new : Trees) → Type 0
+IsOfSomeForm old new = (f : Form) × IsCarriedOver f old new
+
+-- a call made this of a file of an earlier form, which is one of this form then, or left it as it was; and so does a crash
+pub record Moves (Becomes : Trees → Trees → Type 0) (old new : State) (done : Bool) : Type 0 where
+  pub becomes : IsTrue done → IsTrue new.is_open → Becomes old.now.trees new.now.trees
+  pub ours : IsTrue done → IsTrue new.is_open → IsOurs new
+  pub same : IsTrue (not done) → IsTrue new.is_open → IsSame old new
+  pub was_open : IsTrue new.is_open → IsTrue old.is_open
+  pub honest : HasCleanDisk new → HasCleanDisk old
+  pub stays : IsTrue done → IsTrue old.is_open → HasCleanDisk new → IsTrue new.is_open
+  pub crash : Survives old new (λ db. IsTrue old.is_open → Becomes old.now.trees db)
+
+-- ---- in a transaction
+
+-- a transaction over a database with this schema
+pub record IsBegun (k : Schema) (s : State) : Type 0 where
+  pub is_open : IsTrue s.is_open
+  pub inside : IsTrue s.in_transaction
+  pub schema : s.now.schema ≡ k
+
+pub record IsBegunAs (f : Form) (s : State) : Type 0 where
+  pub begun : IsBegun (schema_of f) s
+  pub shaped : AreOldShaped f s.now.trees
+
+-- a call in a transaction makes this of the database, where it does not fail
+pub record Alters (P : State → Type 0) (old new : State) (done : Bool) (Did : Database → Database → Type 0) : Type 0 where
+  pub altered : IsTrue done → HasCleanDisk new → P old → Wrote old new Did
+  pub kept : IsTrue new.is_open → Kept old new
+  pub survives : Survives old new (λ _. ⊥)
+
+-- the index is there, and all tables have the rows that they had
+abbrev pub IsIndexed : Database → Database → Type 0
+IsIndexed old new = (new.schema ≡ the_schema) × KeepsRows the_schema.tables old.trees new.trees
+
+-- the tables and the index are there, the new ones have no row, and the others those that they had
+pub record IsGrown (f : Form) (old new : Database) : Type 0 where
+  pub schema : new.schema ≡ the_schema
+  pub sets : new.trees 17 ≡ []
+  pub versions : new.trees 18 ≡ []
+  pub clock : new.trees 21 ≡ []
+  pub nexts : new.trees 16 ≡ next_rows f old.trees
+  pub same : KeepsRows (schema_of f).tables old.trees new.trees
+
+-- a version's row was put as its table has it: the routing that it sends stays where it stood
+abbrev pub IsBarePut : ℕ → VersionRow → Database → Database → Type 0
+IsBarePut id v old new = Replaced Version (Int (pos id) ∷ []) (version_params id v) old new × (version_entry (version_row id v) ≡ Some (id, bare v))
+
+abbrev pub all_in : List OldVersion → FinMap nat_cmp VersionRow → FinMap nat_cmp VersionRow
+all_in [] m = m
+all_in (x ∷ xs) m = all_in xs (insert m x.version.id (bare x.version.row))
+
+-- some of the rows were put: those that are left make together with them what all of them make
+pub record ArePutBut (left whole : List OldVersion) (old new : Database) : Type 0 where
+  pub schema : old.schema ≡ the_schema → new.schema ≡ the_schema
+  pub shaped : AreShaped old.trees → AreShaped new.trees
+  pub versions : AreShaped old.trees → all_in left (versions_in (new.trees 18)) ≡ all_in whole (versions_in (old.trees 18))
+  pub frame : IsFrame Version old.trees new.trees
+
+-- the rows were put, and the old tables emptied
+pub record IsFilled (xs : List OldVersion) (clock : Option OldClock) (old new : Database) : Type 0 where
+  pub schema : new.schema ≡ the_schema
+  pub shaped : AreShaped new.trees
+  pub moved : IsMoved new.trees
+  pub content : old.trees 17 ≡ [] → old.trees 18 ≡ [] → old.trees 21 ≡ [] → content_in new.trees ≡ content_with Modify (all_in xs empty) (option_map old_clock_of clock) old.trees
+
+-- both
+pub record IsRebuilt (f : Form) (xs : List OldVersion) (clock : Option OldClock) (old new : Database) : Type 0 where
+  pub schema : new.schema ≡ the_schema
+  pub shaped : AreShaped new.trees
+  pub moved : IsMoved new.trees
+  pub content : content_in new.trees ≡ content_with f (all_in xs empty) (option_map old_clock_of clock) old.trees
+
+-- the trees alone
+pub record IsRebuiltAs (f : Form) (xs : List OldVersion) (clock : Option OldClock) (old new : Trees) : Type 0 where
+  pub content : content_in new ≡ content_with f (all_in xs empty) (option_map old_clock_of clock) old
+  pub moved : IsMoved new

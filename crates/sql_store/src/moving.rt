@@ -1,0 +1,249 @@
+//! A file of an earlier form made one of this form, in one transaction.
+ghost use Rattle.std.specs.Prelude.{◌≡◌, ◌<◌, false, [], IsTrue, IfOk, is_ok, map};
+ghost use Rattle.sqlite.specs.Held.{state};
+ghost use Rattle.sqlite.specs.Program.{overlay};
+ghost use Rattle.sqlite.specs.Query.{IsAnswer};
+ghost use Rattle.sql_rows.specs.Found.{IsListAnswer};
+ghost use Rattle.sql_rows.specs.Statements.{query_of};
+ghost use Rattle.sql_rows.specs.Moving.{IsCleared, IsMade, schema_after, schema_before, schema_of, table_of_old};
+ghost use Rattle.sql_store.specs.Changes.{if_some, with_set};
+ghost use Rattle.sql_rows.specs.Content.{stored_clock};
+ghost use Rattle.version.specs.Views.{windows_of};
+ghost use Rattle.sql_store.specs.Moving.{Alters, ArePutBut, IsBarePut, IsBegun, IsBegunAs, IsCarriedOver, IsFilled, IsGrown, IsIndexed, IsOfForm, IsRebuilt, IsRebuiltAs, Moves};
+ghost use Rattle.sql_store.specs.Store.{Looked, Makes, Writes};
+
+use crate::change::replace;
+use crate::rows::put_set;
+use settle::VersionRow;
+use sql_rows::{
+    Fault, Form, NewTable, OldClock, OldTable, OldVersion, Query, Stored, StoredClock, Table, all,
+    fits, index_text, number, spid_bytes, version_params,
+};
+use sqlite::{Alter, Connection, Row, Transaction};
+
+fn make<S: Alter>(tx: &mut Transaction<'_, S>, table: NewTable) -> Result<(), Fault>
+    ensures same_reference { tx.new.conn.ghost_name ≡ tx.old.conn.ghost_name }
+    ensures alters { Alters (IsBegun (schema_before table)) (state S.Store tx.old.conn.now)
+        (state S.Store tx.new.conn.now) (is_ok result) (IsMade table) }
+{
+    tx.execute(table.create_text(), &[])?;
+    Ok(())
+}
+
+fn make_index<S: Alter>(tx: &mut Transaction<'_, S>) -> Result<(), Fault>
+    ensures same_reference { tx.new.conn.ghost_name ≡ tx.old.conn.ghost_name }
+    ensures alters { Alters (IsBegun (schema_after NewTable.Clock)) (state S.Store tx.old.conn.now)
+        (state S.Store tx.new.conn.now) (is_ok result) IsIndexed }
+{
+    tx.execute(index_text(), &[])?;
+    Ok(())
+}
+
+// The tables of the sets of windows, of the versions that hold them and of the clock.
+fn make_set_tables<S: Alter>(tx: &mut Transaction<'_, S>) -> Result<(), Fault>
+    ensures same_reference { tx.new.conn.ghost_name ≡ tx.old.conn.ghost_name }
+    ensures alters { Alters (IsBegun (schema_of Form.Modify)) (state S.Store tx.old.conn.now)
+        (state S.Store tx.new.conn.now) (is_ok result) (IsGrown Form.Modify) }
+{
+    make(tx, NewTable::WindowSet)?;
+    make(tx, NewTable::Version)?;
+    make(tx, NewTable::Clock)?;
+    make_index(tx)?;
+    Ok(())
+}
+
+fn make_all_tables<S: Alter>(tx: &mut Transaction<'_, S>) -> Result<(), Fault>
+    ensures same_reference { tx.new.conn.ghost_name ≡ tx.old.conn.ghost_name }
+    ensures alters { Alters (IsBegun (schema_of Form.First)) (state S.Store tx.old.conn.now)
+        (state S.Store tx.new.conn.now) (is_ok result) (IsGrown Form.First) }
+{
+    make(tx, NewTable::NextRouting)?;
+    make_set_tables(tx)?;
+    Ok(())
+}
+
+// The tables that a file of the form lacks.
+fn grow<S: Alter>(tx: &mut Transaction<'_, S>, form: Form) -> Result<(), Fault>
+    ensures same_reference { tx.new.conn.ghost_name ≡ tx.old.conn.ghost_name }
+    ensures alters { Alters (IsBegun (schema_of form)) (state S.Store tx.old.conn.now)
+        (state S.Store tx.new.conn.now) (is_ok result) (IsGrown form) }
+{
+    match form {
+        Form::First => make_all_tables(tx),
+        Form::Modify => make_set_tables(tx),
+    }
+}
+
+// Puts a version's row as its table has it: the routing that it sends stays where it stands.
+fn put_bare<S: Alter>(tx: &mut Transaction<'_, S>, id: u64, row: &VersionRow) -> Result<(), Fault>
+    ensures same_reference { tx.new.conn.ghost_name ≡ tx.old.conn.ghost_name }
+    ensures writes { Writes (state S.Store tx.old.conn.now) (state S.Store tx.new.conn.now)
+        (is_ok result) (IsBarePut id row.now) }
+{
+    if !fits(id, row) {
+        return Err(Fault::Device);
+    }
+    let old = spid_bytes(row.version.old_provider.number);
+    let new = spid_bytes(row.version.new_provider.number);
+    let params = version_params(id, row, &old, &new);
+    replace(tx, Table::Version, &[number(id)], &params)?;
+    Ok(())
+}
+
+fn put_bares<S: Alter>(tx: &mut Transaction<'_, S>, rows: &[OldVersion]) -> Result<(), Fault>
+    ensures same_reference { tx.new.conn.ghost_name ≡ tx.old.conn.ghost_name }
+    ensures writes { Writes (state S.Store tx.old.conn.now) (state S.Store tx.new.conn.now)
+        (is_ok result) (ArePutBut [] rows.now) }
+{
+    for row in rows {
+        put_bare(tx, row.version.id, &row.version.row)?;
+    }
+    Ok(())
+}
+
+// The windows of the clock's row are set 1.
+fn put_first_set<S: Alter>(
+    tx: &mut Transaction<'_, S>,
+    clock: Option<OldClock>,
+) -> Result<(), Fault>
+    ensures same_reference { tx.new.conn.ghost_name ≡ tx.old.conn.ghost_name }
+    ensures makes { Makes (state S.Store tx.old.conn.now) (state S.Store tx.new.conn.now)
+        (is_ok result)
+        (if_some (λ c. with_set (stored_clock c.minute.number c.next_id 1) (windows_of c.windows))
+        clock) }
+{
+    match clock {
+        Some(clock) => put_set(
+            tx,
+            &StoredClock {
+                minute: clock.minute,
+                next_id: clock.next_id,
+                present: 1,
+            },
+            &clock.windows,
+        ),
+        None => Ok(()),
+    }
+}
+
+fn clear<S: Alter>(tx: &mut Transaction<'_, S>, table: OldTable) -> Result<(), Fault>
+    ensures same_reference { tx.new.conn.ghost_name ≡ tx.old.conn.ghost_name }
+    ensures writes { Writes (state S.Store tx.old.conn.now) (state S.Store tx.new.conn.now)
+        (is_ok result) (IsCleared table) }
+{
+    tx.execute(table.clear_text(), &[])?;
+    Ok(())
+}
+
+// The rows of the earlier form, put into the tables of this one.
+fn fill<S: Alter>(
+    tx: &mut Transaction<'_, S>,
+    versions: &[OldVersion],
+    clock: Option<OldClock>,
+) -> Result<(), Fault>
+    ensures same_reference { tx.new.conn.ghost_name ≡ tx.old.conn.ghost_name }
+    ensures writes { Writes (state S.Store tx.old.conn.now) (state S.Store tx.new.conn.now)
+        (is_ok result) (IsFilled versions.now clock) }
+{
+    put_bares(tx, versions)?;
+    put_first_set(tx, clock)?;
+    clear(tx, OldTable::Version)?;
+    clear(tx, OldTable::Clock)?;
+    Ok(())
+}
+
+fn rebuild<S: Alter>(
+    tx: &mut Transaction<'_, S>,
+    form: Form,
+    versions: &[OldVersion],
+    clock: Option<OldClock>,
+) -> Result<(), Fault>
+    ensures same_reference { tx.new.conn.ghost_name ≡ tx.old.conn.ghost_name }
+    ensures alters { Alters (IsBegunAs form) (state S.Store tx.old.conn.now)
+        (state S.Store tx.new.conn.now) (is_ok result) (IsRebuilt form versions.now clock) }
+{
+    grow(tx, form)?;
+    fill(tx, versions, clock)?;
+    Ok(())
+}
+
+// Puts these rows into the tables of this form, which it makes, and empties those of the earlier
+// one: in one transaction.
+fn move_rows<S: Alter>(
+    conn: &mut Connection<S>,
+    form: Form,
+    versions: &[OldVersion],
+    clock: Option<OldClock>,
+) -> Result<(), Fault>
+    requires old { IsTrue (state S.Store conn.old).is_open
+        → IsOfForm form (state S.Store conn.old) }
+    requires idle { conn.old.in_transaction ≡ false }
+    ensures moves { Moves (IsRebuiltAs form versions.now clock) (state S.Store conn.old)
+        (state S.Store conn.new) (is_ok result) }
+    ensures idle { conn.new.in_transaction ≡ false }
+{
+    let mut tx = conn.transaction();
+    rebuild(&mut tx, form, versions, clock)?;
+    tx.commit()?;
+    Ok(())
+}
+
+// The rows of a table of an earlier form.
+fn select_old<S: Alter>(
+    conn: &mut Connection<S>,
+    form: Form,
+    table: OldTable,
+) -> Result<Vec<Row>, Fault>
+    requires old { IsTrue (state S.Store conn.old).is_open
+        → IsOfForm form (state S.Store conn.old) }
+    requires idle { conn.old.in_transaction ≡ false }
+    ensures value { IsTrue (state S.Store conn.new).is_open
+        → IfOk result (λ rows. IsAnswer (query_of (Query.All (table_of_old table)))
+        (overlay (state S.Store conn.old).now.trees []) [] rows.items) }
+    ensures looked { Looked (state S.Store conn.old) (state S.Store conn.new) (is_ok result) }
+    ensures idle { conn.new.in_transaction ≡ false }
+{
+    let rows = conn.query_all(Query::All(table.table()).text(), &[])?;
+    Ok(rows)
+}
+
+// The same, each read: one that does not read is a fault of the device.
+fn read_old<T: Stored + Drop, S: Alter>(
+    conn: &mut Connection<S>,
+    form: Form,
+    table: OldTable,
+) -> Result<Vec<T>, Fault>
+    requires old { IsTrue (state S.Store conn.old).is_open
+        → IsOfForm form (state S.Store conn.old) }
+    requires idle { conn.old.in_transaction ≡ false }
+    ensures value { IsTrue (state S.Store conn.new).is_open
+        → IfOk result (λ items. IsListAnswer (Query.All (table_of_old table)) T.seen_in
+        (state S.Store conn.old).now.trees [] (map T.seen items.items)) }
+    ensures looked { Looked (state S.Store conn.old) (state S.Store conn.new) (is_ok result) }
+    ensures idle { conn.new.in_transaction ≡ false }
+{
+    let rows = select_old(conn, form, table)?;
+    let items = all(*rows.allocator(), rows.as_slice())?;
+    Ok(items)
+}
+
+/// Makes a file of an earlier form one of this form, in one transaction: its windows are set 1,
+/// each version holds that, and the tables of the earlier form are empty. A row that does not read
+/// is a fault, which changes nothing.
+#[tactic(auto, using(crate::proofs::MovingLemmas::old_still))]
+pub(crate) fn migrate<S: Alter>(conn: &mut Connection<S>, form: Form) -> Result<(), Fault>
+    requires old { IsTrue (state S.Store conn.old).is_open
+        → IsOfForm form (state S.Store conn.old) }
+    requires idle { conn.old.in_transaction ≡ false }
+    ensures moves { Moves (IsCarriedOver form) (state S.Store conn.old)
+        (state S.Store conn.new) (is_ok result) }
+    ensures idle { conn.new.in_transaction ≡ false }
+{
+    let versions: Vec<OldVersion> = read_old(conn, form, OldTable::Version)?;
+    let clocks: Vec<OldClock> = read_old(conn, form, OldTable::Clock)?;
+    match clocks.as_slice() {
+        [] => move_rows(conn, form, versions.as_slice(), None),
+        [clock] => move_rows(conn, form, versions.as_slice(), Some(*clock)),
+        _ => Err(Fault::Device),
+    }
+}

@@ -1,0 +1,56 @@
+-- The set of windows that a commit puts.
+use Rattle.std.proofs.Common.{◌≡◌, ℕ, Bool, true, false, Option, Some, None, refl, ap, sym, ◌∙◌, arith}
+use Rattle.std.specs.Prelude.{◌==◌, if◌then◌else◌, option_map}
+use Rattle.std.specs.Ordering.{nat_cmp}
+use Rattle.std.specs.Cmp.{nat_cmp_total}
+use Rattle.std.specs.BTreeMap.{BTreeMap}
+use Rattle.std.specs.FinMap.{get, nat_cmp-IsAntisymmetric}
+use Rattle.std.proofs.lemmas.Bool.Decides.{nat_tests}
+use Rattle.meaning.specs.Content.{Content}
+use Rattle.meaning.specs.Windows.{WindowSet}
+use Rattle.settle.specs.Changes.{put_row}
+use Rattle.version.specs.Views.{set_of, windows_of}
+use Rattle.windows.specs.declared.window.Windows.{Windows as WindowsCode}
+use Rattle.windows.specs.declared.window.WindowSet.{WindowSet as WindowSetCode}
+use Rattle.store.specs.Maps.{IsSet, set}
+use Rattle.store.specs.Places.{sets}
+use Rattle.store.specs.Steps.{IsPutWithSet}
+use Rattle.store.specs.Tables.{content_of, IsSetThere}
+use Rattle.store.specs.declared.tables.Tables.{Tables}
+use Rattle.store.proofs.Changed.{set_first}
+use Rattle.store.proofs.Maps.{get-set_here}
+use Rattle.store.proofs.Places.{put-shown, sets-is}
+
+same-number : (a b : ℕ) → (a == b) ≡ true → a ≡ b
+same-number a b e = grind (arith, nat_tests, e)
+
+-- where the set is there already, the sets are as if it was put once more
+pub sets-there : (named : Option WindowSetCode) (t : Tables) → IsSetThere named t → (k : ℕ)
+    → get (content_of t).sets k
+    ≡ put_row ◌==◌ (option_map (λ (s : WindowSet). (s.number, s.windows)) (option_map set_of named)) k
+    (get (content_of t).sets k)
+sets-there None t there k = refl
+sets-there (Some s) t there k = go (s.number == k) refl
+  where
+    go : (b : Bool) → (s.number == k) ≡ b → get (content_of t).sets k
+        ≡ (if b then Some (windows_of s.windows) else get (content_of t).sets k)
+    go true e = ap (get (content_of t).sets) (sym (same-number s.number k e)) ∙ there
+    go false e = refl
+
+module _ (t : Tables) (m : BTreeMap ℕ WindowsCode) (number : ℕ) (windows : WindowsCode) where
+  shown : IsSet nat_cmp t.sets m number (Some windows) → content_of (record t { sets = m })
+      ≡ record (content_of t) { sets = set (content_of t).sets number (Some (windows_of windows)) }
+  shown put = put-shown sets sets-is t m number windows put
+
+  pub put-with_set : IsSet nat_cmp t.sets m number (Some windows)
+      → IsPutWithSet (Some (record { number = number; windows = windows })) t (record t { sets = m })
+  put-with_set put c last named was =
+      set_first c (content_of t) (content_of (record t { sets = m })) last number
+      (windows_of windows) (shown put) named was
+
+  pub put-there : IsSet nat_cmp t.sets m number (Some windows)
+      → IsSetThere (Some (record { number = number; windows = windows })) (record t { sets = m })
+  put-there put =
+      ap (λ (c : Content). get c.sets number) (shown put)
+      ∙ get-set_here nat_cmp_total nat_cmp-IsAntisymmetric (content_of t).sets number
+      (Some (windows_of windows))

@@ -1,0 +1,64 @@
+//! A modify: the provider routes a ported number anew.
+ghost use Rattle.std.specs.Prelude.{◌≡◌, ◌&&◌, not, IfOk};
+ghost use Rattle.numbers.specs.Views.{routing_of, subject_of};
+ghost use Rattle.delivery.specs.Refused.{refusal_in};
+ghost use Rattle.meaning.specs.Windows.{Windows};
+ghost use Rattle.meaning.specs.OnVersion.{is_number};
+ghost use Rattle.version.specs.Views.{seen_by, set_of};
+ghost use Rattle.version.specs.Commands.{modifying, own_refusal, Steps};
+
+use crate::{Step, Told, Version};
+use meaning::{Refusal, Send, Status};
+use numbers::{Minute, Routing, Spid, Subject};
+use windows::WindowSet;
+
+// Of a block's version the routing number is not looked at.
+fn is_lrn_bad(version: &Version, is_lrn_good: bool) -> bool
+    ensures { result ≡ (is_number (subject_of version.now.subject) && not is_lrn_good) }
+{
+    matches!(version.subject, Subject::Number(_)) && !is_lrn_good
+}
+
+impl Version {
+    // Its provider routes it anew: it sends a modify, and keeps its routing until that closes.
+    //
+    // Refused with `BadLrn` where the routing number is not its provider's, `NotYours` where the
+    // caller is not its provider, `Busy` beside an open version, `WrongStatus` where it is not
+    // active, and `Full` where no attempt is left.
+    pub(crate) fn modified(
+        &self,
+        caller: Spid,
+        told: Told,
+        routing: Routing,
+        minute: Minute,
+        present: &WindowSet,
+    ) -> Result<Step, Refusal>
+        ensures refusal { (w held : Windows)
+            → refusal_in result
+            ≡ own_refusal w minute.number caller.number told
+            (modifying (routing_of routing)) (subject_of self.now.subject) (seen_by held self.now) }
+        ensures step { IfOk result
+            (Steps (set_of present.now) caller.number minute.number (modifying (routing_of routing))
+            self.now) }
+    {
+        if is_lrn_bad(self, told.is_lrn_good) {
+            return Err(Refusal::BadLrn);
+        }
+        if caller.number != self.new_provider.number {
+            return Err(Refusal::NotYours);
+        }
+        if told.is_another_open {
+            return Err(Refusal::Busy);
+        }
+        if !matches!(self.status, Status::Active) {
+            return Err(Refusal::WrongStatus);
+        }
+        if self.is_sent_too_often() {
+            return Err(Refusal::Full);
+        }
+        Ok(Step {
+            version: self.sending(Send::Modify(routing), minute, present),
+            sends: Some(Send::Modify(routing)),
+        })
+    }
+}

@@ -1,0 +1,22 @@
+# The expiration of conflicts becomes shorter in the minute in which the windows make a conflict: it has the
+# old one.
+after created-for-5000
+
+let shorter windows conflict_expiration=5
+
+BBBB /subscriptionVersionCancel id=1
+     200 far phase=initial since=10 status=cancel-pending
+NPAC /clock minute=130
+     200 now=130
+NPAC /windows shorter
+     200 now=130 set=2
+CCCC /versions/1
+     200 far since=130 status=conflict
+NPAC /clock minute=1129
+     200 now=1129
+CCCC /versions/1
+     200 far since=130 status=conflict
+NPAC /clock minute=1130
+     200 now=1130
+CCCC /versions/1
+     200 far since=1130 status=canceled
