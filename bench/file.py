@@ -9,9 +9,8 @@ import time
 from ports import CARRIERS, PROGRAM, WINDOWS, opening, port
 from queries import number_of, query
 
-MINUTES = [60, 60, 30, 120, 1000, 60, 60, 500, 15]
 VERSION = ("id, subject, old, new, due, lrn, cic, old_at, new_at, status, sends, since, attempt, release, spent, protective, "
-           "cancelled_by, deadline, holds, opens")
+           "cancelled_by, deadline, holds, opens, held")
 BROADCAST = "id, attempt, minute, subject, action, lrn, cic, open, any"
 WAIT = "spid, minute, id, attempt, subject"
 
@@ -28,7 +27,7 @@ def version_row(place, status, sends="none", attempt=0, deadline=None):
     nobody = -2 - place
     kept = (subject, nobody) if status == "active" else (nobody, subject)
     routing = int(f"20244{CARRIERS.index(new)}0000")
-    return (place + 1, subject, old, new, 0, routing, None, 0, 0, status, sends, 0, attempt, None, 0, 0, None, deadline, *kept)
+    return (place + 1, subject, old, new, 0, routing, None, 0, 0, status, sends, 0, attempt, None, 0, 0, None, deadline, *kept, 1)
 
 
 class Peer:
@@ -38,7 +37,6 @@ class Peer:
         self.database = sqlite3.connect(file, isolation_level=None)
         self.database.execute("PRAGMA journal_mode = WAL")
         self.database.execute("PRAGMA synchronous = FULL")
-        self.clock = "SELECT * FROM clock WHERE one = ?"
 
     def ask(self, text, *values):
         return self.database.execute(text, values).fetchall()
@@ -49,35 +47,43 @@ class Peer:
             self.database.execute(text, values)
         self.database.execute("COMMIT")
 
+    def clock(self):
+        """What is read of the clock: its row, and the present set of windows."""
+        self.ask("SELECT one, now, next_id, present FROM clock2 WHERE one = ?", 0)
+        self.ask("SELECT * FROM window_set WHERE number = ?", 1)
+
     def settle(self):
-        self.ask(self.clock, 0)
-        self.ask(f"SELECT {VERSION} FROM version WHERE deadline >= 0 AND deadline <= ? ORDER BY deadline LIMIT 1", 0)
+        self.clock()
+        self.ask(f"SELECT {VERSION} FROM version2 WHERE deadline >= 0 AND deadline <= ? ORDER BY deadline LIMIT 1", 0)
 
     def number(self, subject):
         """What is read of a number and its block."""
         for key in ("holds", "opens"):
-            self.ask(f"SELECT {VERSION} FROM version WHERE {key} = ?", subject)
+            self.ask(f"SELECT {VERSION} FROM version2 WHERE {key} = ?", subject)
         self.ask("SELECT block, donor, last FROM block WHERE block = ?", subject // 1000)
         self.ask("SELECT code, spid FROM code WHERE code = ?", subject // 10_000)
 
     def put_version(self, row):
-        return [("DELETE FROM version WHERE id = ?", row[:1]), (insert("version", VERSION), row)]
+        taken = [(f"DELETE FROM {table} WHERE id = ?", row[:1]) for table in ("version2", "next_routing")]
+        return [*taken, (insert("version2", VERSION), row)]
 
     def create(self, row, is_first):
         self.settle()
-        self.ask(self.clock, 0)
+        self.clock()
         for carrier in row[2:4]:
             self.ask("SELECT spid FROM carrier WHERE spid = ?", carrier)
         self.number(row[1])
         self.ask("SELECT lrn, spid FROM lrn WHERE lrn = ?", row[5])
-        names = "one, now, next_id, " + ", ".join(row[1] for row in self.ask("PRAGMA table_info(clock)")[3:]) if is_first else ""
-        clock = [("DELETE FROM clock WHERE one = 0", ()), (insert("clock", names), (0, 0, row[0] + 1, *MINUTES))] if is_first else []
-        self.commit(*self.put_version(row), *clock)
+        moved = []
+        if is_first:
+            self.clock()
+            moved = [("DELETE FROM clock2 WHERE one = 0", ()), (insert("clock2", "one, now, next_id, present"), (0, 0, row[0] + 1, 1))]
+        self.commit(*self.put_version(row), *moved)
 
     def activate(self, row):
         self.settle()
-        self.ask(f"SELECT {VERSION} FROM version WHERE id = ?", row[0])
-        self.ask(self.clock, 0)
+        self.ask(f"SELECT {VERSION} FROM version2 WHERE id = ?", row[0])
+        self.clock()
         carriers = self.ask("SELECT spid FROM carrier")
         broadcast = (row[0], 1, 0, row[1], "create", row[5], None, 1, 0)
         waits = [(insert("wait", WAIT), (carrier, 0, row[0], 1, row[1])) for (carrier,) in carriers]
@@ -86,7 +92,7 @@ class Peer:
     def acknowledge(self, carrier, row, is_last):
         self.settle()
         self.ask("SELECT spid FROM carrier WHERE spid = ?", carrier)
-        self.ask(f"SELECT {VERSION} FROM version WHERE id = ?", row[0])
+        self.ask(f"SELECT {VERSION} FROM version2 WHERE id = ?", row[0])
         self.ask(f"SELECT {BROADCAST} FROM broadcast WHERE id = ? AND attempt = ?", row[0], 1)
         self.ask(f"SELECT {WAIT} FROM wait WHERE subject = ? AND spid = ?", row[1], carrier)
         self.ask(f"SELECT {WAIT} FROM wait WHERE id = ? AND attempt = ?", row[0], 1)
@@ -193,8 +199,8 @@ def open_large(folder, versions):
     feed(PROGRAM, file, opening())
     database = sqlite3.connect(file)
     database.execute("PRAGMA journal_mode = WAL")
-    database.executemany(insert("version", VERSION), (version_row(place, "active", "none", 1) for place in range(versions)))
-    database.execute("UPDATE clock SET next_id = ?", (versions + 1,))
+    database.executemany(insert("version2", VERSION), (version_row(place, "active", "none", 1) for place in range(versions)))
+    database.execute("UPDATE clock2 SET next_id = ?", (versions + 1,))
     database.commit()
     database.close()
     peak = []

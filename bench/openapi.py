@@ -9,7 +9,7 @@ from serve import free_port, served
 
 # Minutes below this one stand for the machine's present one.
 LATER = 35_000_000
-MINUTES = ("due", "minute", "since")
+MINUTES = ("due", "minute", "now", "since")
 
 
 def examples(document):

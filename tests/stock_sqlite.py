@@ -15,8 +15,8 @@ from ports import PROGRAM, WINDOWS, message
 TN, LRN = "2025331234", "2025440000"
 PARTIES = f'"new":"AAAA","old":"BBBB","tn":"{TN}"'
 
-# A port that was activated at minute 100 and that only its new provider acknowledged; and a block that its donor, who uses one of its
-# numbers, gave to the pool and nobody acknowledged.
+# A port that was activated at minute 100, and whose number is then routed without a carrier's code, which nobody has acknowledged yet;
+# and a block that its donor, who uses one of its numbers, gave to the pool and nobody acknowledged.
 MESSAGES = [
     ("NPAC", "/carriers", '{"spid":"AAAA"}'),
     ("NPAC", "/carriers", '{"spid":"BBBB"}'),
@@ -28,11 +28,17 @@ MESSAGES = [
     ("NPAC", "/clock", '{"minute":100}'),
     ("AAAA", "/subscriptionVersionActivate", '{"id":1}'),
     ("AAAA", "/downloads/acknowledge", '{"attempt":1,"id":1}'),
+    ("BBBB", "/downloads/acknowledge", '{"attempt":1,"id":1}'),
+    ("AAAA", "/subscriptionVersionModify", f'{{"id":1,"lrn":"{LRN}"}}'),
     ("BBBB", "/blocks/donate", '{"block":"2025337","lrn":"2025330000","used":["001"]}'),
 ]
 
-# how many rows each table has then: versions of the port, and of the one number of the block that is in use
-COUNTS = {"carrier": 2, "lrn": 2, "code": 1, "block": 1, "version": 2, "broadcast": 2, "wait": 3, "clock": 1}
+# how many rows each table has then: versions of the port, and of the one number of the block that is in use; the tables of an earlier
+# form have none
+COUNTS = {
+    "carrier": 2, "lrn": 2, "code": 1, "block": 1, "version": 0, "broadcast": 2, "wait": 4, "clock": 0, "next_routing": 1,
+    "window_set": 1, "version2": 2, "clock2": 1,
+}
 
 # one look-up of each table, and what docs/FILES.md tells an operator to ask
 QUERIES = [
@@ -40,14 +46,17 @@ QUERIES = [
     ("SELECT spid FROM lrn WHERE lrn = 2025440000", [("AAAA",)]),
     ("SELECT spid FROM code WHERE code = 202533", [("BBBB",)]),
     ("SELECT donor, last FROM block WHERE block = 2025337", [("BBBB", None)]),
-    ("SELECT old, new, due, lrn, cic, status, sends, since, attempt, opens, holds FROM version WHERE id = 1",
-     [("BBBB", "AAAA", 60, 2025440000, 288, "sending", "create", 100, 1, 2025331234, -2)]),
-    ("SELECT minute, subject, action, lrn, cic, open, any FROM broadcast WHERE id = 1 AND attempt = 1",
-     [(100, 2025331234, "create", 2025440000, 288, 1, 1)]),
-    ("SELECT spid FROM wait WHERE id = 1 ORDER BY spid", [("BBBB",)]),
-    ("SELECT now, next_id FROM clock WHERE one = 0", [(100, 3)]),
-    ("SELECT printf('%010d', lrn), printf('%04d', cic) FROM version WHERE holds = 2025331234", []),
-    ("SELECT minute, id, attempt, subject FROM wait WHERE spid = 'AAAA' ORDER BY minute, id, attempt", [(100, 2, 1, 2025337001)]),
+    ("SELECT old, new, due, lrn, cic, status, sends, since, attempt, opens, holds, held FROM version2 WHERE id = 1",
+     [("BBBB", "AAAA", 60, 2025440000, 288, "sending", "modify", 100, 2, -2, 2025331234, 1)]),
+    ("SELECT lrn, cic FROM next_routing WHERE id = 1", [(2025440000, None)]),
+    ("SELECT minute, subject, action, lrn, cic, open, any FROM broadcast WHERE id = 1 AND attempt = 2",
+     [(100, 2025331234, "modify", 2025440000, None, 1, 0)]),
+    ("SELECT spid FROM wait WHERE id = 1 ORDER BY spid", [("AAAA",), ("BBBB",)]),
+    ("SELECT now, next_id, present FROM clock2 WHERE one = 0", [(100, 3, 1)]),
+    ("SELECT pending_retention, broadcast FROM window_set WHERE number = 1", [(500, 15)]),
+    ("SELECT printf('%010d', lrn), printf('%04d', cic) FROM version2 WHERE holds = 2025331234", [("2025440000", "0288")]),
+    ("SELECT minute, id, attempt, subject FROM wait WHERE spid = 'AAAA' ORDER BY minute, id, attempt",
+     [(100, 1, 2, 2025331234), (100, 2, 1, 2025337001)]),
 ]
 
 # values that are none of each column's type
@@ -56,32 +65,37 @@ SPOILED = {
     "lrn": {"lrn": [-1, 10**10], "spid": ["A"]},
     "code": {"code": [-1, 10**6, 102_533, 202_133], "spid": ["A"]},
     "block": {"block": [-1, 10**7, 1_025_337, 2_021_337], "donor": ["A"], "last": [-1]},
-    "version": {
+    "version2": {
         "id": [-1], "subject": [5], "old": ["A"], "new": ["A"], "due": [-1], "lrn": [10**10], "cic": [10_000, -1], "old_at": [-1],
         "new_at": [-1], "status": ["gone", ""], "sends": ["update"], "since": [-1], "attempt": [-1],
-        "spent": [2], "protective": [2], "deadline": [-1], "holds": [5, -7], "opens": [5, -7],
+        "spent": [2], "protective": [2], "deadline": [-1], "holds": [5, -7], "opens": [5, -7], "held": [0, 1_001],
     },
     "broadcast": {
         "id": [-1], "attempt": [-1], "minute": [-1], "subject": [5], "action": ["none"], "lrn": [10**10], "cic": [10_000], "open": [2],
         "any": [2],
     },
     "wait": {"spid": ["A"], "minute": [-1], "id": [-1], "attempt": [-1], "subject": [5]},
-    "clock": {"one": [-1, 1], "now": [-1], "next_id": [-1]},
+    "next_routing": {"id": [-1], "lrn": [10**10], "cic": [10_000]},
+    "window_set": {"number": [0, 1_001]},
+    "clock2": {"one": [-1, 1], "now": [-1], "next_id": [-1], "present": [0, 1_001]},
 }
 
 # what docs/FILES.md says is not judged: what a version in another status would have
 TAKEN = [
-    ("version", "release", -1),
-    ("version", "cancelled_by", "both"),
+    ("version2", "release", -1),
+    ("version2", "cancelled_by", "both"),
 ]
 
-# other schemas
+# other schemas, and a row in a table of an earlier form
 SCHEMAS = [
     "CREATE TABLE more (one INTEGER PRIMARY KEY) STRICT",
     "ALTER TABLE carrier ADD COLUMN name TEXT",
     "DROP INDEX version_deadline",
-    "CREATE INDEX more ON version (old)",
+    "DROP INDEX version2_deadline",
+    "CREATE INDEX more ON version2 (old)",
     "DROP TABLE wait",
+    "DROP TABLE next_routing",
+    "INSERT INTO clock VALUES (0, 100, 3, 60, 60, 30, 120, 1000, 60, 60, 500, 15)",
 ]
 
 
@@ -123,11 +137,11 @@ def check_rows(file):
 
 
 def windows_of(file):
-    """The columns of the clock that hold windows."""
+    """The columns of a set that hold windows."""
     database = sqlite3.connect(file)
-    names = [row[1] for row in database.execute("PRAGMA table_info(clock)")]
+    names = [row[1] for row in database.execute("PRAGMA table_info(window_set)")]
     database.close()
-    return names[3:]
+    return names[1:]
 
 
 def with_value(file, folder, table, column, value):
@@ -138,7 +152,7 @@ def with_value(file, folder, table, column, value):
 
 def spoiled_values(file):
     windows = {name: [0, 525_601] for name in windows_of(file)}
-    for table, columns in (SPOILED | {"clock": SPOILED["clock"] | windows}).items():
+    for table, columns in (SPOILED | {"window_set": SPOILED["window_set"] | windows}).items():
         for column, values in columns.items():
             yield from ((table, column, value) for value in values)
 
