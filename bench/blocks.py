@@ -3,12 +3,10 @@
 Each block takes the next 101 ids: one for each line in use, by rising number, and one for the block itself. Everything comes in
 minute 0, so that no window ends.
 """
-import os
 import sys
-import tempfile
 
-from lives import run
 from ports import CARRIERS, message
+from told import answer, compare
 
 BLOCKS_OF_A_CODE = 10
 CODES_OF_AN_AREA = 800
@@ -18,10 +16,6 @@ QUERIED = 10
 
 def lrn_of(carrier):
     return f"20244{CARRIERS.index(carrier)}0000"
-
-
-def answer(body):
-    return f"HTTP/1.1 200 OK\r\ncontent-type: application/json\r\ncontent-length: {len(body)}\r\n\r\n{body}"
 
 
 class Block:
@@ -95,41 +89,5 @@ def asked_and_told(count):
         yield from Block(place).queried()
 
 
-def write_stream(path, count):
-    messages = 0
-    with open(path, "w", newline="") as stream:
-        for asked, _ in asked_and_told(count):
-            stream.write(asked)
-            messages += 1
-    return messages
-
-
-def check(path, count):
-    """Every answer is the one that is wanted, and no more comes."""
-    with open(path, "rb") as out:
-        for asked, told in asked_and_told(count):
-            wanted = told.encode()
-            heard = out.read(len(wanted))
-            if heard != wanted:
-                sys.exit(f"{asked}\nwanted {wanted}\nheard  {heard}")
-        if out.read(1):
-            sys.exit("more was answered than was asked")
-
-
-def main():
-    count = int(sys.argv[1])
-    times = []
-    with tempfile.TemporaryDirectory() as folder:
-        stream, answers = os.path.join(folder, "stream"), os.path.join(folder, "answers")
-        for blocks in (count, 10 * count):
-            messages = write_stream(stream, blocks)
-            processor, wall, peak = min(run(stream, answers) for _ in range(3))
-            check(answers, blocks)
-            times.append(processor / messages)
-            print(f"{blocks} blocks, {messages} messages: {messages / processor:,.0f} messages/s of processor time, "
-                  f"{messages / wall:,.0f} messages/s on the clock, peak {peak / 1024:.1f} MiB")
-    print(f"time for each, with ten times as many: {times[1] / times[0]:.2f} times")
-
-
 if __name__ == "__main__":
-    main()
+    compare(int(sys.argv[1]), 10, "blocks", asked_and_told)

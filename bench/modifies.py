@@ -4,13 +4,11 @@ They come in rounds, at most so many as there can be sets of windows. Each round
 their routings; then the clock goes to the end of the broadcasts' window, and the numbers are looked at and queried.
 """
 import json
-import os
 import sys
-import tempfile
 
-from blocks import answer, lrn_of
-from lives import run
+from blocks import lrn_of
 from ports import CARRIERS, message
+from told import answer, compare
 
 MOST_ROUNDS = 900
 MINUTES = {
@@ -113,41 +111,5 @@ def asked_and_told(count):
             yield from number.closed(minute)
 
 
-def write_stream(path, count):
-    messages = 0
-    with open(path, "w", newline="") as stream:
-        for asked, _ in asked_and_told(count):
-            stream.write(asked)
-            messages += 1
-    return messages
-
-
-def check(path, count):
-    """Every answer is the one that is wanted, and no more comes."""
-    with open(path, "rb") as out:
-        for asked, told in asked_and_told(count):
-            wanted = told.encode()
-            heard = out.read(len(wanted))
-            if heard != wanted:
-                sys.exit(f"{asked}\nwanted {wanted}\nheard  {heard}")
-        if out.read(1):
-            sys.exit("more was answered than was asked")
-
-
-def main():
-    count = int(sys.argv[1])
-    times = []
-    with tempfile.TemporaryDirectory() as folder:
-        stream, answers = os.path.join(folder, "stream"), os.path.join(folder, "answers")
-        for numbers in (count, 4 * count):
-            messages = write_stream(stream, numbers)
-            processor, wall, peak = min(run(stream, answers) for _ in range(3))
-            check(answers, numbers)
-            times.append(processor / messages)
-            print(f"{numbers} numbers, {messages} messages: {messages / processor:,.0f} messages/s of processor time, "
-                  f"{messages / wall:,.0f} messages/s on the clock, peak {peak / 1024:.1f} MiB")
-    print(f"time for each, with four times as many: {times[1] / times[0]:.2f} times")
-
-
 if __name__ == "__main__":
-    main()
+    compare(int(sys.argv[1]), 4, "numbers", asked_and_told)
