@@ -11,7 +11,7 @@ checksum, so that the gate pays for what changed alone.
 
 An edit is a file crates/NAME/wrong-bodies/*.edit, of the form of must-fail edits: a line 'file: src/lib.rt', then pairs of lines
 'old: TEXT' and 'new: TEXT', each TEXT once in that file, all in one function. An edit whose name begins with 'harmless' changes no
-meaning and has to be proved: it shows that a harmless change is not counted as refused.
+meaning but takes a goal's name away, so that it is not proved either: it shows that such a change is not counted as refused.
 """
 import functools
 import hashlib
