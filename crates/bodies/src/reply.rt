@@ -108,7 +108,7 @@ fn status_text(status: Status) -> &'static str
         Status::Pending => "pending",
         Status::Conflict => "conflict",
         Status::CancelPending(_) => "cancel-pending",
-        Status::Sending(_) => "sending",
+        Status::SendingCreate | Status::SendingDelete | Status::SendingModify { .. } => "sending",
         Status::Active => "active",
         Status::PartialFailure => "partial-failure",
         Status::Failed => "failed",

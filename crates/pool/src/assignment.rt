@@ -7,7 +7,7 @@ ghost use Rattle.pool.specs.Facts.{carrier_number};
 ghost use Rattle.pool.specs.Assignments.{assignment_refusal, IsAssigned};
 
 use crate::facts::BlockFacts;
-use meaning::{Refusal, Send, Status};
+use meaning::{Refusal, Status};
 use numbers::{BlockId, Minute, Routing, Spid, Subject};
 use version::{ID_LIMIT, Version};
 use windows::WindowSet;
@@ -29,7 +29,11 @@ fn is_taken(last: &Option<Version>) -> bool
     match last {
         Some(version) => matches!(
             version.status,
-            Status::Sending(_) | Status::Active | Status::PartialFailure
+            Status::SendingCreate
+                | Status::SendingDelete
+                | Status::SendingModify { .. }
+                | Status::Active
+                | Status::PartialFailure
         ),
         None => false,
     }
@@ -49,7 +53,7 @@ impl Assignment {
             routing: Some(self.routing),
             old_at: None,
             new_at: None,
-            status: Status::Sending(Send::Create),
+            status: Status::SendingCreate,
             since: minute,
             held: present.number,
             attempt: 1,

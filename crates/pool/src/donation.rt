@@ -11,7 +11,7 @@ ghost use Rattle.version.specs.Views.{set_of};
 ghost use Rattle.pool.specs.Donations.{donation_refusal, donor_tests, is_contaminated, is_named, is_unnamed, is_unprotected, numbers_in, tests_by, tn_subject, used_by, AreProtective, IsPlanned, IsProtective};
 
 use crate::facts::BlockFacts;
-use meaning::{Refusal, Send, Status};
+use meaning::{Refusal, Status};
 use numbers::{BlockId, Line, Minute, Routing, Spid, Subject, Tn};
 use std::alloc::{AllocError, Global};
 use std::collections::BTreeSet;
@@ -156,7 +156,7 @@ impl Donation<'_> {
             routing: Some(self.routing),
             old_at: None,
             new_at: None,
-            status: Status::Sending(Send::Create),
+            status: Status::SendingCreate,
             since: minute,
             held: present.number,
             attempt: 1,

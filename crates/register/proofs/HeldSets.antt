@@ -1,27 +1,19 @@
 -- The sets of windows of a settled state: what is read of a version's set is what the version
 -- holds.
 use Rattle.std.proofs.Common.{◌≡◌, ℕ, Bool, true, false, List, [], ◌∷◌, Option, Some, None, refl, ap, sym, ◌∙◌, subst, arith}
-use Rattle.std.specs.Prelude.{◌+◌, ◌==◌, not, nat_lt, option_map, if◌then◌else◌}
+use Rattle.std.specs.Prelude.{◌+◌, ◌==◌, option_map, if◌then◌else◌}
 use Rattle.std.specs.FinMap.{get}
 use Rattle.std.proofs.lemmas.Bool.Decides.{nat_tests}
 use Rattle.numbers.specs.Subjects.{Subject}
-use Rattle.meaning.specs.Commands.{VersionCommand, Activate, PutInConflict, RemoveFromConflict, Cancel, OldProviderCancellationAcknowledge, NewProviderCancellationAcknowledge, Disconnect, ModifyRouting}
-use Rattle.meaning.specs.Conditions.{can_cancel}
 use Rattle.meaning.specs.Content.{Content, ClockRow, ClockShows, Represents, VersionRow, row_of, stored_set}
-use Rattle.meaning.specs.History.{Entry, cancelled_by, change_of, has_both_creates, present_set, set_added, set_named, set_of_number, side_of, windows_named}
-use Rattle.meaning.specs.Changes.{enters, sent}
+use Rattle.meaning.specs.History.{Entry, present_set, set_added, set_named, set_of_number, windows_named}
 use Rattle.meaning.specs.Machine.{IsHistory}
-use Rattle.meaning.specs.OnVersion.{is_number, version_tests}
 use Rattle.meaning.specs.Reading.{State, record_now, set_now}
-use Rattle.meaning.specs.Statuses.{Delete, Status, Pending, Conflict, CancelPending, Sending, Active, PartialFailure, Failed, DisconnectPending, Old, Canceled}
 use Rattle.meaning.specs.Versions.{Version, version_with}
 use Rattle.meaning.specs.Windows.{Windows, WindowSet, AreWindows, first_set}
-use Rattle.meaning.proofs.Accepted.{none_holds}
 use Rattle.meaning.proofs.Ids.{same_id}
 use Rattle.meaning.proofs.Sets.{IsSetOf, held-is, present-are, present-is}
 use Rattle.meaning.proofs.Shown.{some_is}
-use Rattle.version.specs.declared.command.Told.{Told}
-use Rattle.version.specs.Commands.{version_refusal}
 use Rattle.register.specs.Answers.{Stands}
 use Rattle.register.specs.Looking.{AreHeld, HasHeldSet, HasSet}
 use Rattle.register.proofs.Settled.{IdSettled, row_now}
@@ -133,53 +125,3 @@ has_held_set st c id stands settled = record {
       (has_set st c clock stands.represents is found.0.held
       (held-is st stands.represents.history row.subject id found.0 found.1));
 }
-
--- ---- an accepted command
-
-before_sending-holds : (w : WindowSet) (caller now : ℕ) (v : Version) (b : Bool) →
-    (if b then enters w (CancelPending (side_of caller v.old_provider)) now v else enters w Canceled
-    now v).held ≡ w
-before_sending-holds w caller now v true = refl
-before_sending-holds w caller now v false = refl
-
-cancelled-holds : (w : WindowSet) (caller now : ℕ) (v : Version) (status : Status) →
-    not (can_cancel status) ≡ false →
-    (cancelled_by w status caller now v).held ≡ w
-cancelled-holds w caller now v Pending may = before_sending-holds w caller now v
-    (has_both_creates v.old_at v.new_at)
-cancelled-holds w caller now v Conflict may =
-    before_sending-holds w caller now v (has_both_creates v.old_at v.new_at)
-cancelled-holds w caller now v Failed may = refl
-cancelled-holds w caller now v (DisconnectPending release) may = refl
-cancelled-holds w caller now v (CancelPending by) may = cc
-cancelled-holds w caller now v (Sending action) may = cc
-cancelled-holds w caller now v Active may = cc
-cancelled-holds w caller now v PartialFailure may = cc
-cancelled-holds w caller now v Old may = cc
-cancelled-holds w caller now v Canceled may = cc
-
-disconnect-holds : (w : WindowSet) (now release : ℕ) (everyone : List ℕ) (v : Version) (b : Bool) →
-    (if b then enters w (DisconnectPending release) now v else sent w Delete everyone now v).held
-    ≡ w
-disconnect-holds w now release everyone v true = refl
-disconnect-holds w now release everyone v false = refl
-
--- what it makes of its version holds the present set
-pub change_holds : (present : WindowSet) (w : Windows) (now caller : ℕ) (everyone : List ℕ)
-    (told : Told) (c : VersionCommand) (s : Subject) (v : Version) →
-    version_refusal w now caller told c s v ≡ None →
-    (change_of present caller now everyone c v).held ≡ present
-change_holds present w now caller everyone told Activate s v none = refl
-change_holds present w now caller everyone told PutInConflict s v none = refl
-change_holds present w now caller everyone told RemoveFromConflict s v none = refl
-change_holds present w now caller everyone told Cancel s v none =
-    let h = none_holds ((10, not (is_number s)) ∷ version_tests w now caller
-    (λ t. told.is_another_open) (λ lrn carrier. told.is_lrn_good) Cancel
-    (Some (record { subject = s; version = v }))) none in
-    cancelled-holds present caller now v v.status h.1.1.0
-change_holds present w now caller everyone told OldProviderCancellationAcknowledge s v none = refl
-change_holds present w now caller everyone told NewProviderCancellationAcknowledge s v none = refl
-change_holds present w now caller everyone told (Disconnect None) s v none = refl
-change_holds present w now caller everyone told (Disconnect (Some release)) s v none =
-    disconnect-holds present now release everyone v (nat_lt now release)
-change_holds present w now caller everyone told (ModifyRouting lrn cic) s v none = refl

@@ -24,7 +24,7 @@ use meaning::{Refusal, Send};
 use numbers::{BlockId, Spid};
 use pool::{Assignment, Donation};
 use settle::{
-    BlockRow, Changes, ClockMove, ClockRow, Store, StoreFault, begin_sending_each, step_changes,
+    BlockRow, Changes, ClockMove, ClockRow, Store, StoreFault, begin_sending_each, put_step,
 };
 use std::alloc::{AllocError, Global};
 use version::Version;
@@ -44,17 +44,19 @@ fn past_ids(clock: &ClockRow, made: &[(u64, Version)]) -> ClockMove
     }
 }
 
-// The rows of versions that begin to send as they are made, the block's row, and the clock's with
-// the ids that they take.
-fn made_changes<S: Store>(
+// Puts the rows of versions that begin to send as they are made, the block's row, and the clock's
+// with the ids that they take.
+fn put_made<S: Store>(
     alloc: Global,
     store: &mut S,
+    changes: &mut Changes,
     made: &[(u64, Version)],
     block: (BlockId, BlockRow),
     clock: &ClockRow,
-) -> Result<Changes, StoreFault>
+) -> Result<(), StoreFault>
+    requires { changes_of changes.old ≡ no_changes }
     ensures value { S.IsUsable store.new → clock.now.next_id + length made.now ≤ limit
-        → IfOk result (λ changes. changes_of changes ≡ pooling
+        → OnOk result (changes_of changes.new ≡ pooling
         (sending_each clock.now.minute.number Create
         (map (begun_of (windows_of clock.now.present.windows)) made.now)
         (keys (S.content store.old).carriers))
@@ -67,20 +69,19 @@ fn made_changes<S: Store>(
         (IsAnswer result) (result ≡ Err StoreFault.Storage) }
 {
     let everyone = store.carriers()?;
-    let minute = clock.minute;
-    let sent = begin_sending_each(
+    let windows = &clock.present.windows;
+    begin_sending_each(
         alloc,
+        changes,
         made,
         Send::Create,
-        minute,
-        &clock.present.windows,
+        clock.minute,
+        windows,
         &everyone,
     )?;
-    Ok(Changes {
-        block: Some(block),
-        clock: Some(past_ids(clock, made)),
-        ..sent
-    })
+    changes.block = Some(block);
+    changes.clock = Some(past_ids(clock, made));
+    Ok(())
 }
 
 // The ids of versions.
@@ -133,7 +134,14 @@ pub fn donate<S: Store>(
         donor: caller,
         last: None,
     };
-    *changes = made_changes(alloc, store, &plan.versions, (donation.block, row), clock)?;
+    put_made(
+        alloc,
+        store,
+        changes,
+        &plan.versions,
+        (donation.block, row),
+        clock,
+    )?;
     Ok(Reply::Donated {
         block: donation.block,
         ids,
@@ -170,9 +178,10 @@ pub fn assign<S: Store>(
         donor: version.old_provider,
         last: Some(id),
     };
-    *changes = made_changes(
+    put_made(
         alloc,
         store,
+        changes,
         &[(id, version)],
         (assignment.block, row),
         clock,
@@ -208,6 +217,6 @@ pub fn release<S: Store>(
     let Some((id, _)) = last else {
         unreachable!();
     };
-    *changes = step_changes(alloc, store, id, &step, clock)?;
+    put_step(store, changes, id, &step, clock)?;
     Ok(Reply::Shown(VersionView::of(id, &step.version, clock.minute, &clock.present.windows)))
 }

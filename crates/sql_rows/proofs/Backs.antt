@@ -20,7 +20,6 @@ use Rattle.numbers.specs.declared.block_id.BlockId.{BlockId}
 use Rattle.meaning.specs.declared.words.Status.{Status as StatusCode}
 use Rattle.meaning.specs.declared.words.Status.TheVariants as code
 use Rattle.numbers.specs.Routings.{Routing}
-use Rattle.meaning.specs.declared.words.Send.TheVariants.{Create as CreateCode, Delete as DeleteCode, Modify as ModifyCode}
 use Rattle.meaning.specs.declared.words.Action.TheVariants.{Create, Delete, Modify}
 use Rattle.sql_rows.specs.Versions.{bare, bare_status, is_routed_while_modified}
 use Rattle.meaning.specs.declared.words.Side.TheVariants.{OldProvider, NewProvider}
@@ -112,10 +111,10 @@ status_back own code.Pending fits = refl
 status_back own code.Conflict fits = refl
 status_back own (code.CancelPending OldProvider) fits = refl
 status_back own (code.CancelPending NewProvider) fits = refl
-status_back own (code.Sending CreateCode) fits = refl
-status_back own (code.Sending DeleteCode) fits = refl
-status_back (Some own) (code.Sending (ModifyCode put)) fits = refl
-status_back None (code.Sending (ModifyCode put)) fits = cc
+status_back own code.SendingCreate fits = refl
+status_back own code.SendingDelete fits = refl
+status_back (Some own) (code.SendingModify cic lrn) fits = refl
+status_back None (code.SendingModify cic lrn) fits = cc
 status_back own code.Active fits = refl
 status_back own code.PartialFailure fits = refl
 status_back own code.Failed fits = refl

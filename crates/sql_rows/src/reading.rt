@@ -266,7 +266,7 @@ pub fn status_at(
         return Some(Status::CancelPending(side_at(row, by)?));
     }
     if is_word(row, at, b"sending") {
-        return Some(Status::Sending(send_at(row, sends, own)?));
+        return Some(Status::from(send_at(row, sends, own)?));
     }
     if is_word(row, at, b"active") {
         return Some(Status::Active);

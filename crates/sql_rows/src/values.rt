@@ -145,7 +145,9 @@ pub fn status(status: Status) -> ValueRef<'static>
         Status::Pending => ValueRef::Text(b"pending"),
         Status::Conflict => ValueRef::Text(b"conflict"),
         Status::CancelPending(_) => ValueRef::Text(b"cancel-pending"),
-        Status::Sending(_) => ValueRef::Text(b"sending"),
+        Status::SendingCreate | Status::SendingDelete | Status::SendingModify { .. } => {
+            ValueRef::Text(b"sending")
+        }
         Status::Active => ValueRef::Text(b"active"),
         Status::PartialFailure => ValueRef::Text(b"partial-failure"),
         Status::Failed => ValueRef::Text(b"failed"),
@@ -168,9 +170,9 @@ pub fn action(action: Action) -> ValueRef<'static>
 pub fn sends(status: Status) -> ValueRef<'static>
     ensures { owned result ≡ Text (sends_word (status_of status)) }
 {
-    match status {
-        Status::Sending(send) => action(send.action()),
-        _ => ValueRef::Text(b"none"),
+    match status.sends() {
+        Some(send) => action(send.action()),
+        None => ValueRef::Text(b"none"),
     }
 }
 

@@ -16,7 +16,7 @@ use crate::values::{
     cancelled_by, cic, found, lrn, minute, minute_or_null, number, release, sends, status, subject,
     truth,
 };
-use meaning::{Send, Status};
+use meaning::Status;
 use settle::{NumberedRow, VersionRow};
 use sqlite::Row;
 use sqlite::types::ValueRef;
@@ -101,7 +101,7 @@ fn is_routed_while_modified(version: &Version) -> bool
         (status_of version.now.status) }
 {
     match version.status {
-        Status::Sending(Send::Modify(_)) => version.routing.is_some(),
+        Status::SendingModify { .. } => version.routing.is_some(),
         _ => true,
     }
 }

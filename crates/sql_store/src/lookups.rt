@@ -197,7 +197,7 @@ fn next_routing<S: Alter>(conn: &mut Connection<S>, id: u64) -> Result<Option<Ro
 fn is_modified(status: Status) -> bool
     ensures { result ≡ is_some (next_of (status_of status)) }
 {
-    matches!(status, Status::Sending(Send::Modify(_)))
+    matches!(status, Status::SendingModify { .. })
 }
 
 fn modified_to(row: &VersionRow, routing: Routing) -> VersionRow
@@ -205,7 +205,7 @@ fn modified_to(row: &VersionRow, routing: Routing) -> VersionRow
 {
     VersionRow {
         version: Version {
-            status: Status::Sending(Send::Modify(routing)),
+            status: Status::from(Send::Modify(routing)),
             ..row.version
         },
         deadline: row.deadline,

@@ -12,7 +12,7 @@ ghost use Rattle.sql_store.specs.Changes.{with_carrier, with_lrn, with_code, wit
 
 use crate::change::{replace, take};
 use delivery::Broadcast;
-use meaning::{Send, Status};
+use meaning::Status;
 use numbers::{BlockId, CodeId, Lrn, Routing, Spid, Subject};
 use settle::{BlockRow, BroadcastKey, VersionRow, WaitKey};
 use sql_rows::{
@@ -158,7 +158,7 @@ fn put_next<S: Alter>(tx: &mut Transaction<'_, S>, id: u64, status: Status) -> R
         (is_ok result) (IsNextPut id (next_of (status_of status))) }
 {
     match status {
-        Status::Sending(Send::Modify(routing)) => put_routing(tx, id, routing),
+        Status::SendingModify { cic, lrn } => put_routing(tx, id, Routing { lrn, cic }),
         _ => take_routing(tx, id),
     }
 }

@@ -5,7 +5,7 @@
 use crate::commands::{create_of, does, routing};
 use crate::port::{FIRST_PORT, Texts, asked, is_served, new_register};
 use calls::{Command, Reply};
-use meaning::{Send, Status};
+use meaning::Status;
 use numbers::{Minute, Spid};
 use register::Register;
 use std::alloc::{AllocError, Global};
@@ -70,7 +70,7 @@ fn acknowledges_all(register: &mut Desk, caller: Spid) -> Option<u64> {
         let Reply::Shown(view) = register.acknowledge(caller, id, 1).ok()? else {
             return None;
         };
-        if view.version.status == Status::Sending(Send::Create) {
+        if view.version.status == Status::SendingCreate {
             sending = sending.saturating_add(1);
         }
     }

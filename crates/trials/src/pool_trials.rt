@@ -130,7 +130,7 @@ fn protective(tn: Tn, routing: Routing) -> Option<Version> {
         routing: Some(routing),
         old_at: None,
         new_at: None,
-        status: Status::Sending(Send::Create),
+        status: Status::SendingCreate,
         since: minute,
         held: 2,
         attempt: 1,
@@ -377,7 +377,7 @@ fn assigned() -> Option<Version> {
         routing: Some(routing()?),
         old_at: None,
         new_at: None,
-        status: Status::Sending(Send::Create),
+        status: Status::SendingCreate,
         since: minute,
         held: 2,
         attempt: 1,
@@ -400,8 +400,8 @@ fn lasts() -> [(Status, bool); 6] {
     [
         (Status::Failed, false),
         (Status::Old, false),
-        (Status::Sending(Send::Create), true),
-        (Status::Sending(Send::Delete), true),
+        (Status::SendingCreate, true),
+        (Status::SendingDelete, true),
         (Status::Active, true),
         (Status::PartialFailure, true),
     ]
@@ -541,7 +541,7 @@ fn is_released(caller: &str, attempt: u64) -> Option<bool> {
         ..active()?
     };
     let version = Version {
-        status: Status::Sending(Send::Delete),
+        status: Status::SendingDelete,
         since: Minute::new(800)?,
         held: 2,
         attempt,

@@ -31,7 +31,7 @@ fn sent(number: &str, attempt: u64) -> Option<Version> {
         routing: Some(routing()?),
         old_at: None,
         new_at: None,
-        status: Status::Sending(Send::Create),
+        status: Status::SendingCreate,
         since: minute,
         held: 1,
         attempt,
@@ -46,15 +46,21 @@ fn versions() -> Option<[(u64, Version); 2]> {
 }
 
 fn begun(alloc: Global, versions: &[(u64, Version)]) -> Option<Changes> {
+    let everyone = [Spid::read("AAAA")?, Spid::read("BBBB")?];
+    let minute = Minute::new(700)?;
+    let mut changes = Changes::none(alloc);
+    let create = Send::Create;
     begin_sending_each(
         alloc,
+        &mut changes,
         versions,
-        Send::Create,
-        Minute::new(700)?,
+        create,
+        minute,
         &WINDOWS,
-        &[Spid::read("AAAA")?, Spid::read("BBBB")?],
+        &everyone,
     )
-    .ok()
+    .ok()?;
+    Some(changes)
 }
 
 // Whether each has its row: open, not in force, and over at 715.

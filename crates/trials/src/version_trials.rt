@@ -154,10 +154,10 @@ fn ended() -> [Ended; 8] {
             false,
             Status::Canceled,
         ),
-        (Status::Sending(Send::Create), true, Status::PartialFailure),
-        (Status::Sending(Send::Create), false, Status::Failed),
-        (Status::Sending(Send::Delete), true, Status::Old),
-        (Status::Sending(Send::Delete), false, Status::Active),
+        (Status::SendingCreate, true, Status::PartialFailure),
+        (Status::SendingCreate, false, Status::Failed),
+        (Status::SendingDelete, true, Status::Old),
+        (Status::SendingDelete, false, Status::Active),
     ]
 }
 

@@ -5,7 +5,7 @@ use Rattle.std.specs.List.{list_any, AllByRecursion}
 use Rattle.numbers.specs.Subjects.{Subject, Number, Block}
 use Rattle.numbers.specs.Routings.{Routing}
 use Rattle.meaning.specs.Statuses.{Send}
-use Rattle.meaning.specs.Statuses.{Create, Delete, Modify}
+use Rattle.meaning.specs.Statuses.{Create, Delete}
 use Rattle.meaning.specs.declared.words.Outcome.{Outcome}
 use Rattle.meaning.specs.declared.words.Outcome.TheVariants.{Open, SomeAcknowledged, NoneAcknowledged}
 use Rattle.meaning.specs.declared.words.Side.TheVariants.{OldProvider, NewProvider}

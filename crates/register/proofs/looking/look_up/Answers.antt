@@ -5,7 +5,7 @@ use Rattle.meaning.specs.Content.{Content, VersionRow}
 use Rattle.settle.proofs.Risen.{risen-since}
 use Rattle.settle.specs.Views.{clock_row_of}
 use Rattle.register.specs.Looking.{HasSet}
-use Rattle.register.proofs.Unfailing.{storage_by}
+use Rattle.settle.proofs.Faults.{storage_by}
 use Rattle.register.proofs.looking.look_up.Goals as goal
 
 -- the set of the row is there, so that none is said only where the device failed

@@ -11,8 +11,8 @@ use Rattle.calls.specs.Calls.{reply_of, view_of}
 use Rattle.register.proofs.Assigned.{answers_assigned, answers_assignment_refused, assignment_never}
 use Rattle.register.proofs.BlockCalled.{answers_unfound, has_found, holder_unknown}
 use Rattle.register.proofs.Deciding.{decides_err, decides_fault, decides_replied}
-use Rattle.register.proofs.ReadOn.{reads_fault, reads_on, reads_refused}
-use Rattle.register.proofs.Unfailing.{same_refusal}
+use Rattle.settle.proofs.ReadOn.{reads_fault, reads_on, reads_refused}
+use Rattle.settle.proofs.Faults.{same_refusal}
 use Rattle.register.proofs.pooling.assign.Goals as goal
 
 pub returns-in_err-found-clause-decides : goal.returns-in_err-found-clause-decides
@@ -62,7 +62,7 @@ pub returns-clause-decides : goal.returns-clause-decides
 returns-clause-decides g c = λ usable.
     let old = g.S.Store.content c.args.store.now in
     let a = c.args.assignment.now in
-    let at_lrn = c.in_ok-changes.ensures.reads.same usable in
+    let at_lrn = c.in_ok-put_made.ensures.reads.same usable in
     let at_found = c.in_ok-is_lrn_good.ensures.reads.same at_lrn.0 in
     let at_carrier = c.in_ok-found.ensures.reads.same at_found.0 in
     let at_start = c.in_ok-is_known.ensures.reads.same at_carrier.0 in
@@ -83,7 +83,7 @@ returns-clause-decides g c = λ usable.
           c.in_ok-version.ensures.refusal c.in_ok-version.ensures.made
           (ap (λ (k : Content). keys k.carriers) (at_found.1 ∙ at_carrier.1 ∙ at_start.1))
           c.of.ensures
-          (λ room. subst (λ d. IsChanged d old m) (c.in_ok-changes.ensures.value usable room)
+          (λ room. subst (λ d. IsChanged d old m) (c.in_ok-put_made.ensures.value usable room)
           changed);
     }
 
@@ -91,9 +91,9 @@ pub returns-in_err-is_lrn_good-clause-decides : goal.returns-in_err-is_lrn_good-
 returns-in_err-is_lrn_good-clause-decides g c = λ usable. decides_fault _ _ _
     c.from_residual-in_err-is_lrn_good.result c.in_err-is_lrn_good.field-0.0 (search rules)
 
-pub returns-in_err-changes-clause-decides : goal.returns-in_err-changes-clause-decides
-returns-in_err-changes-clause-decides g c = λ usable. decides_fault _ _ _
-    c.from_residual-in_err-changes.result c.in_err-changes.field-0.0 (search rules)
+pub returns-in_err-put_made-clause-decides : goal.returns-in_err-put_made-clause-decides
+returns-in_err-put_made-clause-decides g c = λ usable. decides_fault _ _ _
+    c.from_residual-in_err-put_made.result c.in_err-put_made.field-0.0 (search rules)
 
 pub returns-in_err-is_lrn_good-clause-reads : goal.returns-in_err-is_lrn_good-clause-reads
 returns-in_err-is_lrn_good-clause-reads g c =
@@ -101,8 +101,8 @@ returns-in_err-is_lrn_good-clause-reads g c =
     c.in_err-is_lrn_good.ensures.reads c.from_residual-in_err-is_lrn_good.result
     c.in_err-is_lrn_good.field-0.0 (search rules) (ap Err)
 
-pub returns-in_err-changes-clause-reads : goal.returns-in_err-changes-clause-reads
-returns-in_err-changes-clause-reads g c =
+pub returns-in_err-put_made-clause-reads : goal.returns-in_err-put_made-clause-reads
+returns-in_err-put_made-clause-reads g c =
     reads_fault (reads_on (reads_on c.in_ok-is_known.ensures.reads tt c.in_ok-found.ensures.reads
-    tt) tt c.in_ok-is_lrn_good.ensures.reads tt) tt c.in_err-changes.ensures.reads
-    c.from_residual-in_err-changes.result c.in_err-changes.field-0.0 (search rules) (ap Err)
+    tt) tt c.in_ok-is_lrn_good.ensures.reads tt) tt c.in_err-put_made.ensures.reads
+    c.from_residual-in_err-put_made.result c.in_err-put_made.field-0.0 (search rules) (ap Err)

@@ -57,7 +57,7 @@ pub returns-clause-decides : goal.returns-clause-decides
 returns-clause-decides g c = λ usable.
     let old = g.S.Store.content c.args.store.now in
     let d = c.args.donation.now in
-    let at_lrn = c.in_ok-changes.ensures.reads.same usable in
+    let at_lrn = c.in_ok-put_made.ensures.reads.same usable in
     let at_found = c.in_ok-is_lrn_good.ensures.reads.same at_lrn.0 in
     let at_carrier = c.in_ok-found.ensures.reads.same at_found.0 in
     let at_start = c.in_ok-is_known.ensures.reads.same at_carrier.0 in
@@ -72,12 +72,12 @@ returns-clause-decides g c = λ usable.
     (c.in_ok-is_lrn_good.ensures.value at_lrn.0 ∙ ap (λ (m : Content). is_the c.args.caller.number
     (get m.lrns d.routing.lrn.number)) (at_carrier.1 ∙ at_start.1))
     c.facts-facts.ensures in
-    let made = subst (λ es. clock.next_id + length es ≤ limit → changes_of c.in_ok-changes.field-0
+    let made = subst (λ es. clock.next_id + length es ≤ limit → changes_of c.put_made.new.changes
     ≡ pooling (sending_each clock.minute.number Create
     (map (begun_of (windows_of clock.present.windows)) es) everyone)
     (donated_row d.block.number c.args.caller.number)
     (record { minute = clock.minute.number; next_id = clock.next_id + length es }))
-    c.deref-2.ensures.value (c.in_ok-changes.ensures.value usable) in
+    c.deref-2.ensures.value (c.in_ok-put_made.ensures.value usable) in
     record {
       refused = tt;
       accepted = λ m changed. answers_donated old m c.args.caller.number d _ _ _ has
@@ -88,9 +88,9 @@ returns-clause-decides g c = λ usable.
           (λ room. subst (λ x. IsChanged x old m) (made room) changed);
     }
 
-pub returns-in_err-changes-clause-decides : goal.returns-in_err-changes-clause-decides
-returns-in_err-changes-clause-decides g c = λ usable. decides_fault _ _ _
-    c.from_residual-in_err-changes.result c.in_err-changes.field-0.0 (search rules)
+pub returns-in_err-put_made-clause-decides : goal.returns-in_err-put_made-clause-decides
+returns-in_err-put_made-clause-decides g c = λ usable. decides_fault _ _ _
+    c.from_residual-in_err-put_made.result c.in_err-put_made.field-0.0 (search rules)
 
 pub returns-in_err-is_lrn_good-clause-decides : goal.returns-in_err-is_lrn_good-clause-decides
 returns-in_err-is_lrn_good-clause-decides g c = λ usable. decides_fault _ _ _

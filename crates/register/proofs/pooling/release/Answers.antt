@@ -12,9 +12,9 @@ use Rattle.settle.specs.Views.{clock_row_of}
 use Rattle.calls.specs.Calls.{reply_of, view_of}
 use Rattle.register.proofs.BlockCalled.{answers_unfound, has_found, releaser_unknown}
 use Rattle.register.proofs.Deciding.{decides_err, decides_fault, decides_replied}
-use Rattle.register.proofs.ReadOn.{reads_fault, reads_on, reads_refused}
+use Rattle.settle.proofs.ReadOn.{reads_fault, reads_on, reads_refused}
 use Rattle.register.proofs.Released.{answers_release_refused, answers_released, release_never}
-use Rattle.register.proofs.Unfailing.{same_refusal}
+use Rattle.settle.proofs.Faults.{same_refusal}
 use Rattle.register.proofs.pooling.release.Goals as goal
 
 pub returns-in_err-found-clause-decides : goal.returns-in_err-found-clause-decides
@@ -55,7 +55,7 @@ returns-in_err-step-clause-reads g c =
 pub returns-clause-decides : goal.returns-clause-decides
 returns-clause-decides g c = λ usable.
     let old = g.S.Store.content c.args.store.now in
-    let at_found = c.in_ok-changes.ensures.reads.same usable in
+    let at_found = c.in_ok-put_step.ensures.reads.same usable in
     let at_carrier = c.in_ok-found.ensures.reads.same at_found.0 in
     let at_start = c.in_ok-is_known.ensures.reads.same at_carrier.0 in
     let clock = c.in_ok-found.found.clock in
@@ -71,7 +71,7 @@ returns-clause-decides g c = λ usable.
     let released = subst (λ o. IsReleased (set_of clock.present) clock.minute.number o step)
     (c.facts-facts.ensures.last ∙ ap (option_map (λ e. e.1)) c.in-Some.is)
     c.in_ok-step.ensures.released in
-    let rows = c.in_ok-changes.ensures.value usable ∙ ap
+    let rows = c.in_ok-put_step.ensures.value usable ∙ ap
     (λ s. stepping c.in-Some.id clock.minute.number s (subject_of step.version.subject)
     (seen_by (windows_of clock.present.windows) step.version) everyone) released.0 in
     record {
@@ -83,12 +83,12 @@ returns-clause-decides g c = λ usable.
           (subst (λ d. IsChanged d old m) rows changed);
     }
 
-pub returns-in_err-changes-clause-decides : goal.returns-in_err-changes-clause-decides
-returns-in_err-changes-clause-decides g c = λ usable. decides_fault _ _ _
-    c.from_residual-in_err-changes.result c.in_err-changes.field-0.0 (search rules)
+pub returns-in_err-put_step-clause-decides : goal.returns-in_err-put_step-clause-decides
+returns-in_err-put_step-clause-decides g c = λ usable. decides_fault _ _ _
+    c.from_residual-in_err-put_step.result c.in_err-put_step.field-0.0 (search rules)
 
-pub returns-in_err-changes-clause-reads : goal.returns-in_err-changes-clause-reads
-returns-in_err-changes-clause-reads g c =
+pub returns-in_err-put_step-clause-reads : goal.returns-in_err-put_step-clause-reads
+returns-in_err-put_step-clause-reads g c =
     reads_fault (reads_on c.in_ok-is_known.ensures.reads tt c.in_ok-found.ensures.reads tt) tt
-    c.in_err-changes.ensures.reads c.from_residual-in_err-changes.result c.in_err-changes.field-0.0
+    c.in_err-put_step.ensures.reads c.from_residual-in_err-put_step.result c.in_err-put_step.field-0.0
     (search rules) (ap Err)

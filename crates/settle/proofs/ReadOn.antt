@@ -3,7 +3,6 @@ use Rattle.std.proofs.Common.{◌≡◌, ℕ, ◌∙◌}
 use Rattle.std.specs.Prelude.{⊤, Result, Err}
 use Rattle.std.proofs.Math.Nat.{le_trans}
 use Rattle.meaning.specs.Content.{Content}
-use Rattle.meaning.specs.Refusals.{Input}
 use Rattle.meaning.specs.declared.refusal.Refusal.{Refusal}
 use Rattle.meaning.specs.declared.refusal.Refusal.TheVariants.{Storage}
 use Rattle.settle.specs.Faults.{refusal_of}
@@ -11,9 +10,7 @@ use Rattle.settle.specs.Owing.{IsAnswered, Reads, SaysStorage}
 use Rattle.settle.specs.declared.store.StoreFault.{StoreFault}
 use Rattle.settle.specs.declared.store.StoreFault.TheVariants.{Storage as StorageFault}
 use Rattle.settle.proofs.Risen.{risen-since}
-use Rattle.register.specs.Settling.{SaysOnceSettled}
-use Rattle.register.proofs.Composed.{fault_is_none}
-use Rattle.register.proofs.Unfailing.{storage_by}
+use Rattle.settle.proofs.Faults.{fault_is_none, storage_by}
 
 module _ {S : Type 0} {IsUsable IsHonest : S → Type 0} {MayLeave : S → Content → Type 0}
     {content : S → Content} {failed : S → ℕ} {a b : S} where
@@ -106,14 +103,3 @@ module _ {S : Type 0} {IsUsable IsHonest : S → Type 0} {MayLeave : S → Conte
     storage = λ says. read.storage (turn says);
     left = read.left;
   }
-
--- what a call says that settled its subjects
-pub stored : {Usable Says : Type 0} {c : Content} {input : Input} →
-    SaysOnceSettled Usable c input Says → SaysStorage Usable c Says
-stored says = record {
-  usable = says.usable;
-  st = says.st;
-  represents = says.stands.represents;
-  written = says.stands.written;
-  says = says.says;
-}
