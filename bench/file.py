@@ -193,9 +193,9 @@ def queries_write_nothing(folder, ports):
     print(f"writes and syncs while 1 query is answered, and 1,000: {counts[0]} and {counts[1]}", flush=True)
 
 
-def open_large(folder, versions):
-    """A file of so many versions in force, written by stock SQLite, opened for one query."""
-    file = os.path.join(folder, "large.db")
+def written(folder, name, versions):
+    """A file of so many versions in force, written by stock SQLite."""
+    file = os.path.join(folder, name)
     feed(PROGRAM, file, opening())
     database = sqlite3.connect(file)
     database.execute("PRAGMA journal_mode = WAL")
@@ -203,9 +203,41 @@ def open_large(folder, versions):
     database.execute("UPDATE clock2 SET next_id = ?", (versions + 1,))
     database.commit()
     database.close()
+    return file
+
+
+def one_query(file, versions):
+    """The file opened for one query: the seconds, and the peak memory in MiB."""
     peak = []
     taken = timed(lambda: peak.append(feed(PROGRAM, file, [query(1, versions)])))
-    print(f"a file of {versions:,} versions, {os.path.getsize(file) / 2**20:,.0f} MiB: opened in {taken:.1f} s, {peak[0]:,.0f} MiB", flush=True)
+    return f"{taken:.1f} s, {peak[0]:,.0f} MiB"
+
+
+def open_large(folder, versions):
+    file = written(folder, "large.db", versions)
+    size = os.path.getsize(file) / 2**20
+    print(f"a file of {versions:,} versions, {size:,.0f} MiB: opened in {one_query(file, versions)}", flush=True)
+
+
+# What makes a file one of the first form: it knows no modify, and no sets of windows.
+FIRST_FORM = f"""
+    INSERT INTO version SELECT {VERSION.removesuffix(", held")} FROM version2;
+    INSERT INTO clock SELECT one, now, next_id, initial_concurrence, final_concurrence, conflict_restriction, conflict_resolution,
+        conflict_expiration, cancellation_initial, cancellation_final, pending_retention, broadcast FROM clock2, window_set;
+    DROP TABLE clock2; DROP TABLE version2; DROP TABLE window_set; DROP TABLE next_routing;
+"""
+
+
+def move_large(folder, versions):
+    """The same file made one of the first form, which is moved as it is opened, and has the rows then that it had."""
+    file = written(folder, "earlier.db", versions)
+    before = rows_of(file)
+    database = sqlite3.connect(file)
+    database.executescript(FIRST_FORM)
+    database.close()
+    moved = one_query(file, versions)
+    same = "the rows that it had" if rows_of(file) == before else "OTHER ROWS"
+    print(f"the same file of the first form: moved in {moved}; {same}; opened again in {one_query(file, versions)}", flush=True)
 
 
 def main():
@@ -215,6 +247,7 @@ def main():
         peer(folder, ports, many)
         queries_write_nothing(folder, ports)
         open_large(folder, versions)
+        move_large(folder, versions)
 
 
 main()

@@ -16,8 +16,8 @@ use api::{End, NoTicks, Options, Served, serve};
 use bulk::{BulkFault, FaultKind, audit, export, run_file};
 use numbers::Spid;
 use register::{OpenFault, Register, law_of_new_stores};
-use settle::{Store, StoreFault};
-use sql_store::SqlStore;
+use settle::Store;
+use sql_store::{FileFault, SqlStore};
 use sqlite::Unknown;
 use std::alloc::Global;
 use std::convert::AsStr;
@@ -225,11 +225,12 @@ fn carry_out_over<T: Files + AllocGlobal + Net + Clock, S: Store, R: Read, W: Wr
     }
 }
 
-fn file_fault(fault: StoreFault) -> Fault {
-    match fault {
-        StoreFault::Storage => Fault::Open(OpenFault::Storage),
-        StoreFault::NoMemory => Fault::Open(OpenFault::NoMemory),
-    }
+fn open_fault(fault: FileFault) -> Fault {
+    Fault::Open(match fault {
+        FileFault::WindowsDiffer => OpenFault::WindowsDiffer,
+        FileFault::Storage => OpenFault::Storage,
+        FileFault::NoMemory => OpenFault::NoMemory,
+    })
 }
 
 // Carries out a line over the file of `--db`, which is closed behind it.
@@ -241,9 +242,11 @@ fn carry_out_at<R: Read, W: Write>(
     reader: &mut R,
     writer: &mut W,
 ) -> Result<(), Fault> {
-    let store = SqlStore::at(rt, path, Unknown).map_err(file_fault)?;
+    let store = SqlStore::at(rt, path, Unknown, windows).map_err(open_fault)?;
     let (store, outcome) = carry_out_over(rt, store, windows, line, reader, writer);
-    let closed = store.close().map_err(file_fault);
+    let closed = store
+        .close()
+        .map_err(|fault| Fault::Open(OpenFault::from(fault)));
     outcome?;
     closed
 }

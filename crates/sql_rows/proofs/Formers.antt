@@ -1,10 +1,9 @@
 -- What stands in a file of an earlier form, as it is put into the tables of this one.
-use Rattle.std.proofs.Common.{◌≡◌, ℕ, pos, map, List, [], ◌∷◌, Bool, true, false, cond, Option, Some, None, inl, inr, refl, sym, ap, subst, ◌∙◌, arith}
+use Rattle.std.proofs.Common.{◌≡◌, ℕ, pos, map, List, [], Bool, true, false, cond, Option, Some, None, refl, sym, ap, subst, ◌∙◌}
 use Rattle.std.specs.Prelude.{option_map}
 use Rattle.std.specs.Cmp.{nat_cmp_total, tied_itself}
 use Rattle.std.specs.Ordering.{eq_by_cmp, nat_cmp}
 use Rattle.std.specs.FinMap.{get}
-use Rattle.std.specs.List.Sorted.{IsPermutation}
 use Rattle.sqlite.specs.declared.types.Value.{Value}
 use Rattle.sqlite.specs.Order.{Row, column, value_cmp}
 use Rattle.sqlite.specs.Program.{overlay}
@@ -19,7 +18,7 @@ use Rattle.numbers.specs.Routings.{Routing}
 use Rattle.meaning.specs.Content.{ClockRow, VersionRow, subject_if}
 use Rattle.meaning.specs.Statuses.{Send, Create, Delete, Modify, Status, Pending, Conflict, CancelPending, Sending, Active, PartialFailure, Failed, DisconnectPending, Old, Canceled}
 use Rattle.meaning.specs.declared.words.Side.{Side}
-use Rattle.sql_rows.specs.Clocks.{clock_row, old_clock_of}
+use Rattle.sql_rows.specs.Clocks.{old_clock_of}
 use Rattle.sql_rows.specs.Content.{old_clock_entry, old_clock_in, old_clock_shown, windows_in}
 use Rattle.sql_rows.specs.Former.{old_clock, old_versions_in}
 use Rattle.sql_rows.specs.Found.{IsListAnswer, IsSole}
@@ -40,7 +39,6 @@ use Rattle.sql_rows.proofs.Lookups.{entry_from, looked_up}
 use Rattle.sql_rows.proofs.Orders.{same_number}
 use Rattle.sql_rows.proofs.Picked.{Picks, picks}
 use Rattle.sql_rows.proofs.QueryLemmas.{passes, plain_answer}
-use Rattle.sql_rows.proofs.RowLemmas.{Tests}
 use Rattle.sql_rows.proofs.TableLemmas.{shaped_framed}
 
 -- ---- a row that reads is bare

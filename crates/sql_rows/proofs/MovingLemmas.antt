@@ -1,5 +1,5 @@
 -- What the statements make of a file of an earlier form.
-use Rattle.std.proofs.Common.{◌≡◌, ◌⊎◌, inl, inr, ℕ, List, [], ◌∷◌, slice_get, Bool, true, false, Some, None, Ok, Err, Result, refl, sym, ap, subst, ◌∙◌}
+use Rattle.std.proofs.Common.{◌≡◌, ◌⊎◌, inl, inr, ℕ, [], false, None, Ok, Err, Result, refl, sym, ap, subst, ◌∙◌}
 use Rattle.sqlite.specs.Change.{KeepsRows, created, indexed, next_tree}
 use Rattle.sqlite.specs.Command.TheVariants.{CreateIndex, CreateTable}
 use Rattle.sqlite.specs.Compile.{index_defined_by, table_defined_by}
@@ -10,9 +10,8 @@ use Rattle.sqlite.specs.Schema.{Schema}
 use Rattle.sqlite.specs.State.{State, mode_of, Executes, Writes}
 use Rattle.sqlite.specs.Table.{Table}
 use Rattle.sqlite.proofs.Callers.{IsPlain, command_of, runs_as, statement_of}
-use Rattle.sqlite_schema.specs.declared.schema.Index.{Index}
 use Rattle.sqlite_tied.specs.Compute.{everything}
-use Rattle.sql_rows.specs.Moving.{IsMade, clear_command, clear_text, create_text, index_text, made_table, schema_after, schema_before, schema_of, table_of_old}
+use Rattle.sql_rows.specs.Moving.{IsMade, IsTableOf, clear_command, clear_text, create_text, index_text, made_table, schema_after, schema_before, schema_of}
 use Rattle.sql_rows.specs.Statements.{all_text, query_command}
 use Rattle.sql_rows.specs.Tables.{the_schema, version2_deadline, version_table}
 use Rattle.sql_rows.specs.declared.moving.Form.{Form}
@@ -22,6 +21,8 @@ use Rattle.sql_rows.specs.declared.moving.NewTable.TheVariants as made
 use Rattle.sql_rows.specs.declared.moving.OldTable.{OldTable}
 use Rattle.sql_rows.specs.declared.moving.OldTable.TheVariants as former
 use Rattle.sql_rows.specs.declared.statement.Query.TheVariants.{All}
+use Rattle.sql_rows.specs.declared.statement.Table.{Table as RowTable}
+use Rattle.sql_rows.specs.declared.statement.Table.TheVariants as stored
 
 -- ---- texts
 
@@ -99,26 +100,77 @@ clear_plain former.Clock = (refl, refl)
 
 -- ---- what stands in a file of an earlier form is read as it is
 
-pub old_query_is : (f : Form) (t : OldTable) → command_of (understood (schema_of f) (all_text (table_of_old t))) ≡ query_command (All (table_of_old t))
+pub old_query_is : (f : Form) (t : RowTable) → IsTableOf t f → command_of (understood (schema_of f) (all_text t)) ≡ query_command (All t)
 unfolding understood everything
-old_query_is First former.Version = refl
-old_query_is First former.Clock = refl
-old_query_is Modify former.Version = refl
-old_query_is Modify former.Clock = refl
+old_query_is First stored.Carrier is = refl
+old_query_is Modify stored.Carrier is = refl
+old_query_is First stored.Lrn is = refl
+old_query_is Modify stored.Lrn is = refl
+old_query_is First stored.Code is = refl
+old_query_is Modify stored.Code is = refl
+old_query_is First stored.Block is = refl
+old_query_is Modify stored.Block is = refl
+old_query_is First stored.OldVersion is = refl
+old_query_is Modify stored.OldVersion is = refl
+old_query_is First stored.Broadcast is = refl
+old_query_is Modify stored.Broadcast is = refl
+old_query_is First stored.Wait is = refl
+old_query_is Modify stored.Wait is = refl
+old_query_is First stored.OldClock is = refl
+old_query_is Modify stored.OldClock is = refl
+old_query_is First stored.NextRouting is = absurd is
+old_query_is Modify stored.NextRouting is = refl
+old_query_is f stored.WindowSet is = absurd is
+old_query_is f stored.Version is = absurd is
+old_query_is f stored.Clock is = absurd is
 
-pub old_query_plain : (f : Form) (t : OldTable) → IsPlain (understood (schema_of f) (all_text (table_of_old t)))
+pub old_query_plain : (f : Form) (t : RowTable) → IsTableOf t f → IsPlain (understood (schema_of f) (all_text t))
 unfolding understood everything
-old_query_plain First former.Version = (refl, refl)
-old_query_plain First former.Clock = (refl, refl)
-old_query_plain Modify former.Version = (refl, refl)
-old_query_plain Modify former.Clock = (refl, refl)
+old_query_plain First stored.Carrier is = (refl, refl)
+old_query_plain Modify stored.Carrier is = (refl, refl)
+old_query_plain First stored.Lrn is = (refl, refl)
+old_query_plain Modify stored.Lrn is = (refl, refl)
+old_query_plain First stored.Code is = (refl, refl)
+old_query_plain Modify stored.Code is = (refl, refl)
+old_query_plain First stored.Block is = (refl, refl)
+old_query_plain Modify stored.Block is = (refl, refl)
+old_query_plain First stored.OldVersion is = (refl, refl)
+old_query_plain Modify stored.OldVersion is = (refl, refl)
+old_query_plain First stored.Broadcast is = (refl, refl)
+old_query_plain Modify stored.Broadcast is = (refl, refl)
+old_query_plain First stored.Wait is = (refl, refl)
+old_query_plain Modify stored.Wait is = (refl, refl)
+old_query_plain First stored.OldClock is = (refl, refl)
+old_query_plain Modify stored.OldClock is = (refl, refl)
+old_query_plain First stored.NextRouting is = absurd is
+old_query_plain Modify stored.NextRouting is = (refl, refl)
+old_query_plain f stored.WindowSet is = absurd is
+old_query_plain f stored.Version is = absurd is
+old_query_plain f stored.Clock is = absurd is
 
-pub old_query_unlisted : (f : Form) (t : OldTable) → reads_listing (schema_of f) (all_text (table_of_old t)) ≡ false
+pub old_query_unlisted : (f : Form) (t : RowTable) → IsTableOf t f → reads_listing (schema_of f) (all_text t) ≡ false
 unfolding understood everything
-old_query_unlisted First former.Version = refl
-old_query_unlisted First former.Clock = refl
-old_query_unlisted Modify former.Version = refl
-old_query_unlisted Modify former.Clock = refl
+old_query_unlisted First stored.Carrier is = refl
+old_query_unlisted Modify stored.Carrier is = refl
+old_query_unlisted First stored.Lrn is = refl
+old_query_unlisted Modify stored.Lrn is = refl
+old_query_unlisted First stored.Code is = refl
+old_query_unlisted Modify stored.Code is = refl
+old_query_unlisted First stored.Block is = refl
+old_query_unlisted Modify stored.Block is = refl
+old_query_unlisted First stored.OldVersion is = refl
+old_query_unlisted Modify stored.OldVersion is = refl
+old_query_unlisted First stored.Broadcast is = refl
+old_query_unlisted Modify stored.Broadcast is = refl
+old_query_unlisted First stored.Wait is = refl
+old_query_unlisted Modify stored.Wait is = refl
+old_query_unlisted First stored.OldClock is = refl
+old_query_unlisted Modify stored.OldClock is = refl
+old_query_unlisted First stored.NextRouting is = absurd is
+old_query_unlisted Modify stored.NextRouting is = refl
+old_query_unlisted f stored.WindowSet is = absurd is
+old_query_unlisted f stored.Version is = absurd is
+old_query_unlisted f stored.Clock is = absurd is
 
 -- ---- statements
 

@@ -1,5 +1,5 @@
 -- The clock's row as it is stored, and as a file of an earlier form has it.
-use Rattle.std.specs.Prelude.{ℕ, Some, None, Option, option_map}
+use Rattle.std.specs.Prelude.{ℕ, Option, option_map}
 use Rattle.std.specs.Ordering.{nat_cmp}
 use Rattle.std.specs.FinMap.{FinMap, get}
 use Rattle.meaning.specs.Content.{ClockRow}

@@ -1,5 +1,5 @@
 -- What a file of an earlier form is to the register.
-use Rattle.std.specs.Prelude.{ℕ, List, [], Some, None, Option}
+use Rattle.std.specs.Prelude.{List, [], Some, None, Option}
 use Rattle.std.specs.Ordering.{nat_cmp}
 use Rattle.std.specs.FinMap.{FinMap, empty, get, insert}
 use Rattle.sqlite.specs.Order.{Row}

@@ -1,13 +1,11 @@
 -- What is made of a file of an earlier form.
-use Rattle.std.specs.Prelude.{◌≡◌, ℕ, List, [], ◌∷◌, codes}
+use Rattle.std.specs.Prelude.{◌≡◌, ⊤, ℕ, List, [], ◌∷◌, codes}
 use Rattle.sqlite.specs.Command.{Command}
 use Rattle.sqlite.specs.Command.TheVariants.{Delete}
 use Rattle.sqlite.specs.Effect.{Database}
-use Rattle.sqlite.specs.Order.{Row}
 use Rattle.sqlite.specs.Schema.{Schema}
 use Rattle.sqlite.specs.Table.{Table as SqlTable}
 use Rattle.sqlite.specs.Term.{col}
-use Rattle.sqlite.specs.Tree.{Trees}
 use Rattle.sqlite.specs.Change.{KeepsRows}
 use Rattle.sqlite_schema.specs.declared.schema.Index.{Index}
 use Rattle.sql_rows.specs.Statements.{plain_query, slot_of, tree_of}
@@ -21,6 +19,7 @@ use Rattle.sql_rows.specs.declared.moving.OldTable.{OldTable}
 use Rattle.sql_rows.specs.declared.moving.OldTable.TheVariants as former
 use Rattle.sql_rows.specs.declared.statement.Table.{Table}
 use Rattle.sql_rows.specs.declared.statement.Table.TheVariants.{OldClock, OldVersion}
+use Rattle.sql_rows.specs.declared.statement.Table.TheVariants as stored
 
 abbrev pub schema_of : Form → Schema
 schema_of First = first_schema
@@ -64,7 +63,25 @@ pub record IsMade (t : NewTable) (old new : Database) : Type 0 where
 abbrev pub index_text : List ℕ
 index_text = codes "CREATE INDEX version2_deadline ON version2 (deadline)"
 
--- ---- the tables that are read, and emptied
+-- ---- the tables that are read
+
+-- a file of the form has this table
+abbrev pub IsTableOf : Table → Form → Type 0
+IsTableOf stored.Carrier f = ⊤
+IsTableOf stored.Lrn f = ⊤
+IsTableOf stored.Code f = ⊤
+IsTableOf stored.Block f = ⊤
+IsTableOf stored.OldVersion f = ⊤
+IsTableOf stored.Broadcast f = ⊤
+IsTableOf stored.Wait f = ⊤
+IsTableOf stored.OldClock f = ⊤
+IsTableOf stored.NextRouting First = ⊥
+IsTableOf stored.NextRouting Modify = ⊤
+IsTableOf stored.WindowSet f = ⊥
+IsTableOf stored.Version f = ⊥
+IsTableOf stored.Clock f = ⊥
+
+-- ---- the tables that are emptied
 
 abbrev pub table_of_old : OldTable → Table
 table_of_old former.Version = OldVersion

@@ -1,8 +1,6 @@
 //! What is made of a file of an earlier form.
 ghost use Rattle.std.specs.Prelude.{◌≡◌};
-ghost use Rattle.sql_rows.specs.Moving.{clear_text, create_text, index_text, table_of_old};
-
-use crate::statement::Table;
+ghost use Rattle.sql_rows.specs.Moving.{clear_text, create_text, index_text};
 
 /// The forms of files before this one.
 #[derive(Clone, Copy, Debug, PartialEq, Eq)]
@@ -71,15 +69,6 @@ pub enum OldTable {
 }
 
 impl OldTable {
-    pub fn table(self) -> Table
-        ensures { result ≡ table_of_old self }
-    {
-        match self {
-            OldTable::Version => Table::OldVersion,
-            OldTable::Clock => Table::OldClock,
-        }
-    }
-
     pub fn clear_text(self) -> &'static str
         ensures { result.now ≡ clear_text self }
     {

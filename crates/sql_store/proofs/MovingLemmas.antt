@@ -1,12 +1,11 @@
 -- What is made of a file of an earlier form.
-use Rattle.std.proofs.Common.{◌≡◌, ◌⊎◌, inl, inr, ℕ, pos, List, [], ◌∷◌, map, Bool, true, false, cond, Option, Some, None, Result, Ok, Err, IsTrue, refl, sym, ap, subst, ◌∙◌, true≢false, arith, drop, drop-cons, add-one, zero, suc, ◌+◌, ◌<◌, ◌≤◌, length, get_or}
-use Rattle.std.specs.Prelude.{not, option_and_then, option_map, option_to_list}
+use Rattle.std.proofs.Common.{◌≡◌, ◌≢◌, ◌⊎◌, inl, inr, ℕ, List, [], ◌∷◌, map, Bool, true, false, cond, Option, Some, None, Result, Ok, IsTrue, refl, sym, ap, subst, ◌∙◌, true≢false, arith, drop, drop-cons, add-one, zero, suc, ◌+◌, ◌<◌, ◌≤◌, length, get_or}
+use Rattle.std.specs.Prelude.{◌==◌, ◌&&◌, option_and_then, option_map, option_to_list}
 use Rattle.std.specs.Cmp.{eq_by_cmp_equiv, nat_cmp_total}
 use Rattle.std.specs.FinMap.{FinMap, empty, get, insert, get-empty, get-insert, same_map, nat_cmp-IsAntisymmetric}
 use Rattle.std.specs.Ordering.{eq_by_cmp, nat_cmp}
-use Rattle.sqlite.specs.Clock.{timed}
 use Rattle.sqlite.specs.declared.error.Error.{Error}
-use Rattle.sqlite.specs.declared.types.Value.TheVariants.{Int, Null}
+use Rattle.sqlite.specs.declared.types.Value.TheVariants.{Null}
 use Rattle.sqlite.specs.Effect.{Database}
 use Rattle.sqlite.specs.Held.{Held, state}
 use Rattle.sqlite.specs.Listing.{understood}
@@ -21,26 +20,27 @@ use Rattle.sqlite.specs.View.{IsShaped}
 use Rattle.sqlite.proofs.Callers.{IsPlain, reads_as, survives_begin}
 use Rattle.sqlite.proofs.StateLemmas.{survives_then, survives_weaker}
 use Rattle.sqlite_rules.specs.Lists.{Has}
-use Rattle.sqlite_rules.proofs.PlaceLemmas.{tied_same}
 use Rattle.sqlite_trees.specs.declared.store.Shape.TheVariants.{Table as AsTable}
 use Rattle.meaning.specs.Content.{ClockRow, Content, VersionRow}
 use Rattle.version.specs.Views.{windows_of}
-use Rattle.sql_rows.specs.Clocks.{StoredClock, clock_row, old_clock_of, with_windows}
-use Rattle.sql_rows.specs.Content.{content_in, old_clock_in, old_clock_shown, old_clock_entry, stored_clock, versions_in}
-use Rattle.sql_rows.specs.Former.{content_with, next_rows, old_clock, old_content_in, old_versions_in}
+use Rattle.meaning.specs.Windows.{Windows}
+use Rattle.meaning.proofs.Small.{equal_numbers}
+use Rattle.sql_rows.specs.Clocks.{StoredClock, old_clock_of, with_windows}
+use Rattle.sql_rows.specs.Content.{content_in, old_clock_in, stored_clock, versions_in}
+use Rattle.sql_rows.specs.Former.{content_with, old_clock, old_versions_in}
 use Rattle.sql_rows.specs.Found.{IsListAnswer}
-use Rattle.sql_rows.specs.Moving.{IsCleared, IsMade, schema_after, schema_before, schema_of, table_of_old}
+use Rattle.sql_rows.specs.Moving.{IsCleared, IsMade, IsTableOf, schema_of}
 use Rattle.sql_rows.specs.Shaped.{AreShaped}
-use Rattle.sql_rows.specs.Statements.{all_text, query_of, query_test, shown_by}
+use Rattle.sql_rows.specs.Statements.{all_text, query_of}
 use Rattle.sql_rows.specs.Tables.{the_schema}
-use Rattle.sql_rows.specs.Versions.{bare, old_shown_of, old_version_entry, old_version_in, version_entry, version_params, version_row}
-use Rattle.sql_rows.specs.Written.{IsFrame, Replaced}
+use Rattle.sql_rows.specs.Versions.{bare, old_version_in}
 use Rattle.sql_rows.specs.declared.keyed.OldClock.{OldClock as ClockCode}
 use Rattle.sql_rows.specs.declared.moving.Form.{Form}
 use Rattle.sql_rows.specs.declared.moving.Form.TheVariants.{First, Modify}
 use Rattle.sql_rows.specs.declared.moving.NewTable.TheVariants as made
 use Rattle.sql_rows.specs.declared.moving.OldTable.{OldTable}
 use Rattle.sql_rows.specs.declared.moving.OldTable.TheVariants as former
+use Rattle.sql_rows.specs.declared.statement.Table.{Table as RowTable}
 use Rattle.sql_rows.specs.declared.statement.Query.TheVariants.{All}
 use Rattle.sql_rows.specs.declared.statement.Table.TheVariants.{Carrier, Lrn, Code, Block, OldVersion, Broadcast, Wait, OldClock, NextRouting, WindowSet, Version, Clock}
 use Rattle.sql_rows.specs.declared.version_row.OldVersion.{OldVersion as OldRow}
@@ -52,9 +52,9 @@ use Rattle.sql_rows.proofs.PutLemmas.{version_left}
 use Rattle.sql_rows.proofs.StatementLemmas.{query_selects}
 use Rattle.sql_rows.proofs.TableLemmas.{old_clock_framed, old_version_framed, versions_framed}
 use Rattle.sql_store.specs.Changes.{if_some, with_set}
-use Rattle.sql_store.specs.Moving.{Alters, AreOldShaped, ArePutBut, IsBarePut, IsBegun, IsBegunAs, IsCarriedOver, IsFilled, IsGrown, IsIndexed, IsOfForm, IsRebuilt, IsRebuiltAs, Moves, all_in}
-use Rattle.sql_store.specs.Store.{IsInside, IsOurs, IsSame, Kept, Looked, Makes, Writes, Wrote}
-use Rattle.sql_store.specs.Whole.{IsMoved}
+use Rattle.sql_store.specs.Moving.{Alters, AreOldShaped, ArePutBut, IsBarePut, IsBegunAs, IsCarried, IsCarriedOver, IsFilled, IsGrown, IsIndexed, IsOfForm, IsRebuilt, IsRebuiltAs, Moves, WereItsWindows, WereOtherWindows, all_in}
+use Rattle.sql_store.specs.Store.{IsInside, IsSame, Kept, Looked, Makes, Writes, Wrote}
+use Rattle.sql_store.proofs.WholeLemmas.{moved_read}
 use Rattle.sql_store.proofs.CallLemmas.{both_survive, call_keeps, earlier, fails_open, fails_same, kept_then, looked_then, query_commits_nothing, shown_open, shown_same}
 
 -- ---- calls in turn
@@ -369,12 +369,12 @@ module _ (f : Form) (xs : List OldRow) (clock : Option ClockCode) (old mid new :
 
 -- ---- what stood in the file is read first
 
-module _ (f : Form) (t : OldTable) (old new : State) (ours : IsTrue old.is_open → IsOfForm f old) where
+module _ (f : Form) (t : RowTable) (is : IsTableOf t f) (old new : State) (ours : IsTrue old.is_open → IsOfForm f old) where
   abbrev text : List ℕ
-  text = all_text (table_of_old t)
+  text = all_text t
 
   plain : IsTrue old.is_open → IsPlain (understood old.now.schema text)
-  plain was = subst (λ k. IsPlain (understood k text)) (sym (ours was).schema) (old_query_plain f t)
+  plain was = subst (λ k. IsPlain (understood k text)) (sym (ours was).schema) (old_query_plain f t is)
 
   same_as : IsTrue new.is_open → IsOfForm f old → IsUnchanged old new ⊎ IsRolledBack old new → IsSame old new
   same_as is_open ours (inl it) = record { was_open = it.0.was_open; now = it.0.now_is; committed = it.0.committed_is }
@@ -387,7 +387,7 @@ module _ (f : Form) (t : OldTable) (old new : State) (ours : IsTrue old.is_open 
         let was = shown_open text [] old new rows (shown done) in
         (shown_same text [] old new rows (plain was) (shown done)).0.is_open;
     honest = λ done. omega (arith, survives.clean, done);
-    survives = query_commits_nothing text [] old new (query_selects (All (table_of_old t))) survives;
+    survives = query_commits_nothing text [] old new (query_selects (All t)) survives;
   }
 
   pub old_unlooked : (e : Error) → (IsTrue new.is_open → HasCleanDisk new) → (HasCleanDisk new → FailsToQuery text [] old new e) → Survives old new (CommitsShowing text [] old) → Looked old new false
@@ -395,11 +395,11 @@ module _ (f : Form) (t : OldTable) (old new : State) (ours : IsTrue old.is_open 
     same = λ up. let h = fails (clean up) in let was = fails_open text [] old new e up h in same_as up (ours was) (fails_same text [] old new e (plain was) h);
     stays = λ no done. absurd (true≢false (sym no));
     honest = λ done. omega (arith, survives.clean, done);
-    survives = query_commits_nothing text [] old new (query_selects (All (table_of_old t))) survives;
+    survives = query_commits_nothing text [] old new (query_selects (All t)) survives;
   }
 
-  pub old_answers : (rows : List Row) → IsTrue old.is_open → Shown text [] old new rows → IsAnswer (query_of (All (table_of_old t))) (overlay old.now.trees []) [] rows
-  old_answers rows was shown = (reads_as text [] old new (schema_of f) (ours was).schema _ (old_query_is f t) (old_query_plain f t) (old_query_unlisted f t) rows shown).answer Null
+  pub old_answers : (rows : List Row) → IsTrue old.is_open → Shown text [] old new rows → IsAnswer (query_of (All t)) (overlay old.now.trees []) [] rows
+  old_answers rows was shown = (reads_as text [] old new (schema_of f) (ours was).schema _ (old_query_is f t is) (old_query_plain f t is) (old_query_unlisted f t is) rows shown).answer Null
 
 -- a file that was read is of its form still
 pub still_of : (f : Form) (a b : State) → IsSame a b → IsOfForm f a → IsOfForm f b
@@ -496,11 +496,33 @@ pub clock_carried : (db : Trees) (clock : Option ClockCode) → IsListAnswer (Al
 clock_carried db None h = sym (old_clock_is db None h.0 h.1 (none_of old_clock_in h.0 h.2))
 clock_carried db (Some c) h = sym (old_clock_is db (Some (clock_seen c)) h.0 h.1 (one_of old_clock_in h.0 (Some (clock_seen c)) h.2))
 
+-- ---- the windows with which the file was made
+
+-- as the code compares them
+abbrev pub are_same : Windows → Windows → Bool
+are_same v w = (v.initial_concurrence == w.initial_concurrence) && ((v.final_concurrence == w.final_concurrence) && ((v.conflict_restriction == w.conflict_restriction) && ((v.conflict_resolution == w.conflict_resolution) && ((v.conflict_expiration == w.conflict_expiration) && ((v.cancellation_initial == w.cancellation_initial) && ((v.cancellation_final == w.cancellation_final) && ((v.pending_retention == w.pending_retention) && (v.broadcast == w.broadcast))))))))
+
+are_itself : (w : Windows) → are_same w w ≡ true
+are_itself w = rw (equal_numbers w.initial_concurrence, equal_numbers w.final_concurrence, equal_numbers w.conflict_restriction, equal_numbers w.conflict_resolution, equal_numbers w.conflict_expiration, equal_numbers w.cancellation_initial, equal_numbers w.cancellation_final, equal_numbers w.pending_retention, equal_numbers w.broadcast) refl
+
+pub same_told : (v w : Windows) (told : Bool) → told ≡ are_same v w → told ≡ false → v ≢ w
+same_told v w told is none same = true≢false (sym (is ∙ subst (λ x. are_same v x ≡ true) same (are_itself v)) ∙ none)
+
+pub own_windows : (db : Trees) (w : Windows) (clock : Option ClockCode) → IsListAnswer (All OldClock) old_clock_in db [] (map clock_seen (option_to_list clock)) → ((c : ClockCode) → clock ≡ Some c → windows_of c.windows ≡ w) → WereItsWindows w db
+own_windows db w None h same = λ c is. let never : None ≡ Some c = clock_carried db None h ∙ is in cc
+own_windows db w (Some x) h same = λ c is.
+    let read : Some (old_clock_of x) ≡ Some c = clock_carried db (Some x) h ∙ is in
+    let seen : old_clock_of x ≡ c = cc in
+    ap (λ (r : ClockRow). r.present.windows) (sym seen) ∙ same x refl
+
+pub other_windows : (db : Trees) (w : Windows) (x : ClockCode) → IsListAnswer (All OldClock) old_clock_in db [] (map clock_seen (x ∷ [])) → (windows_of x.windows ≢ w) → WereOtherWindows w db
+other_windows db w x h differ = (old_clock_of x, sym (clock_carried db (Some x) h), differ)
+
 pub old_shape : (f : Form) (db : Trees) → AreOldShaped f db → IsShaped AsTable (db 5)
 old_shape First db shaped = shaped.1.1.1.1.0
 old_shape Modify db shaped = shaped.1.1.1.1.0
 
-pub carried : (f : Form) (db after : Trees) (xs : List OldRow) (clock : Option ClockCode) → AreOldShaped f db → IsListAnswer (All OldVersion) old_version_in db [] (map old_seen xs)
+carried : (f : Form) (db after : Trees) (xs : List OldRow) (clock : Option ClockCode) → AreOldShaped f db → IsListAnswer (All OldVersion) old_version_in db [] (map old_seen xs)
     → IsListAnswer (All OldClock) old_clock_in db [] (map clock_seen (option_to_list clock)) → IsRebuiltAs f xs clock db after → IsCarriedOver f db after
 carried f db after xs clock shaped versions clocks it = record {
   content =
@@ -512,16 +534,18 @@ carried f db after xs clock shaped versions clocks it = record {
 -- what was read before is what is carried over
 pub migrated : (f : Form) (a b d e : State) (done : Bool) (xs : List OldRow) (clocks : List ClockCode) (clock : Option ClockCode) → Looked a b true → Looked b d true → (IsTrue a.is_open → IsOfForm f a)
     → (IsTrue b.is_open → IsListAnswer (All OldVersion) old_version_in a.now.trees [] (map old_seen xs)) → (IsTrue d.is_open → IsListAnswer (All OldClock) old_clock_in b.now.trees [] (map clock_seen clocks))
-    → clocks ≡ option_to_list clock → Moves (IsRebuiltAs f xs clock) d e done → Moves (IsCarriedOver f) a e done
+    → clocks ≡ option_to_list clock → Moves (IsRebuiltAs f xs clock) d e done → Moves (IsCarried f) a e done
 migrated f a b d e done xs clocks clock one two ours versions clocked is moves =
-    looked_moves a d e (IsRebuiltAs f xs clock) (IsCarriedOver f) (looked_then a b d true one two) (λ up after turns.
+    looked_moves a d e (IsRebuiltAs f xs clock) (IsCarried f) (looked_then a b d true one two) (λ up after turns.
     let second = two.same up in
     let first = one.same second.was_open in
     let same = second.now ∙ first.now in
-    carried f d.now.trees after xs clock (subst (λ (db : Database). AreOldShaped f db.trees) (sym same) (ours first.was_open).shaped)
-    (subst (λ (db : Database). IsListAnswer (All OldVersion) old_version_in db.trees [] (map old_seen xs)) (sym same) (versions second.was_open))
-    (subst (λ (db : Database). IsListAnswer (All OldClock) old_clock_in db.trees [] (map clock_seen (option_to_list clock))) (sym second.now) (subst (λ cs. IsListAnswer (All OldClock) old_clock_in b.now.trees [] (map clock_seen cs)) is (clocked up)))
-    turns) done moves
+    let at_versions = subst (λ (db : Database). IsListAnswer (All OldVersion) old_version_in db.trees [] (map old_seen xs)) (sym same) (versions second.was_open) in
+    let at_clock = subst (λ (db : Database). IsListAnswer (All OldClock) old_clock_in db.trees [] (map clock_seen (option_to_list clock))) (sym second.now) (subst (λ cs. IsListAnswer (All OldClock) old_clock_in b.now.trees [] (map clock_seen cs)) is (clocked up)) in
+    record {
+      read = moved_read d.now.trees (map old_seen xs) (map clock_seen (option_to_list clock)) at_versions at_clock;
+      over = carried f d.now.trees after xs clock (subst (λ (db : Database). AreOldShaped f db.trees) (sym same) (ours first.was_open).shaped) at_versions at_clock turns;
+    }) done moves
 
 pub no_item : {X : Type 0} (xs : List X) → length xs < 1 → xs ≡ []
 no_item [] h = refl

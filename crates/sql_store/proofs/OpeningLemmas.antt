@@ -1,5 +1,5 @@
 -- What an open says of the store's tables.
-use Rattle.std.proofs.Common.{◌≡◌, ◌≤◌, Bool, sym, ap, subst}
+use Rattle.std.proofs.Common.{◌≡◌, ◌⊎◌, inl, inr, ◌≤◌, Bool, arith, length, sym, ap, subst, ◌∙◌}
 use Rattle.sqlite.specs.View.{View, IsShaped}
 use Rattle.sqlite.specs.Effect.{Database, IsDatabase}
 use Rattle.sqlite.specs.State.{State, Opens}
@@ -8,13 +8,14 @@ use Rattle.sqlite_trees.proofs.Doubt.{clean_of, no_doubt, only_falls}
 use Rattle.sqlite_trees.specs.Objects.{catalog_tree, IsListed}
 use Rattle.sqlite_catalog.specs.Listing.{IsSound}
 use Rattle.sqlite_catalog.proofs.LayoutLemmas.{laid_out, objects_rise}
-use Rattle.sql_rows.specs.Tables.{the_schema}
+use Rattle.sql_rows.specs.Tables.{no_schema, the_schema}
+use Rattle.sqlite.specs.Schema.{Schema}
 use Rattle.sql_rows.specs.Shaped.{AreShaped}
 use Rattle.sql_rows.specs.declared.statement.Table.TheVariants.{Carrier, Lrn, Code, Block, OldVersion, Broadcast, Wait, OldClock, NextRouting, WindowSet, Version, Clock}
 use Rattle.sql_rows.specs.Moving.{schema_of}
 use Rattle.sql_rows.specs.declared.moving.Form.{Form}
 use Rattle.sql_rows.specs.declared.moving.Form.TheVariants.{First, Modify}
-use Rattle.sql_store.specs.Moving.{AreOldShaped, IsOfForm}
+use Rattle.sql_store.specs.Moving.{AreOldShaped, IsOfForm, IsOfSomeForm, of_none, of_ours}
 use Rattle.sql_store.specs.Store.{IsOurs}
 
 -- the laws of a store that is not broken give the shape of each table
@@ -64,3 +65,14 @@ opened_ours v s listed ordered same has opens sound =
 -- where the disk is clean afterwards only if it was before, no fault is forgotten
 pub falls : (old new : Bool) → (doubt new ≡ 0 → doubt old ≡ 0) → doubt old ≤ doubt new
 falls old new honest = only_falls old new (λ clean. clean_of old (honest (no_doubt new clean)))
+
+-- the schemas of the forms differ from ours, and from that of a file with nothing in it
+pub is_no_earlier : (k : Schema) (f : Form) → (k ≡ no_schema) ⊎ (k ≡ the_schema) → k ≡ schema_of f → ⊥
+is_no_earlier k First (inl none) is = let same = ap (λ (s : Schema). length s.tables) (sym none ∙ is) in omega (arith, same)
+is_no_earlier k Modify (inl none) is = let same = ap (λ (s : Schema). length s.tables) (sym none ∙ is) in omega (arith, same)
+is_no_earlier k First (inr ours) is = let same = ap (λ (s : Schema). length s.tables) (sym ours ∙ is) in omega (arith, same)
+is_no_earlier k Modify (inr ours) is = let same = ap (λ (s : Schema). length s.tables) (sym ours ∙ is) in omega (arith, same)
+
+pub of_none_or_ours : (k : Schema) → (k ≡ no_schema) ⊎ (k ≡ the_schema) → IsOfSomeForm k
+of_none_or_ours k (inl none) = of_none none
+of_none_or_ours k (inr ours) = of_ours ours

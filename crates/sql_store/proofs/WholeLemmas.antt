@@ -1,5 +1,5 @@
 -- What the rows of a database are once all of them were read.
-use Rattle.std.proofs.Common.{◌≡◌, List, [], ◌∷◌, map, filter, Bool, true, false, Option, Some, inl, inr, refl, sym, ap, subst, ◌∙◌, true≢false}
+use Rattle.std.proofs.Common.{◌≡◌, ℕ, List, [], ◌∷◌, map, filter, Bool, true, false, Option, Some, inl, inr, refl, sym, ap, subst, ◌∙◌, true≢false}
 use Rattle.std.specs.FinMap.{FinMap, empty, get, get-empty, same_map, nat_cmp-IsAntisymmetric}
 use Rattle.std.specs.Cmp.{nat_cmp_total}
 use Rattle.std.specs.List.{list_all}
@@ -11,13 +11,15 @@ use Rattle.sqlite.specs.Tree.{Trees}
 use Rattle.sqlite_rules.specs.Lists.{Has}
 use Rattle.sqlite_rules.proofs.ListLemmas.{has_kept}
 use Rattle.std.specs.Prelude.{option_and_then, option_map}
-use Rattle.meaning.specs.Content.{VersionRow, empty_content}
+use Rattle.meaning.specs.Content.{ClockRow, VersionRow, empty_content}
 use Rattle.numbers.specs.Routings.{Routing}
 use Rattle.sql_rows.specs.Over.{over}
 use Rattle.sql_rows.proofs.Over.{get-over}
 use Rattle.sql_rows.specs.Clocks.{StoredClock, with_windows}
-use Rattle.sql_rows.specs.Content.{block_row_in, block_shown, broadcast_in, broadcast_shown, carrier_in, carrier_shown, clock_in, clock_shown, next_row_in, next_shown, set_in, set_shown, old_clock_in, old_clock_shown, nexts_in, content_in, lrn_row_in, code_row_in, owner_shown, wait_in, wait_shown}
-use Rattle.sql_rows.specs.Found.{AreRead}
+use Rattle.sql_rows.specs.Content.{block_row_in, block_shown, broadcast_entry, broadcast_in, broadcast_shown, carrier_in, carrier_shown, clock_in, clock_shown, next_entry, next_row_in, next_shown, set_in, set_shown, old_clock_in, old_clock_shown, nexts_in, content_in, lrn_row_in, code_row_in, owner_shown, wait_entry, wait_in, wait_shown}
+use Rattle.sql_rows.specs.Found.{AreRead, IsListAnswer}
+use Rattle.sql_rows.specs.declared.statement.Query.TheVariants.{All}
+use Rattle.sql_store.specs.Moving.{AreMovedRead}
 use Rattle.sql_rows.specs.Statements.{shown_by}
 use Rattle.sql_rows.specs.Versions.{rerouted, old_shown_of, old_version_in, shown_of, version_in}
 use Rattle.sql_rows.specs.declared.statement.Table.TheVariants.{Carrier, Lrn, Code, Block, Version, Broadcast, Wait, Clock, NextRouting, WindowSet, OldVersion, OldClock}
@@ -71,9 +73,26 @@ four_true false b c d e = absurd (true≢false (sym e))
 four_true true false c d e = absurd (true≢false (sym e))
 four_true true true false d e = absurd (true≢false (sym e))
 
+module _ (db : Trees) (is_blank : Bool) where
+  pub broadcasts_read : IsRead Broadcast broadcast_in db is_blank → EachReads broadcast_entry (db 8)
+  broadcasts_read it = each_reads broadcast_in broadcast_shown (db 8) it.1.0 it.0 (plain_answer 8 [] (shown_by Broadcast) (overlay db []) [] it.1.0 it.1.1) it.1.2
+
+  pub waits_read : IsRead Wait wait_in db is_blank → EachReads wait_entry (db 10)
+  waits_read it = each_reads wait_in wait_shown (db 10) it.1.0 it.0 (plain_answer 10 [] (shown_by Wait) (overlay db []) [] it.1.0 it.1.1) it.1.2
+
+  pub nexts_read : IsRead NextRouting next_row_in db is_blank → EachReads next_entry (db 16)
+  nexts_read it = each_reads next_row_in next_shown (db 16) it.1.0 it.0 (plain_answer 16 [] (shown_by NextRouting) (overlay db []) [] it.1.0 it.1.1) it.1.2
+
+-- of the tables of an earlier form
+pub moved_read : (db : Trees) (versions : List (ℕ × VersionRow)) (clocks : List (ℕ × ClockRow)) → IsListAnswer (All OldVersion) old_version_in db [] versions → IsListAnswer (All OldClock) old_clock_in db [] clocks → AreMovedRead db
+moved_read db versions clocks at_versions at_clock = record {
+  versions = each_reads old_version_in old_shown_of (db 5) at_versions.0 versions (plain_answer 5 [] (shown_by OldVersion) (overlay db []) [] at_versions.0 at_versions.1) at_versions.2;
+  clock = each_reads old_clock_in old_clock_shown (db 12) at_clock.0 clocks (plain_answer 12 [] (shown_by OldClock) (overlay db []) [] at_clock.0 at_clock.1) at_clock.2;
+}
+
 module _ (db : Trees) (a b c d : Bool) where
   module _ (carriers : IsRead Carrier carrier_in db a) (lrns : IsRead Lrn lrn_row_in db b) (coded : IsRead Code code_row_in db c) (blocks : IsRead Block block_row_in db d) where
-    registry_read : AreRegistryRead db
+    pub registry_read : AreRegistryRead db
     registry_read = record {
       carriers = each_reads carrier_in carrier_shown (db 0) carriers.1.0 carriers.0 (plain_answer 0 [] (shown_by Carrier) (overlay db []) [] carriers.1.0 carriers.1.1) carriers.1.2;
       lrns = each_reads lrn_row_in owner_shown (db 2) lrns.1.0 lrns.0 (plain_answer 2 [] (shown_by Lrn) (overlay db []) [] lrns.1.0 lrns.1.1) lrns.1.2;
@@ -96,8 +115,8 @@ module _ (db : Trees) (a b c d : Bool) where
     versions_read : AreVersionsRead db
     versions_read = record {
       versions = each_reads version_in shown_of (db 18) versions.1.0 versions.0 (plain_answer 18 [] (shown_by Version) (overlay db []) [] versions.1.0 versions.1.1) versions.1.2;
-      broadcasts = each_reads broadcast_in broadcast_shown (db 8) broadcasts.1.0 broadcasts.0 (plain_answer 8 [] (shown_by Broadcast) (overlay db []) [] broadcasts.1.0 broadcasts.1.1) broadcasts.1.2;
-      waits = each_reads wait_in wait_shown (db 10) waits.1.0 waits.0 (plain_answer 10 [] (shown_by Wait) (overlay db []) [] waits.1.0 waits.1.1) waits.1.2;
+      broadcasts = broadcasts_read db b broadcasts;
+      waits = waits_read db c waits;
       clock = each_reads clock_in clock_shown (db 21) clock.1.0 clock.0 (plain_answer 21 [] (shown_by Clock) (overlay db []) [] clock.1.0 clock.1.1) clock.1.2;
     }
 
@@ -128,7 +147,7 @@ module _ (db : Trees) (a b : Bool) where
     pub added_told : ReadsAdded db (every (a ∷ b ∷ []))
     added_told = record {
       read = record {
-        nexts = each_reads next_row_in next_shown (db 16) nexts.1.0 nexts.0 (plain_answer 16 [] (shown_by NextRouting) (overlay db []) [] nexts.1.0 nexts.1.1) nexts.1.2;
+        nexts = nexts_read db a nexts;
         sets = each_reads set_in set_shown (db 17) sets.1.0 sets.0 (plain_answer 17 [] (shown_by WindowSet) (overlay db []) [] sets.1.0 sets.1.1) sets.1.2;
       };
       none = λ all. let each = two_true a b all in record {

@@ -9,3 +9,4 @@ pub mod Blocks
 pub mod Whole
 pub mod Found
 pub mod Moving
+pub mod Faults

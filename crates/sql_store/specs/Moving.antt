@@ -1,5 +1,5 @@
 -- A file of an earlier form made one of this form.
-use Rattle.std.specs.Prelude.{◌≡◌, ℕ, pos, Bool, List, [], ◌∷◌, Option, Some, None, IsTrue, not, option_map}
+use Rattle.std.specs.Prelude.{◌≡◌, ◌≢◌, ℕ, pos, Bool, List, [], ◌∷◌, Option, Some, IsTrue, not, option_map}
 use Rattle.std.specs.FinMap.{FinMap, empty, insert}
 use Rattle.std.specs.List.{AllByRecursion}
 use Rattle.std.specs.Ordering.{nat_cmp}
@@ -12,14 +12,15 @@ use Rattle.sqlite.specs.Table.{Table as SqlTable}
 use Rattle.sqlite.specs.Tree.{Trees}
 use Rattle.sqlite.specs.View.{IsShaped}
 use Rattle.sqlite_trees.specs.declared.store.Shape.TheVariants.{Table as AsTable}
-use Rattle.meaning.specs.Content.{ClockRow, Content, VersionRow}
+use Rattle.meaning.specs.Content.{ClockRow, VersionRow}
+use Rattle.meaning.specs.Windows.{Windows}
 use Rattle.sql_rows.specs.Clocks.{old_clock_of}
-use Rattle.sql_rows.specs.Content.{content_in, versions_in}
-use Rattle.sql_rows.specs.Former.{content_with, next_rows, old_content_in}
+use Rattle.sql_rows.specs.Content.{broadcast_entry, content_in, next_entry, old_clock_entry, versions_in, wait_entry}
+use Rattle.sql_rows.specs.Former.{content_with, next_rows, old_clock, old_content_in}
 use Rattle.sql_rows.specs.Moving.{schema_of}
 use Rattle.sql_rows.specs.Shaped.{AreShaped}
-use Rattle.sql_rows.specs.Tables.{the_schema}
-use Rattle.sql_rows.specs.Versions.{bare, version_entry, version_params, version_row}
+use Rattle.sql_rows.specs.Tables.{no_schema, the_schema}
+use Rattle.sql_rows.specs.Versions.{bare, old_version_entry, version_entry, version_params, version_row}
 use Rattle.sql_rows.specs.Written.{IsFrame, Replaced}
 use Rattle.sql_rows.specs.declared.keyed.OldClock.{OldClock}
 use Rattle.sql_rows.specs.declared.moving.Form.{Form}
@@ -27,7 +28,7 @@ use Rattle.sql_rows.specs.declared.moving.Form.TheVariants.{Modify}
 use Rattle.sql_rows.specs.declared.statement.Table.TheVariants.{Version}
 use Rattle.sql_rows.specs.declared.version_row.OldVersion.{OldVersion}
 use Rattle.sql_store.specs.Store.{IsOurs, IsSame, Kept, Wrote}
-use Rattle.sql_store.specs.Whole.{IsMoved}
+use Rattle.sql_store.specs.Whole.{AreRegistryRead, EachReads, IsMoved}
 
 -- each table of the form has rowids that rise
 abbrev pub AreOldShaped : Form → Trees → Type 0
@@ -47,9 +48,46 @@ pub record IsCarriedOver (f : Form) (old new : Trees) : Type 0 where
   pub content : content_in new ≡ old_content_in f old
   pub moved : IsMoved new
 
--- it was of some earlier form
-abbrev pub IsOfSomeForm : (old new : Trees) → Type 0
-IsOfSomeForm old new = (f : Form) × IsCarriedOver f old new
+-- ---- what is read before anything is written
+
+-- each row of the routings that versions send, if the form has such a table
+abbrev pub AreNextsRead : Form → Trees → Type 0
+AreNextsRead f db = EachReads next_entry (next_rows f db)
+
+-- each row of what is sent
+pub record IsSentRead (f : Form) (db : Trees) : Type 0 where
+  pub broadcasts : EachReads broadcast_entry (db 8)
+  pub waits : EachReads wait_entry (db 10)
+  pub nexts : AreNextsRead f db
+
+-- each row of the tables that stay as they are
+pub record AreStayingRead (f : Form) (db : Trees) : Type 0 where
+  pub registry : AreRegistryRead db
+  pub sent : IsSentRead f db
+
+-- each row of the tables that are emptied
+pub record AreMovedRead (db : Trees) : Type 0 where
+  pub versions : EachReads old_version_entry (db 5)
+  pub clock : EachReads old_clock_entry (db 12)
+
+-- the versions and the clock were read and carried over
+pub record IsCarried (f : Form) (old new : Trees) : Type 0 where
+  pub read : AreMovedRead old
+  pub over : IsCarriedOver f old new
+
+-- the windows are those of the file, where it has a clock
+abbrev pub WereItsWindows : Windows → Trees → Type 0
+WereItsWindows w db = (c : ClockRow) → old_clock (db 12) ≡ Some c → c.present.windows ≡ w
+
+-- the file has a clock, and other windows
+abbrev pub WereOtherWindows : Windows → Trees → Type 0
+WereOtherWindows w db = (c : ClockRow) × (old_clock (db 12) ≡ Some c) × (c.present.windows ≢ w)
+
+-- a file of the form was made one of this form: these windows are its own, and every row of it was read
+pub record IsMovedFrom (f : Form) (w : Windows) (old new : Trees) : Type 0 where
+  pub staying : AreStayingRead f old
+  pub windows : WereItsWindows w old
+  pub carried : IsCarried f old new
 
 -- a call made this of a file of an earlier form, which is one of this form then, or left it as it was; and so does a crash
 pub record Moves (Becomes : Trees → Trees → Type 0) (old new : State) (done : Bool) : Type 0 where
@@ -60,6 +98,18 @@ pub record Moves (Becomes : Trees → Trees → Type 0) (old new : State) (done 
   pub honest : HasCleanDisk new → HasCleanDisk old
   pub stays : IsTrue done → IsTrue old.is_open → HasCleanDisk new → IsTrue new.is_open
   pub crash : Survives old new (λ db. IsTrue old.is_open → Becomes old.now.trees db)
+
+-- the schema is none, ours, or that of an earlier form
+pub data IsOfSomeForm (k : Schema) : Type 0 where
+  of_none : k ≡ no_schema → IsOfSomeForm k
+  of_ours : k ≡ the_schema → IsOfSomeForm k
+  of_earlier : (f : Form) → k ≡ schema_of f → IsOfSomeForm k
+
+-- the file is of an earlier form, and was made with other windows
+pub record IsOtherwiseWindowed (w : Windows) (s : State) : Type 0 where
+  pub form : Form
+  pub schema : s.now.schema ≡ schema_of form
+  pub others : WereOtherWindows w s.committed.trees
 
 -- ---- in a transaction
 

@@ -4,6 +4,7 @@
 mod blocks;
 mod change;
 mod commit;
+mod file_fault;
 mod lists;
 mod lookups;
 mod moving;
@@ -18,5 +19,6 @@ mod select;
 mod store;
 mod whole;
 
+pub use file_fault::FileFault;
 pub use opening::Refused;
 pub use store::SqlStore;

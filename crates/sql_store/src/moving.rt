@@ -1,25 +1,30 @@
 //! A file of an earlier form made one of this form, in one transaction.
-ghost use Rattle.std.specs.Prelude.{◌≡◌, ◌<◌, false, [], IsTrue, IfOk, is_ok, map};
+ghost use Rattle.std.specs.Prelude.{◌≡◌, ◌<◌, false, [], Err, IsTrue, IfOk, OnOk, is_ok, map};
 ghost use Rattle.sqlite.specs.Held.{state};
 ghost use Rattle.sqlite.specs.Program.{overlay};
 ghost use Rattle.sqlite.specs.Query.{IsAnswer};
 ghost use Rattle.sql_rows.specs.Found.{IsListAnswer};
 ghost use Rattle.sql_rows.specs.Statements.{query_of};
-ghost use Rattle.sql_rows.specs.Moving.{IsCleared, IsMade, schema_after, schema_before, schema_of, table_of_old};
+ghost use Rattle.sql_rows.specs.Moving.{IsCleared, IsMade, IsTableOf, schema_after, schema_before, schema_of};
 ghost use Rattle.sql_store.specs.Changes.{if_some, with_set};
 ghost use Rattle.sql_rows.specs.Content.{stored_clock};
 ghost use Rattle.version.specs.Views.{windows_of};
-ghost use Rattle.sql_store.specs.Moving.{Alters, ArePutBut, IsBarePut, IsBegun, IsBegunAs, IsCarriedOver, IsFilled, IsGrown, IsIndexed, IsOfForm, IsRebuilt, IsRebuiltAs, Moves};
+ghost use Rattle.sql_store.specs.Moving.{Alters, ArePutBut, AreStayingRead, IsBarePut, IsBegun, IsBegunAs, IsCarried, IsFilled, IsGrown, IsIndexed, IsMovedFrom, IsOfForm, IsRebuilt, IsRebuiltAs, IsSentRead, Moves, WereItsWindows, WereOtherWindows};
 ghost use Rattle.sql_store.specs.Store.{Looked, Makes, Writes};
+ghost use Rattle.sql_store.specs.Whole.{AreRegistryRead, IsRead};
 
 use crate::change::replace;
+use crate::file_fault::FileFault;
 use crate::rows::put_set;
+use numbers::Spid;
 use settle::VersionRow;
 use sql_rows::{
-    Fault, Form, NewTable, OldClock, OldTable, OldVersion, Query, Stored, StoredClock, Table, all,
-    fits, index_text, number, spid_bytes, version_params,
+    Fault, Form, KeyedBlock, KeyedBroadcast, KeyedCode, KeyedLrn, KeyedRouting, KeyedWait,
+    NewTable, OldClock, OldTable, OldVersion, Query, Stored, StoredClock, Table, all, fits,
+    index_text, number, spid_bytes, version_params,
 };
 use sqlite::{Alter, Connection, Row, Transaction};
+use windows::Windows;
 
 fn make<S: Alter>(tx: &mut Transaction<'_, S>, table: NewTable) -> Result<(), Fault>
     ensures same_reference { tx.new.conn.ghost_name ≡ tx.old.conn.ghost_name }
@@ -188,22 +193,23 @@ fn move_rows<S: Alter>(
     Ok(())
 }
 
-// The rows of a table of an earlier form.
+// The rows of a table that a file of the form has.
 fn select_old<S: Alter>(
     conn: &mut Connection<S>,
     form: Form,
-    table: OldTable,
+    table: Table,
 ) -> Result<Vec<Row>, Fault>
+    requires has { IsTableOf table form }
     requires old { IsTrue (state S.Store conn.old).is_open
         → IsOfForm form (state S.Store conn.old) }
     requires idle { conn.old.in_transaction ≡ false }
     ensures value { IsTrue (state S.Store conn.new).is_open
-        → IfOk result (λ rows. IsAnswer (query_of (Query.All (table_of_old table)))
+        → IfOk result (λ rows. IsAnswer (query_of (Query.All table))
         (overlay (state S.Store conn.old).now.trees []) [] rows.items) }
     ensures looked { Looked (state S.Store conn.old) (state S.Store conn.new) (is_ok result) }
     ensures idle { conn.new.in_transaction ≡ false }
 {
-    let rows = conn.query_all(Query::All(table.table()).text(), &[])?;
+    let rows = conn.query_all(Query::All(table).text(), &[])?;
     Ok(rows)
 }
 
@@ -211,13 +217,14 @@ fn select_old<S: Alter>(
 fn read_old<T: Stored + Drop, S: Alter>(
     conn: &mut Connection<S>,
     form: Form,
-    table: OldTable,
+    table: Table,
 ) -> Result<Vec<T>, Fault>
+    requires has { IsTableOf table form }
     requires old { IsTrue (state S.Store conn.old).is_open
         → IsOfForm form (state S.Store conn.old) }
     requires idle { conn.old.in_transaction ≡ false }
     ensures value { IsTrue (state S.Store conn.new).is_open
-        → IfOk result (λ items. IsListAnswer (Query.All (table_of_old table)) T.seen_in
+        → IfOk result (λ items. IsListAnswer (Query.All table) T.seen_in
         (state S.Store conn.old).now.trees [] (map T.seen items.items)) }
     ensures looked { Looked (state S.Store conn.old) (state S.Store conn.new) (is_ok result) }
     ensures idle { conn.new.in_transaction ≡ false }
@@ -227,23 +234,152 @@ fn read_old<T: Stored + Drop, S: Alter>(
     Ok(items)
 }
 
-/// Makes a file of an earlier form one of this form, in one transaction: its windows are set 1,
-/// each version holds that, and the tables of the earlier form are empty. A row that does not read
-/// is a fault, which changes nothing.
-#[tactic(auto, using(crate::proofs::MovingLemmas::old_still))]
-pub(crate) fn migrate<S: Alter>(conn: &mut Connection<S>, form: Form) -> Result<(), Fault>
+// ---- the tables that stay as they are
+
+// Reads a table that stays as it is.
+fn see<T: Stored + Drop, S: Alter>(
+    conn: &mut Connection<S>,
+    form: Form,
+    table: Table,
+) -> Result<(), Fault>
+    requires has { IsTableOf table form }
     requires old { IsTrue (state S.Store conn.old).is_open
         → IsOfForm form (state S.Store conn.old) }
     requires idle { conn.old.in_transaction ≡ false }
-    ensures moves { Moves (IsCarriedOver form) (state S.Store conn.old)
+    ensures value { IsTrue (state S.Store conn.new).is_open
+        → OnOk result (IsRead table T.seen_in (state S.Store conn.old).now.trees false) }
+    ensures looked { Looked (state S.Store conn.old) (state S.Store conn.new) (is_ok result) }
+    ensures idle { conn.new.in_transaction ≡ false }
+{
+    let _rows: Vec<T> = read_old(conn, form, table)?;
+    Ok(())
+}
+
+// Carriers, routing numbers, codes and blocks.
+#[tactic(auto, using(crate::proofs::MovingLemmas::old_still))]
+fn see_registry<S: Alter>(conn: &mut Connection<S>, form: Form) -> Result<(), Fault>
+    requires old { IsTrue (state S.Store conn.old).is_open
+        → IsOfForm form (state S.Store conn.old) }
+    requires idle { conn.old.in_transaction ≡ false }
+    ensures value { IsTrue (state S.Store conn.new).is_open
+        → OnOk result (AreRegistryRead (state S.Store conn.old).now.trees) }
+    ensures looked { Looked (state S.Store conn.old) (state S.Store conn.new) (is_ok result) }
+    ensures idle { conn.new.in_transaction ≡ false }
+{
+    see::<Spid, S>(conn, form, Table::Carrier)?;
+    see::<KeyedLrn, S>(conn, form, Table::Lrn)?;
+    see::<KeyedCode, S>(conn, form, Table::Code)?;
+    see::<KeyedBlock, S>(conn, form, Table::Block)?;
+    Ok(())
+}
+
+// What is sent: the broadcasts, the downloads that wait, and the routings that versions send, if the
+// form has a table of those.
+#[tactic(auto, using(crate::proofs::MovingLemmas::old_still))]
+fn see_sent<S: Alter>(conn: &mut Connection<S>, form: Form) -> Result<(), Fault>
+    requires old { IsTrue (state S.Store conn.old).is_open
+        → IsOfForm form (state S.Store conn.old) }
+    requires idle { conn.old.in_transaction ≡ false }
+    ensures value { IsTrue (state S.Store conn.new).is_open
+        → OnOk result (IsSentRead form (state S.Store conn.old).now.trees) }
+    ensures looked { Looked (state S.Store conn.old) (state S.Store conn.new) (is_ok result) }
+    ensures idle { conn.new.in_transaction ≡ false }
+{
+    see::<KeyedBroadcast, S>(conn, form, Table::Broadcast)?;
+    see::<KeyedWait, S>(conn, form, Table::Wait)?;
+    let Form::Modify = form else {
+        return Ok(());
+    };
+    see::<KeyedRouting, S>(conn, Form::Modify, Table::NextRouting)?;
+    Ok(())
+}
+
+// Reads the tables that stay as they are: a row that does not read is a fault of the device.
+#[tactic(auto, using(crate::proofs::MovingLemmas::old_still))]
+fn see_staying<S: Alter>(conn: &mut Connection<S>, form: Form) -> Result<(), Fault>
+    requires old { IsTrue (state S.Store conn.old).is_open
+        → IsOfForm form (state S.Store conn.old) }
+    requires idle { conn.old.in_transaction ≡ false }
+    ensures value { IsTrue (state S.Store conn.new).is_open
+        → OnOk result (AreStayingRead form (state S.Store conn.old).now.trees) }
+    ensures looked { Looked (state S.Store conn.old) (state S.Store conn.new) (is_ok result) }
+    ensures idle { conn.new.in_transaction ≡ false }
+{
+    see_registry(conn, form)?;
+    see_sent(conn, form)?;
+    Ok(())
+}
+
+// ---- all
+
+// Whether these windows are the file's own, where it has a clock.
+fn has_windows<S: Alter>(
+    conn: &mut Connection<S>,
+    form: Form,
+    windows: &Windows,
+) -> Result<bool, Fault>
+    requires old { IsTrue (state S.Store conn.old).is_open
+        → IsOfForm form (state S.Store conn.old) }
+    requires idle { conn.old.in_transaction ≡ false }
+    ensures own { IsTrue (state S.Store conn.new).is_open → IfOk result (λ are_own. IsTrue are_own
+        → WereItsWindows (windows_of windows.now) (state S.Store conn.old).now.trees) }
+    ensures others { IsTrue (state S.Store conn.new).is_open → IfOk result (λ are_own.
+        are_own ≡ false
+        → WereOtherWindows (windows_of windows.now) (state S.Store conn.old).now.trees) }
+    ensures looked { Looked (state S.Store conn.old) (state S.Store conn.new) (is_ok result) }
+    ensures idle { conn.new.in_transaction ≡ false }
+{
+    let clocks: Vec<OldClock> = read_old(conn, form, Table::OldClock)?;
+    match clocks.as_slice() {
+        [] => Ok(true),
+        [clock] => Ok(clock.windows == *windows),
+        _ => Err(Fault::Device),
+    }
+}
+
+// Carries the versions and the clock over.
+#[tactic(auto, using(crate::proofs::MovingLemmas::old_still))]
+fn carry_over<S: Alter>(conn: &mut Connection<S>, form: Form) -> Result<(), Fault>
+    requires old { IsTrue (state S.Store conn.old).is_open
+        → IsOfForm form (state S.Store conn.old) }
+    requires idle { conn.old.in_transaction ≡ false }
+    ensures moves { Moves (IsCarried form) (state S.Store conn.old)
         (state S.Store conn.new) (is_ok result) }
     ensures idle { conn.new.in_transaction ≡ false }
 {
-    let versions: Vec<OldVersion> = read_old(conn, form, OldTable::Version)?;
-    let clocks: Vec<OldClock> = read_old(conn, form, OldTable::Clock)?;
+    let versions: Vec<OldVersion> = read_old(conn, form, Table::OldVersion)?;
+    let clocks: Vec<OldClock> = read_old(conn, form, Table::OldClock)?;
     match clocks.as_slice() {
         [] => move_rows(conn, form, versions.as_slice(), None),
         [clock] => move_rows(conn, form, versions.as_slice(), Some(*clock)),
         _ => Err(Fault::Device),
     }
+}
+
+/// Makes a file of an earlier form one of this form, in one transaction: its windows are set 1,
+/// each version holds that, and the tables of the earlier form are empty. Every row is read first.
+/// A row that does not read is a fault of the device, and with other windows than the file's own it
+/// is refused: neither changes anything.
+#[tactic(auto, using(crate::proofs::MovingLemmas::old_still))]
+pub(crate) fn migrate<S: Alter>(
+    conn: &mut Connection<S>,
+    form: Form,
+    windows: &Windows,
+) -> Result<(), FileFault>
+    requires old { IsTrue (state S.Store conn.old).is_open
+        → IsOfForm form (state S.Store conn.old) }
+    requires idle { conn.old.in_transaction ≡ false }
+    ensures moves { Moves (IsMovedFrom form (windows_of windows.now)) (state S.Store conn.old)
+        (state S.Store conn.new) (is_ok result) }
+    ensures differ { result ≡ Err FileFault.WindowsDiffer
+        → IsTrue (state S.Store conn.new).is_open
+        → WereOtherWindows (windows_of windows.now) (state S.Store conn.old).now.trees }
+    ensures idle { conn.new.in_transaction ≡ false }
+{
+    see_staying(conn, form)?;
+    if !has_windows(conn, form, windows)? {
+        return Err(FileFault::WindowsDiffer);
+    }
+    carry_over(conn, form)?;
+    Ok(())
 }

@@ -1,5 +1,5 @@
 //! A store over what was opened.
-ghost use Rattle.std.specs.Prelude.{◌≡◌, ◌≤◌, true, false, IsTrue, IfOk, IfErr};
+ghost use Rattle.std.specs.Prelude.{◌≡◌, ◌⊎◌, ◌≤◌, true, false, IsTrue, IfOk, IfErr};
 ghost use Rattle.sqlite.specs.Held.{state};
 ghost use Rattle.sqlite.specs.Files.{file_state};
 ghost use Rattle.sqlite.specs.State.{HasCleanDisk};
@@ -8,19 +8,24 @@ ghost use Rattle.sqlite_trees.specs.View.{IsClean, doubt};
 ghost use Rattle.meaning.specs.Content.{empty_content};
 ghost use Rattle.sql_rows.specs.Content.{content_in};
 ghost use Rattle.sql_rows.specs.Tables.{no_schema, the_schema};
-ghost use Rattle.sql_store.specs.Moving.{IsOfSomeForm};
-ghost use Rattle.sql_store.specs.Refusal.{IsUnharmed};
+ghost use Rattle.sql_rows.specs.Moving.{schema_of};
+ghost use Rattle.sql_rows.specs.declared.moving.Form.{Form as FormSeen};
+ghost use Rattle.sql_store.specs.Moving.{IsMovedFrom, IsOfSomeForm, IsOtherwiseWindowed, WereOtherWindows};
+ghost use Rattle.sql_store.specs.Refusal.{IsUnharmed, StandsYet};
+ghost use Rattle.version.specs.Views.{windows_of};
 ghost use Rattle.sql_store.specs.Whole.{IsWhole, ReadsAll};
 
 use crate::SqlStore;
+use crate::file_fault::FileFault;
 use crate::moving::migrate;
-use crate::schema::{form_of, is_ours};
+use crate::schema::{form_of, is_of_form, is_ours};
 use crate::whole::read_all;
 use settle::StoreFault;
-use sql_rows::Fault;
+use sql_rows::{Fault, Form};
 use sqlite::{Alter, Connection, Error, FileFrom, FileStore, MemStore, Start};
 use sqlite_schema::schema::Schema;
 use std::alloc::Global;
+use windows::Windows;
 
 // The tables of the first form, and then their indexes; then those that came later, as a file of an
 // earlier form gets them: so the trees have the numbers of the schema.
@@ -161,14 +166,20 @@ impl<S: Alter + Drop> SqlStore<S> {
     ///
     /// # Errors
     ///
-    /// `Storage` where the schema is none of an earlier form, a row of the versions or of the clock
-    /// does not read, or the device failed, with the database, which is as it was.
-    pub fn moved(alloc: Global, store: S) -> Result<SqlStore<S>, (StoreFault, S)>
+    /// `WindowsDiffer` where its windows are others than these, `Storage` where it is not of the
+    /// form, a row does not read, or the device failed, each with the database, which is as it was.
+    pub fn moved(
+        alloc: Global,
+        store: S,
+        form: Form,
+        windows: &Windows,
+    ) -> Result<SqlStore<S>, (FileFault, S)>
         requires { IsClean (S.Store.view store) → IsFresh (S.Store.view store) }
         ensures open { IfOk result (λ s. HasCleanDisk (state S.Store s.conn) → IsTrue (state
             S.Store s.conn).is_open) }
-        ensures content { IfOk result (λ s. IsTrue (state S.Store s.conn).is_open
-            → IsOfSomeForm (S.Store.view store).trees (state S.Store s.conn).now.trees) }
+        ensures moved { IfOk result (λ s. IsTrue (state S.Store s.conn).is_open
+            → IsMovedFrom form (windows_of windows.now) (S.Store.view store).trees
+            (state S.Store s.conn).now.trees) }
         ensures none { IfOk result (λ s. s.failures ≡ 0) }
         ensures clean { IfOk result (λ s. doubt (S.Store.view store).is_clean ≤ doubt (state
             S.Store s.conn).is_clean) }
@@ -176,16 +187,21 @@ impl<S: Alter + Drop> SqlStore<S> {
             (S.Store.view e.1).is_clean) }
         ensures err { IfErr result (λ e. IsClean (S.Store.view e.1) → IsTrue (S.Store.view
             e.1).is_open → (S.Store.view e.1).trees ≡ (S.Store.view store).trees) }
+        ensures differ { IfErr result (λ e. e.0 ≡ FileFault.WindowsDiffer
+            → IsClean (S.Store.view e.1) → IsTrue (S.Store.view e.1).is_open
+            → WereOtherWindows (windows_of windows.now) (S.Store.view store).trees) }
     {
         match Connection::over(alloc, store) {
-            Ok(mut conn) => match form_of(conn.schema()) {
-                Some(form) => match migrate(&mut conn, form) {
+            Ok(mut conn) => {
+                if !is_of_form(conn.schema(), form) {
+                    return Err((FileFault::Storage, conn.into_store()));
+                }
+                match migrate(&mut conn, form, windows) {
                     Ok(()) => Ok(SqlStore { conn, failures: 0 }),
-                    Err(fault) => Err((told(fault), conn.into_store())),
-                },
-                None => Err((StoreFault::Storage, conn.into_store())),
-            },
-            Err((error, store)) => Err((fault_of(error), store)),
+                    Err(fault) => Err((fault, conn.into_store())),
+                }
+            }
+            Err((error, store)) => Err((FileFault::from(fault_of(error)), store)),
         }
     }
 
@@ -326,32 +342,74 @@ impl<S: Alter + Drop> SqlStore<S> {
     fn adopt_moved(
         alloc: Global,
         conn: Connection<S>,
-    ) -> Result<SqlStore<S>, (StoreFault, Refused<S>)>
+        form: Form,
+        windows: &Windows,
+    ) -> Result<SqlStore<S>, (FileFault, Refused<S>)>
         ensures open { IfOk result (λ s. HasCleanDisk (state S.Store s.conn) → IsTrue (state
             S.Store s.conn).is_open) }
-        ensures moved { IfOk result (λ s. HasCleanDisk (state S.Store s.conn) → IsOfSomeForm
-            (state S.Store conn).committed.trees (state S.Store s.conn).now.trees) }
+        ensures moved { IfOk result (λ s. HasCleanDisk (state S.Store s.conn)
+            → IsMovedFrom form (windows_of windows.now) (state S.Store conn).committed.trees
+            (state S.Store s.conn).now.trees) }
         ensures none { IfOk result (λ s. s.failures ≡ 0) }
         ensures err { IfErr result (λ e. IsUnharmed S.Store conn e.1) }
+        ensures differ { IfErr result (λ e. e.0 ≡ FileFault.WindowsDiffer
+            → StandsYet S.Store e.1
+            → WereOtherWindows (windows_of windows.now) (state S.Store conn).committed.trees) }
     {
         let store = conn.into_store();
         if store.is_broken() {
-            return Err((StoreFault::Storage, Refused::Store(store)));
+            return Err((FileFault::Storage, Refused::Store(store)));
         }
-        match SqlStore::moved(alloc, store) {
+        match SqlStore::moved(alloc, store, form, windows) {
             Ok(it) => Ok(it),
             Err((fault, store)) => Err((fault, Refused::Store(store))),
         }
     }
 
+    // Takes a connection whose tables are not of an earlier form.
+    fn adopt_or_create(
+        alloc: Global,
+        conn: Connection<S>,
+    ) -> Result<SqlStore<S>, (FileFault, Refused<S>)>
+        ensures open { IfOk result (λ s. HasCleanDisk (state S.Store s.conn) → IsTrue (state
+            S.Store s.conn).is_open) }
+        ensures new { IfOk result (λ s. HasCleanDisk (state S.Store s.conn) → (state S.Store
+            conn).now.schema ≡ no_schema → content_in (state S.Store s.conn).now.trees
+            ≡ empty_content) }
+        ensures found { IfOk result (λ s. HasCleanDisk (state S.Store s.conn) → ¬ ((state S.Store
+            conn).now.schema ≡ no_schema) → content_in (state S.Store s.conn).now.trees
+            ≡ content_in (state S.Store conn).committed.trees) }
+        ensures of_ours { IfOk result (λ s. ((state S.Store conn).now.schema ≡ no_schema)
+            ⊎ ((state S.Store conn).now.schema ≡ the_schema)) }
+        ensures none { IfOk result (λ s. s.failures ≡ 0) }
+        ensures err { IfErr result (λ e. ¬ ((state S.Store conn).now.schema ≡ no_schema) →
+            IsUnharmed S.Store conn e.1) }
+        ensures differ { IfErr result (λ e. e.0 ≡ FileFault.WindowsDiffer → ⊥) }
+    {
+        if !is_blank(conn.schema()) {
+            return match SqlStore::adopt(alloc, conn) {
+                Ok(it) => Ok(it),
+                Err((fault, refused)) => Err((FileFault::from(fault), refused)),
+            };
+        }
+        match SqlStore::create(alloc, conn) {
+            Ok(it) => Ok(it),
+            Err((fault, store)) => Err((FileFault::from(fault), Refused::Store(store))),
+        }
+    }
+
     /// Takes a connection: one that lists nothing yet gets the tables and is an empty store, one of
-    /// an earlier form is made one of this form, and any other has to be of our tables, as `adopt`
-    /// asks.
+    /// an earlier form that was made with these windows is made one of this form, and any other has
+    /// to be of our tables, as `adopt` asks.
     ///
     /// # Errors
     ///
     /// As those of `adopt`, of `create` and of `moved`.
-    pub fn open(alloc: Global, conn: Connection<S>) -> Result<SqlStore<S>, (StoreFault, Refused<S>)>
+    pub fn open(
+        alloc: Global,
+        conn: Connection<S>,
+        windows: &Windows,
+    ) -> Result<SqlStore<S>, (FileFault, Refused<S>)>
         ensures open { IfOk result (λ s. HasCleanDisk (state S.Store s.conn) → IsTrue (state
             S.Store s.conn).is_open) }
         ensures new { IfOk result (λ s. HasCleanDisk (state S.Store s.conn) → (state S.Store
@@ -360,25 +418,27 @@ impl<S: Alter + Drop> SqlStore<S> {
         ensures found { IfOk result (λ s. HasCleanDisk (state S.Store s.conn) → (state S.Store
             conn).now.schema ≡ the_schema → content_in (state S.Store s.conn).now.trees
             ≡ content_in (state S.Store conn).committed.trees) }
-        ensures moved { IfOk result (λ s. HasCleanDisk (state S.Store s.conn) → ¬ ((state S.Store
-            conn).now.schema ≡ no_schema) → ¬ ((state S.Store conn).now.schema ≡ the_schema) →
-            IsOfSomeForm (state S.Store conn).committed.trees (state S.Store s.conn).now.trees) }
+        ensures moved { (f : FormSeen) → (state S.Store conn).now.schema ≡ schema_of f
+            → IfOk result (λ s. HasCleanDisk (state S.Store s.conn)
+            → IsMovedFrom f (windows_of windows.now) (state S.Store conn).committed.trees
+            (state S.Store s.conn).now.trees) }
+        ensures of_ours { IfOk result (λ s. IsOfSomeForm (state S.Store conn).now.schema) }
         ensures none { IfOk result (λ s. s.failures ≡ 0) }
         ensures err { IfErr result (λ e. ¬ ((state S.Store conn).now.schema ≡ no_schema) →
             IsUnharmed S.Store conn e.1) }
+        ensures differ { IfErr result (λ e. e.0 ≡ FileFault.WindowsDiffer
+            → StandsYet S.Store e.1
+            → IsOtherwiseWindowed (windows_of windows.now) (state S.Store conn)) }
     {
-        if !is_blank(conn.schema()) {
-            if form_of(conn.schema()).is_some() {
-                return match SqlStore::adopt_moved(alloc, conn) {
-                    Ok(it) => Ok(it),
-                    Err(refused) => Err(refused),
-                };
-            }
-            return SqlStore::adopt(alloc, conn);
-        }
-        match SqlStore::create(alloc, conn) {
-            Ok(it) => Ok(it),
-            Err((fault, store)) => Err((fault, Refused::Store(store))),
+        match form_of(conn.schema()) {
+            Some(form) => match SqlStore::adopt_moved(alloc, conn, form, windows) {
+                Ok(it) => Ok(it),
+                Err(refused) => Err(refused),
+            },
+            None => match SqlStore::adopt_or_create(alloc, conn) {
+                Ok(it) => Ok(it),
+                Err(refused) => Err(refused),
+            },
         }
     }
 
@@ -414,31 +474,34 @@ impl SqlStore<MemStore> {
 }
 
 impl<S: Start> SqlStore<FileStore<FileFrom<S>>> {
-    /// Opens the file at a path, or makes it: a new one is an empty store. `start` says what is
+    /// Opens the file at a path, or makes it: a new one is an empty store. One of an earlier form
+    /// is made one of this form first, where it was made with these windows. `start` says what is
     /// supposed of a write that a crash cuts off, as `sqlite` says.
     ///
     /// # Errors
     ///
-    /// `Storage` where the file cannot be opened as a database, is none of ours, has a row that
-    /// does not read, or the device failed. A file that is none of ours is left as it was.
+    /// `WindowsDiffer` where the file is of an earlier form and was made with other windows;
+    /// `Storage` where it cannot be opened as a database, is none of ours, has a row that does not
+    /// read, or the device failed. A file that is refused so is left as it was.
     pub fn at(
         rt: &HostRuntime,
         path: &str,
         start: S,
-    ) -> Result<SqlStore<FileStore<FileFrom<S>>>, StoreFault>
+        windows: &Windows,
+    ) -> Result<SqlStore<FileStore<FileFrom<S>>>, FileFault>
         ensures open { IfOk result (λ s. HasCleanDisk (file_state s.conn) → IsTrue (file_state
             s.conn).is_open) }
         ensures none { IfOk result (λ s. s.failures ≡ 0) }
     {
         match Connection::open_from(rt, path, false, start) {
-            Ok(conn) => match SqlStore::open(rt.alloc(), conn) {
+            Ok(conn) => match SqlStore::open(rt.alloc(), conn, windows) {
                 Ok(it) => Ok(it),
                 Err((fault, refused)) => {
                     drop(refused.into_store());
                     Err(fault)
                 }
             },
-            Err((error, _left)) => Err(fault_of(error)),
+            Err((error, _left)) => Err(FileFault::from(fault_of(error))),
         }
     }
 

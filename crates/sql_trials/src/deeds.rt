@@ -3,10 +3,9 @@
 //! have to be a database takes forty seconds to prove, and twenty where it knows them as any files:
 //! so `over` alone makes such a call.
 use crate::rows::rows_of;
-use crate::said::{Said, Story, ask, begin, tell_all};
+use crate::said::{Said, Story, WINDOWS, ask, begin, tell_all, windows_of};
 use register::OpenFault;
-use settle::StoreFault;
-use sql_store::SqlStore;
+use sql_store::{FileFault, Refused, SqlStore};
 use sqlite::{Alter, Connection, FileStore, Files, Options};
 use sqlite_disk::Disk;
 use std::alloc::Global;
@@ -142,6 +141,29 @@ impl Deed for Texts {
 pub enum Offer {
     Adopt,
     Open,
+    /// As `Open` is, with the windows of a text in place of those of the tests.
+    OpenWith(&'static str),
+}
+
+fn adopted<S: Alter + Drop>(
+    alloc: Global,
+    conn: Connection<S>,
+) -> Result<SqlStore<S>, (FileFault, Refused<S>)> {
+    match SqlStore::adopt(alloc, conn) {
+        Ok(store) => Ok(store),
+        Err((fault, refused)) => Err((FileFault::from(fault), refused)),
+    }
+}
+
+fn opened<S: Alter + Drop>(
+    alloc: Global,
+    conn: Connection<S>,
+    windows: &str,
+) -> Result<SqlStore<S>, (FileFault, Refused<S>)> {
+    match windows_of(alloc, windows) {
+        Some(windows) => SqlStore::open(alloc, conn, &windows),
+        None => Err((FileFault::NoMemory, Refused::Connection(conn))),
+    }
 }
 
 // A store over a connection, or why it is refused, and its database.
@@ -149,10 +171,11 @@ fn offered<S: Alter + Drop>(
     alloc: Global,
     conn: Connection<S>,
     offer: Offer,
-) -> Result<SqlStore<S>, (StoreFault, S)> {
+) -> Result<SqlStore<S>, (FileFault, S)> {
     let answer = match offer {
-        Offer::Adopt => SqlStore::adopt(alloc, conn),
-        Offer::Open => SqlStore::open(alloc, conn),
+        Offer::Adopt => adopted(alloc, conn),
+        Offer::Open => opened(alloc, conn, WINDOWS),
+        Offer::OpenWith(windows) => opened(alloc, conn, windows),
     };
     match answer {
         Ok(store) => Ok(store),
@@ -167,13 +190,13 @@ fn database_of<S: Alter + Drop>(store: SqlStore<S>) -> S {
 
 /// Why it is refused, if it is.
 impl Deed for Offer {
-    type Made = Option<StoreFault>;
+    type Made = Option<FileFault>;
 
     fn carry_out<S: Alter + Drop>(
         self,
         alloc: Global,
         conn: Connection<S>,
-    ) -> (Option<Option<StoreFault>>, S) {
+    ) -> (Option<Option<FileFault>>, S) {
         match offered(alloc, conn, self) {
             Ok(store) => (Some(None), database_of(store)),
             Err((fault, store)) => (Some(Some(fault)), store),

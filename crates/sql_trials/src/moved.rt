@@ -2,7 +2,9 @@
 use crate::deeds::{Ask, Offer, PLAIN, Run};
 use crate::files::{Held, done_in, rows_in, told_stories};
 use crate::said::Said;
+use crate::stops::{Stops, calls_of, images, stop};
 use crate::stories::JUMP;
+use sql_store::FileFault;
 use std::alloc::Global;
 
 // Makes a file of this form one that has no sets of windows yet.
@@ -66,4 +68,168 @@ fn are_moved(alloc: Global) -> Option<[bool; 2]> {
 #[test]
 fn files_of_earlier_forms_are_moved(rt: HostRuntime) {
     assert_eq!(rt; are_moved(rt.alloc()), Some([true; 2]));
+}
+
+// ---- what refuses a file of an earlier form leaves it as it was
+
+// Other windows than those of the tests, in minutes.
+const OTHERS: &str =
+    "initial_concurrence = 60\nfinal_concurrence = 60\nconflict_restriction = 30\nconflict_resolution = 120\nconflict_expiration = 1000\ncancellation_initial = 60\ncancellation_final = 60\npending_retention = 500\nbroadcast = 16\n";
+
+// Why a file is not opened, if it is not; and whether its register then goes on as before, once these
+// statements have run.
+fn is_refused_whole(
+    alloc: Global,
+    held: &Held,
+    offer: Offer,
+    mended: &str,
+) -> Option<(Option<FileFault>, bool)> {
+    let (fault, left) = done_in(alloc, held, PLAIN, offer)?;
+    let (adopted, left) = done_in(alloc, &left, PLAIN, Offer::Adopt)?;
+    let (_ran, left) = done_in(alloc, &left, PLAIN, Run(mended))?;
+    let before = answered(alloc, &files(alloc)?, &SHOWN)?;
+    let is_of_its_form = adopted.is_some();
+    Some((
+        fault,
+        is_of_its_form && answered(alloc, &left, &SHOWN)? == before,
+    ))
+}
+
+fn other_windows(alloc: Global) -> Option<(Option<FileFault>, bool)> {
+    let earlier = changed(alloc, files(alloc)?, FORMS[1])?;
+    is_refused_whole(alloc, &earlier, Offer::OpenWith(OTHERS), "")
+}
+
+#[test]
+fn an_earlier_form_with_other_windows_stays(rt: HostRuntime) {
+    assert_eq!(rt;
+        other_windows(rt.alloc()),
+        Some((Some(FileFault::WindowsDiffer), true))
+    );
+}
+
+// A statement after which a row of a table does not read, and one that takes it back.
+static SPOILED: [(&str, &str); 9] = [
+    (
+        "INSERT INTO carrier VALUES ('x')",
+        "DELETE FROM carrier WHERE spid = 'x'",
+    ),
+    (
+        "INSERT INTO lrn VALUES (7, 'x')",
+        "DELETE FROM lrn WHERE lrn = 7",
+    ),
+    (
+        "INSERT INTO code VALUES (7, 'x')",
+        "DELETE FROM code WHERE code = 7",
+    ),
+    (
+        "INSERT INTO block VALUES (7, 'x', NULL)",
+        "DELETE FROM block WHERE block = 7",
+    ),
+    (
+        "INSERT INTO broadcast VALUES (900, 1, -1, 7, 'create', NULL, NULL, 1, 0)",
+        "DELETE FROM broadcast WHERE id = 900",
+    ),
+    (
+        "INSERT INTO wait VALUES ('x', 1, 900, 1, 7)",
+        "DELETE FROM wait WHERE spid = 'x'",
+    ),
+    (
+        "INSERT INTO next_routing VALUES (900, -1, NULL)",
+        "DELETE FROM next_routing WHERE id = 900",
+    ),
+    (
+        "UPDATE version SET attempt = attempt - 9",
+        "UPDATE version SET attempt = attempt + 9",
+    ),
+    (
+        "UPDATE clock SET next_id = next_id - 99",
+        "UPDATE clock SET next_id = next_id + 99",
+    ),
+];
+
+// The first of them with which the file is taken, or its register does not go on once it is mended.
+fn first_taken(alloc: Global) -> Option<Option<&'static str>> {
+    let earlier = changed(alloc, files(alloc)?, FORMS[0])?;
+    for (spoils, mends) in SPOILED {
+        let (_ran, spoiled) = done_in(alloc, &earlier, PLAIN, Run(spoils))?;
+        let said = is_refused_whole(alloc, &spoiled, Offer::Open, mends)?;
+        if said != (Some(FileFault::Storage), true) {
+            return Some(Some(spoils));
+        }
+    }
+    Some(None)
+}
+
+#[test]
+fn a_row_that_does_not_read_stays_in_its_form(rt: HostRuntime) {
+    assert_eq!(rt; first_taken(rt.alloc()), Some(None));
+}
+
+// ---- a stop at each call of its files while one is moved
+
+// Whether the file is of the earlier form still, or of this one with these rows; and its register goes
+// on as before.
+fn is_of_one_form(alloc: Global, held: &Held, rows: &[u8], before: &(Vec<u8>, Vec<u8>)) -> bool {
+    let Some((refused, left)) = done_in(alloc, held, PLAIN, Offer::Adopt) else {
+        return false;
+    };
+    let is_one = refused.is_some() || rows_in(alloc, &left).as_deref() == Some(rows);
+    is_one && answered(alloc, &left, &SHOWN).as_ref() == Some(before)
+}
+
+// The bytes that stops have left so far. Most leave the same, which are looked at once.
+fn is_known(known: &[Held], held: &Held) -> bool {
+    for other in known {
+        if other.log == held.log && other.db == held.db {
+            return true;
+        }
+    }
+    false
+}
+
+// Looks at what a stop leaves of the files, where it is not known yet.
+fn are_whole(
+    alloc: Global,
+    left: [Held; 5],
+    moved: &(Vec<u8>, (Vec<u8>, Vec<u8>)),
+    known: &mut Vec<Held>,
+) -> Option<bool> {
+    for held in left {
+        if !is_known(known, &held) {
+            if !is_of_one_form(alloc, &held, &moved.0, &moved.1) {
+                return Some(false);
+            }
+            known.push(held).ok()?;
+        }
+    }
+    Some(true)
+}
+
+// The first stop of a file, after so many of its calls, that leaves something else; and how many
+// different files the stops leave.
+fn first_wrong_stop(alloc: Global) -> Option<(Option<(Stops, u64)>, usize)> {
+    let held = files(alloc)?;
+    let moved = (rows_in(alloc, &held)?, answered(alloc, &held, &SHOWN)?);
+    let earlier = changed(alloc, held, FORMS[1])?;
+    let calls = calls_of(alloc, &earlier, PLAIN, Offer::Open)?;
+    let mut known = Vec::new(alloc);
+    for stops in [Stops::Log, Stops::Database] {
+        for count in 0..stops.count(calls) {
+            let (_made, left) = stop(alloc, &earlier, Offer::Open, PLAIN, stops.after(count))?;
+            if !are_whole(alloc, images(alloc, &left)?, &moved, &mut known)? {
+                return Some((Some((stops, count)), known.len()));
+            }
+        }
+    }
+    Some((None, known.len()))
+}
+
+#[test]
+fn a_stop_leaves_a_file_of_one_form(rt: HostRuntime) {
+    let stopped = first_wrong_stop(rt.alloc());
+    assert_eq!(rt;
+        stopped.map(|(wrong, known)| (wrong, known > 2)),
+        Some((None, true))
+    );
 }

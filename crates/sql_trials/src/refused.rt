@@ -4,7 +4,7 @@ use crate::files::{Held, done_in, rows_in, told_stories};
 use crate::said::{Said, WINDOWS, is_accepted, windows_of};
 use crate::stories::PORT;
 use register::OpenFault;
-use settle::StoreFault;
+use sql_store::FileFault;
 use std::alloc::Global;
 
 // Files, and what stands in them.
@@ -26,12 +26,12 @@ fn changed(alloc: Global, held: &Held, statements: &str) -> Option<Held> {
 }
 
 // Why the files are refused, if they are, and the files then.
-fn offered(alloc: Global, held: &Held, offer: Offer) -> Option<(Option<StoreFault>, Held)> {
+fn offered(alloc: Global, held: &Held, offer: Offer) -> Option<(Option<FileFault>, Held)> {
     done_in(alloc, held, PLAIN, offer)
 }
 
 // Whether the files are answered so by `adopt` and by `open`, which change nothing.
-fn are_answered(alloc: Global, shown: &Shown, wanted: Option<StoreFault>) -> Option<bool> {
+fn are_answered(alloc: Global, shown: &Shown, wanted: Option<FileFault>) -> Option<bool> {
     for offer in [Offer::Adopt, Offer::Open] {
         let (fault, left) = offered(alloc, &shown.held, offer)?;
         if fault != wanted || rows_in(alloc, &left)? != shown.rows {
@@ -50,7 +50,7 @@ fn is_answered(
     alloc: Global,
     port: &Shown,
     statements: &str,
-    wanted: Option<StoreFault>,
+    wanted: Option<FileFault>,
 ) -> Option<bool> {
     let changed = show(alloc, changed(alloc, &port.held, statements)?)?;
     let is_other = changed.rows != port.rows;
@@ -61,7 +61,7 @@ fn is_answered(
 fn first_other(
     alloc: Global,
     all: &[&'static str],
-    wanted: Option<StoreFault>,
+    wanted: Option<FileFault>,
 ) -> Option<&'static str> {
     let Some(port) = port(alloc) else {
         return Some("no port");
@@ -114,7 +114,7 @@ static SPOILED: [&str; 33] = [
 #[test]
 fn a_value_of_no_type_is_refused(rt: HostRuntime) {
     assert_eq!(rt;
-        first_other(rt.alloc(), &SPOILED, Some(StoreFault::Storage)),
+        first_other(rt.alloc(), &SPOILED, Some(FileFault::Storage)),
         None
     );
 }
@@ -152,7 +152,7 @@ static KEYS: [&str; 7] = [
 #[test]
 fn a_key_of_nothing_is_refused(rt: HostRuntime) {
     assert_eq!(rt;
-        first_other(rt.alloc(), &KEYS, Some(StoreFault::Storage)),
+        first_other(rt.alloc(), &KEYS, Some(FileFault::Storage)),
         None
     );
 }
@@ -184,7 +184,7 @@ static EARLIER_ROWS: [&str; 2] = [
 
 #[test]
 fn a_row_of_an_earlier_form_is_refused(rt: HostRuntime) {
-    let wanted = Some(StoreFault::Storage);
+    let wanted = Some(FileFault::Storage);
     assert_eq!(rt; first_other(rt.alloc(), &EARLIER_ROWS, wanted), None);
 }
 
@@ -199,7 +199,7 @@ static LISTED_OTHERWISE: [&str; 5] = [
 
 #[test]
 fn another_schema_is_refused(rt: HostRuntime) {
-    let wanted = Some(StoreFault::Storage);
+    let wanted = Some(FileFault::Storage);
     assert_eq!(rt; first_other(rt.alloc(), &LISTED_OTHERWISE, wanted), None);
 }
 
@@ -217,7 +217,7 @@ fn is_made_so(
     alloc: Global,
     texts: &str,
     edit: &Edit<'_>,
-    wanted: Option<StoreFault>,
+    wanted: Option<FileFault>,
 ) -> Option<bool> {
     let (from, to) = *edit;
     if !texts.contains(from) {
@@ -252,7 +252,7 @@ fn first_taken(alloc: Global) -> Option<&'static str> {
         return Some("the texts as they are");
     }
     for edit in &EDITS {
-        let refused = Some(StoreFault::Storage);
+        let refused = Some(FileFault::Storage);
         if is_made_so(alloc, texts.as_str(), edit, refused) != Some(true) {
             return Some(edit.1);
         }
@@ -273,7 +273,7 @@ fn is_made(alloc: Global) -> Option<bool> {
     let (made, held) = offered(alloc, &left, Offer::Open)?;
     let (adopted, again) = offered(alloc, &held, Offer::Adopt)?;
     let is_same = rows_in(alloc, &again)? == rows_in(alloc, &held)?;
-    let is_made = refused == Some(StoreFault::Storage) && made.is_none();
+    let is_made = refused == Some(FileFault::Storage) && made.is_none();
     Some(is_made && adopted.is_none() && is_same)
 }
 

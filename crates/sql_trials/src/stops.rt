@@ -152,41 +152,35 @@ fn calls_taken(mut files: Files<Fused>) -> Calls {
     }
 }
 
-// How many calls the files take until a deed is done.
-fn calls_of<D: Deed>(alloc: Global, held: &Held, options: Options, deed: D) -> Option<Calls> {
+/// How many calls the files take until a deed is done.
+pub fn calls_of<D: Deed>(alloc: Global, held: &Held, options: Options, deed: D) -> Option<Calls> {
     let (made, files) = over(alloc, files_with(alloc, held, MOST)?, options, deed);
     made?;
     Some(calls_taken(files))
 }
 
-// What a stop leaves: what was answered, if the register was opened, and the bytes of both files,
-// as they were read last and as they were last synced.
+/// What a stop leaves: the bytes of both files, as they were read last and as they were last synced.
 #[derive(Drop)]
-struct Left {
-    answer: Option<Vec<u8>>,
+pub struct Left {
     seen: Held,
     synced: Held,
 }
 
-// The files stop after so many calls.
-fn stop(
+/// The files stop after so many calls: what was made, if anything, and what is left.
+pub fn stop<D: Deed>(
     alloc: Global,
     held: &Held,
-    request: &Said<'_>,
+    deed: D,
     options: Options,
     calls: Calls,
-) -> Option<Left> {
+) -> Option<(Option<D::Made>, Left)> {
     let files = files_with(alloc, held, calls)?;
-    let (answer, mut files) = over(alloc, files, options, Ask(request));
+    let (made, mut files) = over(alloc, files, options, deed);
     let seen = held_in(alloc, &files)?;
     files.log.crash();
     files.db.crash();
     let synced = held_in(alloc, &files)?;
-    Some(Left {
-        answer,
-        seen,
-        synced,
-    })
+    Some((made, Left { seen, synced }))
 }
 
 // Where two texts differ first, or the shorter ends.
@@ -219,9 +213,9 @@ fn pair(alloc: Global, log: &[u8], db: &[u8]) -> Option<Held> {
     })
 }
 
-// What may be left of both files: where the program died, all that was written; where the machine
-// did, what was synced, or more of one of them, or a part of what was written to the log.
-fn images(alloc: Global, left: &Left) -> Option<[Held; 5]> {
+/// What may be left of both files: where the program died, all that was written; where the machine
+/// did, what was synced, or more of one of them, or a part of what was written to the log.
+pub fn images(alloc: Global, left: &Left) -> Option<[Held; 5]> {
     let (seen, synced) = (&left.seen, &left.synced);
     let torn_log = torn(alloc, &seen.log, &synced.log)?;
     Some([
@@ -310,10 +304,10 @@ fn are_whole(
     alloc: Global,
     told: &Told,
     request: &Said<'_>,
-    left: &Left,
+    (answer, left): &(Option<Vec<u8>>, Left),
     judged: &mut Vec<Judged>,
 ) -> Option<bool> {
-    let (least, most) = bounds(told, &left.answer)?;
+    let (least, most) = bounds(told, answer)?;
     for held in images(alloc, left)? {
         let place = judge_once(alloc, told, request, held, judged)?;
         if place < least || most < place {
@@ -323,16 +317,16 @@ fn are_whole(
     Some(true)
 }
 
-// Which of the files stops.
+/// Which of the files stops.
 #[derive(Clone, Copy, Debug, PartialEq, Eq)]
-enum Stops {
+pub enum Stops {
     Log,
     Database,
 }
 
 impl Stops {
-    // The stopped file takes so many calls, and the other all.
-    fn after(self, count: u64) -> Calls {
+    /// The stopped file takes so many calls, and the other all.
+    pub fn after(self, count: u64) -> Calls {
         match self {
             Stops::Log => Calls {
                 log: count,
@@ -345,7 +339,8 @@ impl Stops {
         }
     }
 
-    fn count(self, calls: Calls) -> u64 {
+    /// The calls of that file.
+    pub fn count(self, calls: Calls) -> u64 {
         match self {
             Stops::Log => calls.log,
             Stops::Database => calls.db,
@@ -363,7 +358,7 @@ fn first_wrong_stop(
     judged: &mut Vec<Judged>,
 ) -> Option<u64> {
     for count in stops.count(told.opened)..stops.count(told.answered) {
-        let Some(left) = stop(alloc, &told.held, request, options, stops.after(count)) else {
+        let Some(left) = stop(alloc, &told.held, Ask(request), options, stops.after(count)) else {
             return Some(count);
         };
         if are_whole(alloc, told, request, &left, judged) != Some(true) {

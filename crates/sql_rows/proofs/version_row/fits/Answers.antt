@@ -1,4 +1,4 @@
-use Rattle.std.proofs.Common.{rules, ◌≡◌, ◌<◌, ◌≤◌, Some, subst, arith}
+use Rattle.std.proofs.Common.{rules, ◌≡◌, ◌<◌, ◌≤◌, Some, subst}
 use Rattle.std.specs.Prelude.{option_map, true}
 use Rattle.numbers.specs.Views.{routing_of}
 use Rattle.meaning.specs.Views.{status_of}

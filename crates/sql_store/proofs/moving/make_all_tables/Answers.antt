@@ -1,6 +1,6 @@
 use Rattle.std.proofs.Common.{rules, ◌≡◌, true, false, is_ok, sym, subst}
 use Rattle.sqlite.specs.Held.{state}
-use Rattle.sql_rows.specs.Moving.{IsMade, schema_of}
+use Rattle.sql_rows.specs.Moving.{IsMade}
 use Rattle.sql_rows.specs.Tables.{first_schema, modify_schema}
 use Rattle.sql_rows.specs.declared.moving.Form.TheVariants.{First, Modify}
 use Rattle.sql_rows.specs.declared.moving.NewTable.TheVariants as made

@@ -1,32 +1,27 @@
-use Rattle.std.proofs.Common.{◌≡◌, ◌∷◌, [], Some, None, rules, ap, get_or, sym, subst, ◌∙◌}
-use Rattle.std.specs.Prelude.{is_ok}
+use Rattle.std.proofs.Common.{rules, IsTrue, true, subst, sym, ◌∙◌}
+use Rattle.sqlite.specs.Effect.{Database}
 use Rattle.sqlite.specs.Held.{state}
-use Rattle.sql_store.specs.Moving.{IsRebuiltAs, Moves}
-use Rattle.sql_store.proofs.MovingLemmas.{migrated, no_item, one_item}
+use Rattle.version.specs.Views.{windows_of}
+use Rattle.sql_store.specs.Moving.{AreStayingRead, IsCarried, IsMovedFrom, WereItsWindows}
+use Rattle.sql_store.proofs.CallLemmas.{looked_then}
+use Rattle.sql_store.proofs.MovingLemmas.{looked_moves}
 use Rattle.sql_store.proofs.moving.migrate.Goals as goal
 
-pub returns-in-empty-clause-moves : goal.returns-in-empty-clause-moves
-returns-in-empty-clause-moves g c =
+pub returns-clause-moves : goal.returns-clause-moves
+returns-clause-moves g c =
     let a = state g.S.Store c.args.conn.now in
-    let b = state g.S.Store c.read_old.new.conn in
-    let d = state g.S.Store c.read_old-2.new.conn in
-    let e = state g.S.Store c.move_rows.new.conn in
-    let f = c.args.form in
-    let xs = c.in_ok-versions.versions.items in
-    let none : c.in_ok-clocks.clocks.items ≡ [] = sym c.as_slice.ensures.value ∙ no_item c.as_slice.result.now c.in-empty.len_below in
-    migrated f a b d e (is_ok c.move_rows.result) xs c.in_ok-clocks.clocks.items None c.in_ok-versions.ensures.looked c.in_ok-clocks.ensures.looked c.requires.old c.in_ok-versions.ensures.value c.in_ok-clocks.ensures.value none
-    (subst (λ ys. Moves (IsRebuiltAs f ys None) d e (is_ok c.move_rows.result)) c.as_slice-in-empty.ensures.value c.move_rows.ensures.moves)
-
-pub returns-in-len1-clause-moves : goal.returns-in-len1-clause-moves
-returns-in-len1-clause-moves g c =
-    let a = state g.S.Store c.args.conn.now in
-    let b = state g.S.Store c.read_old.new.conn in
-    let d = state g.S.Store c.read_old-2.new.conn in
-    let e = state g.S.Store c.move_rows-in-len1.new.conn in
-    let f = c.args.form in
-    let xs = c.in_ok-versions.versions.items in
-    let clock = c.clock-item.result in
-    let item : clock ≡ get_or c.as_slice.result.now 0 clock = search rules in
-    let one : c.in_ok-clocks.clocks.items ≡ clock ∷ [] = sym c.as_slice.ensures.value ∙ one_item c.as_slice.result.now clock c.in-len1.len_at_least c.in-len1.len_below item in
-    migrated f a b d e (is_ok c.move_rows-in-len1.result) xs c.in_ok-clocks.clocks.items (Some clock) c.in_ok-versions.ensures.looked c.in_ok-clocks.ensures.looked c.requires.old c.in_ok-versions.ensures.value c.in_ok-clocks.ensures.value one
-    (subst (λ ys. Moves (IsRebuiltAs f ys (Some clock)) d e (is_ok c.move_rows-in-len1.result)) c.as_slice-in-len1.ensures.value c.move_rows-in-len1.ensures.moves)
+    let b = state g.S.Store c.see_staying.new.conn in
+    let d = state g.S.Store c.has_windows.new.conn in
+    let e = state g.S.Store c.carry_over.new.conn in
+    let w = windows_of c.args.windows.now in
+    let one = c.in_ok-see_staying.ensures.looked in
+    let two = c.in_ok-has_windows.ensures.looked in
+    let own : IsTrue c.in_ok-has_windows.field-0 = search rules in
+    looked_moves a d e (IsCarried c.args.form) (IsMovedFrom c.args.form w) (looked_then a b d true one two) (λ up after carried.
+    let second = two.same up in
+    let first = one.same second.was_open in
+    record {
+      staying = subst (λ (x : Database). AreStayingRead c.args.form x.trees) (sym (second.now ∙ first.now)) (c.in_ok-see_staying.ensures.value second.was_open);
+      windows = subst (λ (x : Database). WereItsWindows w x.trees) (sym second.now) (c.in_ok-has_windows.ensures.own up own);
+      carried = carried;
+    }) true c.in_ok-carry_over.ensures.moves

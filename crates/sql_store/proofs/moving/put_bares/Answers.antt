@@ -1,9 +1,8 @@
-use Rattle.std.proofs.Common.{rules, ◌≡◌, ◌+◌, [], true, false, is_ok, drop, sym, subst}
+use Rattle.std.proofs.Common.{rules, ◌+◌, true, drop, subst}
 use Rattle.sqlite.specs.Held.{state}
-use Rattle.sql_store.specs.Moving.{ArePutBut, IsBarePut}
+use Rattle.sql_store.specs.Moving.{ArePutBut}
 use Rattle.sql_store.specs.Store.{Writes}
-use Rattle.sql_store.proofs.CallLemmas.{writes_nothing}
-use Rattle.sql_store.proofs.MovingLemmas.{none_dropped, one_left, put_none, puts_stop, puts_then}
+use Rattle.sql_store.proofs.MovingLemmas.{one_left, put_none, puts_then}
 use Rattle.sql_store.proofs.moving.put_bares.Goals as goal
 
 pub loop-row-init : goal.loop-row-init

@@ -1,4 +1,4 @@
-use Rattle.std.proofs.Common.{pos, arith, refl, rules, ◌<◌, ◌≤◌, ◌∷◌, []}
+use Rattle.std.proofs.Common.{pos, refl, rules, ◌<◌, ◌≤◌, ◌∷◌, []}
 use Rattle.sqlite.specs.declared.types.Value.TheVariants.{Int}
 use Rattle.sqlite.specs.Held.{state}
 use Rattle.sql_rows.specs.declared.statement.Table.TheVariants.{Clock}

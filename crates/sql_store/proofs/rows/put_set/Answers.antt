@@ -1,4 +1,4 @@
-use Rattle.std.proofs.Common.{◌≡◌, true, false, is_ok, pos, arith, refl, rules, sym, ap, ◌∙◌, subst, subst₂, ◌<◌, ◌≤◌, ◌∷◌, []}
+use Rattle.std.proofs.Common.{◌≡◌, true, false, is_ok, pos, refl, rules, sym, ap, ◌∙◌, subst, subst₂, ◌<◌, ◌≤◌, ◌∷◌, []}
 use Rattle.sqlite.specs.declared.types.Value.TheVariants.{Int}
 use Rattle.sqlite.specs.Held.{state}
 use Rattle.version.specs.Views.{windows_of}

@@ -1,4 +1,4 @@
-use Rattle.std.proofs.Common.{◌≡◌, None, false, true, is_ok, pos, refl, rules, sym, subst, ◌∷◌, []}
+use Rattle.std.proofs.Common.{◌≡◌, None, false, true, is_ok, pos, refl, rules, sym, subst}
 use Rattle.sqlite.specs.declared.types.Value.TheVariants.{Int}
 use Rattle.sqlite.specs.Held.{state}
 use Rattle.sql_rows.specs.Written.{Removed}
