@@ -183,6 +183,17 @@ pub fn stop<D: Deed>(
     Some((made, Left { seen, synced }))
 }
 
+// The files stop while a request is carried out.
+fn stop_asked(
+    alloc: Global,
+    held: &Held,
+    request: &Said<'_>,
+    options: Options,
+    calls: Calls,
+) -> Option<(Option<Vec<u8>>, Left)> {
+    stop(alloc, held, Ask(request), options, calls)
+}
+
 // Where two texts differ first, or the shorter ends.
 fn first_difference(one: &[u8], other: &[u8]) -> usize {
     let mut same = 0usize;
@@ -358,7 +369,7 @@ fn first_wrong_stop(
     judged: &mut Vec<Judged>,
 ) -> Option<u64> {
     for count in stops.count(told.opened)..stops.count(told.answered) {
-        let Some(left) = stop(alloc, &told.held, Ask(request), options, stops.after(count)) else {
+        let Some(left) = stop_asked(alloc, &told.held, request, options, stops.after(count)) else {
             return Some(count);
         };
         if are_whole(alloc, told, request, &left, judged) != Some(true) {
