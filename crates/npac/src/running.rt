@@ -17,7 +17,7 @@ use bulk::{BulkFault, FaultKind, audit, export, run_file};
 use numbers::Spid;
 use register::{OpenFault, Register, law_of_new_stores};
 use settle::Store;
-use sql_store::{FileFault, SqlStore};
+use sql_store::{FileFault, SqlStore, UnopenedAt};
 use sqlite::Unknown;
 use std::alloc::Global;
 use std::convert::AsStr;
@@ -225,7 +225,10 @@ fn carry_out_over<T: Files + AllocGlobal + Net + Clock, S: Store, R: Read, W: Wr
     }
 }
 
-fn open_fault(fault: FileFault) -> Fault {
+// What is told of a file that is not opened: what is left of it is closed.
+fn open_fault(refused: (FileFault, UnopenedAt<Unknown>)) -> Fault {
+    let (fault, left) = refused;
+    left.close();
     Fault::Open(match fault {
         FileFault::WindowsDiffer => OpenFault::WindowsDiffer,
         FileFault::Storage => OpenFault::Storage,

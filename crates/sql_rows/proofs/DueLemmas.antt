@@ -140,7 +140,7 @@ pub has_permuted : {X : Type 0} (xs ys : List X) (x : X) → IsPermutation xs ys
 has_permuted xs ys x p at = all_has (λ y. Has ys y) xs x (all-permutation (λ y. Has ys y) ys xs (IsPermutation-sym xs ys p) (all_from (λ y. Has ys y) ys (λ y h. h))) at
 
 -- the first of a sorted list is not above any
-first_least : (lt : Output → Output → Bool) (o : IsStrictWeakOrder lt) (x : Output) (xs : List Output) → IsSortedBy lt (x ∷ xs) → (y : Output) → Has (x ∷ xs) y → lt y x ≡ false
+pub first_least : (lt : Output → Output → Bool) (o : IsStrictWeakOrder lt) (x : Output) (xs : List Output) → IsSortedBy lt (x ∷ xs) → (y : Output) → Has (x ∷ xs) y → lt y x ≡ false
 first_least lt o x xs up y at =
     let c = contains_had (x ∷ xs) y at in
     ap (λ z. lt z x) (sym c.2) ∙ sorted_far lt o (x ∷ xs) up 0 c.0 y (omega arith) c.1
@@ -158,7 +158,7 @@ module _ {K : Type 0} {R : K → K → Ordering} (o : IsTotalOrder R) where
   no_less x y z Equal Less p q a b = sym (ap is_lt (o.congr y x z p ∙ q)) ∙ b
   no_less x y z Greater Less p q a b = sym (ap is_lt (o.antisymm x y ∙ ap ordering_reverse p)) ∙ a
 
-  ranks_by : {X : Type 0} (key : X → K) → IsStrictWeakOrder (λ x y. is_lt (R (key x) (key y)))
+  pub ranks_by : {X : Type 0} (key : X → K) → IsStrictWeakOrder (λ x y. is_lt (R (key x) (key y)))
   ranks_by key = record {
     one_way = λ x y h. not_back (R (key y) (key x)) (ap is_lt (sym (o.antisymm (key x) (key y))) ∙ h);
     chain = λ x y z a b. no_less (key x) (key y) (key z) _ _ refl refl a b;

@@ -1,10 +1,11 @@
 -- What stands in a file of an earlier form, as it is put into the tables of this one.
-use Rattle.std.proofs.Common.{◌≡◌, ℕ, pos, map, List, [], Bool, true, false, cond, Option, Some, None, refl, sym, ap, subst, ◌∙◌}
+use Rattle.std.proofs.Common.{◌≡◌, ℕ, pos, map, List, [], ◌∷◌, Bool, true, false, cond, Option, Some, None, refl, sym, ap, subst, ◌∙◌}
 use Rattle.std.specs.Prelude.{option_map}
 use Rattle.std.specs.Cmp.{nat_cmp_total, tied_itself}
 use Rattle.std.specs.Ordering.{eq_by_cmp, nat_cmp}
 use Rattle.std.specs.FinMap.{get}
 use Rattle.sqlite.specs.declared.types.Value.{Value}
+use Rattle.sqlite.specs.declared.types.Value.TheVariants.{Int}
 use Rattle.sqlite.specs.Order.{Row, column, value_cmp}
 use Rattle.sqlite.specs.Program.{overlay}
 use Rattle.sqlite.specs.Query.{IsAnswer}
@@ -21,7 +22,7 @@ use Rattle.meaning.specs.declared.words.Side.{Side}
 use Rattle.sql_rows.specs.Clocks.{old_clock_of}
 use Rattle.sql_rows.specs.Content.{old_clock_entry, old_clock_in, old_clock_shown, windows_in}
 use Rattle.sql_rows.specs.Former.{old_clock, old_versions_in}
-use Rattle.sql_rows.specs.Found.{IsListAnswer, IsSole}
+use Rattle.sql_rows.specs.Found.{IsListAnswer, IsSole, IsSoleAnswer}
 use Rattle.sql_rows.specs.Moving.{table_of_old}
 use Rattle.sql_rows.specs.Shaped.{AreShaped}
 use Rattle.sql_rows.specs.Statements.{query_of, query_test, shown_by, tree_of}
@@ -30,12 +31,15 @@ use Rattle.sql_rows.specs.Versions.{bare, bare_status, old_shown_of, old_version
 use Rattle.sql_rows.specs.Written.{IsFrame}
 use Rattle.sql_rows.specs.declared.keyed.OldClock.{OldClock}
 use Rattle.sql_rows.specs.declared.moving.OldTable.{OldTable}
-use Rattle.sql_rows.specs.declared.statement.Query.TheVariants.{All}
+use Rattle.sql_rows.specs.declared.statement.Query.TheVariants.{All, OldVersionNumbered}
 use Rattle.sql_rows.specs.declared.statement.Table.TheVariants.{OldClock as ClockTable, OldVersion as VersionTable}
 use Rattle.sql_rows.specs.declared.version_row.OldVersion.{OldVersion}
+use Rattle.sql_rows.proofs.FoundLemmas.{value_of}
+use Rattle.sql_rows.proofs.KeyTests.{number_tests}
 use Rattle.sql_rows.proofs.Inversions.{bind_some, map_some, number_read, reads_with}
 use Rattle.sql_rows.proofs.Listed.{listed}
 use Rattle.sql_rows.proofs.Lookups.{entry_from, looked_up}
+use Rattle.sql_rows.proofs.RowLemmas.{Tests}
 use Rattle.sql_rows.proofs.Orders.{same_number}
 use Rattle.sql_rows.proofs.Picked.{Picks, picks}
 use Rattle.sql_rows.proofs.QueryLemmas.{passes, plain_answer}
@@ -135,6 +139,14 @@ module _ (db : Trees) (shaped : IsShaped AsTable (db 5)) where
 -- each is bare
 pub old_bare : (db : Trees) (k : ℕ) (v : VersionRow) → get (old_versions_in (db 5)) k ≡ Some v → bare v ≡ v
 old_bare db k v e = let f = entry_from nat_cmp nat_cmp_total old_version_in old_shown_of same_number (db 5) k v e in bare_read (Some 1) (old_shown_of f.row) (k, v) f.reads
+
+-- the version with an id
+module _ (db : Trees) where
+  old_tests : (n : ℕ) → Tests nat_cmp old_version_entry n (passes (query_test OldVersionNumbered) (Int (pos n) ∷ []))
+  old_tests = number_tests old_version_entry (λ r e is. (reads_with (Some 1) (old_shown_of r) e is).id)
+
+  pub old_version_found : (id : ℕ) (o : Option (ℕ × VersionRow)) → IsSoleAnswer OldVersionNumbered old_version_in db (Int (pos id) ∷ []) o → get (old_versions_in (db 5)) id ≡ value_of o
+  old_version_found id o h = looked_up nat_cmp nat_cmp_total old_version_in old_shown_of id _ (old_tests id) (db 5) h.0 o (plain_answer 5 (query_test OldVersionNumbered) (shown_by VersionTable) (overlay db []) (Int (pos id) ∷ []) h.0 h.1) h.2
 
 -- ---- the clock's row
 

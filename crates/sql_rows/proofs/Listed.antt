@@ -34,7 +34,7 @@ from_mapped f (x ∷ xs) y (inr at) = let more = from_mapped f xs y at in (more.
 
 module _ {T X : Type 0} (seen : T → X) (read : Row → Option X) where
   -- a row from which an item was read
-  read_from : (rows : List Row) (items : List T) → AreRead read rows (map seen items) → (x : T) → Has items x → (f : Row) × Has rows f × (read f ≡ Some (seen x))
+  pub read_from : (rows : List Row) (items : List T) → AreRead read rows (map seen items) → (x : T) → Has items x → (f : Row) × Has rows f × (read f ≡ Some (seen x))
   read_from [] [] e x at = absurd at
   read_from [] (y ∷ ys) e x at = absurd cc
   read_from (f ∷ fs) [] e x at = absurd at
@@ -42,7 +42,7 @@ module _ {T X : Type 0} (seen : T → X) (read : Row → Option X) where
   read_from (f ∷ fs) (y ∷ ys) e x (inr at) = let more = read_from fs ys (same_rest e) x at in (more.0, inr more.1, more.2)
 
   -- the item that was read from a row
-  read_as : (rows : List Row) (items : List T) → AreRead read rows (map seen items) → (f : Row) (e : X) → Has rows f → read f ≡ Some e → (x : T) × Has items x × (seen x ≡ e)
+  pub read_as : (rows : List Row) (items : List T) → AreRead read rows (map seen items) → (f : Row) (e : X) → Has rows f → read f ≡ Some e → (x : T) × Has items x × (seen x ≡ e)
   read_as [] items are f e at is = absurd at
   read_as (g ∷ gs) [] are f e at is = absurd cc
   read_as (g ∷ gs) (y ∷ ys) are f e (inl same) is = (y, inl refl, same_some (seen y) e (sym (same_first are) ∙ ap read (sym same) ∙ is))

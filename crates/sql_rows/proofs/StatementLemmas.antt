@@ -19,7 +19,7 @@ use Rattle.sql_rows.specs.Statements.{query_text, query_command, delete_text, de
 use Rattle.sql_rows.specs.declared.statement.Table.{Table}
 use Rattle.sql_rows.specs.declared.statement.Table.TheVariants.{Carrier, Lrn, Code, Block, OldVersion, Broadcast, Wait, OldClock, NextRouting, WindowSet, Version, Clock}
 use Rattle.sql_rows.specs.declared.statement.Query.{Query}
-use Rattle.sql_rows.specs.declared.statement.Query.TheVariants.{CarrierNamed, LrnNumbered, CodeNumbered, BlockNumbered, ClockNumbered, WindowSetNumbered, NextRoutingNumbered, VersionNumbered, VersionInForce, VersionOpen, VersionDue, BroadcastKeyed, All, BroadcastsByOpen, WaitsAbout, WaitsFor, WaitsOf, InForceAmong, OpenAmong}
+use Rattle.sql_rows.specs.declared.statement.Query.TheVariants.{CarrierNamed, LrnNumbered, CodeNumbered, BlockNumbered, ClockNumbered, WindowSetNumbered, NextRoutingNumbered, VersionNumbered, OldVersionNumbered, VersionInForce, VersionOpen, VersionDue, BroadcastKeyed, All, BroadcastsByOpen, WaitsAbout, WaitsFor, WaitsFirst, WaitsOf, InForceAmong, OpenAmong}
 
 -- its command, where it has no RETURNING and does not read the time
 abbrev bare : {R F : Type 0} → Option R → List F → Command → Option Command
@@ -77,6 +77,7 @@ query_compiles ClockNumbered = refl
 query_compiles WindowSetNumbered = refl
 query_compiles NextRoutingNumbered = refl
 query_compiles VersionNumbered = refl
+query_compiles OldVersionNumbered = refl
 query_compiles VersionInForce = refl
 query_compiles VersionOpen = refl
 query_compiles VersionDue = refl
@@ -96,6 +97,7 @@ query_compiles (All Clock) = refl
 query_compiles BroadcastsByOpen = refl
 query_compiles WaitsAbout = refl
 query_compiles WaitsFor = refl
+query_compiles WaitsFirst = refl
 query_compiles WaitsOf = refl
 query_compiles InForceAmong = refl
 query_compiles OpenAmong = refl
@@ -129,6 +131,7 @@ query_selects ClockNumbered = tt
 query_selects WindowSetNumbered = tt
 query_selects NextRoutingNumbered = tt
 query_selects VersionNumbered = tt
+query_selects OldVersionNumbered = tt
 query_selects VersionInForce = tt
 query_selects VersionOpen = tt
 query_selects VersionDue = tt
@@ -148,6 +151,7 @@ query_selects (All Clock) = tt
 query_selects BroadcastsByOpen = tt
 query_selects WaitsAbout = tt
 query_selects WaitsFor = tt
+query_selects WaitsFirst = tt
 query_selects WaitsOf = tt
 query_selects InForceAmong = tt
 query_selects OpenAmong = tt

@@ -15,7 +15,7 @@ use Rattle.sql_rows.specs.Tables.{carrier_table, lrn_table, code_table, block_ta
 use Rattle.sql_rows.specs.declared.statement.Table.{Table}
 use Rattle.sql_rows.specs.declared.statement.Table.TheVariants.{Carrier, Lrn, Code, Block, OldVersion, Broadcast, Wait, OldClock, NextRouting, WindowSet, Version, Clock}
 use Rattle.sql_rows.specs.declared.statement.Query.{Query}
-use Rattle.sql_rows.specs.declared.statement.Query.TheVariants.{CarrierNamed, LrnNumbered, CodeNumbered, BlockNumbered, ClockNumbered, WindowSetNumbered, NextRoutingNumbered, VersionNumbered, VersionInForce, VersionOpen, VersionDue, BroadcastKeyed, All, BroadcastsByOpen, WaitsAbout, WaitsFor, WaitsOf, InForceAmong, OpenAmong}
+use Rattle.sql_rows.specs.declared.statement.Query.TheVariants.{CarrierNamed, LrnNumbered, CodeNumbered, BlockNumbered, ClockNumbered, WindowSetNumbered, NextRoutingNumbered, VersionNumbered, OldVersionNumbered, VersionInForce, VersionOpen, VersionDue, BroadcastKeyed, All, BroadcastsByOpen, WaitsAbout, WaitsFor, WaitsFirst, WaitsOf, InForceAmong, OpenAmong}
 
 -- ---- the tables
 
@@ -208,6 +208,7 @@ query_text ClockNumbered = codes "SELECT one, now, next_id, present FROM clock2 
 query_text WindowSetNumbered = codes "SELECT number, initial_concurrence, final_concurrence, conflict_restriction, conflict_resolution, conflict_expiration, cancellation_initial, cancellation_final, pending_retention, broadcast FROM window_set WHERE number = ?1"
 query_text NextRoutingNumbered = codes "SELECT id, lrn, cic FROM next_routing WHERE id = ?1"
 query_text VersionNumbered = codes "SELECT id, subject, old, new, due, lrn, cic, old_at, new_at, status, sends, since, attempt, release, spent, protective, cancelled_by, deadline, holds, opens, held FROM version2 WHERE id = ?1"
+query_text OldVersionNumbered = codes "SELECT id, subject, old, new, due, lrn, cic, old_at, new_at, status, sends, since, attempt, release, spent, protective, cancelled_by, deadline, holds, opens FROM version WHERE id = ?1"
 query_text VersionInForce = codes "SELECT id, subject, old, new, due, lrn, cic, old_at, new_at, status, sends, since, attempt, release, spent, protective, cancelled_by, deadline, holds, opens, held FROM version2 WHERE holds = ?1"
 query_text VersionOpen = codes "SELECT id, subject, old, new, due, lrn, cic, old_at, new_at, status, sends, since, attempt, release, spent, protective, cancelled_by, deadline, holds, opens, held FROM version2 WHERE opens = ?1"
 query_text VersionDue = codes "SELECT id, subject, old, new, due, lrn, cic, old_at, new_at, status, sends, since, attempt, release, spent, protective, cancelled_by, deadline, holds, opens, held FROM version2 WHERE deadline >= 0 AND deadline <= ?1 ORDER BY deadline LIMIT 1"
@@ -216,6 +217,7 @@ query_text (All t) = all_text t
 query_text BroadcastsByOpen = codes "SELECT id, attempt, minute, subject, action, lrn, cic, open, any FROM broadcast WHERE open = ?1"
 query_text WaitsAbout = codes "SELECT spid, minute, id, attempt, subject FROM wait WHERE subject = ?1 AND spid = ?2"
 query_text WaitsFor = codes "SELECT spid, minute, id, attempt, subject FROM wait WHERE spid = ?1"
+query_text WaitsFirst = codes "SELECT spid, minute, id, attempt, subject FROM wait WHERE spid = ?1 ORDER BY minute, id, attempt LIMIT ?2"
 query_text WaitsOf = codes "SELECT spid, minute, id, attempt, subject FROM wait WHERE id = ?1 AND attempt = ?2"
 query_text InForceAmong = codes "SELECT id, subject, old, new, due, lrn, cic, old_at, new_at, status, sends, since, attempt, release, spent, protective, cancelled_by, deadline, holds, opens, held FROM version2 WHERE holds >= ?1 AND holds <= ?2"
 query_text OpenAmong = codes "SELECT id, subject, old, new, due, lrn, cic, old_at, new_at, status, sends, since, attempt, release, spent, protective, cancelled_by, deadline, holds, opens, held FROM version2 WHERE opens >= ?1 AND opens <= ?2"
@@ -229,6 +231,7 @@ asked_of ClockNumbered = Clock
 asked_of WindowSetNumbered = WindowSet
 asked_of NextRoutingNumbered = NextRouting
 asked_of VersionNumbered = Version
+asked_of OldVersionNumbered = OldVersion
 asked_of VersionInForce = Version
 asked_of VersionOpen = Version
 asked_of VersionDue = Version
@@ -237,6 +240,7 @@ asked_of (All t) = t
 asked_of BroadcastsByOpen = Broadcast
 asked_of WaitsAbout = Wait
 asked_of WaitsFor = Wait
+asked_of WaitsFirst = Wait
 asked_of WaitsOf = Wait
 asked_of InForceAmong = Version
 asked_of OpenAmong = Version
@@ -250,6 +254,7 @@ query_test ClockNumbered = column_is 0 0 ∷ []
 query_test WindowSetNumbered = column_is 0 0 ∷ []
 query_test NextRoutingNumbered = column_is 0 0 ∷ []
 query_test VersionNumbered = column_is 0 0 ∷ []
+query_test OldVersionNumbered = column_is 0 0 ∷ []
 query_test VersionInForce = column_is 19 0 ∷ []
 query_test VersionOpen = column_is 20 0 ∷ []
 query_test VersionDue = op2 (Compare Ge Binary) (col 1 18) (lit (Int (pos 0))) ∷ op2 (Compare Le Binary) (col 1 18) (col 0 0) ∷ []
@@ -258,16 +263,18 @@ query_test (All t) = []
 query_test BroadcastsByOpen = column_is 8 0 ∷ []
 query_test WaitsAbout = column_is 5 0 ∷ column_is 1 1 ∷ []
 query_test WaitsFor = column_is 1 0 ∷ []
+query_test WaitsFirst = column_is 1 0 ∷ []
 query_test WaitsOf = column_is 3 0 ∷ column_is 4 1 ∷ []
 query_test InForceAmong = op2 (Compare Ge Binary) (col 1 19) (col 0 0) ∷ op2 (Compare Le Binary) (col 1 19) (col 0 1) ∷ []
 query_test OpenAmong = op2 (Compare Ge Binary) (col 1 20) (col 0 0) ∷ op2 (Compare Le Binary) (col 1 20) (col 0 1) ∷ []
 
--- what each of them asks, but for the one that has an order
+-- what each of them asks, but for those that have an order
 abbrev pub plainly : Query → Asked
 plainly q = plain_query (tree_of (asked_of q)) (query_test q) (shown_by (asked_of q))
 
 abbrev pub query_of : Query → Asked
 query_of VersionDue = record (plainly VersionDue) { order = (col 1 18, ascending Binary) ∷ []; limit = lit (Int (pos 1)) }
+query_of WaitsFirst = record (plainly WaitsFirst) { order = (col 1 2, ascending Binary) ∷ (col 1 3, ascending Binary) ∷ (col 1 4, ascending Binary) ∷ []; limit = col 0 1 }
 query_of q = plainly q
 
 abbrev pub query_command : Query → Command

@@ -154,6 +154,8 @@ pub enum Query {
     NextRoutingNumbered,
     /// The version with an id.
     VersionNumbered,
+    /// The same in the table of the earlier forms.
+    OldVersionNumbered,
     /// A subject's version in force.
     VersionInForce,
     /// A subject's open version.
@@ -170,6 +172,8 @@ pub enum Query {
     WaitsAbout,
     /// All that waits for a carrier.
     WaitsFor,
+    /// The first of what waits for a carrier, so many.
+    WaitsFirst,
     /// All that waits of a broadcast.
     WaitsOf,
     /// The versions in force of the numbers from one to another.
@@ -203,6 +207,11 @@ impl Query {
                  since, attempt, release, spent, protective, cancelled_by, deadline, holds, \
                  opens, held FROM version2 WHERE id = ?1"
             }
+            Query::OldVersionNumbered => {
+                "SELECT id, subject, old, new, due, lrn, cic, old_at, new_at, status, sends, \
+                 since, attempt, release, spent, protective, cancelled_by, deadline, holds, \
+                 opens FROM version WHERE id = ?1"
+            }
             Query::VersionInForce => {
                 "SELECT id, subject, old, new, due, lrn, cic, old_at, new_at, status, sends, \
                  since, attempt, release, spent, protective, cancelled_by, deadline, holds, \
@@ -234,6 +243,10 @@ impl Query {
             }
             Query::WaitsFor => {
                 "SELECT spid, minute, id, attempt, subject FROM wait WHERE spid = ?1"
+            }
+            Query::WaitsFirst => {
+                "SELECT spid, minute, id, attempt, subject FROM wait WHERE spid = ?1 ORDER BY \
+                 minute, id, attempt LIMIT ?2"
             }
             Query::WaitsOf => {
                 "SELECT spid, minute, id, attempt, subject FROM wait WHERE id = ?1 AND \

@@ -28,7 +28,7 @@ use Rattle.sql_rows.specs.declared.statement.Table.{Table}
 use Rattle.sql_rows.proofs.TableLemmas.{removed_shaped}
 use Rattle.sql_rows.proofs.PutLemmas.{Became}
 use Rattle.sql_rows.proofs.StatementLemmas.{Selects, query_is, query_plain, query_selects, query_unlisted}
-use Rattle.sql_store.proofs.Showing.{never_shows}
+use Rattle.sql_store.proofs.Showing.{ShowsNone, never_shows, understood_none}
 use Rattle.sql_store.specs.Store.{settled, content_at, IsOurs, IsSame, Looked, Turned, IsInside, Stepped, Kept, Makes, Goes, Writes}
 
 module _ (sql : List ℕ) (params : Row) (old new : State) where
@@ -43,6 +43,23 @@ module _ (sql : List ℕ) (params : Row) (old new : State) where
   pub shown_same : (rows : List Row) → IsPlain (understood old.now.schema sql) → Shown sql params old new rows → IsUnchanged old new
   unfolding Shown
   shown_same rows plain h = (subst (ShowsRows old new sql h.0 (timed params h.0.formats h.1.now) rows) (subst IsPlain h.1.is plain).0 h.2).3
+
+  -- a text that begins with a query changes nothing, whatever tables there are
+  pub shown_unchanged : (rows : List Row) → Selects (first sql) → Shown sql params old new rows → IsUnchanged old new
+  unfolding Shown
+  shown_unchanged rows selects h = (subst (ShowsRows old new sql h.0 (timed params h.0.formats h.1.now) rows) (subst ShowsNone h.1.is (understood_none old.now.schema sql selects)) h.2).3
+
+  -- a query that fails leaves all as it was, or rolls back
+  pub fails_as : (e : Error) → FailsToQuery sql params old new e → IsUnchanged old new ⊎ IsRolledBack old new
+  unfolding FailsToQuery IsNotRun
+  fails_as e (inl (inl unrun)) = inl unrun.1
+  fails_as e (inl (inr fails)) = inr fails.3
+  fails_as e (inr h) = go h.0.returning h.2
+    where
+      go : (o : Option _) → FailsToShow old new sql h.0 (timed params h.0.formats h.1.now) e o → IsUnchanged old new ⊎ IsRolledBack old new
+      go None it = inl it.3
+      go (Some what) (inl it) = inl it.1
+      go (Some what) (inr it) = inr it.3
 
   pub fails_open : (e : Error) → IsTrue new.is_open → FailsToQuery sql params old new e → IsTrue old.is_open
   unfolding FailsToQuery IsNotRun

@@ -4,6 +4,7 @@ pub mod LookupLemmas
 pub mod MadeLemmas
 pub mod Changed
 pub mod OpeningLemmas
+pub mod FoundLemmas
 pub mod ListLemmas
 pub mod WaiterLemmas
 pub mod BroadcastLemmas
@@ -13,3 +14,4 @@ pub mod RoutedLemmas
 pub mod BlockLemmas
 pub mod WholeLemmas
 pub mod MovingLemmas
+pub mod ThroughLemmas

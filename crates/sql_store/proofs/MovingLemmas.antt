@@ -1,18 +1,19 @@
 -- What is made of a file of an earlier form.
-use Rattle.std.proofs.Common.{◌≡◌, ◌≢◌, ◌⊎◌, inl, inr, ℕ, List, [], ◌∷◌, map, Bool, true, false, cond, Option, Some, None, Result, Ok, IsTrue, refl, sym, ap, subst, ◌∙◌, true≢false, arith, drop, drop-cons, add-one, zero, suc, ◌+◌, ◌<◌, ◌≤◌, length, get_or}
+use Rattle.std.proofs.Common.{subst₂, pos, Err, IfOk, IfErr, ◌≡◌, ◌≢◌, ◌⊎◌, inl, inr, ℕ, List, [], ◌∷◌, map, Bool, true, false, cond, Option, Some, None, Result, Ok, IsTrue, refl, sym, ap, subst, ◌∙◌, true≢false, arith, drop, zero, suc, ◌+◌, ◌<◌, ◌≤◌, length, get_or}
+use Rattle.std.specs.Option.{option_or}
 use Rattle.std.specs.Prelude.{◌==◌, ◌&&◌, option_and_then, option_map, option_to_list}
 use Rattle.std.specs.Cmp.{eq_by_cmp_equiv, nat_cmp_total}
-use Rattle.std.specs.FinMap.{FinMap, empty, get, insert, get-empty, get-insert, same_map, nat_cmp-IsAntisymmetric}
+use Rattle.std.specs.FinMap.{FinMap, empty, get, get-empty, get-insert, same_map, nat_cmp-IsAntisymmetric}
 use Rattle.std.specs.Ordering.{eq_by_cmp, nat_cmp}
 use Rattle.sqlite.specs.declared.error.Error.{Error}
-use Rattle.sqlite.specs.declared.types.Value.TheVariants.{Null}
+use Rattle.sqlite.specs.declared.types.Value.TheVariants.{Int, Null}
 use Rattle.sqlite.specs.Effect.{Database}
 use Rattle.sqlite.specs.Held.{Held, state}
 use Rattle.sqlite.specs.Listing.{understood}
 use Rattle.sqlite.specs.Order.{Row}
 use Rattle.sqlite.specs.Program.{overlay}
 use Rattle.sqlite.specs.Query.{IsAnswer}
-use Rattle.sqlite.specs.State.{State, CommitsShowing, Executes, ExecutesInside, FailsToQuery, HasCleanDisk, IsRolledBack, IsUnchanged, Shown, Shows, Survives}
+use Rattle.sqlite.specs.State.{State, CommitsShowing, IsTooLate, Executes, ExecutesInside, FailsToQuery, HasCleanDisk, IsRolledBack, IsUnchanged, Shown, Shows, Survives}
 use Rattle.sqlite.specs.Steps.{FailsToCommit}
 use Rattle.sqlite.specs.Store.{Ghosts}
 use Rattle.sqlite.specs.Tree.{Trees}
@@ -28,10 +29,10 @@ use Rattle.meaning.proofs.Small.{equal_numbers}
 use Rattle.sql_rows.specs.Clocks.{StoredClock, old_clock_of, with_windows}
 use Rattle.sql_rows.specs.Content.{content_in, old_clock_in, stored_clock, versions_in}
 use Rattle.sql_rows.specs.Former.{content_with, old_clock, old_versions_in}
-use Rattle.sql_rows.specs.Found.{IsListAnswer}
+use Rattle.sql_rows.specs.Found.{IsListAnswer, IsSole}
 use Rattle.sql_rows.specs.Moving.{IsCleared, IsMade, IsTableOf, schema_of}
 use Rattle.sql_rows.specs.Shaped.{AreShaped}
-use Rattle.sql_rows.specs.Statements.{all_text, query_of}
+use Rattle.sql_rows.specs.Statements.{all_text, query_of, query_text}
 use Rattle.sql_rows.specs.Tables.{the_schema}
 use Rattle.sql_rows.specs.Versions.{bare, old_version_in}
 use Rattle.sql_rows.specs.declared.keyed.OldClock.{OldClock as ClockCode}
@@ -41,21 +42,21 @@ use Rattle.sql_rows.specs.declared.moving.NewTable.TheVariants as made
 use Rattle.sql_rows.specs.declared.moving.OldTable.{OldTable}
 use Rattle.sql_rows.specs.declared.moving.OldTable.TheVariants as former
 use Rattle.sql_rows.specs.declared.statement.Table.{Table as RowTable}
-use Rattle.sql_rows.specs.declared.statement.Query.TheVariants.{All}
+use Rattle.sql_rows.specs.declared.statement.Query.TheVariants.{All, OldVersionNumbered}
 use Rattle.sql_rows.specs.declared.statement.Table.TheVariants.{Carrier, Lrn, Code, Block, OldVersion, Broadcast, Wait, OldClock, NextRouting, WindowSet, Version, Clock}
 use Rattle.sql_rows.specs.declared.version_row.OldVersion.{OldVersion as OldRow}
-use Rattle.sql_rows.proofs.Formers.{clock_seen, old_bare, old_clock_is, old_picked, old_rows, old_seen}
+use Rattle.sql_rows.proofs.Formers.{old_version_found, clock_seen, old_bare, old_clock_is, old_picked, old_rows, old_seen}
 use Rattle.sql_rows.proofs.Orders.{same_number}
 use Rattle.sql_rows.proofs.Picked.{Picks}
 use Rattle.sql_rows.proofs.MovingLemmas.{old_query_is, old_query_plain, old_query_unlisted}
 use Rattle.sql_rows.proofs.PutLemmas.{version_left}
-use Rattle.sql_rows.proofs.StatementLemmas.{query_selects}
+use Rattle.sql_rows.proofs.StatementLemmas.{query_is, query_plain, query_selects, query_unlisted}
 use Rattle.sql_rows.proofs.TableLemmas.{old_clock_framed, old_version_framed, versions_framed}
 use Rattle.sql_store.specs.Changes.{if_some, with_set}
-use Rattle.sql_store.specs.Moving.{Alters, AreOldShaped, ArePutBut, IsBarePut, IsBegunAs, IsCarried, IsCarriedOver, IsFilled, IsGrown, IsIndexed, IsOfForm, IsRebuilt, IsRebuiltAs, Moves, WereItsWindows, WereOtherWindows, all_in}
+use Rattle.sql_store.specs.Moving.{Alters, AreOldShaped, ArePutBut, HasIds, IsBarePut, IsBegunAs, IsCarried, IsCarriedOver, IsFilled, IsGrown, IsIndexed, IsOfForm, IsOldPut, IsRebuilt, IsRebuiltAs, Moves, WereItsWindows, WereOtherWindows, all_of, all_old, ids_in, put_if, seen_of}
 use Rattle.sql_store.specs.Store.{IsInside, IsSame, Kept, Looked, Makes, Writes, Wrote}
 use Rattle.sql_store.proofs.WholeLemmas.{moved_read}
-use Rattle.sql_store.proofs.CallLemmas.{both_survive, call_keeps, earlier, fails_open, fails_same, kept_then, looked_then, query_commits_nothing, shown_open, shown_same}
+use Rattle.sql_store.proofs.CallLemmas.{both_survive, call_keeps, earlier, fails_as, fails_open, fails_same, kept_then, looked_then, query_commits_nothing, shown_open, shown_same, shown_unchanged}
 
 -- ---- calls in turn
 
@@ -190,47 +191,113 @@ grown_content Modify old new g versions clock = rw (g.same.0, g.same.1.0, g.same
 
 -- ---- rows put
 
-pub put_none : (a : State) (rows : List OldRow) → Writes a a true (ArePutBut rows rows)
-put_none a rows = record {
+pub put_none : (a : State) (ids : List ℕ) → Writes a a true (ArePutBut ids ids)
+put_none a ids = record {
   wrote = λ ok clean it. record { is_open = it.is_open; inside = it.inside; committed = refl; did = record { schema = λ e. e; shaped = λ s. s; versions = λ s. refl; frame = λ u other. refl } };
   kept = λ up. record { was_open = up; committed = refl };
   survives = record { clean = omega arith; shield = λ s. s; counts = omega arith; limit = refl; closes = λ clean up. inl up; crash = λ clean db may. inl may };
 }
 
-module _ (a b c : State) (x : OldRow) (more rows : List OldRow) where
-  one_put : Both (ArePutBut (x ∷ more) rows) (IsBarePut x.version.id x.version.row) a.now c.now → ArePutBut more rows a.now c.now
+module _ (a b c : State) (id : ℕ) (more ids : List ℕ) where
+  one_put : Both (ArePutBut (id ∷ more) ids) (IsOldPut id) a.now c.now → ArePutBut more ids a.now c.now
   one_put it =
       let m = it.0 in
       let first = it.1 in
-      let r = it.2.0 in
+      let (v, got, put) = it.2 in
+      let left = version_left m c.now id v put.1 put.0 in
+      let same : m.trees 5 ≡ a.now.trees 5 = first.frame OldVersion (λ tie. omega (arith, tie)) in
+      let here : get (old_versions_in (a.now.trees 5)) id ≡ Some v = ap (λ rows. get (old_versions_in rows) id) (sym same) ∙ got in
       record {
-        schema = λ has. (version_left m c.now x.version.id x.version.row it.2.1 r).0;
-        shaped = λ s. ((version_left m c.now x.version.id x.version.row it.2.1 r).1 (first.shaped s)).shaped;
-        versions = λ s. ap (all_in more) ((version_left m c.now x.version.id x.version.row it.2.1 r).1 (first.shaped s)).map ∙ first.versions s;
-        frame = λ u other. (version_left m c.now x.version.id x.version.row it.2.1 r).2 u other ∙ first.frame u other;
+        schema = λ has. left.0;
+        shaped = λ s. (left.1 (first.shaped s)).shaped;
+        versions = λ s. ap (all_old a.now.trees more) ((left.1 (first.shaped s)).map ∙ ap (λ o. put_if id o (versions_in (m.trees 18))) (sym here)) ∙ first.versions s;
+        frame = λ u other. left.2 u other ∙ first.frame u other;
       }
 
-  inside_put : IsInside a → Wrote a b (ArePutBut (x ∷ more) rows) → IsInside b
+  inside_put : IsInside a → Wrote a b (ArePutBut (id ∷ more) ids) → IsInside b
   inside_put inside w = record { is_open = w.is_open; inside = w.inside; schema = w.did.schema inside.schema; shaped = w.did.shaped inside.shaped }
 
-  pub puts_then : Writes a b true (ArePutBut (x ∷ more) rows) → Writes b c true (IsBarePut x.version.id x.version.row) → Writes a c true (ArePutBut more rows)
+  pub puts_then : Writes a b true (ArePutBut (id ∷ more) ids) → Writes b c true (IsOldPut id) → Writes a c true (ArePutBut more ids)
   puts_then first two =
-      to_writes a c true (ArePutBut more rows) (alters_as a c IsInside IsInside true (Both (ArePutBut (x ∷ more) rows) (IsBarePut x.version.id x.version.row)) (ArePutBut more rows)
-      (does_then a b c IsInside IsInside (ArePutBut (x ∷ more) rows) (IsBarePut x.version.id x.version.row) true (from_writes a b true (ArePutBut (x ∷ more) rows) first) (from_writes b c true (IsBarePut x.version.id x.version.row) two) inside_put)
+      to_writes a c true (ArePutBut more ids) (alters_as a c IsInside IsInside true (Both (ArePutBut (id ∷ more) ids) (IsOldPut id)) (ArePutBut more ids)
+      (does_then a b c IsInside IsInside (ArePutBut (id ∷ more) ids) (IsOldPut id) true (from_writes a b true (ArePutBut (id ∷ more) ids) first) (from_writes b c true (IsOldPut id) two) inside_put)
       (λ inside. inside) (λ inside it. one_put it))
 
-pub puts_stop : (a b c : State) (x : OldRow) (more rows : List OldRow) → Writes a b true (ArePutBut more rows) → Writes b c false (IsBarePut x.version.id x.version.row) → Writes a c false (ArePutBut [] rows)
-puts_stop a b c x more rows first two =
-    to_writes a c false (ArePutBut [] rows) (does_stop a b c IsInside IsInside (ArePutBut more rows) (IsBarePut x.version.id x.version.row) (ArePutBut [] rows) (from_writes a b true (ArePutBut more rows) first) (from_writes b c false (IsBarePut x.version.id x.version.row) two))
+pub puts_stop : (a b c : State) (id : ℕ) (more ids : List ℕ) → Writes a b true (ArePutBut more ids) → Writes b c false (IsOldPut id) → Writes a c false (ArePutBut [] ids)
+puts_stop a b c id more ids first two =
+    to_writes a c false (ArePutBut [] ids) (does_stop a b c IsInside IsInside (ArePutBut more ids) (IsOldPut id) (ArePutBut [] ids) (from_writes a b true (ArePutBut more ids) first) (from_writes b c false (IsOldPut id) two))
 
-pub one_left : (xs : List OldRow) (i : ℕ) (x : OldRow) → i < length xs → x ≡ get_or xs i x → drop i xs ≡ x ∷ drop (i + 1) xs
-one_left xs i x low item = drop-cons xs i x low ∙ ap (λ y. y ∷ drop (suc i) xs) (sym item) ∙ ap (λ k. x ∷ drop k xs) (sym (add-one i))
+-- the id at a place, and those behind it
+pub one_left : (ids : List ℕ) (i : ℕ) → i < length ids → drop i ids ≡ get_or ids i 0 ∷ drop (i + 1) ids
+one_left [] i low = absurd (omega (arith, low))
+one_left (id ∷ ids) zero low = refl
+one_left (id ∷ ids) (suc i) low =
+    let next : suc (i + 1) ≡ suc i + 1 = omega arith in
+    one_left ids i (omega (arith, low)) ∙ ap (λ k. get_or ids i 0 ∷ drop k (id ∷ ids)) next
 
-pub none_dropped : (xs : List OldRow) (i : ℕ) → length xs ≤ i → drop i xs ≡ []
-none_dropped [] zero h = refl
-none_dropped [] (suc i) h = refl
-none_dropped (x ∷ xs) zero h = absurd (omega (arith, h))
-none_dropped (x ∷ xs) (suc i) h = none_dropped xs i (omega (arith, h))
+-- ---- a version read in the transaction
+
+module _ (a b : State) (id : ℕ) where
+  abbrev one_text : List ℕ
+  one_text = query_text OldVersionNumbered
+
+  abbrev one_key : Row
+  one_key = Int (pos id) ∷ []
+
+  -- a query in a transaction commits nothing, and leaves what stands there
+  pub asked_unchanged : (rows : List Row) → Shown one_text one_key a b rows → IsUnchanged a b
+  asked_unchanged rows = shown_unchanged one_text one_key a b rows (query_selects OldVersionNumbered)
+
+  pub asked_kept : {R : Type 0} (items : R → List Row) (r : Result R Error) → (IsTrue b.is_open → HasCleanDisk b) → (HasCleanDisk b → IfOk r (λ found. Shown one_text one_key a b (items found))) → (HasCleanDisk b → IfErr r (λ e. FailsToQuery one_text one_key a b e ⊎ IsTooLate one_text one_key a b e)) → IsTrue b.is_open → Kept a b
+  asked_kept items (Ok found) clean_of shown fails up = let u = asked_unchanged (items found) (shown (clean_of up)) in record { was_open = u.0.was_open; committed = u.0.committed_is }
+  asked_kept items (Err e) clean_of shown fails up = go (fails (clean_of up))
+    where
+      left : IsUnchanged a b ⊎ IsRolledBack a b → Kept a b
+      left (inl u) = record { was_open = u.0.was_open; committed = u.0.committed_is }
+      left (inr u) = record { was_open = u.was_open up; committed = (u.undone up).1 }
+
+      go : FailsToQuery one_text one_key a b e ⊎ IsTooLate one_text one_key a b e → Kept a b
+      go (inl failed) = left (fails_as one_text one_key a b e failed)
+      go (inr late) = record { was_open = late.5.0.was_open; committed = late.5.0.committed_is }
+
+  pub asked_inside : (rows : List Row) → Shown one_text one_key a b rows → IsInside a → IsInside b
+  asked_inside rows shown inside = let u = asked_unchanged rows shown in record {
+    is_open = u.0.is_open;
+    inside = u.0.mode ∙ inside.inside;
+    schema = ap (λ (d : Database). d.schema) u.0.now_is ∙ inside.schema;
+    shaped = subst (λ (d : Database). AreShaped d.trees) (sym u.0.now_is) inside.shaped;
+  }
+
+  -- the row found is the version's
+  pub asked_found : (rows : List Row) (v : VersionRow) (own : ℕ) → Shown one_text one_key a b rows → IsInside a → IsSole old_version_in rows (Some (own, v)) → get (old_versions_in (a.now.trees 5)) id ≡ Some v
+  asked_found rows v own shown inside sole =
+      let answer = (reads_as one_text one_key a b the_schema inside.schema _ (query_is OldVersionNumbered) (query_plain OldVersionNumbered) (query_unlisted OldVersionNumbered) rows shown).answer Null in
+      old_version_found a.now.trees id (Some (own, v)) (rows, answer, sole)
+
+-- no version of the file was put
+pub unput : (a b : State) (id : ℕ) → (IsTrue b.is_open → Kept a b) → Survives a b (λ _. ⊥) → Writes a b false (IsOldPut id)
+unput a b id kept survives = record { wrote = λ no. absurd (true≢false (sym no)); kept = kept; survives = survives }
+
+-- it was read, and then not put, or put
+module _ (a b c : State) (id : ℕ) (rows : List Row) (kept : IsTrue b.is_open → Kept a b) (survives : Survives a b (λ _. ⊥)) where
+  pub read_unput : (v : VersionRow) → Writes b c false (IsBarePut id v) → Writes a c false (IsOldPut id)
+  read_unput v put = record { wrote = λ no. absurd (true≢false (sym no)); kept = kept_then a b c kept put.kept; survives = both_survive a b c survives put.survives }
+
+  pub read_put : (HasCleanDisk b → Shown (one_text a b id) (one_key a b id) a b rows) → (v : VersionRow) (own : ℕ) → IsSole old_version_in rows (Some (own, v)) → Writes b c true (IsBarePut id v) → Writes a c true (IsOldPut id)
+  read_put shown v own sole put = record {
+    wrote = λ ok clean inside.
+        let here = shown (earlier a b c put.survives clean) in
+        let u = asked_unchanged a b id rows here in
+        let w = put.wrote ok clean (asked_inside a b id rows here inside) in
+        record {
+          is_open = w.is_open;
+          inside = w.inside;
+          committed = w.committed ∙ u.0.committed_is;
+          did = (v, asked_found a b id rows v own here inside sole, subst (λ d. IsBarePut id v d c.now) u.0.now_is w.did);
+        };
+    kept = kept_then a b c kept put.kept;
+    survives = both_survive a b c survives put.survives;
+  }
 
 -- ---- all rows put, and the old tables emptied
 
@@ -247,8 +314,8 @@ with_first versions (Some c) db = refl
 pub cleared_shaped : (t : OldTable) (db next : Database) → IsCleared t db next → AreShaped db.trees → AreShaped next.trees
 cleared_shaped t db next it shaped u = old_rows t db.trees next.trees it.rows it.frame shaped u
 
-pub filled : (xs : List OldRow) (clock : Option ClockCode) (old new : Database) → AreShaped old.trees → Both (Both (Both (ArePutBut [] xs) (IsChangedBy (first_set clock))) (IsCleared former.Version)) (IsCleared former.Clock) old new → IsFilled xs clock old new
-filled xs clock a e shaped it =
+pub filled : (ids : List ℕ) (clock : Option ClockCode) (old new : Database) → AreShaped old.trees → Both (Both (Both (ArePutBut [] ids) (IsChangedBy (first_set clock))) (IsCleared former.Version)) (IsCleared former.Clock) old new → IsFilled ids clock old new
+filled ids clock a e shaped it =
     let b = it.1.1.0 in
     let c = it.1.0 in
     let d = it.0 in
@@ -262,27 +329,35 @@ filled xs clock a e shaped it =
       moved = record { versions = two.frame OldVersion (λ same. omega arith) ∙ one.rows; clock = two.rows };
       content = λ sets versions clocks.
           old_clock_framed d.trees e.trees two.frame ∙ old_version_framed c.trees d.trees one.frame ∙ changed.2
-          ∙ ap (first_set clock) (put_content b put sets versions clocks) ∙ with_first (all_in xs empty) clock a.trees;
+          ∙ ap (first_set clock) (put_content b put sets versions clocks) ∙ with_first (all_old a.trees ids empty) clock a.trees;
     }
   where
-    put_content : (b : Database) → ArePutBut [] xs a b → a.trees 17 ≡ [] → a.trees 18 ≡ [] → a.trees 21 ≡ [] → content_in b.trees ≡ content_with Modify (all_in xs empty) None a.trees
+    put_content : (b : Database) → ArePutBut [] ids a b → a.trees 17 ≡ [] → a.trees 18 ≡ [] → a.trees 21 ≡ [] → content_in b.trees ≡ content_with Modify (all_old a.trees ids empty) None a.trees
     put_content b put sets versions clocks =
         versions_framed a.trees b.trees put.frame
-        ∙ ap (λ m. content_over m) (put.versions shaped ∙ ap (λ rows. all_in xs (versions_in rows)) versions)
+        ∙ ap (λ m. content_over m) (put.versions shaped ∙ ap (λ rows. all_old a.trees ids (versions_in rows)) versions)
         ∙ blank_over sets clocks
       where
         content_over : FinMap nat_cmp VersionRow → Content
         content_over m = record (content_in a.trees) { versions = (content_with Modify m None a.trees).versions }
 
-        blank_over : a.trees 17 ≡ [] → a.trees 21 ≡ [] → content_over (all_in xs empty) ≡ content_with Modify (all_in xs empty) None a.trees
-        blank_over sets clocks = rw (sets, clocks) (ap (λ o. record (content_with Modify (all_in xs empty) None a.trees) { clock = option_and_then (with_windows empty) o }) (get-empty {X = StoredClock} nat_cmp 0))
+        blank_over : a.trees 17 ≡ [] → a.trees 21 ≡ [] → content_over (all_old a.trees ids empty) ≡ content_with Modify (all_old a.trees ids empty) None a.trees
+        blank_over sets clocks = rw (sets, clocks) (ap (λ o. record (content_with Modify (all_old a.trees ids empty) None a.trees) { clock = option_and_then (with_windows empty) o }) (get-empty {X = StoredClock} nat_cmp 0))
 
-pub rebuilt : (f : Form) (xs : List OldRow) (clock : Option ClockCode) (old new : Database) → AreOldShaped f old.trees → Both (IsGrown f) (IsFilled xs clock) old new → IsRebuilt f xs clock old new
-rebuilt f xs clock old new shaped it = record {
+-- the versions are those that stood there
+grown_old : (f : Form) (old new : Database) → IsGrown f old new → new.trees 5 ≡ old.trees 5
+grown_old First old new g = g.same.1.1.1.1.0
+grown_old Modify old new g = g.same.1.1.1.1.0
+
+pub rebuilt : (f : Form) (ids : List ℕ) (clock : Option ClockCode) (old new : Database) → AreOldShaped f old.trees → Both (IsGrown f) (IsFilled ids clock) old new → IsRebuilt f ids clock old new
+rebuilt f ids clock old new shaped it = record {
   schema = it.2.schema;
   shaped = it.2.shaped;
   moved = it.2.moved;
-  content = it.2.content it.1.sets it.1.versions it.1.clock ∙ grown_content f old it.0 it.1 (all_in xs empty) (option_map old_clock_of clock);
+  content =
+      it.2.content it.1.sets it.1.versions it.1.clock
+      ∙ grown_content f old it.0 it.1 (all_old (it.0).trees ids empty) (option_map old_clock_of clock)
+      ∙ ap (λ rows. content_with f (all_of (old_versions_in rows) ids empty) (option_map old_clock_of clock) old.trees) (grown_old f old it.0 it.1);
 }
 
 -- ---- the transaction, from its beginning to its end
@@ -303,16 +378,16 @@ begun_as g f old mid new done Did e alters ours = subst (λ h. Alters (IsBegunAs
   survives = survives_begin g old new (λ _. ⊥) m.survives;
 }) alters
 
-settled_as : (f : Form) (s : State) → IsOfForm f s → s.now ≡ s.committed
+pub settled_as : (f : Form) (s : State) → IsOfForm f s → s.now ≡ s.committed
 settled_as f s ours i = record { schema = ours.same_schema i; trees = ours.same_trees i }
 
-module _ (f : Form) (xs : List OldRow) (clock : Option ClockCode) (old mid new : State) (ours : IsTrue old.is_open → IsOfForm f old) (clean_of : IsTrue new.is_open → HasCleanDisk new) where
-  undone : (done : Bool) → BegunAs old mid done (IsRebuilt f xs clock) → IsRolledBack mid new → IsTrue new.is_open → IsSame old new
+module _ (f : Form) (ids : List ℕ) (clock : Option ClockCode) (old mid new : State) (ours : IsTrue old.is_open → IsOfForm f old) (clean_of : IsTrue new.is_open → HasCleanDisk new) where
+  undone : (done : Bool) → BegunAs old mid done (IsRebuilt f ids clock) → IsRolledBack mid new → IsTrue new.is_open → IsSame old new
   undone done b r up =
       let k = b.kept (r.was_open up) in
       record { was_open = k.was_open; now = (r.undone up).0 ∙ k.committed ∙ sym (settled_as f old (ours k.was_open)); committed = (r.undone up).1 ∙ k.committed }
 
-  unmoved : (P : Trees → Type 0) → (IsTrue new.is_open → IsSame old new) → Survives old new P → (HasCleanDisk new → (db : Trees) → P db → IsTrue old.is_open → IsRebuiltAs f xs clock old.now.trees db) → Moves (IsRebuiltAs f xs clock) old new false
+  unmoved : (P : Trees → Type 0) → (IsTrue new.is_open → IsSame old new) → Survives old new P → (HasCleanDisk new → (db : Trees) → P db → IsTrue old.is_open → IsRebuiltAs f ids clock old.now.trees db) → Moves (IsRebuiltAs f ids clock) old new false
   unmoved P same survives after = record {
     becomes = λ no. absurd (true≢false (sym no));
     ours = λ no. absurd (true≢false (sym no));
@@ -324,21 +399,21 @@ module _ (f : Form) (xs : List OldRow) (clock : Option ClockCode) (old mid new :
   }
 
   -- it was given up
-  pub given_up : BegunAs old mid false (IsRebuilt f xs clock) → (HasCleanDisk new → IsRolledBack mid new) → Survives mid new (λ _. ⊥) → Moves (IsRebuiltAs f xs clock) old new false
+  pub given_up : BegunAs old mid false (IsRebuilt f ids clock) → (HasCleanDisk new → IsRolledBack mid new) → Survives mid new (λ _. ⊥) → Moves (IsRebuiltAs f ids clock) old new false
   given_up b r survives = unmoved (λ _. ⊥) (λ up. undone false b (r (clean_of up)) up) (survives_then old mid new _ _ _ (λ clean db bad. bad) (λ clean db bad. bad) b.survives survives) (λ clean db none. absurd none)
 
-  module _ (b : BegunAs old mid true (IsRebuilt f xs clock)) (survives : Survives mid new (λ db. db ≡ mid.now.trees)) where
+  module _ (b : BegunAs old mid true (IsRebuilt f ids clock)) (survives : Survives mid new (λ db. db ≡ mid.now.trees)) where
     early : HasCleanDisk new → HasCleanDisk mid
     early clean = omega (arith, clean, survives.clean)
 
-    after : HasCleanDisk new → (db : Trees) → db ≡ mid.now.trees → IsTrue old.is_open → IsRebuiltAs f xs clock old.now.trees db
-    after clean db is was = let did = (b.made refl (early clean) was).did in subst (IsRebuiltAs f xs clock old.now.trees) (sym is) (record { content = did.content; moved = did.moved })
+    after : HasCleanDisk new → (db : Trees) → db ≡ mid.now.trees → IsTrue old.is_open → IsRebuiltAs f ids clock old.now.trees db
+    after clean db is was = let did = (b.made refl (early clean) was).did in subst (IsRebuiltAs f ids clock old.now.trees) (sym is) (record { content = did.content; moved = did.moved })
 
-    all_survives : Survives old new (λ db. IsTrue old.is_open → IsRebuiltAs f xs clock old.now.trees db)
+    all_survives : Survives old new (λ db. IsTrue old.is_open → IsRebuiltAs f ids clock old.now.trees db)
     all_survives = survives_then old mid new _ _ _ (λ clean db none. absurd none) after b.survives survives
 
     -- it did not commit
-    pub not_moved : (e : Error) → (HasCleanDisk new → FailsToCommit mid new e) → Moves (IsRebuiltAs f xs clock) old new false
+    pub not_moved : (e : Error) → (HasCleanDisk new → FailsToCommit mid new e) → Moves (IsRebuiltAs f ids clock) old new false
     not_moved e fails = unmoved _ (λ up. go up (fails (clean_of up))) all_survives (λ clean db h. h)
       where
         go : IsTrue new.is_open → FailsToCommit mid new e → IsSame old new
@@ -348,7 +423,7 @@ module _ (f : Form) (xs : List OldRow) (clock : Option ClockCode) (old mid new :
             absurd (true≢false (let inside : mid.in_transaction ≡ true = (b.made refl (early (clean_of up)) k.was_open).inside in sym inside ∙ it.1))
 
     -- it committed
-    pub moved : (HasCleanDisk new → Shows mid new mid.now mid.now false) → Moves (IsRebuiltAs f xs clock) old new true
+    pub moved : (HasCleanDisk new → Shows mid new mid.now mid.now false) → Moves (IsRebuiltAs f ids clock) old new true
     moved ok = record {
       becomes = λ _ up. let s = ok (clean_of up) in after (clean_of up) new.now.trees (ap (λ (d : Database). d.trees) s.now_is) (b.kept s.was_open).was_open;
       ours = λ _ up.
@@ -443,45 +518,57 @@ looked_unmoved a b answered Becomes one = record {
   crash = survives_weaker a b _ _ (λ clean db none. absurd none) one.survives;
 }
 
--- ---- the rows put are those that stood in the file
+-- ---- the versions put are those that stood in the file
 
-data InAll (xs : List OldRow) (m : FinMap nat_cmp VersionRow) (k : ℕ) : Type 0 where
-  hit : (x : OldRow) → Has xs x → x.version.id ≡ k → get (all_in xs m) k ≡ Some (bare x.version.row) → InAll xs m k
-  miss : ((x : OldRow) → Has xs x → x.version.id ≡ k → ⊥) → get (all_in xs m) k ≡ get m k → InAll xs m k
+module _ (from : FinMap nat_cmp VersionRow) where
+  data InAll (ids : List ℕ) (m : FinMap nat_cmp VersionRow) (k : ℕ) : Type 0 where
+    hit : (v : VersionRow) → get from k ≡ Some v → get (all_of from ids m) k ≡ Some (bare v) → InAll ids m k
+    miss : (Has ids k → get from k ≡ None) → get (all_of from ids m) k ≡ get m k → InAll ids m k
 
-in_all : (xs : List OldRow) (m : FinMap nat_cmp VersionRow) (k : ℕ) → InAll xs m k
-in_all [] m k = miss (λ x h e. h) refl
-in_all (y ∷ ys) m k = go (in_all ys (insert m y.version.id (bare y.version.row)) k) (eq_by_cmp nat_cmp k y.version.id) refl
-  where
-    put : (b : Bool) → eq_by_cmp nat_cmp k y.version.id ≡ b → get (insert m y.version.id (bare y.version.row)) k ≡ cond b (Some (bare y.version.row)) (get m k)
-    put b tie = get-insert nat_cmp_total m y.version.id (bare y.version.row) k ∙ ap (λ b. cond b (Some (bare y.version.row)) (get m k)) tie
-
-    not_here : eq_by_cmp nat_cmp k y.version.id ≡ false → (x : OldRow) → x ≡ y → x.version.id ≡ k → ⊥
-    not_here tie x same is =
-        let here : y.version.id ≡ k = ap (λ (z : OldRow). z.version.id) (sym same) ∙ is in
-        true≢false (sym ((eq_by_cmp_equiv nat_cmp_total).refl k) ∙ ap (λ n. eq_by_cmp nat_cmp k n) (sym here) ∙ tie)
-
-    go : InAll ys (insert m y.version.id (bare y.version.row)) k → (b : Bool) → eq_by_cmp nat_cmp k y.version.id ≡ b → InAll (y ∷ ys) m k
-    go (hit x h same e) b tie = hit x (inr h) same e
-    go (miss none e) true tie = hit y (inl refl) (sym (same_number k y.version.id tie)) (e ∙ put true tie)
-    go (miss none e) false tie = miss (λ x h is. elim h [ inl same ↦ not_here tie x same is | inr more ↦ none x more is ]) (e ∙ put false tie)
-
-module _ (db : Trees) (shaped : IsShaped AsTable (db 5)) (xs : List OldRow) (answer : IsListAnswer (All OldVersion) old_version_in db [] (map old_seen xs)) where
-  pub versions_carried : all_in xs empty ≡ old_versions_in (db 5)
-  versions_carried = same_map nat_cmp_total nat_cmp-IsAntisymmetric _ _ (λ k. go k (in_all xs empty k))
+  in_all : (ids : List ℕ) (m : FinMap nat_cmp VersionRow) (k : ℕ) → InAll ids m k
+  in_all [] m k = miss (λ h. absurd h) refl
+  in_all (id ∷ ids) m k = go (get from id) refl (in_all ids (put_if id (get from id) m) k)
     where
-      p : Picks old_seen (old_versions_in (db 5)) (λ k v. Unit {0}) xs
-      p = old_picked db shaped xs answer
+      put_at : (o : Option VersionRow) (b : Bool) → eq_by_cmp nat_cmp k id ≡ b → get (put_if id o m) k ≡ cond b (option_or (option_map bare o) (get m k)) (get m k)
+      put_at None true tie = refl
+      put_at None false tie = refl
+      put_at (Some v) true tie = get-insert nat_cmp_total m id (bare v) k ∙ ap (λ b. cond b (Some (bare v)) (get m k)) tie
+      put_at (Some v) false tie = get-insert nat_cmp_total m id (bare v) k ∙ ap (λ b. cond b (Some (bare v)) (get m k)) tie
 
-      nothing : (k : ℕ) (o : Option VersionRow) → get (old_versions_in (db 5)) k ≡ o → ((x : OldRow) → Has xs x → x.version.id ≡ k → ⊥) → o ≡ None
-      nothing k None is none = refl
-      nothing k (Some v) is none = let x = p.each k v is tt in absurd (none x.0 x.1 (ap (λ (e : ℕ × VersionRow). e.0) x.2))
+      not_tied : eq_by_cmp nat_cmp k id ≡ false → k ≡ id → ⊥
+      not_tied tie same = true≢false (sym ((eq_by_cmp_equiv nat_cmp_total).refl k) ∙ ap (λ n. eq_by_cmp nat_cmp k n) same ∙ tie)
 
-      go : (k : ℕ) → InAll xs empty k → get (all_in xs empty) k ≡ get (old_versions_in (db 5)) k
-      go k (hit x h same e) =
-          let only = (p.only x h).0 in
-          e ∙ ap Some (old_bare db x.version.id x.version.row only) ∙ sym (ap (get (old_versions_in (db 5))) (sym same) ∙ only)
-      go k (miss none e) = e ∙ get-empty nat_cmp k ∙ sym (nothing k (get (old_versions_in (db 5)) k) refl none)
+      go : (o : Option VersionRow) → get from id ≡ o → InAll ids (put_if id (get from id) m) k → InAll (id ∷ ids) m k
+      go o is (hit v here e) = hit v here e
+      go o is (miss none e) = tied (eq_by_cmp nat_cmp k id) refl o is
+        where
+          tied : (b : Bool) → eq_by_cmp nat_cmp k id ≡ b → (o : Option VersionRow) → get from id ≡ o → InAll (id ∷ ids) m k
+          tied true tie (Some v) is = hit v (ap (get from) (same_number k id tie) ∙ is) (e ∙ ap (λ o. get (put_if id o m) k) is ∙ put_at (Some v) true tie)
+          tied true tie None is = miss (λ h. ap (get from) (same_number k id tie) ∙ is) (e ∙ ap (λ o. get (put_if id o m) k) is ∙ put_at None true tie)
+          tied false tie o is = miss (λ h. elim h [ inl same ↦ absurd (not_tied tie same) | inr more ↦ none more ]) (e ∙ put_at (get from id) false tie)
+
+-- the ids of rows that have one
+had_id : (xs : List OldRow) (x : OldRow) → Has xs x → Has (ids_in xs) x.version.id
+had_id [] x at = absurd at
+had_id (y ∷ ys) x (inl same) = inl (ap (λ (z : OldRow). z.version.id) same)
+had_id (y ∷ ys) x (inr at) = inr (had_id ys x at)
+
+pub versions_carried : (db : Trees) → IsShaped AsTable (db 5) → (ids : List ℕ) → HasIds ids db → all_old db ids empty ≡ old_versions_in (db 5)
+versions_carried db shaped ids (xs, answer, own) = same_map nat_cmp_total nat_cmp-IsAntisymmetric _ _ (λ k. go k (in_all (old_versions_in (db 5)) ids empty k))
+  where
+    p : Picks old_seen (old_versions_in (db 5)) (λ k v. Unit {0}) xs
+    p = old_picked db shaped xs answer
+
+    nothing : (k : ℕ) (o : Option VersionRow) → get (old_versions_in (db 5)) k ≡ o → (Has ids k → get (old_versions_in (db 5)) k ≡ None) → o ≡ None
+    nothing k None is none = refl
+    nothing k (Some v) is none =
+        let x = p.each k v is tt in
+        let at : Has ids k = subst₂ Has (sym own) (ap (λ (e : ℕ × VersionRow). e.0) x.2) (had_id xs x.0 x.1) in
+        sym is ∙ none at
+
+    go : (k : ℕ) → InAll (old_versions_in (db 5)) ids empty k → get (all_old db ids empty) k ≡ get (old_versions_in (db 5)) k
+    go k (hit v is e) = e ∙ ap Some (old_bare db k v is) ∙ sym is
+    go k (miss none e) = e ∙ get-empty nat_cmp k ∙ sym (nothing k (get (old_versions_in (db 5)) k) refl none)
 
 none_of : {X Y : Type 0} (read : X → Y) (rows : List X) → map read rows ≡ [] → rows ≡ []
 none_of read [] e = refl
@@ -522,29 +609,29 @@ pub old_shape : (f : Form) (db : Trees) → AreOldShaped f db → IsShaped AsTab
 old_shape First db shaped = shaped.1.1.1.1.0
 old_shape Modify db shaped = shaped.1.1.1.1.0
 
-carried : (f : Form) (db after : Trees) (xs : List OldRow) (clock : Option ClockCode) → AreOldShaped f db → IsListAnswer (All OldVersion) old_version_in db [] (map old_seen xs)
-    → IsListAnswer (All OldClock) old_clock_in db [] (map clock_seen (option_to_list clock)) → IsRebuiltAs f xs clock db after → IsCarriedOver f db after
-carried f db after xs clock shaped versions clocks it = record {
+carried : (f : Form) (db after : Trees) (ids : List ℕ) (clock : Option ClockCode) → AreOldShaped f db → HasIds ids db → IsListAnswer (All OldClock) old_clock_in db [] (map clock_seen (option_to_list clock))
+    → IsRebuiltAs f ids clock db after → IsCarriedOver f db after
+carried f db after ids clock shaped versions clocks it = record {
   content =
-      it.content ∙ ap (λ m. content_with f m (option_map old_clock_of clock) db) (versions_carried db (old_shape f db shaped) xs versions)
+      it.content ∙ ap (λ m. content_with f m (option_map old_clock_of clock) db) (versions_carried db (old_shape f db shaped) ids versions)
       ∙ ap (λ o. content_with f (old_versions_in (db 5)) o db) (clock_carried db clock clocks);
   moved = it.moved;
 }
 
 -- what was read before is what is carried over
-pub migrated : (f : Form) (a b d e : State) (done : Bool) (xs : List OldRow) (clocks : List ClockCode) (clock : Option ClockCode) → Looked a b true → Looked b d true → (IsTrue a.is_open → IsOfForm f a)
-    → (IsTrue b.is_open → IsListAnswer (All OldVersion) old_version_in a.now.trees [] (map old_seen xs)) → (IsTrue d.is_open → IsListAnswer (All OldClock) old_clock_in b.now.trees [] (map clock_seen clocks))
-    → clocks ≡ option_to_list clock → Moves (IsRebuiltAs f xs clock) d e done → Moves (IsCarried f) a e done
-migrated f a b d e done xs clocks clock one two ours versions clocked is moves =
-    looked_moves a d e (IsRebuiltAs f xs clock) (IsCarried f) (looked_then a b d true one two) (λ up after turns.
+pub migrated : (f : Form) (a b d e : State) (done : Bool) (ids : List ℕ) (clocks : List ClockCode) (clock : Option ClockCode) → Looked a b true → Looked b d true → (IsTrue a.is_open → IsOfForm f a)
+    → (IsTrue b.is_open → HasIds ids a.now.trees) → (IsTrue d.is_open → IsListAnswer (All OldClock) old_clock_in b.now.trees [] (map clock_seen clocks))
+    → clocks ≡ option_to_list clock → Moves (IsRebuiltAs f ids clock) d e done → Moves (IsCarried f) a e done
+migrated f a b d e done ids clocks clock one two ours versions clocked is moves =
+    looked_moves a d e (IsRebuiltAs f ids clock) (IsCarried f) (looked_then a b d true one two) (λ up after turns.
     let second = two.same up in
     let first = one.same second.was_open in
     let same = second.now ∙ first.now in
-    let at_versions = subst (λ (db : Database). IsListAnswer (All OldVersion) old_version_in db.trees [] (map old_seen xs)) (sym same) (versions second.was_open) in
+    let at_versions = subst (λ (db : Database). HasIds ids db.trees) (sym same) (versions second.was_open) in
     let at_clock = subst (λ (db : Database). IsListAnswer (All OldClock) old_clock_in db.trees [] (map clock_seen (option_to_list clock))) (sym second.now) (subst (λ cs. IsListAnswer (All OldClock) old_clock_in b.now.trees [] (map clock_seen cs)) is (clocked up)) in
     record {
-      read = moved_read d.now.trees (map old_seen xs) (map clock_seen (option_to_list clock)) at_versions at_clock;
-      over = carried f d.now.trees after xs clock (subst (λ (db : Database). AreOldShaped f db.trees) (sym same) (ours first.was_open).shaped) at_versions at_clock turns;
+      read = moved_read d.now.trees (seen_of at_versions.0) (map clock_seen (option_to_list clock)) at_versions.1 at_clock;
+      over = carried f d.now.trees after ids clock (subst (λ (db : Database). AreOldShaped f db.trees) (sym same) (ours first.was_open).shaped) at_versions at_clock turns;
     }) done moves
 
 pub no_item : {X : Type 0} (xs : List X) → length xs < 1 → xs ≡ []

@@ -1,5 +1,32 @@
 -- What an open says of the store's tables.
-use Rattle.std.proofs.Common.{◌≡◌, ◌⊎◌, inl, inr, ◌≤◌, Bool, arith, length, sym, ap, subst, ◌∙◌}
+use Rattle.std.proofs.Common.{◌≡◌, ◌≤◌, inl, inr, suc, Bool, List, [], ◌∷◌, arith, length, refl, sym, ap, subst}
+use Rattle.std.specs.List.{AllByRecursion, AllZip}
+use Rattle.sqlite.specs.State.{IsLive}
+use Rattle.sqlite_trees.specs.Props.{IsShaped-prop}
+use Rattle.sqlite_trees.specs.declared.store.Shape.TheVariants.{Table as AsTable}
+use mathlib.Core.HLevel.{×_prop}
+use Rattle.std.specs.Prelude.{filter}
+use Rattle.sqlite.specs.Start.{FindsIn}
+use Rattle.sqlite.specs.Recovery.{Image}
+use Rattle.sqlite.specs.Store.{Ghosts}
+use Rattle.sqlite.specs.Tree.{Trees}
+use Rattle.sqlite_catalog.specs.Listing.{AreListed, IsIndexRow, IsTableRow, IsViewRow, is_table_row}
+use Rattle.sqlite_schema.specs.declared.schema.Index.{Index}
+use Rattle.sqlite_schema.specs.declared.schema.Table.{Table}
+use Rattle.sqlite_schema.specs.declared.schema.View.{View as Stored}
+use Rattle.meaning.specs.Content.{empty_content}
+use Rattle.meaning.specs.Windows.{Windows}
+use Rattle.settle.specs.declared.store.StoreFault.{StoreFault}
+use Rattle.settle.specs.declared.store.StoreFault.TheVariants as told
+use Rattle.sql_rows.specs.Content.{content_in}
+use Rattle.sql_store.specs.Faults.{opening_fault_of}
+use Rattle.sql_store.specs.Opened.{IsRefusedAs, IsTakenAs, WasOpened}
+use Rattle.sql_store.specs.Refusal.{IsCleanYet, StandsYet}
+use Rattle.sql_store.specs.Whole.{IsWhole}
+use Rattle.sql_store.specs.declared.file_fault.FileFault.{FileFault}
+use Rattle.sql_store.specs.declared.file_fault.FileFault.TheVariants.{WindowsDiffer}
+use Rattle.sql_store.specs.declared.refused.Refused.{Refused}
+use Rattle.sql_store.specs.declared.refused.Refused.TheVariants.{Connection, Store}
 use Rattle.sqlite.specs.View.{View, IsShaped}
 use Rattle.sqlite.specs.Effect.{Database, IsDatabase}
 use Rattle.sqlite.specs.State.{State, Opens}
@@ -15,7 +42,7 @@ use Rattle.sql_rows.specs.declared.statement.Table.TheVariants.{Carrier, Lrn, Co
 use Rattle.sql_rows.specs.Moving.{schema_of}
 use Rattle.sql_rows.specs.declared.moving.Form.{Form}
 use Rattle.sql_rows.specs.declared.moving.Form.TheVariants.{First, Modify}
-use Rattle.sql_store.specs.Moving.{AreOldShaped, IsOfForm, IsOfSomeForm, of_none, of_ours}
+use Rattle.sql_store.specs.Moving.{AreOldShaped, IsMovedFrom, IsOfForm, of_earlier, of_none, of_ours}
 use Rattle.sql_store.specs.Store.{IsOurs}
 
 -- the laws of a store that is not broken give the shape of each table
@@ -36,43 +63,161 @@ shaped_by_laws v listed ordered sound = shaped
     shaped Version = subst (λ s. IsShaped s (v.trees 18)) (laid_out listed (objects_rise v listed ordered) sound.lists.listed).tables.1.1.1.1.1.1.1.1.1.1.0 (ordered 18)
     shaped Clock = subst (λ s. IsShaped s (v.trees 21)) (laid_out listed (objects_rise v listed ordered) sound.lists.listed).tables.1.1.1.1.1.1.1.1.1.1.1.0 (ordered 21)
 
-old_shaped_by_laws : (f : Form) (v : View) → IsListed (v.trees catalog_tree) v.shape v.reals → IsOrdered v.shape v.trees → IsSound (schema_of f) v.trees → AreOldShaped f v.trees
+pub old_shaped_by_laws : (f : Form) (v : View) → IsListed (v.trees catalog_tree) v.shape v.reals → IsOrdered v.shape v.trees → IsSound (schema_of f) v.trees → AreOldShaped f v.trees
 old_shaped_by_laws First v listed ordered sound = let l = (laid_out listed (objects_rise v listed ordered) sound.lists.listed).tables in (subst (λ s. IsShaped s (v.trees 0)) l.0 (ordered 0), (subst (λ s. IsShaped s (v.trees 2)) l.1.0 (ordered 2), (subst (λ s. IsShaped s (v.trees 3)) l.1.1.0 (ordered 3), (subst (λ s. IsShaped s (v.trees 4)) l.1.1.1.0 (ordered 4), (subst (λ s. IsShaped s (v.trees 5)) l.1.1.1.1.0 (ordered 5), (subst (λ s. IsShaped s (v.trees 8)) l.1.1.1.1.1.0 (ordered 8), (subst (λ s. IsShaped s (v.trees 10)) l.1.1.1.1.1.1.0 (ordered 10), (subst (λ s. IsShaped s (v.trees 12)) l.1.1.1.1.1.1.1.0 (ordered 12), tt))))))))
 old_shaped_by_laws Modify v listed ordered sound = let l = (laid_out listed (objects_rise v listed ordered) sound.lists.listed).tables in (subst (λ s. IsShaped s (v.trees 0)) l.0 (ordered 0), (subst (λ s. IsShaped s (v.trees 2)) l.1.0 (ordered 2), (subst (λ s. IsShaped s (v.trees 3)) l.1.1.0 (ordered 3), (subst (λ s. IsShaped s (v.trees 4)) l.1.1.1.0 (ordered 4), (subst (λ s. IsShaped s (v.trees 5)) l.1.1.1.1.0 (ordered 5), (subst (λ s. IsShaped s (v.trees 8)) l.1.1.1.1.1.0 (ordered 8), (subst (λ s. IsShaped s (v.trees 10)) l.1.1.1.1.1.1.0 (ordered 10), (subst (λ s. IsShaped s (v.trees 12)) l.1.1.1.1.1.1.1.0 (ordered 12), (subst (λ s. IsShaped s (v.trees 16)) l.1.1.1.1.1.1.1.1.0 (ordered 16), tt)))))))))
 
--- what was opened over a store with the tables of an earlier form is of that form
-pub opened_form : (f : Form) (v : View) (s : State) → IsListed (v.trees catalog_tree) v.shape v.reals → IsOrdered v.shape v.trees → s.now.trees ≡ v.trees → s.now.schema ≡ schema_of f → Opens s → IsDatabase s.now → IsOfForm f s
-opened_form f v s listed ordered same has opens sound =
-    let ours : IsSound (schema_of f) v.trees = subst (λ t. IsSound (schema_of f) t) same (subst (λ k. IsSound k s.now.trees) has sound) in
-    record {
-      schema = has;
-      shaped = subst (AreOldShaped f) (sym same) (old_shaped_by_laws f v listed ordered ours);
-      same_schema = ap (λ (d : Database). d.schema) opens.clean;
-      same_trees = ap (λ (d : Database). d.trees) opens.clean;
-    }
+pub AreOldShaped-prop : (f : Form) (db : Trees) → IsProp (AreOldShaped f db)
+AreOldShaped-prop f db = each (schema_of f).tables
+  where
+    each : (ts : List Table) → IsProp (AllByRecursion (λ (t : Table). IsShaped AsTable (db t.tree)) ts)
+    each [] a b = refl
+    each (t ∷ ts) a b = ×_prop (IsShaped-prop AsTable _) (each ts) a b
 
--- what was opened over a store with our tables is ours
-pub opened_ours : (v : View) (s : State) → IsListed (v.trees catalog_tree) v.shape v.reals → IsOrdered v.shape v.trees → s.now.trees ≡ v.trees → s.now.schema ≡ the_schema → Opens s → IsDatabase s.now → IsOurs s
-opened_ours v s listed ordered same has opens sound =
-    let ours : IsSound the_schema v.trees = subst (λ t. IsSound the_schema t) same (subst (λ k. IsSound k s.now.trees) has sound) in
-    record {
-      schema = has;
-      shaped = subst AreShaped (sym same) (shaped_by_laws v listed ordered ours);
-      same_schema = ap (λ (d : Database). d.schema) opens.clean;
-      same_trees = ap (λ (d : Database). d.trees) opens.clean;
-    }
+-- what was opened over a store that is not broken is as an open of files leaves it
+pub was_opened : (v : View) (s : State) → IsListed (v.trees catalog_tree) v.shape v.reals → IsOrdered v.shape v.trees → s.now.trees ≡ v.trees → Opens s → IsLive s → WasOpened s
+was_opened v s listed ordered same opens live = record {
+  opens = opens;
+  live = live;
+  shaped = λ ours. subst AreShaped (sym same) (shaped_by_laws v listed ordered (subst (IsSound the_schema) same ours));
+  old_shaped = λ f old. subst (AreOldShaped f) (sym same) (old_shaped_by_laws f v listed ordered (subst (IsSound (schema_of f)) same old));
+}
+
+module _ (s : State) (was : WasOpened s) where
+  -- its tables are a database of the schema
+  pub sound_as : (k : Schema) → s.now.schema ≡ k → IsSound k s.now.trees
+  sound_as k has = subst (λ k. IsSound k s.now.trees) has (was.live was.opens.is_open).0
+
+  pub opened_form : (f : Form) → s.now.schema ≡ schema_of f → IsOfForm f s
+  opened_form f has = record {
+    schema = has;
+    shaped = was.old_shaped f (sound_as (schema_of f) has);
+    same_schema = ap (λ (d : Database). d.schema) was.opens.clean;
+    same_trees = ap (λ (d : Database). d.trees) was.opens.clean;
+  }
+
+  pub opened_ours : s.now.schema ≡ the_schema → IsOurs s
+  opened_ours has = record {
+    schema = has;
+    shaped = was.shaped (sound_as the_schema has);
+    same_schema = ap (λ (d : Database). d.schema) was.opens.clean;
+    same_trees = ap (λ (d : Database). d.trees) was.opens.clean;
+  }
 
 -- where the disk is clean afterwards only if it was before, no fault is forgotten
 pub falls : (old new : Bool) → (doubt new ≡ 0 → doubt old ≡ 0) → doubt old ≤ doubt new
 falls old new honest = only_falls old new (λ clean. clean_of old (honest (no_doubt new clean)))
 
--- the schemas of the forms differ from ours, and from that of a file with nothing in it
-pub is_no_earlier : (k : Schema) (f : Form) → (k ≡ no_schema) ⊎ (k ≡ the_schema) → k ≡ schema_of f → ⊥
-is_no_earlier k First (inl none) is = let same = ap (λ (s : Schema). length s.tables) (sym none ∙ is) in omega (arith, same)
-is_no_earlier k Modify (inl none) is = let same = ap (λ (s : Schema). length s.tables) (sym none ∙ is) in omega (arith, same)
-is_no_earlier k First (inr ours) is = let same = ap (λ (s : Schema). length s.tables) (sym ours ∙ is) in omega (arith, same)
-is_no_earlier k Modify (inr ours) is = let same = ap (λ (s : Schema). length s.tables) (sym ours ∙ is) in omega (arith, same)
+-- ---- which tables a database lists
 
-pub of_none_or_ours : (k : Schema) → (k ≡ no_schema) ⊎ (k ≡ the_schema) → IsOfSomeForm k
-of_none_or_ours k (inl none) = of_none none
-of_none_or_ours k (inr ours) = of_ours ours
+zipped : {A B C : Type 0} (P : A → B → Type 0) (Q : A → C → Type 0) (xs : List A) (ys : List B) (zs : List C) → AllZip P xs ys → AllZip Q xs zs → length ys ≡ length zs
+zipped P Q [] [] [] a b = refl
+zipped P Q [] [] (z ∷ zs) a b = absurd b
+zipped P Q [] (y ∷ ys) zs a b = absurd a
+zipped P Q (x ∷ xs) [] zs a b = absurd a
+zipped P Q (x ∷ xs) (y ∷ ys) [] a b = absurd b
+zipped P Q (x ∷ xs) (y ∷ ys) (z ∷ zs) a b = ap suc (zipped P Q xs ys zs a.1 b.1)
+
+-- all schemas of a database have as many tables
+as_many : (db : Trees) (k l : Schema) → IsSound k db → IsSound l db → length k.tables ≡ length l.tables
+as_many db k l a b = zipped IsTableRow IsTableRow (filter is_table_row (db catalog_tree)) k.tables l.tables a.lists.listed.tables b.lists.listed.tables
+
+-- where no object is listed, the schema has none
+unlisted : (k : Schema) → AreListed [] k → k ≡ no_schema
+unlisted k listed = tables k.tables k.indexes k.views listed.tables listed.indexes listed.views
+  where
+    tables : (ts : List Table) (is : List Index) (vs : List Stored) → AllZip IsTableRow [] ts → AllZip (IsIndexRow k.tables) [] is → AllZip IsViewRow [] vs → record { tables = ts; indexes = is; views = vs } ≡ no_schema
+    tables [] [] [] a b c = refl
+    tables [] [] (v ∷ vs) a b c = absurd c
+    tables [] (i ∷ is) vs a b c = absurd b
+    tables (t ∷ ts) is vs a b c = absurd a
+
+pub empty_is_unlisted : (d : Database) → IsDatabase d → d.trees catalog_tree ≡ [] → d.schema ≡ no_schema
+empty_is_unlisted d sound none = unlisted d.schema (subst (λ objects. AreListed objects d.schema) none sound.lists.listed)
+
+-- an open of an empty file finds nothing
+pub empty_finds_none : (image : Image) (s : State) → image.db ≡ [] → FindsIn image s → s.committed.trees catalog_tree ≡ []
+empty_finds_none image s none finds = elim finds.reads [
+  | inl found ↦ absurd (let e = found.3.found.present in let f = ap length none in omega (arith, e, f))
+  | inr nothing ↦ nothing.1.1
+]
+
+-- ---- what is taken
+
+module _ (w : Windows) (db now : Trees) where
+  pub taken_new : IsSound no_schema db → content_in now ≡ empty_content → IsWhole now → IsTakenAs w db now
+  taken_new sound empty whole = record {
+    new = λ _. empty;
+    found = λ ours. absurd (let same = as_many db no_schema the_schema sound ours in omega (arith, same));
+    moved = λ f old. absurd (never f (as_many db no_schema (schema_of f) sound old));
+    whole = λ _. whole;
+    schema = no_schema;
+    sound = sound;
+    known = of_none refl;
+  }
+    where
+      never : (f : Form) → length no_schema.tables ≡ length (schema_of f).tables → ⊥
+      never First same = omega (arith, same)
+      never Modify same = omega (arith, same)
+
+  pub taken_found : IsSound the_schema db → now ≡ db → IsWhole now → IsTakenAs w db now
+  taken_found sound same whole = record {
+    new = λ none. absurd (let same = as_many db the_schema no_schema sound none in omega (arith, same));
+    found = λ _. ap content_in same;
+    moved = λ f old. absurd (never f (as_many db the_schema (schema_of f) sound old));
+    whole = λ _. whole;
+    schema = the_schema;
+    sound = sound;
+    known = of_ours refl;
+  }
+    where
+      never : (f : Form) → length the_schema.tables ≡ length (schema_of f).tables → ⊥
+      never First same = omega (arith, same)
+      never Modify same = omega (arith, same)
+
+  pub taken_moved : (f : Form) → IsSound (schema_of f) db → IsMovedFrom f w db now → IsTakenAs w db now
+  taken_moved f sound it = record {
+    new = λ none. absurd (no_table f (as_many db (schema_of f) no_schema sound none));
+    found = λ ours. absurd (not_ours f (as_many db (schema_of f) the_schema sound ours));
+    moved = λ g old. subst (λ h. IsMovedFrom h w db now) (same_form f g (as_many db (schema_of f) (schema_of g) sound old)) it;
+    whole = λ never. absurd (never f sound);
+    schema = schema_of f;
+    sound = sound;
+    known = of_earlier f refl;
+  }
+    where
+      no_table : (f : Form) → length (schema_of f).tables ≡ length no_schema.tables → ⊥
+      no_table First same = omega (arith, same)
+      no_table Modify same = omega (arith, same)
+
+      not_ours : (f : Form) → length (schema_of f).tables ≡ length the_schema.tables → ⊥
+      not_ours First same = omega (arith, same)
+      not_ours Modify same = omega (arith, same)
+
+      same_form : (f g : Form) → length (schema_of f).tables ≡ length (schema_of g).tables → f ≡ g
+      same_form First First same = refl
+      same_form Modify Modify same = refl
+      same_form First Modify same = absurd (omega (arith, same))
+      same_form Modify First same = absurd (omega (arith, same))
+
+-- ---- what is refused
+
+pub stands_clean : {S : Type 0} (g : Ghosts S) (left : Refused S) → StandsYet g left → IsCleanYet g left
+stands_clean g (Connection conn) it = it.0
+stands_clean g (Store store) it = it.0
+
+-- what the store tells is never other windows
+pub never_windows : (fault : StoreFault) → opening_fault_of fault ≡ WindowsDiffer → ⊥
+never_windows told.Storage e = cc
+never_windows told.NoMemory e = cc
+
+-- the same of the database that was found, once it is known to be clean
+pub refused_of : {S : Type 0} (g : Ghosts S) (w : Windows) (db found : Trees) (fault : FileFault) (left : Refused S) → (IsCleanYet g left → found ≡ db) → (IsCleanYet g left → IsRefusedAs g w found fault left) → IsRefusedAs g w db fault left
+refused_of g w db found fault left same it = record {
+  kept = λ lists stands. (here (stands_clean g left stands)).kept lists stands;
+  crash = λ lists clean. (here clean).crash lists clean;
+  differ = λ told stands. (here (stands_clean g left stands)).differ told stands;
+}
+  where
+    here : IsCleanYet g left → IsRefusedAs g w db fault left
+    here clean = subst (λ t. IsRefusedAs g w t fault left) (same clean) (it clean)

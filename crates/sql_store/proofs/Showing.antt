@@ -18,7 +18,7 @@ use Rattle.sqlite.specs.Tree.{Trees}
 use Rattle.sql_rows.proofs.StatementLemmas.{IsSelect, Selects}
 
 -- nothing is to be shown of a write
-abbrev ShowsNone : Checked Compiled → Type 0
+abbrev pub ShowsNone : Checked Compiled → Type 0
 ShowsNone (Ok c) = c.returning ≡ None
 ShowsNone (Err e) = Unit {0}
 
@@ -48,7 +48,7 @@ compiled_none schema text selects = go (first text) selects
     go (Ok p) is = shown_none schema p is
     go (Err e) is = tt
 
-understood_none : (schema : Schema) (text : List ℕ) → Selects (first text) → ShowsNone (understood schema text)
+pub understood_none : (schema : Schema) (text : List ℕ) → Selects (first text) → ShowsNone (understood schema text)
 unfolding understood
 understood_none schema text selects = go (reads_listing schema text)
   where

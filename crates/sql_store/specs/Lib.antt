@@ -8,5 +8,8 @@ pub mod Routed
 pub mod Blocks
 pub mod Whole
 pub mod Found
+pub mod Opened
+pub mod Files
+pub mod Through
 pub mod Moving
 pub mod Faults

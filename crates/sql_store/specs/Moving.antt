@@ -1,6 +1,6 @@
 -- A file of an earlier form made one of this form.
-use Rattle.std.specs.Prelude.{◌≡◌, ◌≢◌, ℕ, pos, Bool, List, [], ◌∷◌, Option, Some, IsTrue, not, option_map}
-use Rattle.std.specs.FinMap.{FinMap, empty, insert}
+use Rattle.std.specs.Prelude.{◌≡◌, ◌≢◌, ℕ, pos, Bool, List, [], ◌∷◌, Option, Some, None, IsTrue, map, not, option_map}
+use Rattle.std.specs.FinMap.{FinMap, empty, get, insert}
 use Rattle.std.specs.List.{AllByRecursion}
 use Rattle.std.specs.Ordering.{nat_cmp}
 use Rattle.sqlite.specs.Change.{KeepsRows}
@@ -16,16 +16,18 @@ use Rattle.meaning.specs.Content.{ClockRow, VersionRow}
 use Rattle.meaning.specs.Windows.{Windows}
 use Rattle.sql_rows.specs.Clocks.{old_clock_of}
 use Rattle.sql_rows.specs.Content.{broadcast_entry, content_in, next_entry, old_clock_entry, versions_in, wait_entry}
-use Rattle.sql_rows.specs.Former.{content_with, next_rows, old_clock, old_content_in}
+use Rattle.sql_rows.specs.Former.{content_with, next_rows, old_clock, old_content_in, old_versions_in}
+use Rattle.sql_rows.specs.Found.{IsListAnswer}
+use Rattle.sql_rows.specs.declared.statement.Query.TheVariants.{All}
 use Rattle.sql_rows.specs.Moving.{schema_of}
 use Rattle.sql_rows.specs.Shaped.{AreShaped}
 use Rattle.sql_rows.specs.Tables.{no_schema, the_schema}
-use Rattle.sql_rows.specs.Versions.{bare, old_version_entry, version_entry, version_params, version_row}
+use Rattle.sql_rows.specs.Versions.{bare, old_version_entry, old_version_in, version_entry, version_params, version_row}
 use Rattle.sql_rows.specs.Written.{IsFrame, Replaced}
 use Rattle.sql_rows.specs.declared.keyed.OldClock.{OldClock}
 use Rattle.sql_rows.specs.declared.moving.Form.{Form}
 use Rattle.sql_rows.specs.declared.moving.Form.TheVariants.{Modify}
-use Rattle.sql_rows.specs.declared.statement.Table.TheVariants.{Version}
+use Rattle.sql_rows.specs.declared.statement.Table.TheVariants.{OldVersion as OldTable, Version}
 use Rattle.sql_rows.specs.declared.version_row.OldVersion.{OldVersion}
 use Rattle.sql_store.specs.Store.{IsOurs, IsSame, Kept, Wrote}
 use Rattle.sql_store.specs.Whole.{AreRegistryRead, EachReads, IsMoved}
@@ -105,12 +107,6 @@ pub data IsOfSomeForm (k : Schema) : Type 0 where
   of_ours : k ≡ the_schema → IsOfSomeForm k
   of_earlier : (f : Form) → k ≡ schema_of f → IsOfSomeForm k
 
--- the file is of an earlier form, and was made with other windows
-pub record IsOtherwiseWindowed (w : Windows) (s : State) : Type 0 where
-  pub form : Form
-  pub schema : s.now.schema ≡ schema_of form
-  pub others : WereOtherWindows w s.committed.trees
-
 -- ---- in a transaction
 
 -- a transaction over a database with this schema
@@ -146,32 +142,59 @@ pub record IsGrown (f : Form) (old new : Database) : Type 0 where
 abbrev pub IsBarePut : ℕ → VersionRow → Database → Database → Type 0
 IsBarePut id v old new = Replaced Version (Int (pos id) ∷ []) (version_params id v) old new × (version_entry (version_row id v) ≡ Some (id, bare v))
 
-abbrev pub all_in : List OldVersion → FinMap nat_cmp VersionRow → FinMap nat_cmp VersionRow
-all_in [] m = m
-all_in (x ∷ xs) m = all_in xs (insert m x.version.id (bare x.version.row))
+abbrev pub seen_of : List OldVersion → List (ℕ × VersionRow)
+seen_of xs = map (λ (x : OldVersion). (x.version.id, x.version.row)) xs
 
--- some of the rows were put: those that are left make together with them what all of them make
-pub record ArePutBut (left whole : List OldVersion) (old new : Database) : Type 0 where
+abbrev pub ids_in : List OldVersion → List ℕ
+ids_in xs = map (λ (x : OldVersion). x.version.id) xs
+
+-- the ids of these versions
+abbrev pub AreIdsOf : List ℕ → List (ℕ × VersionRow) → Type 0
+AreIdsOf ids seen = (xs : List OldVersion) × (seen ≡ seen_of xs) × (ids ≡ ids_in xs)
+
+-- of all versions of a file of an earlier form, each of which reads
+abbrev pub HasIds : List ℕ → Trees → Type 0
+HasIds ids db = (xs : List OldVersion) × IsListAnswer (All OldTable) old_version_in db [] (seen_of xs) × (ids ≡ ids_in xs)
+
+-- the version with an id was put as it stands there
+abbrev pub IsOldPut : ℕ → Database → Database → Type 0
+IsOldPut id old new = (v : VersionRow) × (get (old_versions_in (old.trees 5)) id ≡ Some v) × IsBarePut id v old new
+
+-- the versions with these ids, each of which stands in the first of two maps, put into the other
+abbrev pub put_if : ℕ → Option VersionRow → FinMap nat_cmp VersionRow → FinMap nat_cmp VersionRow
+put_if id None m = m
+put_if id (Some v) m = insert m id (bare v)
+
+abbrev pub all_of : FinMap nat_cmp VersionRow → List ℕ → FinMap nat_cmp VersionRow → FinMap nat_cmp VersionRow
+all_of from [] m = m
+all_of from (id ∷ ids) m = all_of from ids (put_if id (get from id) m)
+
+-- those of the table of the earlier forms
+abbrev pub all_old : Trees → List ℕ → FinMap nat_cmp VersionRow → FinMap nat_cmp VersionRow
+all_old db = all_of (old_versions_in (db 5))
+
+-- some of the versions were put: those that are left make together with them what all of them make
+pub record ArePutBut (left whole : List ℕ) (old new : Database) : Type 0 where
   pub schema : old.schema ≡ the_schema → new.schema ≡ the_schema
   pub shaped : AreShaped old.trees → AreShaped new.trees
-  pub versions : AreShaped old.trees → all_in left (versions_in (new.trees 18)) ≡ all_in whole (versions_in (old.trees 18))
+  pub versions : AreShaped old.trees → all_old old.trees left (versions_in (new.trees 18)) ≡ all_old old.trees whole (versions_in (old.trees 18))
   pub frame : IsFrame Version old.trees new.trees
 
 -- the rows were put, and the old tables emptied
-pub record IsFilled (xs : List OldVersion) (clock : Option OldClock) (old new : Database) : Type 0 where
+pub record IsFilled (ids : List ℕ) (clock : Option OldClock) (old new : Database) : Type 0 where
   pub schema : new.schema ≡ the_schema
   pub shaped : AreShaped new.trees
   pub moved : IsMoved new.trees
-  pub content : old.trees 17 ≡ [] → old.trees 18 ≡ [] → old.trees 21 ≡ [] → content_in new.trees ≡ content_with Modify (all_in xs empty) (option_map old_clock_of clock) old.trees
+  pub content : old.trees 17 ≡ [] → old.trees 18 ≡ [] → old.trees 21 ≡ [] → content_in new.trees ≡ content_with Modify (all_old old.trees ids empty) (option_map old_clock_of clock) old.trees
 
 -- both
-pub record IsRebuilt (f : Form) (xs : List OldVersion) (clock : Option OldClock) (old new : Database) : Type 0 where
+pub record IsRebuilt (f : Form) (ids : List ℕ) (clock : Option OldClock) (old new : Database) : Type 0 where
   pub schema : new.schema ≡ the_schema
   pub shaped : AreShaped new.trees
   pub moved : IsMoved new.trees
-  pub content : content_in new.trees ≡ content_with f (all_in xs empty) (option_map old_clock_of clock) old.trees
+  pub content : content_in new.trees ≡ content_with f (all_old old.trees ids empty) (option_map old_clock_of clock) old.trees
 
 -- the trees alone
-pub record IsRebuiltAs (f : Form) (xs : List OldVersion) (clock : Option OldClock) (old new : Trees) : Type 0 where
-  pub content : content_in new ≡ content_with f (all_in xs empty) (option_map old_clock_of clock) old
+pub record IsRebuiltAs (f : Form) (ids : List ℕ) (clock : Option OldClock) (old new : Trees) : Type 0 where
+  pub content : content_in new ≡ content_with f (all_old old ids empty) (option_map old_clock_of clock) old
   pub moved : IsMoved new

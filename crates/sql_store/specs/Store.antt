@@ -38,7 +38,7 @@ settled s ours i = record { schema = ours.same_schema i; trees = ours.same_trees
 Schema-set : IsSet Schema
 Schema-set = Coded-set the_row.coded
 
-AreShaped-prop : (db : Trees) → IsProp (AreShaped db)
+pub AreShaped-prop : (db : Trees) → IsProp (AreShaped db)
 AreShaped-prop db = Π_prop (λ t. IsShaped-prop AsTable _)
 
 IsOurs-prop : (s : State) → IsProp (IsOurs s)

@@ -4,6 +4,7 @@
 mod blocks;
 mod change;
 mod commit;
+mod file;
 mod file_fault;
 mod lists;
 mod lookups;
@@ -12,13 +13,16 @@ mod once;
 mod opening;
 mod order;
 mod queue;
+mod refused;
 mod routed;
 mod rows;
 mod schema;
 mod select;
 mod store;
+mod through;
 mod whole;
 
+pub use file::{Unopened, UnopenedAt};
 pub use file_fault::FileFault;
-pub use opening::Refused;
+pub use refused::Refused;
 pub use store::SqlStore;

@@ -1,5 +1,10 @@
 //! A file of an earlier form made one of this form, in one transaction.
-ghost use Rattle.std.specs.Prelude.{◌≡◌, ◌<◌, false, [], Err, IsTrue, IfOk, OnOk, is_ok, map};
+ghost use Rattle.std.specs.Prelude.{◌≡◌, ◌⊎◌, ◌<◌, ℕ, List, false, [], Err, IsTrue, IfOk, OnErr, OnOk, is_ok, map};
+ghost use Rattle.sqlite.specs.Given.{HasGiven, IsPlain};
+ghost use Rattle.sqlite.specs.Listing.{understood};
+ghost use Rattle.sqlite.specs.State.{HasCleanDisk, IsRolledBack, Survives};
+ghost use Rattle.sql_rows.specs.Versions.{old_version_in};
+ghost use Rattle.sql_store.specs.Through.{HasReadAll, Unmoved};
 ghost use Rattle.sqlite.specs.Held.{state};
 ghost use Rattle.sqlite.specs.Program.{overlay};
 ghost use Rattle.sqlite.specs.Query.{IsAnswer};
@@ -9,21 +14,23 @@ ghost use Rattle.sql_rows.specs.Moving.{IsCleared, IsMade, IsTableOf, schema_aft
 ghost use Rattle.sql_store.specs.Changes.{if_some, with_set};
 ghost use Rattle.sql_rows.specs.Content.{stored_clock};
 ghost use Rattle.version.specs.Views.{windows_of};
-ghost use Rattle.sql_store.specs.Moving.{Alters, ArePutBut, AreStayingRead, IsBarePut, IsBegun, IsBegunAs, IsCarried, IsFilled, IsGrown, IsIndexed, IsMovedFrom, IsOfForm, IsRebuilt, IsRebuiltAs, IsSentRead, Moves, WereItsWindows, WereOtherWindows};
+ghost use Rattle.sql_store.specs.Moving.{Alters, AreIdsOf, ArePutBut, HasIds, AreStayingRead, IsBarePut, IsBegun, IsBegunAs, IsCarried, IsFilled, IsGrown, IsIndexed, IsMovedFrom, IsOfForm, IsOldPut, IsRebuilt, IsRebuiltAs, IsSentRead, Moves, WereItsWindows, WereOtherWindows};
 ghost use Rattle.sql_store.specs.Store.{Looked, Makes, Writes};
 ghost use Rattle.sql_store.specs.Whole.{AreRegistryRead, IsRead};
 
 use crate::change::replace;
 use crate::file_fault::FileFault;
 use crate::rows::put_set;
+use crate::through::{next_read, read_table};
 use numbers::Spid;
 use settle::VersionRow;
 use sql_rows::{
     Fault, Form, KeyedBlock, KeyedBroadcast, KeyedCode, KeyedLrn, KeyedRouting, KeyedWait,
     NewTable, OldClock, OldTable, OldVersion, Query, Stored, StoredClock, Table, all, fits,
-    index_text, number, spid_bytes, version_params,
+    index_text, number, sole, spid_bytes, version_params,
 };
-use sqlite::{Alter, Connection, Row, Transaction};
+use sqlite::{Alter, Connection, Row, Rows, Transaction};
+use std::alloc::Global;
 use windows::Windows;
 
 fn make<S: Alter>(tx: &mut Transaction<'_, S>, table: NewTable) -> Result<(), Fault>
@@ -95,13 +102,31 @@ fn put_bare<S: Alter>(tx: &mut Transaction<'_, S>, id: u64, row: &VersionRow) ->
     Ok(())
 }
 
-fn put_bares<S: Alter>(tx: &mut Transaction<'_, S>, rows: &[OldVersion]) -> Result<(), Fault>
+// Puts the version with an id as it stands in the table of the earlier forms.
+fn put_old<S: Alter>(tx: &mut Transaction<'_, S>, id: u64) -> Result<(), Fault>
     ensures same_reference { tx.new.conn.ghost_name ≡ tx.old.conn.ghost_name }
     ensures writes { Writes (state S.Store tx.old.conn.now) (state S.Store tx.new.conn.now)
-        (is_ok result) (ArePutBut [] rows.now) }
+        (is_ok result) (IsOldPut id) }
 {
-    for row in rows {
-        put_bare(tx, row.version.id, &row.version.row)?;
+    if id >= 9223372036854775808 {
+        return Err(Fault::Device);
+    }
+    let rows = tx.query_all(Query::OldVersionNumbered.text(), &[number(id)])?;
+    let Some(found) = sole::<OldVersion>(rows.as_slice())? else {
+        return Err(Fault::Device);
+    };
+    put_bare(tx, id, &found.version.row)?;
+    Ok(())
+}
+
+// Puts the versions with these ids, one at a time.
+fn put_each<S: Alter>(tx: &mut Transaction<'_, S>, ids: &[u64]) -> Result<(), Fault>
+    ensures same_reference { tx.new.conn.ghost_name ≡ tx.old.conn.ghost_name }
+    ensures writes { Writes (state S.Store tx.old.conn.now) (state S.Store tx.new.conn.now)
+        (is_ok result) (ArePutBut [] ids.now) }
+{
+    for id in ids {
+        put_old(tx, *id)?;
     }
     Ok(())
 }
@@ -140,17 +165,17 @@ fn clear<S: Alter>(tx: &mut Transaction<'_, S>, table: OldTable) -> Result<(), F
     Ok(())
 }
 
-// The rows of the earlier form, put into the tables of this one.
+// The rows of the earlier form, put into the tables of this one: the versions with these ids.
 fn fill<S: Alter>(
     tx: &mut Transaction<'_, S>,
-    versions: &[OldVersion],
+    ids: &[u64],
     clock: Option<OldClock>,
 ) -> Result<(), Fault>
     ensures same_reference { tx.new.conn.ghost_name ≡ tx.old.conn.ghost_name }
     ensures writes { Writes (state S.Store tx.old.conn.now) (state S.Store tx.new.conn.now)
-        (is_ok result) (IsFilled versions.now clock) }
+        (is_ok result) (IsFilled ids.now clock) }
 {
-    put_bares(tx, versions)?;
+    put_each(tx, ids)?;
     put_first_set(tx, clock)?;
     clear(tx, OldTable::Version)?;
     clear(tx, OldTable::Clock)?;
@@ -160,35 +185,35 @@ fn fill<S: Alter>(
 fn rebuild<S: Alter>(
     tx: &mut Transaction<'_, S>,
     form: Form,
-    versions: &[OldVersion],
+    ids: &[u64],
     clock: Option<OldClock>,
 ) -> Result<(), Fault>
     ensures same_reference { tx.new.conn.ghost_name ≡ tx.old.conn.ghost_name }
     ensures alters { Alters (IsBegunAs form) (state S.Store tx.old.conn.now)
-        (state S.Store tx.new.conn.now) (is_ok result) (IsRebuilt form versions.now clock) }
+        (state S.Store tx.new.conn.now) (is_ok result) (IsRebuilt form ids.now clock) }
 {
     grow(tx, form)?;
-    fill(tx, versions, clock)?;
+    fill(tx, ids, clock)?;
     Ok(())
 }
 
-// Puts these rows into the tables of this form, which it makes, and empties those of the earlier
-// one: in one transaction.
+// Puts the versions with these ids and the clock's row into the tables of this form, which it makes,
+// and empties those of the earlier one: in one transaction.
 fn move_rows<S: Alter>(
     conn: &mut Connection<S>,
     form: Form,
-    versions: &[OldVersion],
+    ids: &[u64],
     clock: Option<OldClock>,
 ) -> Result<(), Fault>
     requires old { IsTrue (state S.Store conn.old).is_open
         → IsOfForm form (state S.Store conn.old) }
     requires idle { conn.old.in_transaction ≡ false }
-    ensures moves { Moves (IsRebuiltAs form versions.now clock) (state S.Store conn.old)
+    ensures moves { Moves (IsRebuiltAs form ids.now clock) (state S.Store conn.old)
         (state S.Store conn.new) (is_ok result) }
     ensures idle { conn.new.in_transaction ≡ false }
 {
     let mut tx = conn.transaction();
-    rebuild(&mut tx, form, versions, clock)?;
+    rebuild(&mut tx, form, ids, clock)?;
     tx.commit()?;
     Ok(())
 }
@@ -234,6 +259,47 @@ fn read_old<T: Stored + Drop, S: Alter>(
     Ok(items)
 }
 
+// The ids of the versions, each of which is read.
+fn ids_among<S: Alter>(alloc: Global, rows: &mut Rows<'_, S>) -> Result<Vec<u64>, Fault>
+    ensures same_reference { rows.new.conn.ghost_name ≡ rows.old.conn.ghost_name }
+    ensures all { HasCleanDisk (state S.Store rows.new.conn.now) → IfOk result (λ ids.
+        (sql : List ℕ) → IsPlain (understood (state S.Store rows.old.conn.now).now.schema sql)
+        → HasGiven S.Store sql [] rows.old.conn.now []
+        → HasReadAll old_version_in sql (state S.Store rows.old.conn.now)
+        (state S.Store rows.new.conn.now) (AreIdsOf ids.items)) }
+    ensures err { HasCleanDisk (state S.Store rows.new.conn.now) → OnErr result
+        (Unmoved S.Store rows.old.conn.now rows.new.conn.now
+        ⊎ IsRolledBack (state S.Store rows.old.conn.now) (state S.Store rows.new.conn.now)) }
+    ensures mode { rows.old.conn.now.in_transaction ≡ false
+        → rows.new.conn.now.in_transaction ≡ false }
+    ensures survives { Survives (state S.Store rows.old.conn.now)
+        (state S.Store rows.new.conn.now) (λ _. ⊥) }
+{
+    let mut ids = Vec::new(alloc);
+    'rows: for _ in 0..usize::MAX {
+        let Some(row) = next_read::<OldVersion, S>(rows)? else {
+            return Ok(ids);
+        };
+        ids.push(row.version.id)?;
+    }
+    Err(Fault::Device)
+}
+
+// The ids of the versions of a file of the form, each of which is read: so none but their ids is
+// held.
+fn ids_of<S: Alter>(alloc: Global, conn: &mut Connection<S>, form: Form) -> Result<Vec<u64>, Fault>
+    requires old { IsTrue (state S.Store conn.old).is_open
+        → IsOfForm form (state S.Store conn.old) }
+    requires idle { conn.old.in_transaction ≡ false }
+    ensures value { IsTrue (state S.Store conn.new).is_open → IfOk result (λ ids.
+        HasIds ids.items (state S.Store conn.old).now.trees) }
+    ensures looked { Looked (state S.Store conn.old) (state S.Store conn.new) (is_ok result) }
+    ensures idle { conn.new.in_transaction ≡ false }
+{
+    let mut rows = conn.query(Query::All(Table::OldVersion).text(), &[])?;
+    ids_among(alloc, &mut rows)
+}
+
 // ---- the tables that stay as they are
 
 // Reads a table that stays as it is.
@@ -251,7 +317,7 @@ fn see<T: Stored + Drop, S: Alter>(
     ensures looked { Looked (state S.Store conn.old) (state S.Store conn.new) (is_ok result) }
     ensures idle { conn.new.in_transaction ≡ false }
 {
-    let _rows: Vec<T> = read_old(conn, form, table)?;
+    read_table::<T, S>(conn, table)?;
     Ok(())
 }
 
@@ -339,7 +405,7 @@ fn has_windows<S: Alter>(
 
 // Carries the versions and the clock over.
 #[tactic(auto, using(crate::proofs::MovingLemmas::old_still))]
-fn carry_over<S: Alter>(conn: &mut Connection<S>, form: Form) -> Result<(), Fault>
+fn carry_over<S: Alter>(alloc: Global, conn: &mut Connection<S>, form: Form) -> Result<(), Fault>
     requires old { IsTrue (state S.Store conn.old).is_open
         → IsOfForm form (state S.Store conn.old) }
     requires idle { conn.old.in_transaction ≡ false }
@@ -347,11 +413,11 @@ fn carry_over<S: Alter>(conn: &mut Connection<S>, form: Form) -> Result<(), Faul
         (state S.Store conn.new) (is_ok result) }
     ensures idle { conn.new.in_transaction ≡ false }
 {
-    let versions: Vec<OldVersion> = read_old(conn, form, Table::OldVersion)?;
+    let ids = ids_of(alloc, conn, form)?;
     let clocks: Vec<OldClock> = read_old(conn, form, Table::OldClock)?;
     match clocks.as_slice() {
-        [] => move_rows(conn, form, versions.as_slice(), None),
-        [clock] => move_rows(conn, form, versions.as_slice(), Some(*clock)),
+        [] => move_rows(conn, form, ids.as_slice(), None),
+        [clock] => move_rows(conn, form, ids.as_slice(), Some(*clock)),
         _ => Err(Fault::Device),
     }
 }
@@ -362,6 +428,7 @@ fn carry_over<S: Alter>(conn: &mut Connection<S>, form: Form) -> Result<(), Faul
 /// is refused: neither changes anything.
 #[tactic(auto, using(crate::proofs::MovingLemmas::old_still))]
 pub(crate) fn migrate<S: Alter>(
+    alloc: Global,
     conn: &mut Connection<S>,
     form: Form,
     windows: &Windows,
@@ -380,6 +447,6 @@ pub(crate) fn migrate<S: Alter>(
     if !has_windows(conn, form, windows)? {
         return Err(FileFault::WindowsDiffer);
     }
-    carry_over(conn, form)?;
+    carry_over(alloc, conn, form)?;
     Ok(())
 }

@@ -1,28 +1,30 @@
 //! A store over what was opened.
 ghost use Rattle.std.specs.Prelude.{◌≡◌, ◌⊎◌, ◌≤◌, true, false, IsTrue, IfOk, IfErr};
-ghost use Rattle.sqlite.specs.Held.{state};
-ghost use Rattle.sqlite.specs.Files.{file_state};
+ghost use Rattle.sqlite.specs.Held.{IsNew, state};
 ghost use Rattle.sqlite.specs.State.{HasCleanDisk};
-ghost use Rattle.sqlite.specs.Steps.{IsFresh, over_memory};
+ghost use Rattle.sqlite.specs.Steps.{over_memory};
+ghost use Rattle.sqlite.specs.Tree.{Trees};
+ghost use Rattle.sqlite_catalog.specs.Listing.{IsSound};
 ghost use Rattle.sqlite_trees.specs.View.{IsClean, doubt};
 ghost use Rattle.meaning.specs.Content.{empty_content};
 ghost use Rattle.sql_rows.specs.Content.{content_in};
 ghost use Rattle.sql_rows.specs.Tables.{no_schema, the_schema};
 ghost use Rattle.sql_rows.specs.Moving.{schema_of};
-ghost use Rattle.sql_rows.specs.declared.moving.Form.{Form as FormSeen};
-ghost use Rattle.sql_store.specs.Moving.{IsMovedFrom, IsOfSomeForm, IsOtherwiseWindowed, WereOtherWindows};
-ghost use Rattle.sql_store.specs.Refusal.{IsUnharmed, StandsYet};
+ghost use Rattle.sql_store.specs.Moving.{IsMovedFrom, WereOtherWindows};
+ghost use Rattle.sql_store.specs.Opened.{HadOtherWindows, IsRefusedAs, IsTakenAs, MayLeave, WasOpened};
+ghost use Rattle.sql_store.specs.Refusal.{IsCleanYet, StandsYet, may_leave_of, trees_of};
 ghost use Rattle.version.specs.Views.{windows_of};
 ghost use Rattle.sql_store.specs.Whole.{IsWhole, ReadsAll};
 
 use crate::SqlStore;
 use crate::file_fault::FileFault;
 use crate::moving::migrate;
-use crate::schema::{form_of, is_of_form, is_ours};
+use crate::refused::Refused;
+use crate::schema::{form_of, is_ours};
 use crate::whole::read_all;
 use settle::StoreFault;
 use sql_rows::{Fault, Form};
-use sqlite::{Alter, Connection, Error, FileFrom, FileStore, MemStore, Start};
+use sqlite::{Alter, Connection, Error, MemStore};
 use sqlite_schema::schema::Schema;
 use std::alloc::Global;
 use windows::Windows;
@@ -74,22 +76,6 @@ const TABLES: &str = "\
     CREATE INDEX version2_deadline ON version2 (deadline); \
     COMMIT";
 
-/// What is handed back with the fault, where a file is refused.
-pub enum Refused<S: Alter> {
-    Connection(Connection<S>),
-    Store(S),
-}
-
-impl<S: Alter + Drop> Refused<S> {
-    /// The database alone, as the last commit left it.
-    pub fn into_store(self) -> S {
-        match self {
-            Refused::Connection(conn) => conn.into_store(),
-            Refused::Store(store) => store,
-        }
-    }
-}
-
 // Whether nothing is listed yet.
 fn is_blank(schema: &Schema) -> bool
     ensures yes { IsTrue result → schema.now ≡ no_schema }
@@ -106,35 +92,51 @@ fn told(fault: Fault) -> StoreFault {
     }
 }
 
-fn fault_of(error: Error) -> StoreFault {
+pub(crate) fn fault_of(error: Error) -> StoreFault {
     told(Fault::from(error))
 }
 
 impl<S: Alter + Drop> SqlStore<S> {
-    // Takes a database if its tables are the schema's.
-    fn listed(alloc: Global, store: S) -> Result<SqlStore<S>, (StoreFault, S)>
-        requires { IsClean (S.Store.view store) → IsFresh (S.Store.view store) }
-        ensures open { IfOk result (λ s. HasCleanDisk (state S.Store s.conn) → IsTrue (state
-            S.Store s.conn).is_open) }
-        ensures trees { IfOk result (λ s. HasCleanDisk (state S.Store s.conn) → (state S.Store
-            s.conn).now.trees ≡ (S.Store.view store).trees) }
-        ensures none { IfOk result (λ s. s.failures ≡ 0) }
-        ensures clean { IfOk result (λ s. doubt (S.Store.view store).is_clean ≤ doubt (state
-            S.Store s.conn).is_clean) }
-        ensures err_clean { IfErr result (λ e. doubt (S.Store.view store).is_clean ≤ doubt
-            (S.Store.view e.1).is_clean) }
-        ensures err { IfErr result (λ e. IsClean (S.Store.view e.1) → IsTrue (S.Store.view
-            e.1).is_open → (S.Store.view e.1).trees ≡ (S.Store.view store).trees) }
+    // Rolls back, and checks the database anew, as an open of files does: its lists, its rules and
+    // the order of its rows.
+    fn checked(alloc: Global, conn: Connection<S>) -> Result<Connection<S>, (StoreFault, S)>
+        ensures opened { IfOk result (λ c. HasCleanDisk (state S.Store c)
+            → WasOpened (state S.Store c)) }
+        ensures fresh { IfOk result IsNew }
+        ensures trees { IfOk result (λ c. HasCleanDisk (state S.Store c)
+            → (state S.Store c).now.trees ≡ (state S.Store conn).committed.trees) }
+        ensures honest { IfOk result (λ c. HasCleanDisk (state S.Store c)
+            → HasCleanDisk (state S.Store conn)) }
+        ensures err_honest { IfErr result (λ e. IsClean (S.Store.view e.1)
+            → HasCleanDisk (state S.Store conn)) }
+        ensures kept { IfErr result (λ e. IsClean (S.Store.view e.1) → IsTrue (S.Store.view
+            e.1).is_open → (S.Store.view e.1).trees ≡ (state S.Store conn).committed.trees) }
+        ensures crash { IfErr result (λ e. (db : Trees) → S.Store.recovers e.1 db
+            → (state S.Store conn).may_leave db) }
     {
+        let store = conn.into_store();
+        if store.is_broken() {
+            return Err((StoreFault::Storage, store));
+        }
         match Connection::over(alloc, store) {
-            Ok(conn) => {
-                if is_ours(conn.schema()) {
-                    Ok(SqlStore { conn, failures: 0 })
-                } else {
-                    Err((StoreFault::Storage, conn.into_store()))
-                }
-            }
+            Ok(conn) => Ok(conn),
             Err((error, store)) => Err((fault_of(error), store)),
+        }
+    }
+
+    // Takes a connection as it was opened, if its tables are the schema's.
+    fn with_tables(conn: Connection<S>) -> Result<SqlStore<S>, Connection<S>>
+        requires opened { HasCleanDisk (state S.Store conn) → WasOpened (state S.Store conn) }
+        requires fresh { IsNew conn }
+        ensures same { IfOk result (λ s. s.conn ≡ conn) }
+        ensures ours { IfOk result (λ s. (state S.Store conn).now.schema ≡ the_schema) }
+        ensures none { IfOk result (λ s. s.failures ≡ 0) }
+        ensures err { IfErr result (λ e. e ≡ conn) }
+    {
+        if is_ours(conn.schema()) {
+            Ok(SqlStore { conn, failures: 0 })
+        } else {
+            Err(conn)
         }
     }
 
@@ -154,296 +156,195 @@ impl<S: Alter + Drop> SqlStore<S> {
             (S.Store.view e.1).is_clean) }
         ensures err { IfErr result (λ e. IsClean (S.Store.view e.1) → IsTrue (S.Store.view
             e.1).is_open → (S.Store.view e.1).trees ≡ (state S.Store self.conn).now.trees) }
+        ensures crash { IfErr result (λ e. IsClean (S.Store.view e.1) → (db : Trees)
+            → S.Store.recovers e.1 db → (state S.Store self.conn).may_leave db) }
     {
         match read_all(&mut self.conn) {
             Ok(blank) => Ok((self, blank)),
-            Err(fault) => Err((told(fault), self.into_connection().into_store())),
+            Err(fault) => Err((told(fault), self.release().into_store())),
         }
     }
 
-    /// Makes a database of an earlier form one of this form, in one transaction, and takes it: its
-    /// windows are set 1, and each version holds that.
-    ///
-    /// # Errors
-    ///
-    /// `WindowsDiffer` where its windows are others than these, `Storage` where it is not of the
-    /// form, a row does not read, or the device failed, each with the database, which is as it was.
-    pub fn moved(
-        alloc: Global,
-        store: S,
-        form: Form,
-        windows: &Windows,
-    ) -> Result<SqlStore<S>, (FileFault, S)>
-        requires { IsClean (S.Store.view store) → IsFresh (S.Store.view store) }
-        ensures open { IfOk result (λ s. HasCleanDisk (state S.Store s.conn) → IsTrue (state
-            S.Store s.conn).is_open) }
-        ensures moved { IfOk result (λ s. IsTrue (state S.Store s.conn).is_open
-            → IsMovedFrom form (windows_of windows.now) (S.Store.view store).trees
-            (state S.Store s.conn).now.trees) }
-        ensures none { IfOk result (λ s. s.failures ≡ 0) }
-        ensures clean { IfOk result (λ s. doubt (S.Store.view store).is_clean ≤ doubt (state
-            S.Store s.conn).is_clean) }
-        ensures err_clean { IfErr result (λ e. doubt (S.Store.view store).is_clean ≤ doubt
-            (S.Store.view e.1).is_clean) }
-        ensures err { IfErr result (λ e. IsClean (S.Store.view e.1) → IsTrue (S.Store.view
-            e.1).is_open → (S.Store.view e.1).trees ≡ (S.Store.view store).trees) }
-        ensures differ { IfErr result (λ e. e.0 ≡ FileFault.WindowsDiffer
-            → IsClean (S.Store.view e.1) → IsTrue (S.Store.view e.1).is_open
-            → WereOtherWindows (windows_of windows.now) (S.Store.view store).trees) }
-    {
-        match Connection::over(alloc, store) {
-            Ok(mut conn) => {
-                if !is_of_form(conn.schema(), form) {
-                    return Err((FileFault::Storage, conn.into_store()));
-                }
-                match migrate(&mut conn, form, windows) {
-                    Ok(()) => Ok(SqlStore { conn, failures: 0 }),
-                    Err(fault) => Err((fault, conn.into_store())),
-                }
-            }
-            Err((error, store)) => Err((FileFault::from(fault_of(error)), store)),
-        }
-    }
-
-    // Takes a database if its tables are the schema's and each row reads, and tells whether there
-    // is none.
-    fn taken(alloc: Global, store: S) -> Result<(SqlStore<S>, bool), (StoreFault, S)>
-        requires { IsClean (S.Store.view store) → IsFresh (S.Store.view store) }
-        ensures open { IfOk result (λ e. HasCleanDisk (state S.Store e.0.conn) → IsTrue (state
-            S.Store e.0.conn).is_open) }
-        ensures content { IfOk result (λ e. HasCleanDisk (state S.Store e.0.conn) → content_in
-            (state S.Store e.0.conn).now.trees ≡ content_in (S.Store.view store).trees) }
-        ensures reads { IfOk result (λ e. HasCleanDisk (state S.Store e.0.conn) → ReadsAll (state
-            S.Store e.0.conn).now.trees e.1) }
-        ensures none { IfOk result (λ e. e.0.failures ≡ 0) }
-        ensures clean { IfOk result (λ e. doubt (S.Store.view store).is_clean ≤ doubt (state
-            S.Store e.0.conn).is_clean) }
-        ensures err_clean { IfErr result (λ e. doubt (S.Store.view store).is_clean ≤ doubt
-            (S.Store.view e.1).is_clean) }
-        ensures err { IfErr result (λ e. IsClean (S.Store.view e.1) → IsTrue (S.Store.view
-            e.1).is_open → (S.Store.view e.1).trees ≡ (S.Store.view store).trees) }
-    {
-        match SqlStore::listed(alloc, store) {
-            Ok(it) => it.read(),
-            Err(refused) => Err(refused),
-        }
-    }
-
-    /// Takes a database if its tables are the schema's and each row of them reads. The database's
-    /// own lists and rules are checked first. It reads the whole database.
-    ///
-    /// # Errors
-    ///
-    /// `Storage` where the schema is another, a row does not read or the device failed, with the
-    /// database.
-    pub fn over(alloc: Global, store: S) -> Result<SqlStore<S>, (StoreFault, S)>
-        requires { IsClean (S.Store.view store) → IsFresh (S.Store.view store) }
-        ensures open { IfOk result (λ s. HasCleanDisk (state S.Store s.conn) → IsTrue (state
-            S.Store s.conn).is_open) }
-        ensures content { IfOk result (λ s. HasCleanDisk (state S.Store s.conn) → content_in
-            (state S.Store s.conn).now.trees ≡ content_in (S.Store.view store).trees) }
-        ensures whole { IfOk result (λ s. HasCleanDisk (state S.Store s.conn) → IsWhole (state
-            S.Store s.conn).now.trees) }
-        ensures none { IfOk result (λ s. s.failures ≡ 0) }
-        ensures clean { IfOk result (λ s. doubt (S.Store.view store).is_clean ≤ doubt (state
-            S.Store s.conn).is_clean) }
-        ensures err_clean { IfErr result (λ e. doubt (S.Store.view store).is_clean ≤ doubt
-            (S.Store.view e.1).is_clean) }
-        ensures err { IfErr result (λ e. IsClean (S.Store.view e.1) → IsTrue (S.Store.view
-            e.1).is_open → (S.Store.view e.1).trees ≡ (S.Store.view store).trees) }
-    {
-        match SqlStore::taken(alloc, store) {
-            Ok((it, _blank)) => Ok(it),
-            Err(refused) => Err(refused),
-        }
-    }
-
-    // Takes a connection if its tables are the schema's and each row reads, and tells whether there
-    // is none.
-    fn adopted(
-        alloc: Global,
-        conn: Connection<S>,
-    ) -> Result<(SqlStore<S>, bool), (StoreFault, Refused<S>)>
-        ensures open { IfOk result (λ e. HasCleanDisk (state S.Store e.0.conn) → IsTrue (state
-            S.Store e.0.conn).is_open) }
-        ensures content { IfOk result (λ e. HasCleanDisk (state S.Store e.0.conn) → content_in
-            (state S.Store e.0.conn).now.trees ≡ content_in (state S.Store conn).committed.trees) }
-        ensures reads { IfOk result (λ e. HasCleanDisk (state S.Store e.0.conn) → ReadsAll (state
-            S.Store e.0.conn).now.trees e.1) }
-        ensures none { IfOk result (λ e. e.0.failures ≡ 0) }
-        ensures ours { IfOk result (λ e. (state S.Store conn).now.schema ≡ the_schema) }
-        ensures err { IfErr result (λ e. IsUnharmed S.Store conn e.1) }
-    {
-        if !is_ours(conn.schema()) {
-            return Err((StoreFault::Storage, Refused::Connection(conn)));
-        }
-        let store = conn.into_store();
-        if store.is_broken() {
-            return Err((StoreFault::Storage, Refused::Store(store)));
-        }
-        match SqlStore::taken(alloc, store) {
-            Ok(it) => Ok(it),
-            Err((fault, store)) => Err((fault, Refused::Store(store))),
-        }
-    }
-
-    /// Takes a connection if its tables are the schema's and each row of them reads. What is not
-    /// committed is rolled back. It reads the whole database.
-    ///
-    /// # Errors
-    ///
-    /// `Storage` where the schema is another, with the connection as it was; or where a row does
-    /// not read or the device failed, with the database and its last commit.
-    pub fn adopt(
-        alloc: Global,
-        conn: Connection<S>,
-    ) -> Result<SqlStore<S>, (StoreFault, Refused<S>)>
-        ensures open { IfOk result (λ s. HasCleanDisk (state S.Store s.conn) → IsTrue (state
-            S.Store s.conn).is_open) }
-        ensures content { IfOk result (λ s. HasCleanDisk (state S.Store s.conn) → content_in
-            (state S.Store s.conn).now.trees ≡ content_in (state S.Store conn).committed.trees) }
-        ensures whole { IfOk result (λ s. HasCleanDisk (state S.Store s.conn) → IsWhole (state
-            S.Store s.conn).now.trees) }
-        ensures none { IfOk result (λ s. s.failures ≡ 0) }
-        ensures ours { IfOk result (λ s. (state S.Store conn).now.schema ≡ the_schema) }
-        ensures err { IfErr result (λ e. IsUnharmed S.Store conn e.1) }
-    {
-        match SqlStore::adopted(alloc, conn) {
-            Ok((it, _blank)) => Ok(it),
-            Err(refused) => Err(refused),
-        }
-    }
-
-    /// Makes the tables in one transaction, and takes the connection: the store is empty. With a
-    /// fault its database is handed back.
-    ///
-    /// # Errors
-    ///
-    /// `Storage` where the device failed, or a table of one of these names is there.
-    pub fn create(alloc: Global, mut conn: Connection<S>) -> Result<SqlStore<S>, (StoreFault, S)>
+    // Makes the tables in one transaction, and takes the connection: the store is empty.
+    fn create(alloc: Global, mut conn: Connection<S>) -> Result<SqlStore<S>, (StoreFault, S)>
         ensures open { IfOk result (λ s. HasCleanDisk (state S.Store s.conn) → IsTrue (state
             S.Store s.conn).is_open) }
         ensures content { IfOk result (λ s. HasCleanDisk (state S.Store s.conn) → content_in
             (state S.Store s.conn).now.trees ≡ empty_content) }
+        ensures whole { IfOk result (λ s. HasCleanDisk (state S.Store s.conn)
+            → IsWhole (state S.Store s.conn).now.trees) }
         ensures none { IfOk result (λ s. s.failures ≡ 0) }
+        ensures honest { IfOk result (λ s. HasCleanDisk (state S.Store s.conn)
+            → HasCleanDisk (state S.Store conn)) }
+        ensures err_honest { IfErr result (λ e. IsClean (S.Store.view e.1)
+            → HasCleanDisk (state S.Store conn)) }
     {
         if let Err(error) = conn.execute_batch(TABLES) {
             return Err((fault_of(error), conn.into_store()));
         }
-        match SqlStore::adopted(alloc, conn) {
-            Ok((it, true)) => Ok(it),
-            Ok((it, false)) => Err((StoreFault::Storage, it.into_connection().into_store())),
-            Err((fault, refused)) => Err((fault, refused.into_store())),
+        let made = SqlStore::checked(alloc, conn)?;
+        match SqlStore::with_tables(made) {
+            Ok(it) => match it.read() {
+                Ok((it, true)) => Ok(it),
+                Ok((it, false)) => Err((StoreFault::Storage, it.release().into_store())),
+                Err(refused) => Err(refused),
+            },
+            Err(conn) => Err((StoreFault::Storage, conn.into_store())),
         }
     }
 
-    // Makes a connection's database of an earlier form one of this form, and takes it. What is not
-    // committed is rolled back.
-    fn adopt_moved(
+    // Makes a database of an earlier form one of this form, and takes it.
+    fn moved(
+        alloc: Global,
+        mut conn: Connection<S>,
+        form: Form,
+        windows: &Windows,
+    ) -> Result<SqlStore<S>, (FileFault, S)>
+        requires opened { HasCleanDisk (state S.Store conn) → WasOpened (state S.Store conn) }
+        requires fresh { IsNew conn }
+        requires form { (state S.Store conn).now.schema ≡ schema_of form }
+        ensures open { IfOk result (λ s. HasCleanDisk (state S.Store s.conn) → IsTrue (state
+            S.Store s.conn).is_open) }
+        ensures moved { IfOk result (λ s. IsTrue (state S.Store s.conn).is_open
+            → IsMovedFrom form (windows_of windows.now) (state S.Store conn).now.trees
+            (state S.Store s.conn).now.trees) }
+        ensures none { IfOk result (λ s. s.failures ≡ 0) }
+        ensures honest { IfOk result (λ s. HasCleanDisk (state S.Store s.conn)
+            → HasCleanDisk (state S.Store conn)) }
+        ensures err_honest { IfErr result (λ e. IsClean (S.Store.view e.1)
+            → HasCleanDisk (state S.Store conn)) }
+        ensures err { IfErr result (λ e. IsClean (S.Store.view e.1) → IsTrue (S.Store.view
+            e.1).is_open → (S.Store.view e.1).trees ≡ (state S.Store conn).now.trees) }
+        ensures crash { IfErr result (λ e. IsClean (S.Store.view e.1) → (db : Trees)
+            → S.Store.recovers e.1 db → (state S.Store conn).may_leave db
+            ⊎ IsMovedFrom form (windows_of windows.now) (state S.Store conn).now.trees db) }
+        ensures differ { IfErr result (λ e. e.0 ≡ FileFault.WindowsDiffer
+            → IsClean (S.Store.view e.1) → IsTrue (S.Store.view e.1).is_open
+            → WereOtherWindows (windows_of windows.now) (state S.Store conn).now.trees) }
+    {
+        match migrate(alloc, &mut conn, form, windows) {
+            Ok(()) => Ok(SqlStore { conn, failures: 0 }),
+            Err(fault) => Err((fault, conn.into_store())),
+        }
+    }
+
+    // Takes a connection whose tables are ours.
+    fn found(conn: Connection<S>) -> Result<SqlStore<S>, (StoreFault, Refused<S>)>
+        requires opened { HasCleanDisk (state S.Store conn) → WasOpened (state S.Store conn) }
+        requires fresh { IsNew conn }
+        ensures open { IfOk result (λ s. HasCleanDisk (state S.Store s.conn) → IsTrue (state
+            S.Store s.conn).is_open) }
+        ensures ours { IfOk result (λ s. (state S.Store conn).now.schema ≡ the_schema) }
+        ensures now { IfOk result (λ s. HasCleanDisk (state S.Store s.conn)
+            → (state S.Store s.conn).now.trees ≡ (state S.Store conn).now.trees) }
+        ensures whole { IfOk result (λ s. HasCleanDisk (state S.Store s.conn)
+            → IsWhole (state S.Store s.conn).now.trees) }
+        ensures none { IfOk result (λ s. s.failures ≡ 0) }
+        ensures honest { IfOk result (λ s. HasCleanDisk (state S.Store s.conn)
+            → HasCleanDisk (state S.Store conn)) }
+        ensures err_honest { IfErr result (λ e. IsCleanYet S.Store e.1
+            → HasCleanDisk (state S.Store conn)) }
+        ensures err { IfErr result (λ e. StandsYet S.Store e.1
+            → trees_of S.Store e.1 ≡ (state S.Store conn).now.trees) }
+        ensures crash { IfErr result (λ e. IsCleanYet S.Store e.1 → (db : Trees)
+            → may_leave_of S.Store e.1 db → (state S.Store conn).may_leave db) }
+    {
+        match SqlStore::with_tables(conn) {
+            Ok(it) => match it.read() {
+                Ok((it, _blank)) => Ok(it),
+                Err((fault, store)) => Err((fault, Refused::Store(store))),
+            },
+            Err(conn) => Err((StoreFault::Storage, Refused::Connection(conn))),
+        }
+    }
+
+    // Takes a connection as it was opened, by the tables that it lists.
+    pub(crate) fn opened(
         alloc: Global,
         conn: Connection<S>,
-        form: Form,
+        windows: &Windows,
+    ) -> Result<SqlStore<S>, (FileFault, Refused<S>)>
+        requires opened { HasCleanDisk (state S.Store conn) → WasOpened (state S.Store conn) }
+        requires fresh { IsNew conn }
+        ensures open { IfOk result (λ s. HasCleanDisk (state S.Store s.conn) → IsTrue (state
+            S.Store s.conn).is_open) }
+        ensures taken { IfOk result (λ s. HasCleanDisk (state S.Store s.conn)
+            → IsTakenAs (windows_of windows.now) (state S.Store conn).now.trees
+            (state S.Store s.conn).now.trees) }
+        ensures none { IfOk result (λ s. s.failures ≡ 0) }
+        ensures honest { IfOk result (λ s. HasCleanDisk (state S.Store s.conn)
+            → HasCleanDisk (state S.Store conn)) }
+        ensures err_honest { IfErr result (λ e. IsCleanYet S.Store e.1
+            → HasCleanDisk (state S.Store conn)) }
+        ensures refused { IfErr result (λ e. IsCleanYet S.Store e.1
+            → IsRefusedAs S.Store (windows_of windows.now) (state S.Store conn).now.trees
+            e.0 e.1) }
+    {
+        if let Some(form) = form_of(conn.schema()) {
+            return match SqlStore::moved(alloc, conn, form, windows) {
+                Ok(it) => Ok(it),
+                Err((fault, store)) => Err((fault, Refused::Store(store))),
+            };
+        }
+        if is_blank(conn.schema()) {
+            return match SqlStore::create(alloc, conn) {
+                Ok(it) => Ok(it),
+                Err((fault, store)) => Err((FileFault::from(fault), Refused::Store(store))),
+            };
+        }
+        match SqlStore::found(conn) {
+            Ok(it) => Ok(it),
+            Err((fault, refused)) => Err((FileFault::from(fault), refused)),
+        }
+    }
+
+    /// Takes a connection as a store. What is not committed is rolled back, and the database is
+    /// checked anew. One that lists nothing gets the tables and is an empty store; one of this form
+    /// is taken once each row of it was read; one of an earlier form that was made with these
+    /// windows is made one of this form, in one transaction.
+    ///
+    /// # Errors
+    ///
+    /// `WindowsDiffer` where the database is of an earlier form and was made with other windows;
+    /// `Storage` where its tables are none of these, a row does not read, or the device failed;
+    /// `NoMemory`. What is handed back is as the last commit left it.
+    pub fn adopt(
+        alloc: Global,
+        conn: Connection<S>,
         windows: &Windows,
     ) -> Result<SqlStore<S>, (FileFault, Refused<S>)>
         ensures open { IfOk result (λ s. HasCleanDisk (state S.Store s.conn) → IsTrue (state
             S.Store s.conn).is_open) }
-        ensures moved { IfOk result (λ s. HasCleanDisk (state S.Store s.conn)
-            → IsMovedFrom form (windows_of windows.now) (state S.Store conn).committed.trees
+        ensures taken { IfOk result (λ s. HasCleanDisk (state S.Store s.conn)
+            → IsTakenAs (windows_of windows.now) (state S.Store conn).committed.trees
             (state S.Store s.conn).now.trees) }
         ensures none { IfOk result (λ s. s.failures ≡ 0) }
-        ensures err { IfErr result (λ e. IsUnharmed S.Store conn e.1) }
-        ensures differ { IfErr result (λ e. e.0 ≡ FileFault.WindowsDiffer
+        ensures honest { IfOk result (λ s. HasCleanDisk (state S.Store s.conn)
+            → HasCleanDisk (state S.Store conn)) }
+        ensures err_honest { IfErr result (λ e. IsCleanYet S.Store e.1
+            → HasCleanDisk (state S.Store conn)) }
+        ensures kept { IfErr result (λ e. ¬ IsSound no_schema (state S.Store conn).committed.trees
             → StandsYet S.Store e.1
-            → WereOtherWindows (windows_of windows.now) (state S.Store conn).committed.trees) }
+            → trees_of S.Store e.1 ≡ (state S.Store conn).committed.trees) }
+        ensures crash { IfErr result (λ e. ¬ IsSound no_schema (state S.Store conn).committed.trees
+            → IsCleanYet S.Store e.1 → (db : Trees) → may_leave_of S.Store e.1 db
+            → (state S.Store conn).may_leave db
+            ⊎ MayLeave (windows_of windows.now) (state S.Store conn).committed.trees db) }
+        ensures differ { IfErr result (λ e. e.0 ≡ FileFault.WindowsDiffer
+            → StandsYet S.Store e.1 → HadOtherWindows (windows_of windows.now)
+            (state S.Store conn).committed.trees) }
     {
-        let store = conn.into_store();
-        if store.is_broken() {
-            return Err((FileFault::Storage, Refused::Store(store)));
-        }
-        match SqlStore::moved(alloc, store, form, windows) {
-            Ok(it) => Ok(it),
-            Err((fault, store)) => Err((fault, Refused::Store(store))),
-        }
-    }
-
-    // Takes a connection whose tables are not of an earlier form.
-    fn adopt_or_create(
-        alloc: Global,
-        conn: Connection<S>,
-    ) -> Result<SqlStore<S>, (FileFault, Refused<S>)>
-        ensures open { IfOk result (λ s. HasCleanDisk (state S.Store s.conn) → IsTrue (state
-            S.Store s.conn).is_open) }
-        ensures new { IfOk result (λ s. HasCleanDisk (state S.Store s.conn) → (state S.Store
-            conn).now.schema ≡ no_schema → content_in (state S.Store s.conn).now.trees
-            ≡ empty_content) }
-        ensures found { IfOk result (λ s. HasCleanDisk (state S.Store s.conn) → ¬ ((state S.Store
-            conn).now.schema ≡ no_schema) → content_in (state S.Store s.conn).now.trees
-            ≡ content_in (state S.Store conn).committed.trees) }
-        ensures of_ours { IfOk result (λ s. ((state S.Store conn).now.schema ≡ no_schema)
-            ⊎ ((state S.Store conn).now.schema ≡ the_schema)) }
-        ensures none { IfOk result (λ s. s.failures ≡ 0) }
-        ensures err { IfErr result (λ e. ¬ ((state S.Store conn).now.schema ≡ no_schema) →
-            IsUnharmed S.Store conn e.1) }
-        ensures differ { IfErr result (λ e. e.0 ≡ FileFault.WindowsDiffer → ⊥) }
-    {
-        if !is_blank(conn.schema()) {
-            return match SqlStore::adopt(alloc, conn) {
+        match SqlStore::checked(alloc, conn) {
+            Ok(conn) => match SqlStore::opened(alloc, conn, windows) {
                 Ok(it) => Ok(it),
-                Err((fault, refused)) => Err((FileFault::from(fault), refused)),
-            };
-        }
-        match SqlStore::create(alloc, conn) {
-            Ok(it) => Ok(it),
+                Err(refused) => Err(refused),
+            },
             Err((fault, store)) => Err((FileFault::from(fault), Refused::Store(store))),
         }
     }
 
-    /// Takes a connection: one that lists nothing yet gets the tables and is an empty store, one of
-    /// an earlier form that was made with these windows is made one of this form, and any other has
-    /// to be of our tables, as `adopt` asks.
-    ///
-    /// # Errors
-    ///
-    /// As those of `adopt`, of `create` and of `moved`.
-    pub fn open(
-        alloc: Global,
-        conn: Connection<S>,
-        windows: &Windows,
-    ) -> Result<SqlStore<S>, (FileFault, Refused<S>)>
-        ensures open { IfOk result (λ s. HasCleanDisk (state S.Store s.conn) → IsTrue (state
-            S.Store s.conn).is_open) }
-        ensures new { IfOk result (λ s. HasCleanDisk (state S.Store s.conn) → (state S.Store
-            conn).now.schema ≡ no_schema → content_in (state S.Store s.conn).now.trees
-            ≡ empty_content) }
-        ensures found { IfOk result (λ s. HasCleanDisk (state S.Store s.conn) → (state S.Store
-            conn).now.schema ≡ the_schema → content_in (state S.Store s.conn).now.trees
-            ≡ content_in (state S.Store conn).committed.trees) }
-        ensures moved { (f : FormSeen) → (state S.Store conn).now.schema ≡ schema_of f
-            → IfOk result (λ s. HasCleanDisk (state S.Store s.conn)
-            → IsMovedFrom f (windows_of windows.now) (state S.Store conn).committed.trees
-            (state S.Store s.conn).now.trees) }
-        ensures of_ours { IfOk result (λ s. IsOfSomeForm (state S.Store conn).now.schema) }
-        ensures none { IfOk result (λ s. s.failures ≡ 0) }
-        ensures err { IfErr result (λ e. ¬ ((state S.Store conn).now.schema ≡ no_schema) →
-            IsUnharmed S.Store conn e.1) }
-        ensures differ { IfErr result (λ e. e.0 ≡ FileFault.WindowsDiffer
-            → StandsYet S.Store e.1
-            → IsOtherwiseWindowed (windows_of windows.now) (state S.Store conn)) }
-    {
-        match form_of(conn.schema()) {
-            Some(form) => match SqlStore::adopt_moved(alloc, conn, form, windows) {
-                Ok(it) => Ok(it),
-                Err(refused) => Err(refused),
-            },
-            None => match SqlStore::adopt_or_create(alloc, conn) {
-                Ok(it) => Ok(it),
-                Err(refused) => Err(refused),
-            },
-        }
-    }
-
-    /// The connection, for what else is to be done with the file.
-    pub fn into_connection(self) -> Connection<S>
+    /// The connection, for what else is to be done with the database.
+    pub fn release(self) -> Connection<S>
         ensures { result ≡ self.conn }
     {
         let SqlStore { conn, failures: _ } = self;
@@ -469,51 +370,6 @@ impl SqlStore<MemStore> {
                 Err((fault, _store)) => Err(fault),
             },
             Err(_refused) => Err(StoreFault::NoMemory),
-        }
-    }
-}
-
-impl<S: Start> SqlStore<FileStore<FileFrom<S>>> {
-    /// Opens the file at a path, or makes it: a new one is an empty store. One of an earlier form
-    /// is made one of this form first, where it was made with these windows. `start` says what is
-    /// supposed of a write that a crash cuts off, as `sqlite` says.
-    ///
-    /// # Errors
-    ///
-    /// `WindowsDiffer` where the file is of an earlier form and was made with other windows;
-    /// `Storage` where it cannot be opened as a database, is none of ours, has a row that does not
-    /// read, or the device failed. A file that is refused so is left as it was.
-    pub fn at(
-        rt: &HostRuntime,
-        path: &str,
-        start: S,
-        windows: &Windows,
-    ) -> Result<SqlStore<FileStore<FileFrom<S>>>, FileFault>
-        ensures open { IfOk result (λ s. HasCleanDisk (file_state s.conn) → IsTrue (file_state
-            s.conn).is_open) }
-        ensures none { IfOk result (λ s. s.failures ≡ 0) }
-    {
-        match Connection::open_from(rt, path, false, start) {
-            Ok(conn) => match SqlStore::open(rt.alloc(), conn, windows) {
-                Ok(it) => Ok(it),
-                Err((fault, refused)) => {
-                    drop(refused.into_store());
-                    Err(fault)
-                }
-            },
-            Err((error, _left)) => Err(FileFault::from(fault_of(error))),
-        }
-    }
-
-    /// Copies the log into the file and closes both, so that the file stands alone.
-    ///
-    /// # Errors
-    ///
-    /// `Storage` where the device failed: what was committed stands in the file and its log then.
-    pub fn close(self) -> Result<(), StoreFault> {
-        match self.into_connection().close() {
-            Ok(()) => Ok(()),
-            Err(error) => Err(fault_of(error)),
         }
     }
 }

@@ -5,12 +5,12 @@ ghost use Rattle.sqlite.specs.Held.{state};
 ghost use Rattle.sql_store.specs.Store.{IsOurs, Looked};
 ghost use Rattle.sql_store.specs.Whole.{IsMoved, IsRead, ReadsAdded, ReadsAll, ReadsRegistry, ReadsVersions};
 
-use crate::select::find_all;
+use crate::through::read_table;
 use numbers::Spid;
 use settle::NumberedRow;
 use sql_rows::{
     Fault, KeyedBlock, KeyedBroadcast, KeyedClock, KeyedCode, KeyedLrn, KeyedRouting, KeyedSet,
-    KeyedWait, OldClock, OldVersion, Query, Stored, Table,
+    KeyedWait, OldClock, OldVersion, Stored, Table,
 };
 use sqlite::{Alter, Connection};
 
@@ -23,8 +23,7 @@ fn read<T: Stored + Drop, S: Alter>(conn: &mut Connection<S>, table: Table) -> R
     ensures looked { Looked (state S.Store conn.old) (state S.Store conn.new) (is_ok result) }
     ensures idle { conn.new.in_transaction ≡ false }
 {
-    let items: Vec<T> = find_all(conn, Query::All(table), &[])?;
-    Ok(items.is_empty())
+    read_table::<T, S>(conn, table)
 }
 
 fn are_blank(tables: &[bool]) -> bool

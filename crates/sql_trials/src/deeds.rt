@@ -139,20 +139,16 @@ impl Deed for Texts {
 /// How a connection is offered as a store.
 #[derive(Clone, Copy)]
 pub enum Offer {
+    /// Where the tables of a store are there.
     Adopt,
     Open,
     /// As `Open` is, with the windows of a text in place of those of the tests.
     OpenWith(&'static str),
 }
 
-fn adopted<S: Alter + Drop>(
-    alloc: Global,
-    conn: Connection<S>,
-) -> Result<SqlStore<S>, (FileFault, Refused<S>)> {
-    match SqlStore::adopt(alloc, conn) {
-        Ok(store) => Ok(store),
-        Err((fault, refused)) => Err((FileFault::from(fault), refused)),
-    }
+// Whether the tables of a store are there.
+fn is_store<S: Alter>(conn: &mut Connection<S>) -> bool {
+    conn.query_all("SELECT present FROM clock2", &[]).is_ok()
 }
 
 fn opened<S: Alter + Drop>(
@@ -161,8 +157,19 @@ fn opened<S: Alter + Drop>(
     windows: &str,
 ) -> Result<SqlStore<S>, (FileFault, Refused<S>)> {
     match windows_of(alloc, windows) {
-        Some(windows) => SqlStore::open(alloc, conn, &windows),
+        Some(windows) => SqlStore::adopt(alloc, conn, &windows),
         None => Err((FileFault::NoMemory, Refused::Connection(conn))),
+    }
+}
+
+fn adopted<S: Alter + Drop>(
+    alloc: Global,
+    mut conn: Connection<S>,
+) -> Result<SqlStore<S>, (FileFault, Refused<S>)> {
+    if is_store(&mut conn) {
+        opened(alloc, conn, WINDOWS)
+    } else {
+        Err((FileFault::Storage, Refused::Connection(conn)))
     }
 }
 
@@ -185,7 +192,7 @@ fn offered<S: Alter + Drop>(
 
 // The database under a store.
 fn database_of<S: Alter + Drop>(store: SqlStore<S>) -> S {
-    store.into_connection().into_store()
+    store.release().into_store()
 }
 
 /// Why it is refused, if it is.

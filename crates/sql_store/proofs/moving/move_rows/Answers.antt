@@ -8,7 +8,7 @@ use Rattle.sql_store.proofs.moving.move_rows.Goals as goal
 pub returns-in_err-rebuild-clause-moves : goal.returns-in_err-rebuild-clause-moves
 returns-in_err-rebuild-clause-moves g c =
     let f = c.args.form in
-    let xs = c.args.versions.now in
+    let xs = c.args.ids.now in
     let clock = c.args.clock in
     let old = state g.S.Store c.args.conn.now in
     let mid = state g.S.Store c.rebuild.new.tx.conn.now in
@@ -22,7 +22,7 @@ returns-in_err-rebuild-clause-moves g c =
 pub returns-in_err-commit-clause-moves : goal.returns-in_err-commit-clause-moves
 returns-in_err-commit-clause-moves g c =
     let f = c.args.form in
-    let xs = c.args.versions.now in
+    let xs = c.args.ids.now in
     let clock = c.args.clock in
     let old = state g.S.Store c.args.conn.now in
     let mid = state g.S.Store c.rebuild.new.tx.conn.now in
@@ -36,7 +36,7 @@ returns-in_err-commit-clause-moves g c =
 pub returns-clause-moves : goal.returns-clause-moves
 returns-clause-moves g c =
     let f = c.args.form in
-    let xs = c.args.versions.now in
+    let xs = c.args.ids.now in
     let clock = c.args.clock in
     let old = state g.S.Store c.args.conn.now in
     let mid = state g.S.Store c.rebuild.new.tx.conn.now in

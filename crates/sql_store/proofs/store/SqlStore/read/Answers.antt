@@ -12,7 +12,7 @@ pub returns-in-Err-clause-err_clean : goal.returns-in-Err-clause-err_clean
 returns-in-Err-clause-err_clean g c =
     let before : doubt (state g.S.Store c.args.self.conn).is_clean ≤ doubt (state g.S.Store c.read_all.new.conn).is_clean = falls _ _ c.in-Err.ensures.looked.honest in
     let after : doubt (state g.S.Store c.read_all.new.conn).is_clean ≤ doubt (g.S.Store.view c.into_store.result).is_clean =
-    subst (λ (h : Held _). doubt (g.S.Store.view h.store).is_clean ≤ doubt (g.S.Store.view c.into_store.result).is_clean) c.into_connection.ensures c.into_store.ensures.quiet.clean
+    subst (λ (h : Held _). doubt (g.S.Store.view h.store).is_clean ≤ doubt (g.S.Store.view c.into_store.result).is_clean) c.release.ensures c.into_store.ensures.quiet.clean
     in
     omega (arith, before, after)
 

@@ -1,0 +1,15 @@
+-- What is told of a file that is refused.
+use Rattle.std.specs.Prelude.{◌≢◌}
+use Rattle.sqlite.specs.Store.{Ghosts}
+use Rattle.sqlite.specs.Tree.{Trees}
+use Rattle.meaning.specs.Windows.{Windows}
+use Rattle.sql_store.specs.Opened.{IsRefusedAs}
+use Rattle.sql_store.specs.declared.file.Unopened.{Unopened}
+use Rattle.sql_store.specs.declared.file.Unopened.TheVariants.{Files, Database}
+use Rattle.sql_store.specs.declared.file_fault.FileFault.{FileFault}
+use Rattle.sql_store.specs.declared.file_fault.FileFault.TheVariants.{WindowsDiffer}
+
+-- the database that the file holds was refused as one, or the file was not opened, which no windows cause
+abbrev pub IsRefusedAt : {S L : Type 0} → Ghosts S → Windows → Trees → FileFault → Unopened S L → Type 0
+IsRefusedAt g w db fault (Files left) = fault ≢ WindowsDiffer
+IsRefusedAt g w db fault (Database refused) = IsRefusedAs g w db fault refused

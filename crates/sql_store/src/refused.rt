@@ -1,0 +1,28 @@
+//! What is handed back with the fault, where a database is refused.
+ghost use Rattle.std.specs.Prelude.{◌≡◌, IsTrue};
+ghost use Rattle.sqlite.specs.Tree.{Trees};
+ghost use Rattle.sqlite_trees.specs.View.{IsClean};
+ghost use Rattle.sql_store.specs.Refusal.{IsCleanYet, may_leave_of, trees_of};
+
+use sqlite::{Alter, Connection};
+
+/// What is handed back with the fault, where a database is refused.
+pub enum Refused<S: Alter> {
+    Connection(Connection<S>),
+    Store(S),
+}
+
+impl<S: Alter + Drop> Refused<S> {
+    /// The database alone, as the last commit left it.
+    pub fn into_store(self) -> S
+        ensures kept { IsClean (S.Store.view result) → IsTrue (S.Store.view result).is_open
+            → (S.Store.view result).trees ≡ trees_of S.Store self }
+        ensures honest { IsClean (S.Store.view result) → IsCleanYet S.Store self }
+        ensures crash { (db : Trees) → S.Store.recovers result db → may_leave_of S.Store self db }
+    {
+        match self {
+            Refused::Connection(conn) => conn.into_store(),
+            Refused::Store(store) => store,
+        }
+    }
+}
