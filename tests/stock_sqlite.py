@@ -1,6 +1,7 @@
 """What stock SQLite finds in a register's file, and what the program makes of a file that was changed by hand.
 
-The wanted rows are worked out from docs/RULES.md and docs/FILES.md for the messages below.
+The wanted rows are worked out from docs/RULES.md and docs/FILES.md for the messages below. What it finds in files that the program has
+moved, and what the program then answers, is looked at by tests/moved_files.py.
 """
 import os
 import shutil
@@ -10,6 +11,7 @@ import sys
 import tempfile
 
 sys.path.insert(0, "bench")
+from moved_files import found_in_all
 from ports import PROGRAM, WINDOWS, message
 
 TN, LRN = "2025331234", "2025440000"
@@ -171,6 +173,7 @@ def main():
         with open(WINDOWS, encoding="utf-8") as windows, open(other, "w", encoding="utf-8") as changed_windows:
             changed_windows.write("".join(line if not line.startswith("broadcast") else "broadcast = 61\n" for line in windows))
         found["other windows"] = is_refused(file, "npacd: windows_differ", 1, other)
+        found |= found_in_all()
         wrong = [str(what) for what, well in found.items() if not well]
     print("\n".join([*wrong, f"{len(found) - len(wrong)} as wanted, {len(wrong)} otherwise"]))
     sys.exit(1 if wrong else 0)

@@ -5,6 +5,10 @@
 #[cfg(test)]
 mod deeds;
 #[cfg(test)]
+mod earlier;
+#[cfg(test)]
+mod failed_block;
+#[cfg(test)]
 mod files;
 #[cfg(test)]
 mod moved;

@@ -23,8 +23,8 @@ const WITHOUT_MODIFIES: &str = "DROP TABLE next_routing";
 // The statements that make a file of each earlier form.
 static FORMS: [&[&str]; 2] = [&[WITHOUT_SETS], &[WITHOUT_SETS, WITHOUT_MODIFIES]];
 
-// The files after these statements, one after the other.
-fn changed(alloc: Global, held: Held, statements: &[&str]) -> Option<Held> {
+/// The files after these statements, one after the other.
+pub fn changed(alloc: Global, held: Held, statements: &[&str]) -> Option<Held> {
     let mut files = held;
     for statement in statements {
         let (_ran, after) = done_in(alloc, &files, PLAIN, Run(*statement))?;

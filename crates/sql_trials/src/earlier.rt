@@ -1,0 +1,193 @@
+//! Files of the first form, as the program wrote them that knew no other, each in the middle of a
+//! worked story: today's program moves the file, and then answers as the story tells.
+use crate::deeds::{Ask, Offer, PLAIN};
+use crate::failed_block::{FAILING, GOING_ON, JUMPED_OVER, Row, Rows};
+use crate::files::{Held, done_in};
+use crate::moved::changed;
+use crate::said::Said;
+use std::alloc::{AllocError, Global};
+
+// The statements stand here alone: `tests/moved_files.py` reads them from this file, and has stock
+// SQLite carry them out.
+
+// The tables and indexes of that program, in its order.
+const SCHEMA: &str = "\
+    BEGIN; \
+    CREATE TABLE carrier (spid TEXT NOT NULL PRIMARY KEY) STRICT; \
+    CREATE TABLE lrn (lrn INTEGER PRIMARY KEY, spid TEXT NOT NULL) STRICT; \
+    CREATE TABLE code (code INTEGER PRIMARY KEY, spid TEXT NOT NULL) STRICT; \
+    CREATE TABLE block (block INTEGER PRIMARY KEY, donor TEXT NOT NULL, last INTEGER) STRICT; \
+    CREATE TABLE version (id INTEGER PRIMARY KEY, subject INTEGER NOT NULL, old TEXT NOT NULL, \
+    new TEXT NOT NULL, due INTEGER NOT NULL, lrn INTEGER, cic INTEGER, old_at INTEGER, new_at \
+    INTEGER, status TEXT NOT NULL, sends TEXT NOT NULL, since INTEGER NOT NULL, attempt INTEGER \
+    NOT NULL, release INTEGER, spent INTEGER NOT NULL, protective INTEGER NOT NULL, \
+    cancelled_by TEXT, deadline INTEGER, holds INTEGER NOT NULL UNIQUE, opens INTEGER NOT NULL \
+    UNIQUE) STRICT; \
+    CREATE TABLE broadcast (id INTEGER NOT NULL, attempt INTEGER NOT NULL, minute INTEGER NOT \
+    NULL, subject INTEGER NOT NULL, action TEXT NOT NULL, lrn INTEGER, cic INTEGER, open \
+    INTEGER NOT NULL, any INTEGER NOT NULL, PRIMARY KEY (id, attempt)) STRICT; \
+    CREATE TABLE wait (spid TEXT NOT NULL, minute INTEGER NOT NULL, id INTEGER NOT NULL, \
+    attempt INTEGER NOT NULL, subject INTEGER NOT NULL, PRIMARY KEY (spid, minute, id, \
+    attempt)) STRICT; \
+    CREATE TABLE clock (one INTEGER PRIMARY KEY, now INTEGER NOT NULL, next_id INTEGER NOT \
+    NULL, initial_concurrence INTEGER NOT NULL, final_concurrence INTEGER NOT NULL, \
+    conflict_restriction INTEGER NOT NULL, conflict_resolution INTEGER NOT NULL, \
+    conflict_expiration INTEGER NOT NULL, cancellation_initial INTEGER NOT NULL, \
+    cancellation_final INTEGER NOT NULL, pending_retention INTEGER NOT NULL, broadcast INTEGER \
+    NOT NULL) STRICT; \
+    CREATE INDEX version_deadline ON version (deadline); \
+    CREATE INDEX wait_subject ON wait (subject, spid); \
+    CREATE INDEX wait_broadcast ON wait (id, attempt); \
+    COMMIT";
+
+// The carriers, their routing numbers and a code, as every file has them.
+static REGISTRY: [&str; 7] = [
+    "INSERT INTO carrier VALUES ('AAAA')",
+    "INSERT INTO carrier VALUES ('BBBB')",
+    "INSERT INTO carrier VALUES ('CCCC')",
+    "INSERT INTO lrn VALUES (2025330000, 'BBBB')",
+    "INSERT INTO lrn VALUES (2025440000, 'AAAA')",
+    "INSERT INTO lrn VALUES (2025550000, 'CCCC')",
+    "INSERT INTO code VALUES (202533, 'BBBB')",
+];
+
+// After 16 messages of the story `failed-block`: a block is sent to three carriers, and their
+// downloads wait.
+static SENDING: [&str; 9] = [
+    "INSERT INTO block VALUES (2025337, 'BBBB', 3)",
+    "INSERT INTO version VALUES (1, 2025337001, 'BBBB', 'BBBB', 0, 2025330000, NULL, NULL, NULL, \
+     'active', 'none', 0, 1, NULL, 0, 1, NULL, NULL, 2025337001, -2)",
+    "INSERT INTO version VALUES (2, 2025337002, 'BBBB', 'BBBB', 0, 2025330000, NULL, NULL, NULL, \
+     'active', 'none', 0, 1, NULL, 0, 1, NULL, NULL, 2025337002, -3)",
+    "INSERT INTO version VALUES (3, 2025337, 'BBBB', 'CCCC', 22, 2025550000, NULL, NULL, NULL, \
+     'sending', 'create', 22, 1, NULL, 0, 0, NULL, 37, -4, 2025337)",
+    "INSERT INTO broadcast VALUES (3, 1, 22, 2025337, 'create', 2025550000, NULL, 1, 0)",
+    "INSERT INTO wait VALUES ('AAAA', 22, 3, 1, 2025337)",
+    "INSERT INTO wait VALUES ('BBBB', 22, 3, 1, 2025337)",
+    "INSERT INTO wait VALUES ('CCCC', 22, 3, 1, 2025337)",
+    "INSERT INTO clock VALUES (0, 22, 4, 60, 60, 30, 120, 1000, 60, 60, 500, 15)",
+];
+
+// After 34: it has failed, and is sent for another holder.
+static FAILED: [&str; 10] = [
+    "INSERT INTO block VALUES (2025337, 'BBBB', 4)",
+    "INSERT INTO version VALUES (1, 2025337001, 'BBBB', 'BBBB', 0, 2025330000, NULL, NULL, NULL, \
+     'active', 'none', 0, 1, NULL, 0, 1, NULL, NULL, 2025337001, -2)",
+    "INSERT INTO version VALUES (2, 2025337002, 'BBBB', 'BBBB', 0, 2025330000, NULL, NULL, NULL, \
+     'active', 'none', 0, 1, NULL, 0, 1, NULL, NULL, 2025337002, -3)",
+    "INSERT INTO version VALUES (3, 2025337, 'BBBB', 'CCCC', 22, 2025550000, NULL, NULL, NULL, \
+     'failed', 'none', 37, 1, NULL, 0, 0, NULL, NULL, -4, -4)",
+    "INSERT INTO version VALUES (4, 2025337, 'BBBB', 'AAAA', 40, 2025440000, NULL, NULL, NULL, \
+     'sending', 'create', 40, 1, NULL, 0, 0, NULL, 55, -5, 2025337)",
+    "INSERT INTO broadcast VALUES (4, 1, 40, 2025337, 'create', 2025440000, NULL, 1, 0)",
+    "INSERT INTO wait VALUES ('AAAA', 40, 4, 1, 2025337)",
+    "INSERT INTO wait VALUES ('BBBB', 40, 4, 1, 2025337)",
+    "INSERT INTO wait VALUES ('CCCC', 40, 4, 1, 2025337)",
+    "INSERT INTO clock VALUES (0, 40, 5, 60, 60, 30, 120, 1000, 60, 60, 500, 15)",
+];
+
+// After 14 messages of `failed-block-jump`: the block is sent, and two of its numbers, which have
+// failed for one carrier, still wait for it.
+static PARTLY_FAILED: [&str; 13] = [
+    "INSERT INTO block VALUES (2025337, 'BBBB', 3)",
+    "INSERT INTO version VALUES (1, 2025337001, 'BBBB', 'BBBB', 0, 2025330000, NULL, NULL, NULL, \
+     'partial-failure', 'none', 15, 1, NULL, 0, 1, NULL, NULL, 2025337001, -2)",
+    "INSERT INTO version VALUES (2, 2025337002, 'BBBB', 'BBBB', 0, 2025330000, NULL, NULL, NULL, \
+     'partial-failure', 'none', 15, 1, NULL, 0, 1, NULL, NULL, 2025337002, -3)",
+    "INSERT INTO version VALUES (3, 2025337, 'BBBB', 'CCCC', 22, 2025550000, NULL, NULL, NULL, \
+     'sending', 'create', 22, 1, NULL, 0, 0, NULL, 37, -4, 2025337)",
+    "INSERT INTO broadcast VALUES (1, 1, 0, 2025337001, 'create', 2025330000, NULL, 0, 1)",
+    "INSERT INTO broadcast VALUES (2, 1, 0, 2025337002, 'create', 2025330000, NULL, 0, 1)",
+    "INSERT INTO broadcast VALUES (3, 1, 22, 2025337, 'create', 2025550000, NULL, 1, 0)",
+    "INSERT INTO wait VALUES ('CCCC', 0, 1, 1, 2025337001)",
+    "INSERT INTO wait VALUES ('CCCC', 0, 2, 1, 2025337002)",
+    "INSERT INTO wait VALUES ('AAAA', 22, 3, 1, 2025337)",
+    "INSERT INTO wait VALUES ('BBBB', 22, 3, 1, 2025337)",
+    "INSERT INTO wait VALUES ('CCCC', 22, 3, 1, 2025337)",
+    "INSERT INTO clock VALUES (0, 22, 4, 60, 60, 30, 120, 1000, 60, 60, 500, 15)",
+];
+
+// A file of that program with these rows, as it is once today's has moved it.
+fn moved_with(alloc: Global, rows: &[&str]) -> Option<Held> {
+    let made = changed(alloc, Held::nothing(alloc), &[SCHEMA])?;
+    let opened = changed(alloc, made, &REGISTRY)?;
+    let earlier = changed(alloc, opened, rows)?;
+    let (refused, left) = done_in(alloc, &earlier, PLAIN, Offer::Adopt)?;
+    let (fault, moved) = done_in(alloc, &left, PLAIN, Offer::Open)?;
+    if refused.is_some() && fault.is_none() {
+        Some(moved)
+    } else {
+        None
+    }
+}
+
+// The bytes of an answer.
+fn answer(alloc: Global, status: &str, body: &str) -> Result<String, AllocError> {
+    let kind = "application/json";
+    let length = body.len();
+    format!(in alloc;
+        "HTTP/1.1 {status}\r\ncontent-type: {kind}\r\ncontent-length: {length}\r\n\r\n{body}"
+    )
+}
+
+// The files after a message, if it is answered as the row tells.
+fn after_row(alloc: Global, held: &Held, row: &Row<'_>) -> Option<Held> {
+    let (said, status, body) = row;
+    let (heard, after) = done_in(alloc, held, PLAIN, Ask(said))?;
+    if heard.as_slice() == answer(alloc, status, body).ok()?.as_bytes() {
+        Some(after)
+    } else {
+        None
+    }
+}
+
+// Asks the messages of the rows, one after the other: the files then, or the first message that is
+// answered otherwise.
+fn after_rows(alloc: Global, held: Held, rows: Rows<'static>) -> Result<Held, Said<'static>> {
+    let mut files = held;
+    for row in rows {
+        match after_row(alloc, &files, row) {
+            Some(after) => files = after,
+            None => return Err(row.0),
+        }
+    }
+    Ok(files)
+}
+
+const NOT_MOVED: Said<'static> = ("", "the file is not moved", "");
+
+// The first message that is answered otherwise, after the move of a file with these rows.
+fn first_other(alloc: Global, rows: &[&str], parts: &[Rows<'static>]) -> Option<Said<'static>> {
+    let Some(moved) = moved_with(alloc, rows) else {
+        return Some(NOT_MOVED);
+    };
+    let mut files = moved;
+    for part in parts {
+        match after_rows(alloc, files, *part) {
+            Ok(after) => files = after,
+            Err(said) => return Some(said),
+        }
+    }
+    None
+}
+
+#[test]
+fn a_block_that_is_sent_goes_on(rt: HostRuntime) {
+    assert_eq!(rt;
+        first_other(rt.alloc(), &SENDING, &[FAILING, GOING_ON]),
+        None
+    );
+}
+
+#[test]
+fn a_block_that_failed_goes_on(rt: HostRuntime) {
+    assert_eq!(rt; first_other(rt.alloc(), &FAILED, &[GOING_ON]), None);
+}
+
+#[test]
+fn numbers_that_partly_failed_go_on(rt: HostRuntime) {
+    assert_eq!(rt;
+        first_other(rt.alloc(), &PARTLY_FAILED, &[JUMPED_OVER]),
+        None
+    );
+}

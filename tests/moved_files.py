@@ -1,0 +1,140 @@
+#!/usr/bin/env python3
+"""What the built program makes of files that the program before it wrote, read with stock SQLite.
+
+The statements of these files stand in crates/sql_trials/src/earlier.rt alone, where a test moves them in memory. Here the module of
+Python writes each of them into a file, the program moves it, and the module reads it again. Then the program is asked the rest of the
+worked story in whose middle the file was made: each answer has to be that of the story, to the byte.
+
+    tests/moved_files.py      (build first: cd crates/npacd && rt run -- --help)
+
+The gate runs it behind `rt ci`, which leaves the program that it has proved and run.
+"""
+import os
+import re
+import sqlite3
+import subprocess
+import sys
+import tempfile
+from pathlib import Path
+
+import stories
+
+TOP = Path(__file__).resolve().parent.parent
+PROGRAM = TOP / "crates" / "npacd" / "out" / "npacd"
+STATEMENTS = TOP / "crates" / "sql_trials" / "src" / "earlier.rt"
+# the statements of every file, before its own
+BEGUN = ("SCHEMA", "REGISTRY")
+
+# the seconds after which a feed counts as one without an end
+LIMIT = 60
+
+# each file, the story, and how many of its messages the program before this one was asked
+FILES = {
+    "SENDING": ("failed-block", 16),
+    "FAILED": ("failed-block", 34),
+    "PARTLY_FAILED": ("failed-block-jump", 14),
+}
+
+# the tables whose rows stay where they are, and those that get a row or none
+STAYING = ("carrier", "lrn", "code", "block", "broadcast", "wait")
+TABLES = (*STAYING, "version", "clock", "next_routing", "window_set", "version2", "clock2")
+
+
+def statements_of(name):
+    """The texts of a constant of the test: one, or a list of them."""
+    text = STATEMENTS.read_text(encoding="utf-8")
+    found = re.search(rf"(?:const|static) {name}: [^=]*=(.*?\"[\s,\]]*);\n", text, re.DOTALL)
+    texts = re.findall(r'"((?:[^"\\]|\\\n)*)"', found[1])
+    return [re.sub(r"\\\n\s*", "", each) for each in texts]
+
+
+def write_file(file, name):
+    """Has stock SQLite write a file, with pages and a log as the program's files have them."""
+    database = sqlite3.connect(file, isolation_level=None)
+    database.execute("PRAGMA page_size = 4096")
+    database.execute("PRAGMA journal_mode = WAL")
+    for statements in (text for part in (*BEGUN, name) for text in statements_of(part)):
+        database.executescript(statements)
+    database.close()
+
+
+def messages_of(rows):
+    return "".join(row.asked for row in rows).encode()
+
+
+def answers_of(rows):
+    return "".join(text for row in rows for text in row.answers).encode()
+
+
+def feed(file, text=b""):
+    """The exit of a feed over the file, and what it writes."""
+    words = [PROGRAM, "feed", "--windows", stories.WINDOWS, "--db", file]
+    ran = subprocess.run(words, input=text, capture_output=True, check=False, timeout=LIMIT)
+    return ran.returncode, ran.stdout, ran.stderr
+
+
+def content_of(file):
+    """What stock SQLite thinks of the file, what it lists, and the rows of each table."""
+    database = sqlite3.connect(file)
+    ask = lambda query: database.execute(query).fetchall()
+    listed = ask("SELECT type, name, tbl_name, sql FROM sqlite_schema")
+    names = [name for kind, name, _, _ in listed if kind == "table"]
+    rows = {name: sorted(ask(f"SELECT * FROM {name}"), key=repr) for name in names}
+    is_whole = ask("PRAGMA integrity_check") == [("ok",)]
+    database.close()
+    return is_whole, listed, rows
+
+
+def moved(rows):
+    """The rows of a file that was moved: docs/FILES.md says what becomes of which."""
+    one, now, next_id, *windows = rows["clock"][0]
+    return {name: rows[name] for name in STAYING} | {
+        "version": [],
+        "clock": [],
+        "next_routing": [],
+        "window_set": [(1, *windows)],
+        "version2": [(*row, 1) for row in rows["version"]],
+        "clock2": [(one, now, next_id, 1)],
+    }
+
+
+def checked(name, story, count, folder):
+    """What is looked at of one file, and whether it is as it has to be."""
+    file, other = (os.path.join(folder, f"{name}{end}.db") for end in ("", "-of-today"))
+    told = stories.rows_of(story, stories.names_of_all(), True)
+    begun, rest = told[:count], told[count:]
+    write_file(file, name)
+    is_whole, _, before = content_of(file)
+    found = {"written": is_whole and all(before[table] for table in (*STAYING, "version", "clock"))}
+    found["opened"] = feed(file) == (0, b"", b"")
+    is_whole, listed, after = content_of(file)
+    found |= {"integrity": is_whole, "tables": set(after) == set(TABLES)}
+    found |= {f"rows of {table}": after.get(table) == rows for table, rows in moved(before).items()}
+    found["the same messages to a new file"] = feed(other, messages_of(begun)) == (0, answers_of(begun), b"")
+    found["what they leave there"] = content_of(other) == (True, listed, after)
+    found["the rest of the story"] = feed(file, messages_of(rest)) == (0, answers_of(rest), b"")
+    found["the same in the new file"] = feed(other, messages_of(rest)) == (0, answers_of(rest), b"")
+    found["integrity afterwards"], _, last = content_of(file)
+    found["what it leaves"] = last == content_of(other)[2] and last != after
+    return {f"{name}, {what}": well for what, well in found.items()}
+
+
+def found_in_all():
+    found = {}
+    with tempfile.TemporaryDirectory() as folder:
+        for name, (story, count) in FILES.items():
+            found |= checked(name, story, count, folder)
+    return found
+
+
+def main():
+    if not os.path.isfile(PROGRAM):
+        sys.exit(f"{PROGRAM.relative_to(TOP)} is not there: build it first")
+    found = found_in_all()
+    wrong = [what for what, well in found.items() if not well]
+    print(*wrong, f"moved files, by stock SQLite: {len(found) - len(wrong)} as wanted, {len(wrong)} otherwise", sep="\n")
+    sys.exit(1 if wrong else 0)
+
+
+if __name__ == "__main__":
+    main()
