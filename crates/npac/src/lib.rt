@@ -14,6 +14,6 @@ mod telling;
 
 pub use arguments::words_of;
 pub use fault::Fault;
-pub use listening::{MachineMinutes, serve_connections, serve_next};
-pub use running::{feed, run};
+pub use listening::{MachineMinutes, minute_of, serve_connections, serve_next};
+pub use running::{feed, feed_at, run};
 pub use telling::tell_usage;

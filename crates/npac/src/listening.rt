@@ -1,5 +1,6 @@
 //! Serving the connections to a port of this machine.
-ghost use Rattle.std.specs.Prelude.{◌≤◌};
+ghost use Rattle.std.specs.Prelude.{◌≡◌, ◌<◌, ◌≤◌, ◌/◌, ◌^◌, ◌↔◌, IfSome, IsSome};
+ghost use Rattle.std.specs.Duration.{as_nanos};
 ghost use Rattle.meaning.specs.Reading.{State};
 ghost use Rattle.register.specs.Answers.{Stands};
 ghost use Rattle.api.specs.Serving.{Follows};
@@ -18,7 +19,17 @@ use std::time::{Clock, Duration};
 /// How long a connection may say nothing before it ends, in seconds: all others wait meanwhile.
 const PATIENCE: u64 = 30;
 
-/// The machine's minutes: whole minutes since 1970.
+/// The whole minutes of a time since 1970, of sixty seconds each; or nothing where they are no
+/// minute.
+pub fn minute_of(time: Duration) -> Option<Minute>
+    ensures value { IfSome result (λ minute. minute.number ≡ as_nanos time / 1_000_000_000 / 60) }
+    ensures valid { IsSome result ↔ (as_nanos time / 1_000_000_000 / 60 < 2 ^ 40) }
+{
+    Minute::new(time.as_secs() / 60)
+}
+
+/// The machine's minutes: whole minutes since 1970, as `minute_of` counts them, or none where the
+/// clock does not answer.
 #[derive(Clone, Copy, Debug)]
 pub struct MachineMinutes<'a, T: Clock> {
     pub clock: &'a T,
@@ -27,7 +38,7 @@ pub struct MachineMinutes<'a, T: Clock> {
 impl<T: Clock> Ticks for MachineMinutes<'_, T> {
     fn next(&mut self) -> Option<Minute> {
         match self.clock.since_1970() {
-            Ok(time) => Minute::new(time.as_secs() / 60),
+            Ok(time) => minute_of(time),
             Err(_) => None,
         }
     }

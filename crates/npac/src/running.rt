@@ -1,5 +1,9 @@
 //! Carrying out a command line.
-ghost use Rattle.std.specs.Prelude.{◌≡◌, Err, IfErr, IfSome, IsOk, OnOk, map};
+ghost use Rattle.std.specs.Prelude.{◌≡◌, ◌≤◌, [], Err, IfErr, IfOk, IfSome, IsOk, IsTrue, OnOk, map};
+ghost use Rattle.meaning.specs.Content.{empty_content};
+ghost use Rattle.sqlite.specs.Files.{file_state};
+ghost use Rattle.sqlite.specs.State.{HasCleanDisk};
+ghost use Rattle.sqlite.specs.WalFiles.{image_at};
 ghost use Rattle.std.specs.Io.Buffered.{writer_buffer, writer_contents, writer_inner};
 ghost use Rattle.meaning.specs.Reading.{first_state};
 ghost use Rattle.meaning.specs.Windows.{Windows as WindowsMeant};
@@ -17,8 +21,8 @@ use bulk::{BulkFault, FaultKind, audit, export, run_file};
 use numbers::Spid;
 use register::{OpenFault, Register, law_of_new_stores};
 use settle::Store;
-use sql_store::{FileFault, SqlStore, UnopenedAt};
-use sqlite::Unknown;
+use sql_store::{FileFault, SqlStore, StoreAt, UnopenedAt};
+use sqlite::{Start, Unknown};
 use std::alloc::Global;
 use std::convert::AsStr;
 use std::fs::File;
@@ -73,7 +77,10 @@ fn feed_to<S: Store, R: Read, W: Write + Drop>(
     reader: &mut R,
     writer: &mut BufWriter<W>,
 ) -> Result<(), Fault>
-    ensures { S.IsUsable register.new.store → S.failed register.old.store ≡ 0
+    ensures usable { S.IsUsable register.new.store → S.IsUsable register.old.store }
+    ensures honest { S.IsHonest register.new.store → S.IsHonest register.old.store }
+    ensures rises { S.failed register.old.store ≤ S.failed register.new.store }
+    ensures feeds { S.IsUsable register.new.store → S.failed register.old.store ≡ 0
         → S.failed register.new.store ≡ 0 → (w : WindowsMeant)
         → Stands (S.content register.old.store) (first_state w)
         → IfSome (R.remaining reader.old)
@@ -86,6 +93,35 @@ fn feed_to<S: Store, R: Read, W: Write + Drop>(
     match writer.flush() {
         Ok(()) => ended(served),
         Err(_) => Err(Fault::Write),
+    }
+}
+
+// Serves the messages of a reader to a writer, over a store, which is handed back: where nothing
+// was written in it yet and its device never failed, the answers are those of the history machine,
+// from its first state on.
+fn feed_over<S: Store, R: Read, W: Write + Drop>(
+    alloc: Global,
+    store: S,
+    windows: &Windows,
+    reader: &mut R,
+    writer: &mut BufWriter<W>,
+) -> (S, Result<(), Fault>)
+    ensures usable { S.IsUsable result.0 → S.IsUsable store }
+    ensures honest { S.IsHonest result.0 → S.IsHonest store }
+    ensures feeds { S.IsUsable result.0 → S.failed result.0 ≡ 0
+        → S.content store ≡ empty_content → IfSome (R.remaining reader.old) (λ input.
+        Feeds (windows_of windows.now) (fed input (R.remaining reader.new)
+        (writer_contents W.contents writer.old) (W.contents (writer_inner writer.new)))
+        (writer_buffer writer.new) result.1) }
+{
+    law_of_new_stores();
+    match Register::open(alloc, store, windows) {
+        Ok(register) => {
+            let mut register = register;
+            let outcome = feed_to(alloc, &mut register, reader, writer);
+            (register.close(), outcome)
+        }
+        Err((store, fault)) => (store, Err(Fault::Open(fault))),
     }
 }
 
@@ -108,17 +144,34 @@ pub fn feed<R: Read, W: Write + Drop>(
         (writer_contents W.contents writer.old) (W.contents (writer_inner writer.new)))
         (writer_buffer writer.new) result) }
 {
-    law_of_new_stores();
     let store = MemoryStore::new(alloc);
-    match Register::open(alloc, store, windows) {
-        Ok(register) => {
-            let mut register = register;
-            let outcome = feed_to(alloc, &mut register, reader, writer);
-            let _store = register.close();
-            outcome
-        }
-        Err((_store, fault)) => Err(Fault::Open(fault)),
-    }
+    let (_store, outcome) = feed_over(alloc, store, windows, reader, writer);
+    outcome
+}
+
+/// The same over the file at a path, which `SqlStore::at` opens, and the store over it behind the
+/// outcome. Where the file was new, its disk returned what was written, the store can still be used
+/// and no failure was counted, the answers are those of the history machine, from its first state
+/// on.
+///
+/// The refusals are those of `SqlStore::at`.
+pub fn feed_at<S: Start, R: Read, W: Write + Drop>(
+    rt: &HostRuntime,
+    path: &str,
+    start: S,
+    windows: &Windows,
+    reader: &mut R,
+    writer: &mut BufWriter<W>,
+) -> Result<(StoreAt<S>, Result<(), Fault>), (FileFault, UnopenedAt<S>)>
+    ensures { IfOk result (λ r. HasCleanDisk (file_state r.0.conn)
+        → IsTrue (file_state r.0.conn).is_open → r.0.failures ≡ 0
+        → (image_at S.Start).db ≡ [] → IfSome (R.remaining reader.old) (λ input.
+        Feeds (windows_of windows.now) (fed input (R.remaining reader.new)
+        (writer_contents W.contents writer.old) (W.contents (writer_inner writer.new)))
+        (writer_buffer writer.new) r.1)) }
+{
+    let store = SqlStore::at(rt, path, start, windows)?;
+    Ok(feed_over(rt.alloc(), store, windows, reader, writer))
 }
 
 // The same to a writer with no buffer, through one that is made for it. What a failed write leaves
@@ -150,6 +203,22 @@ fn feed_gathering_to<S: Store, R: Read, W: Write>(
     let outcome = feed_to(alloc, register, reader, &mut gathering);
     let (_writer, _unwritten) = gathering.into_parts();
     outcome
+}
+
+// The same over the file at a path.
+fn feed_gathering_at<R: Read, W: Write>(
+    rt: &HostRuntime,
+    path: &str,
+    windows: &Windows,
+    reader: &mut R,
+    writer: &mut W,
+) -> Result<(StoreAt<Unknown>, Result<(), Fault>), Fault> {
+    let Ok(mut gathering) = BufWriter::with_capacity(rt.alloc(), GATHERED, writer) else {
+        return Err(Fault::NoMemory);
+    };
+    let fed = feed_at(rt, path, Unknown, windows, reader, &mut gathering);
+    let (_writer, _unwritten) = gathering.into_parts();
+    fed.map_err(open_fault)
 }
 
 // Serves the messages of a file, whose answers nobody sees.
@@ -245,8 +314,13 @@ fn carry_out_at<R: Read, W: Write>(
     reader: &mut R,
     writer: &mut W,
 ) -> Result<(), Fault> {
-    let store = SqlStore::at(rt, path, Unknown, windows).map_err(open_fault)?;
-    let (store, outcome) = carry_out_over(rt, store, windows, line, reader, writer);
+    let (store, outcome) = match (line.subcommand, line.feed) {
+        (Subcommand::Feed, None) => feed_gathering_at(rt, path, windows, reader, writer)?,
+        _ => {
+            let store = SqlStore::at(rt, path, Unknown, windows).map_err(open_fault)?;
+            carry_out_over(rt, store, windows, line, reader, writer)
+        }
+    };
     let closed = store
         .close()
         .map_err(|fault| Fault::Open(OpenFault::from(fault)));

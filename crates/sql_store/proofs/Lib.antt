@@ -15,3 +15,4 @@ pub mod BlockLemmas
 pub mod WholeLemmas
 pub mod MovingLemmas
 pub mod ThroughLemmas
+pub mod FrontLemmas

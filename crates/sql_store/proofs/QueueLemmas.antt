@@ -20,7 +20,7 @@ use Rattle.sql_rows.proofs.Listed.{from_mapped, has_mapped}
 use Rattle.sql_rows.proofs.Picked.{Picks}
 use Rattle.sql_rows.proofs.QueriesListed.{wait_seen}
 use Rattle.sql_store.specs.Lists.{download_of}
-use Rattle.sql_store.specs.Queues.{AreFirstTold, AreQueued, AreTold, IsNext, IsTold, is_told, key_in}
+use Rattle.sql_store.specs.Queues.{AreFirstTold, AreFront, AreQueued, AreTold, IsNext, IsTold, is_told, key_in, queue_order}
 use Rattle.sql_store.proofs.ListLemmas.{all_there, download_tie}
 
 abbrev key_at : ℕ → (minute id attempt : ℕ) → WaitKey
@@ -33,13 +33,13 @@ there None e = absurd (true≢false (sym e))
 there (Some x) e = (x, refl)
 
 module _ {X : Type 0} where
-  has_taken : (n : ℕ) (xs : List X) (x : X) → Has (take n xs) x → Has xs x
+  pub has_taken : (n : ℕ) (xs : List X) (x : X) → Has (take n xs) x → Has xs x
   has_taken zero xs x at = absurd at
   has_taken (suc n) [] x at = absurd at
   has_taken (suc n) (y ∷ ys) x (inl same) = inl same
   has_taken (suc n) (y ∷ ys) x (inr at) = inr (has_taken n ys x at)
 
-  taken_or_left : (n : ℕ) (xs : List X) (x : X) → Has xs x → Has (take n xs) x ⊎ Has (drop n xs) x
+  pub taken_or_left : (n : ℕ) (xs : List X) (x : X) → Has xs x → Has (take n xs) x ⊎ Has (drop n xs) x
   taken_or_left zero xs x at = inr at
   taken_or_left (suc n) [] x at = absurd at
   taken_or_left (suc n) (y ∷ ys) x (inl same) = inl (inl same)
@@ -51,7 +51,7 @@ module _ {X : Type 0} where
   none_left (suc n) [] x all at = at
   none_left (suc n) (y ∷ ys) x all at = none_left n ys x (omega (arith, all)) at
 
-  has_dropped : (n : ℕ) (xs : List X) (x : X) → Has (drop n xs) x → Has xs x
+  pub has_dropped : (n : ℕ) (xs : List X) (x : X) → Has (drop n xs) x → Has xs x
   has_dropped zero xs x at = at
   has_dropped (suc n) [] x at = at
   has_dropped (suc n) (y ∷ ys) x at = inr (has_dropped n ys x at)
@@ -77,23 +77,49 @@ sorted_unmap f cmp (x ∷ xs) up = (all_from (λ y. cmp (f x) (f y) ≡ Less) xs
 
 -- ---- what waits for the carrier
 
-pub queued_are : (c : Content) (spid : ℕ) (found : List KeyedWait) (items : List DownloadKey) → Picks wait_seen c.waits (λ k v. k.carrier ≡ spid) found → IsStrictlySortedBy download_cmp items
-    → ((x : DownloadKey) → Has items x → Has (map download_of found) x) → ((x : DownloadKey) → Has (map download_of found) x → (y : DownloadKey) × Has items y × (download_cmp x y ≡ Equal)) → AreQueued c spid items
-queued_are c spid found items picks rises only each = record {
-  each = λ minute id attempt waits.
-      let s = there (get c.waits (key_at spid minute id attempt)) waits in
-      let w = picks.each (key_at spid minute id attempt) s.0 s.1 refl in
-      let y = each (download_of w.0) (has_mapped download_of found w.0 w.1) in
-      let t = download_tie (download_of w.0) y.0 y.2 in
-      let key = ap (λ (e : WaitKey × Subject). e.0) w.2 in
-      (y.0, y.1, sym t.0 ∙ ap (λ (k : WaitKey). k.minute) key, sym t.1 ∙ ap (λ (k : WaitKey). k.id) key, sym t.2 ∙ ap (λ (k : WaitKey). k.attempt) key);
-  only = λ d at.
+module _ (c : Content) (spid : ℕ) (found : List KeyedWait) (items : List DownloadKey) (rises : IsStrictlySortedBy download_cmp items)
+    (only : (x : DownloadKey) → Has items x → Has (map download_of found) x) (each : (x : DownloadKey) → Has (map download_of found) x → (y : DownloadKey) × Has items y × (download_cmp x y ≡ Equal)) where
+  one_of_them : (k : WaitKey) (w : KeyedWait) → Has found w → (wait_seen w).0 ≡ k → (d : DownloadKey) × Has items d × (d.minute.number ≡ k.minute) × (d.id ≡ k.id) × (d.attempt ≡ k.attempt)
+  one_of_them k w at key =
+      let y = each (download_of w) (has_mapped download_of found w at) in
+      let t = download_tie (download_of w) y.0 y.2 in
+      (y.0, y.1, sym t.0 ∙ ap (λ (k : WaitKey). k.minute) key, sym t.1 ∙ ap (λ (k : WaitKey). k.id) key, sym t.2 ∙ ap (λ (k : WaitKey). k.attempt) key)
+
+  waits_there : ((x : KeyedWait) → Has found x → (get c.waits (wait_seen x).0 ≡ Some (wait_seen x).1) × ((wait_seen x).0.carrier ≡ spid))
+      → (d : DownloadKey) → Has items d → is_some (get c.waits (key_at spid d.minute.number d.id d.attempt)) ≡ true
+  waits_there its d at =
       let w = from_mapped download_of found d (only d at) in
-      let it = picks.only w.0 w.1 in
+      let it = its w.0 w.1 in
       subst (λ (d : DownloadKey). is_some (get c.waits (key_at spid d.minute.number d.id d.attempt)) ≡ true) (sym w.2)
-      (ap (λ k. is_some (get c.waits (key_at k w.0.key.minute.number w.0.key.id w.0.key.attempt))) (sym it.1) ∙ ap is_some it.0);
-  rises = rises;
-}
+      (ap (λ k. is_some (get c.waits (key_at k w.0.key.minute.number w.0.key.id w.0.key.attempt))) (sym it.1) ∙ ap is_some it.0)
+
+  pub queued_are : Picks wait_seen c.waits (λ k v. k.carrier ≡ spid) found → AreQueued c spid ⊥ items
+  queued_are picks = record {
+    each = λ minute id attempt waits.
+        let s = there (get c.waits (key_at spid minute id attempt)) waits in
+        let w = picks.each (key_at spid minute id attempt) s.0 s.1 refl in
+        inl (one_of_them (key_at spid minute id attempt) w.0 w.1 (ap (λ (e : WaitKey × Subject). e.0) w.2));
+    only = waits_there picks.only;
+    rises = rises;
+  }
+
+  pub front_queued : (n : ℕ) (Left : Type 0) → (n ≤ length found → Left) → AreFront c spid n found → AreQueued c spid Left items
+  front_queued n Left full front = record {
+    each = λ minute id attempt waits.
+        let k = key_at spid minute id attempt in
+        let s = there (get c.waits k) waits in
+        elim (front.each k s.0 s.1 refl) [
+          | inl w ↦ inl (one_of_them k w.0 w.1 (ap (λ (e : WaitKey × Subject). e.0) w.2))
+          | inr left ↦ inr (
+            full left.0,
+            λ d at.
+                let w = from_mapped download_of found d (only d at) in
+                subst (λ (d : DownloadKey). queue_order d minute id attempt ≡ Less) (sym w.2) (left.1 w.0 w.1),
+          )
+        ];
+    only = waits_there front.only;
+    rises = rises;
+  }
 
 -- ---- those that have a broadcast
 
@@ -129,27 +155,30 @@ one_more_fits downloads None many low = simp length-append (omega (arith, low))
 abbrev behind : (minute id attempt : ℕ) → Download → Ordering
 behind minute id attempt e = ordering_then (nat_cmp e.minute.number minute) (ordering_then (nat_cmp e.id id) (nat_cmp e.attempt attempt))
 
-pub first_are : (c : Content) (spid many : ℕ) (waits : List DownloadKey) (downloads : List Download) → AreQueued c spid waits → AreFirstTold c many waits downloads → AreFirst c spid many downloads
-first_are c spid many waits downloads queued first = record {
-  each = λ minute id attempt row at.
-      let d = queued.each minute id attempt at.0 in
-      elim (taken_or_left first.passed waits d.0 d.1) [
-        | inl taken ↦ inl (
-            let has : is_told c d.0 ≡ true = ap (λ i. is_some (get c.broadcasts (record { id = i; attempt = d.0.attempt }))) d.3 ∙ ap (λ a. is_some (get c.broadcasts (record { id = id; attempt = a }))) d.4 ∙ ap is_some at.1 in
-            let x = from_mapped key_in downloads d.0 (subst (λ l. Has l d.0) (sym first.told.keys) (has_kept (is_told c) (take first.passed waits) d.0 taken has)) in
-            (x.0, contains_had downloads x.0 x.1, ap (λ (k : DownloadKey). k.minute.number) (sym x.2) ∙ d.2, ap (λ (k : DownloadKey). k.id) (sym x.2) ∙ d.3, ap (λ (k : DownloadKey). k.attempt) (sym x.2) ∙ d.4))
-        | inr left ↦ elim first.whole [
-          | inl all ↦ absurd (none_left first.passed waits d.0 all left)
-          | inr full ↦ inr (
-            full,
-            all_there (λ (e : Download). behind minute id attempt e ≡ Less) downloads (λ e has.
-                ap (λ m. ordering_then (nat_cmp e.minute.number m) (ordering_then (nat_cmp e.id id) (nat_cmp e.attempt attempt))) (sym d.2)
-                ∙ ap (λ i. ordering_then (nat_cmp e.minute.number d.0.minute.number) (ordering_then (nat_cmp e.id i) (nat_cmp e.attempt attempt))) (sym d.3)
-                ∙ ap (λ a. ordering_then (nat_cmp e.minute.number d.0.minute.number) (ordering_then (nat_cmp e.id d.0.id) (nat_cmp e.attempt a))) (sym d.4)
-                ∙ before download_cmp first.passed waits queued.rises (key_in e) d.0 (passed e has) left),
-          )
+pub first_are : (c : Content) (spid many : ℕ) (Left : Type 0) (waits : List DownloadKey) (downloads : List Download) → AreQueued c spid Left waits → AreFirstTold c many waits downloads → (Left → length downloads ≡ many)
+    → AreFirst c spid many downloads
+first_are c spid many Left waits downloads queued first enough = record {
+  each = λ minute id attempt row at. elim (queued.each minute id attempt at.0) [
+    | inr left ↦ inr (enough left.0, all_there (λ (e : Download). behind minute id attempt e ≡ Less) downloads (λ e has. left.1 (key_in e) (has_taken first.passed waits (key_in e) (passed e has))))
+    | inl d ↦
+        elim (taken_or_left first.passed waits d.0 d.1) [
+          | inl taken ↦ inl (
+              let has : is_told c d.0 ≡ true = ap (λ i. is_some (get c.broadcasts (record { id = i; attempt = d.0.attempt }))) d.3 ∙ ap (λ a. is_some (get c.broadcasts (record { id = id; attempt = a }))) d.4 ∙ ap is_some at.1 in
+              let x = from_mapped key_in downloads d.0 (subst (λ l. Has l d.0) (sym first.told.keys) (has_kept (is_told c) (take first.passed waits) d.0 taken has)) in
+              (x.0, contains_had downloads x.0 x.1, ap (λ (k : DownloadKey). k.minute.number) (sym x.2) ∙ d.2, ap (λ (k : DownloadKey). k.id) (sym x.2) ∙ d.3, ap (λ (k : DownloadKey). k.attempt) (sym x.2) ∙ d.4))
+          | inr left ↦ elim first.whole [
+            | inl all ↦ absurd (none_left first.passed waits d.0 all left)
+            | inr full ↦ inr (
+              full,
+              all_there (λ (e : Download). behind minute id attempt e ≡ Less) downloads (λ e has.
+                  ap (λ m. ordering_then (nat_cmp e.minute.number m) (ordering_then (nat_cmp e.id id) (nat_cmp e.attempt attempt))) (sym d.2)
+                  ∙ ap (λ i. ordering_then (nat_cmp e.minute.number d.0.minute.number) (ordering_then (nat_cmp e.id i) (nat_cmp e.attempt attempt))) (sym d.3)
+                  ∙ ap (λ a. ordering_then (nat_cmp e.minute.number d.0.minute.number) (ordering_then (nat_cmp e.id d.0.id) (nat_cmp e.attempt a))) (sym d.4)
+                  ∙ before download_cmp first.passed waits queued.rises (key_in e) d.0 (passed e has) left),
+            )
+          ]
         ]
-      ];
+  ];
   only = all_there (Waits c spid) downloads (λ d has.
       let told = all_had d has in
       (told.0, (queued.only (key_in d) (has_taken first.passed waits (key_in d) (passed d has)), told.1), told.2));

@@ -1,11 +1,18 @@
 -- What the front of a queue is made of.
 use Rattle.std.specs.Prelude.{◌≡◌, ◌⊎◌, ◌≤◌, ℕ, Bool, List, map, filter, take, length, Option, Some, None, true, is_some, All}
+use Rattle.std.specs.declared.cmp.Ordering.{Ordering}
+use Rattle.std.specs.declared.cmp.Ordering.TheVariants.{Less}
+use Rattle.std.specs.Ordering.{nat_cmp, ordering_then}
 use Rattle.std.specs.FinMap.{get}
 use Rattle.std.specs.List.Sorted.{IsStrictlySortedBy}
 use Rattle.sqlite_rules.specs.Lists.{Has}
 use Rattle.delivery.specs.declared.download.Download.{Download}
 use Rattle.delivery.specs.declared.download.DownloadKey.{DownloadKey}
-use Rattle.meaning.specs.Content.{Content, BroadcastRow}
+use Rattle.numbers.specs.Subjects.{Subject}
+use Rattle.numbers.specs.Views.{subject_of}
+use Rattle.settle.specs.Views.{wait_key_of}
+use Rattle.sql_rows.specs.declared.keyed.KeyedWait.{KeyedWait}
+use Rattle.meaning.specs.Content.{Content, BroadcastRow, WaitKey}
 use Rattle.settle.specs.Reads.{IsToldBy, download_cmp}
 
 abbrev pub key_in : Download → DownloadKey
@@ -36,9 +43,29 @@ pub record AreFirstTold (c : Content) (many : ℕ) (waits : List DownloadKey) (d
   pub whole : (length waits ≤ passed) ⊎ (length downloads ≡ many)
   pub most : length downloads ≤ many
 
--- all that waits for the carrier: each once, in the order of its queue
-pub record AreQueued (c : Content) (carrier : ℕ) (waits : List DownloadKey) : Type 0 where
+-- in the order of a queue
+abbrev pub queue_order : DownloadKey → (minute id attempt : ℕ) → Ordering
+queue_order d minute id attempt = ordering_then (nat_cmp d.minute.number minute) (ordering_then (nat_cmp d.id id) (nat_cmp d.attempt attempt))
+
+-- what waits for the carrier: each once, in the order of its queue; all of it, unless `Left`, and then what is left is behind these
+pub record AreQueued (c : Content) (carrier : ℕ) (Left : Type 0) (waits : List DownloadKey) : Type 0 where
   pub each : (minute id attempt : ℕ) → is_some (get c.waits (record { carrier = carrier; minute = minute; id = id; attempt = attempt })) ≡ true
-      → (d : DownloadKey) × Has waits d × (d.minute.number ≡ minute) × (d.id ≡ id) × (d.attempt ≡ attempt)
+      → ((d : DownloadKey) × Has waits d × (d.minute.number ≡ minute) × (d.id ≡ id) × (d.attempt ≡ attempt))
+      ⊎ (Left × ((d : DownloadKey) → Has waits d → queue_order d minute id attempt ≡ Less))
   pub only : (d : DownloadKey) → Has waits d → is_some (get c.waits (record { carrier = carrier; minute = d.minute.number; id = d.id; attempt = d.attempt })) ≡ true
   pub rises : IsStrictlySortedBy download_cmp waits
+
+-- ---- rows of the table
+
+abbrev pub seen_wait : KeyedWait → WaitKey × Subject
+seen_wait w = (wait_key_of w.key, subject_of w.subject)
+
+-- in the order of a queue
+abbrev pub wait_order : WaitKey → WaitKey → Ordering
+wait_order a b = ordering_then (nat_cmp a.minute b.minute) (ordering_then (nat_cmp a.id b.id) (nat_cmp a.attempt b.attempt))
+
+-- the items wait for the carrier, and what else waits for it is behind all of them, if they are so many
+pub record AreFront (c : Content) (spid n : ℕ) (items : List KeyedWait) : Type 0 where
+  pub only : (x : KeyedWait) → Has items x → (get c.waits (seen_wait x).0 ≡ Some (seen_wait x).1) × ((seen_wait x).0.carrier ≡ spid)
+  pub each : (k : WaitKey) (v : Subject) → get c.waits k ≡ Some v → k.carrier ≡ spid
+      → ((x : KeyedWait) × Has items x × (seen_wait x ≡ (k, v))) ⊎ ((n ≤ length items) × ((x : KeyedWait) → Has items x → wait_order (seen_wait x).0 k ≡ Less))

@@ -39,6 +39,9 @@ impl<S: Alter + Drop, L: Drop> Unopened<S, L> {
     }
 }
 
+/// The store over the file at a path.
+pub type StoreAt<S> = SqlStore<FileStore<FileFrom<S>>>;
+
 /// What `SqlStore::at` hands back with the fault.
 pub type UnopenedAt<S> = Unopened<FileStore<FileFrom<S>>, Option<Leftover<FileFrom<S>>>>;
 
@@ -58,7 +61,7 @@ impl<S: Start> SqlStore<FileStore<FileFrom<S>>> {
         path: &str,
         start: S,
         windows: &Windows,
-    ) -> Result<SqlStore<FileStore<FileFrom<S>>>, (FileFault, UnopenedAt<S>)>
+    ) -> Result<StoreAt<S>, (FileFault, UnopenedAt<S>)>
         ensures open { IfOk result (λ s. HasCleanDisk (file_state s.conn) → IsTrue (file_state
             s.conn).is_open) }
         ensures new { IfOk result (λ s. HasCleanDisk (file_state s.conn)

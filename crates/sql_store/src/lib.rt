@@ -22,7 +22,7 @@ mod store;
 mod through;
 mod whole;
 
-pub use file::{Unopened, UnopenedAt};
+pub use file::{StoreAt, Unopened, UnopenedAt};
 pub use file_fault::FileFault;
 pub use refused::Refused;
 pub use store::SqlStore;

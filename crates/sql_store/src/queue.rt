@@ -1,5 +1,5 @@
 //! The front of a carrier's queue.
-ghost use Rattle.std.specs.Prelude.{◌≡◌, ◌++◌, false, IsTrue, IfOk, OnOk, is_ok, option_to_list};
+ghost use Rattle.std.specs.Prelude.{◌≡◌, ◌<◌, ◌++◌, false, IsTrue, IfOk, IfSome, OnOk, is_ok, option_to_list};
 ghost use Rattle.sqlite.specs.Held.{state};
 ghost use Rattle.sqlite.specs.State.{HasCleanDisk};
 ghost use Rattle.settle.specs.Reads.{AreFirst};
@@ -14,7 +14,7 @@ use crate::select::find_all;
 use delivery::{Download, DownloadKey};
 use numbers::Spid;
 use settle::BroadcastKey;
-use sql_rows::{Fault, KeyedWait, Query, spid_bytes, text};
+use sql_rows::{Fault, KeyedWait, Query, number, spid_bytes, text};
 use sqlite::{Alter, Connection};
 use std::alloc::Global;
 
@@ -23,7 +23,7 @@ fn queue<S: Alter>(conn: &mut Connection<S>, spid: Spid) -> Result<Vec<DownloadK
     requires ours { IsTrue (state S.Store conn.old).is_open → IsOurs (state S.Store conn.old) }
     requires idle { conn.old.in_transaction ≡ false }
     ensures value { IsTrue (state S.Store conn.new).is_open
-        → IfOk result (λ waits. AreQueued (content_at (state S.Store conn.old)) (spid_of spid)
+        → IfOk result (λ waits. AreQueued (content_at (state S.Store conn.old)) (spid_of spid) ⊥
         waits.items) }
     ensures looked { Looked (state S.Store conn.old) (state S.Store conn.new) (is_ok result) }
     ensures idle { conn.new.in_transaction ≡ false }
@@ -33,6 +33,31 @@ fn queue<S: Alter>(conn: &mut Connection<S>, spid: Spid) -> Result<Vec<DownloadK
     let mut waits = downloads_of(*found.allocator(), found.as_slice())?;
     put_in_order(&mut waits);
     Ok(waits)
+}
+
+// The first of what waits for a carrier, so many rows, in the order of its queue, and whether that
+// is all.
+fn page<S: Alter>(
+    conn: &mut Connection<S>,
+    spid: Spid,
+    many: u64,
+) -> Result<(Vec<DownloadKey>, bool), Fault>
+    requires ours { IsTrue (state S.Store conn.old).is_open → IsOurs (state S.Store conn.old) }
+    requires idle { conn.old.in_transaction ≡ false }
+    requires few { many < 9223372036854775808 }
+    ensures value { IsTrue (state S.Store conn.new).is_open
+        → IfOk result (λ page. AreQueued (content_at (state S.Store conn.old)) (spid_of spid)
+        (page.1 ≡ false) page.0.items) }
+    ensures looked { Looked (state S.Store conn.old) (state S.Store conn.new) (is_ok result) }
+    ensures idle { conn.new.in_transaction ≡ false }
+{
+    let bytes = spid_bytes(spid.number);
+    let params = [text(&bytes), number(many)];
+    let found: Vec<KeyedWait> = find_all(conn, Query::WaitsFirst, &params)?;
+    let is_all = (found.len() as u64) < many;
+    let mut waits = downloads_of(*found.allocator(), found.as_slice())?;
+    put_in_order(&mut waits);
+    Ok((waits, is_all))
 }
 
 // What waits, as its broadcast's row tells it, or nothing where it has none.
@@ -100,9 +125,33 @@ fn first_told<S: Alter>(
     Ok(downloads)
 }
 
-/// The first downloads that wait for a carrier, in the order of its queue: so many, or all where
-/// there are fewer. It reads all that waits for the carrier, and the broadcasts of the first alone.
-pub(crate) fn front<S: Alter>(
+// The first downloads, by the first rows alone, or nothing where some of those have no broadcast and
+// others may be left.
+fn first_page<S: Alter>(
+    conn: &mut Connection<S>,
+    spid: Spid,
+    many: usize,
+) -> Result<Option<Vec<Download>>, Fault>
+    requires ours { IsTrue (state S.Store conn.old).is_open → IsOurs (state S.Store conn.old) }
+    requires idle { conn.old.in_transaction ≡ false }
+    requires few { many < 9223372036854775808 }
+    ensures value { IsTrue (state S.Store conn.new).is_open
+        → IfOk result (λ found. IfSome found (λ downloads. AreFirst (content_at (state S.Store
+        conn.old)) (spid_of spid) many downloads.items)) }
+    ensures looked { Looked (state S.Store conn.old) (state S.Store conn.new) (is_ok result) }
+    ensures idle { conn.new.in_transaction ≡ false }
+{
+    let (waits, is_all) = page(conn, spid, many as u64)?;
+    let downloads = first_told(*waits.allocator(), conn, waits.as_slice(), many)?;
+    if is_all || downloads.len() >= many {
+        Ok(Some(downloads))
+    } else {
+        Ok(None)
+    }
+}
+
+// The same by all that waits for the carrier.
+fn first_of_all<S: Alter>(
     conn: &mut Connection<S>,
     spid: Spid,
     many: usize,
@@ -118,4 +167,29 @@ pub(crate) fn front<S: Alter>(
     let waits = queue(conn, spid)?;
     let downloads = first_told(*waits.allocator(), conn, waits.as_slice(), many)?;
     Ok(downloads)
+}
+
+/// The first downloads that wait for a carrier, in the order of its queue: so many, or all where
+/// there are fewer. It reads so many rows of the queue, each with its broadcast; all of the queue
+/// only where one of these has none, which no register leaves.
+pub(crate) fn front<S: Alter>(
+    conn: &mut Connection<S>,
+    spid: Spid,
+    many: usize,
+) -> Result<Vec<Download>, Fault>
+    requires ours { IsTrue (state S.Store conn.old).is_open → IsOurs (state S.Store conn.old) }
+    requires idle { conn.old.in_transaction ≡ false }
+    ensures value { IsTrue (state S.Store conn.new).is_open
+        → IfOk result (λ downloads. AreFirst (content_at (state S.Store conn.old)) (spid_of spid)
+        many downloads.items) }
+    ensures looked { Looked (state S.Store conn.old) (state S.Store conn.new) (is_ok result) }
+    ensures idle { conn.new.in_transaction ≡ false }
+{
+    if many >= 9_223_372_036_854_775_808 {
+        return first_of_all(conn, spid, many);
+    }
+    match first_page(conn, spid, many)? {
+        Some(downloads) => Ok(downloads),
+        None => first_of_all(conn, spid, many),
+    }
 }

@@ -674,10 +674,3 @@ pub(crate) fn form_of(schema: &Schema) -> Option<Form>
     }
     form_by(tables)
 }
-
-/// Whether the schema is that of the form.
-pub(crate) fn is_of_form(schema: &Schema, form: Form) -> bool
-    ensures { IsTrue result → schema.now ≡ schema_of form }
-{
-    form_of(schema) == Some(form)
-}
