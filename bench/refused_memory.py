@@ -6,6 +6,9 @@ import tempfile
 
 from ports import PROGRAM, WINDOWS, message
 
+sys.path.insert(0, "tests")
+import stories
+
 NO_MEMORY = b'{"error":"no_memory","number":30}'
 
 
@@ -68,6 +71,72 @@ def beside_open_broadcasts(count):
         yield message("CCCC", "/downloads/acknowledge", f'{{"attempt":1,"id":{version}}}')
 
 
+# a dozen stories that meet every call of the interface, each with an answer of 200
+STORIES = (
+    "cancellation-acknowledged", "carrier", "conflict-removed-by-the-old-provider", "first-port", "held-by-the-donor",
+    "modified", "modified-newcomer", "newcomer-of-a-block", "numbers", "planned-disconnect-of-nobody-jump",
+    "two-refusals-cancellation-acknowledge", "windows-of-restriction",
+)
+
+
+def call_of(asked):
+    """The path of a message, as the interface for machines names it."""
+    path = asked.split(" ")[1]
+    kinds = {"numbers": "/numbers/{tn}", "versions": "/versions/{id}", "downloads": "/downloads/{n}"}
+    kind = path.split("/")[1]
+    return kinds[kind] if kind in kinds and path != "/downloads/acknowledge" else path
+
+
+def told_of(name):
+    """The messages of a story, and its answers."""
+    rows = stories.rows_of(name, stories.names_of_all(), True)
+    assert all(isinstance(row, stories.Row) and len(row.answers) == 1 for row in rows), name
+    return [row.asked for row in rows], [row.answers[0] for row in rows]
+
+
+def met_by_all():
+    """The calls that are met with an answer of 200."""
+    told = [told_of(name) for name in STORIES]
+    return {call_of(asked) for messages, answers in told for asked, answer in zip(messages, answers) if answer.startswith("HTTP/1.1 200 ")}
+
+
+def calls():
+    with open("docs/openapi.yaml", encoding="utf-8") as file:
+        return {line.strip().rstrip(":") for line in file if line.startswith("  /")}
+
+
+def refused_in_turn(shim, count, messages, answers=None):
+    """How many allocations the messages take, and what became of the runs in which each was refused in turn."""
+    whole = Served(shim, messages, 0, count)
+    assert whole.status == 0 and len(whole.answers) == len(messages), whole.error
+    assert answers is None or whole.answers == answers
+    with open(count) as file:
+        places = int(file.read())
+    outcomes = {}
+    for place in range(1, places + 1):
+        became = outcome(shim, messages, whole.answers, place)
+        if became is None:
+            sys.exit(f"allocation {place}: wrong")
+        outcomes[became] = outcomes.get(became, 0) + 1
+    return places, outcomes
+
+
+def tell(name, messages, places, outcomes):
+    became = ", ".join(f"{many} {became}" for became, many in outcomes.items())
+    print(f"{name}{len(messages)} messages, {places} allocations, each refused in turn: {became}", flush=True)
+
+
+def tell_stories(shim, count):
+    assert met_by_all() == calls(), met_by_all() ^ calls()
+    all_places = 0
+    for name in STORIES:
+        messages, answers = ([text.encode() for text in texts] for texts in told_of(name))
+        places, outcomes = refused_in_turn(shim, count, messages, answers)
+        tell(f"{name}: ", messages, places, outcomes)
+        all_places += places
+    print(f"{len(STORIES)} stories, {len(calls())} calls, {all_places} allocations")
+
+
 def messages_of(words):
     if words:
         with open(words[0], "rb") as file:
@@ -75,22 +144,15 @@ def messages_of(words):
     return [text.encode() for text in beside_open_broadcasts(12)]
 
 
-def main():
-    messages = messages_of(sys.argv[1:])
+def main(words):
     with tempfile.TemporaryDirectory() as folder:
         shim, count = os.path.join(folder, "shim.so"), os.path.join(folder, "count")
         subprocess.run(["gcc", "-O2", "-shared", "-fPIC", "-o", shim, "bench/refused_memory.c"], check=True)
-        whole = Served(shim, messages, 0, count)
-        assert whole.status == 0 and len(whole.answers) == len(messages), whole.error
-        with open(count) as file:
-            places = int(file.read())
-        outcomes = {}
-        for place in range(1, places + 1):
-            became = outcome(shim, messages, whole.answers, place)
-            if became is None:
-                sys.exit(f"allocation {place}: wrong")
-            outcomes[became] = outcomes.get(became, 0) + 1
-    print(f"{len(messages)} messages, {places} allocations, each refused in turn: " + ", ".join(f"{many} {became}" for became, many in outcomes.items()))
+        if words == ["--stories"]:
+            tell_stories(shim, count)
+        else:
+            messages = messages_of(words)
+            tell("", messages, *refused_in_turn(shim, count, messages))
 
 
-main()
+main(sys.argv[1:])

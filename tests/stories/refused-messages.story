@@ -6,6 +6,10 @@ ends too_large
 raw "POST /query HTTP/1.1\r\ncontent-length: 9999999999999999999\r\n\r\n"
      413 too_large 44
 ends too_large
+# the length is judged before the body has come
+raw "POST /query HTTP/1.1\r\ncontent-length: 1048577\r\n\r\n{}"
+     413 too_large 44
+ends too_large
 raw "POST /nowhere HTTP/1.1\r\ncontent-length: 2\r\n\r\n{"
      400 cut_body 46
 ends cut_body

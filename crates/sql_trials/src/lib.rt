@@ -3,6 +3,8 @@
 #![tactic(auto)]
 
 #[cfg(test)]
+mod counted;
+#[cfg(test)]
 mod deeds;
 #[cfg(test)]
 mod earlier;
@@ -20,6 +22,8 @@ mod refused;
 mod rows;
 #[cfg(test)]
 mod said;
+#[cfg(test)]
+mod settling;
 #[cfg(test)]
 mod stops;
 #[cfg(test)]

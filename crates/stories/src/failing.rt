@@ -1,134 +1,41 @@
 //! Playing a story to a store that fails.
 use crate::fault::Fault;
-use crate::story::{BREAK, Pieces};
-use api::{NoTicks, Options, serve};
+use crate::story::new_register;
+use crate::tale::Tale;
 use register::{OpenFault, Register};
 use settle::Store;
-use std::alloc::{AllocError, Global};
+use sql_store::SqlStore;
+use std::alloc::Global;
+use std::ops::Range;
 use store::{Failing, Flaky, MemoryStore};
 use windows::Windows;
 
+/// What is answered where a call of the store failed.
+const STORAGE: &[u8] =
+    b"HTTP/1.1 503 Service Unavailable\r\ncontent-type: application/json\r\ncontent-length: 31\r\n\r\n{\"error\":\"storage\",\"number\":29}";
+
+/// What a register stands over.
+#[derive(Clone, Copy, Debug, PartialEq, Eq)]
+pub enum Over {
+    Memory,
+    Database,
+}
+
 /// What became of a story whose store failed.
-#[derive(Clone, Copy, Debug)]
+#[derive(Clone, Copy, Debug, PartialEq, Eq)]
 pub enum Played {
-    /// The answers were the same, whichever of so many calls failed.
+    /// Each message was answered as it should be, whichever of so many calls failed.
     Same(u64),
-    /// They were not, where the call after so many failed.
+    /// One was not, where the call after so many failed.
     Otherwise(u64),
-    /// It was not played to its end.
-    TooLong,
 }
 
-// A story of more messages is not played again for each call of its store.
-const MOST_MESSAGES: usize = 64;
-
-const END_OF_HEAD: &[u8] = b"\r\n\r\n";
-
-const UNAVAILABLE: &[u8] = b"HTTP/1.1 503 ";
-
-// Where the head of the first message ends, if it does.
-fn head_length(bytes: &[u8]) -> Option<usize> {
-    for start in 0..bytes.len() {
-        if bytes.split_at(start).1.starts_with(END_OF_HEAD) {
-            return Some(start + END_OF_HEAD.len());
-        }
-    }
-    None
-}
-
-// The number behind the colon of a line, if the line is that of the body's length.
-fn length_in(line: &str) -> Option<usize> {
-    let (name, value) = line.split_once(':')?;
-    if name == "content-length" {
-        value.trim().parse::<usize>().ok()
-    } else {
-        None
-    }
-}
-
-// How many bytes the body has, as a head says.
-fn body_length(head: &[u8]) -> usize {
-    match str::from_utf8(head) {
-        Ok(text) => text.split("\r\n").find_map(length_in).unwrap_or(0),
-        Err(_) => 0,
-    }
-}
-
-// The first message, and what is behind it. What cannot be cut is one message.
-fn cut(bytes: &[u8]) -> (&[u8], &[u8]) {
-    match head_length(bytes) {
-        None => (bytes, &[]),
-        Some(head) => {
-            let head = head.min(bytes.len());
-            let body = body_length(bytes.split_at(head).0);
-            bytes.split_at(head.saturating_add(body).min(bytes.len()))
-        }
-    }
-}
-
-// The messages of a story, of all its connections.
-fn messages_of<'a>(alloc: Global, story: &'a [u8]) -> Result<Vec<&'a [u8]>, AllocError> {
-    let mut messages = Vec::new(alloc);
-    for connection in story.split(|byte| *byte == BREAK) {
-        let mut rest = connection;
-        for _ in 0..connection.len() {
-            if rest.is_empty() {
-                break;
-            }
-            let (message, behind) = cut(rest);
-            messages.push(message)?;
-            rest = behind;
-        }
-    }
-    Ok(messages)
-}
-
-// What is answered to a message, in a connection of its own.
-fn hear<S: Store>(
-    alloc: Global,
-    register: &mut Register<S>,
-    message: &[u8],
-    heard: &mut Vec<u8>,
-) -> Result<(), api::Fault> {
-    let options = Options { clock_route: true };
-    let mut pieces = Pieces {
-        rest: message,
-        size: usize::MAX,
-    };
-    heard.clear();
-    serve(alloc, register, &mut NoTicks, &options, &mut pieces, heard)?;
-    Ok(())
-}
-
-// A register over an empty store, of which a call may fail, even one that opens it.
-fn open(
-    alloc: Global,
-    windows: &Windows,
+// Which call fails, and the first message that may meet it.
+#[derive(Clone, Copy)]
+struct Plan {
+    failing: Failing,
     before: u64,
-) -> Result<Register<Flaky<MemoryStore>>, OpenFault> {
-    let store = Flaky::new(MemoryStore::new(alloc), before, Failing::Once);
-    match Register::open(alloc, store, windows) {
-        Ok(register) => Ok(register),
-        Err((store, OpenFault::Storage)) => match Register::open(alloc, store, windows) {
-            Ok(register) => Ok(register),
-            Err((_store, fault)) => Err(fault),
-        },
-        Err((_store, fault)) => Err(fault),
-    }
-}
-
-// What is answered to the messages where no call fails.
-fn answers_of(alloc: Global, windows: &Windows, messages: &[&[u8]]) -> Result<Vec<Vec<u8>>, Fault> {
-    let mut register = open(alloc, windows, u64::MAX)?;
-    let mut answers = Vec::new(alloc);
-    for message in messages {
-        let mut heard = Vec::new(alloc);
-        hear(alloc, &mut register, message, &mut heard)?;
-        let Ok(()) = answers.push(heard) else {
-            return Err(Fault::Memory);
-        };
-    }
-    Ok(answers)
+    first: usize,
 }
 
 // How a run went in which a call was to fail.
@@ -136,53 +43,281 @@ fn answers_of(alloc: Global, windows: &Windows, messages: &[&[u8]]) -> Result<Ve
 enum Run {
     // No call failed.
     Calm,
-    // A call failed, and each message was answered as if none had.
-    Mended,
+    // This message met the failure, and every message was answered as it should be.
+    Met(usize),
     Otherwise,
 }
 
-// Plays the messages to a store of which the call after so many fails. The message that meets it is
-// answered that storage fails, and is sent again.
-fn run_failing(
-    alloc: Global,
-    windows: &Windows,
-    messages: &[&[u8]],
-    answers: &[Vec<u8>],
-    before: u64,
-) -> Result<Run, Fault> {
-    let mut register = open(alloc, windows, before)?;
-    let mut heard = Vec::new(alloc);
-    for (message, answer) in messages.iter().zip(answers) {
-        hear(alloc, &mut register, message, &mut heard)?;
-        if heard != *answer && heard.starts_with(UNAVAILABLE) {
-            hear(alloc, &mut register, message, &mut heard)?;
-        }
-        if heard != *answer {
-            return Ok(Run::Otherwise);
-        }
-    }
-    if register.close().failures() > 0 {
-        Ok(Run::Mended)
-    } else {
-        Ok(Run::Calm)
+/// A story, and of each of its messages whether it asks anything of the store.
+#[derive(Drop)]
+pub struct Asking<'a> {
+    pub tale: &'a Tale,
+    asks: Vec<bool>,
+}
+
+// The windows that hold in a store, or those of a new one.
+fn present_in<S: Store>(store: &mut S, windows: &Windows) -> Windows {
+    match store.clock() {
+        Ok(Some(row)) => row.present.windows,
+        _ => *windows,
     }
 }
 
-/// How many calls of the store failed, each in a run of its own, until a run met no failure; or the
-/// first after which a message was answered otherwise than if none had failed. A story of more than
-/// 64 messages is not played.
-pub fn play_failing(alloc: Global, windows: &Windows, story: &[u8]) -> Result<Played, Fault> {
-    let messages = messages_of(alloc, story)?;
-    if messages.len() > MOST_MESSAGES {
-        return Ok(Played::TooLong);
+// Whether a register over a store answers these messages as the story does; and the store then.
+fn goes_on<S: Store>(
+    alloc: Global,
+    windows: &Windows,
+    tale: &Tale,
+    store: S,
+    places: Range<usize>,
+) -> (bool, S) {
+    let mut store = store;
+    let present = present_in(&mut store, windows);
+    match Register::open(alloc, store, &present) {
+        Ok(mut register) => {
+            let is_told = tale.is_told_between(alloc, &mut register, places.start, places.end);
+            (is_told, register.close())
+        }
+        Err((store, _fault)) => (false, store),
     }
-    let answers = answers_of(alloc, windows, &messages)?;
-    for before in 0..u64::MAX {
-        match run_failing(alloc, windows, &messages, &answers, before)? {
-            Run::Calm => return Ok(Played::Same(before)),
-            Run::Mended => {}
-            Run::Otherwise => return Ok(Played::Otherwise(before)),
+}
+
+// Plays the messages up to the one that is answered that storage fails, and says which that is.
+// Nothing, if one before it is answered otherwise than in the story.
+fn meet<S: Store>(
+    alloc: Global,
+    register: &mut Register<S>,
+    tale: &Tale,
+    first: usize,
+) -> Option<usize> {
+    if !tale.is_told_between(alloc, register, 0, first) {
+        return None;
+    }
+    for place in first..tale.len() {
+        let heard = tale.hear_between(alloc, register, place, place.saturating_add(1));
+        if heard.as_slice() == STORAGE {
+            return Some(place);
+        }
+        if heard.as_slice() != tale.answer(place) {
+            return None;
         }
     }
-    Ok(Played::TooLong)
+    Some(tale.len())
+}
+
+impl Asking<'_> {
+    // What is answered to a message by a store of which all calls fail.
+    fn dead_answer(&self, place: usize) -> &[u8] {
+        match self.asks.get(place) {
+            Some(true) => STORAGE,
+            _ => self.tale.answer(place),
+        }
+    }
+
+    // Whether the messages from this one on are answered so.
+    fn is_dead_from<S: Store>(
+        &self,
+        alloc: Global,
+        register: &mut Register<S>,
+        from: usize,
+    ) -> bool {
+        let heard = self
+            .tale
+            .hear_between(alloc, register, from, self.tale.len());
+        let mut rest = heard.as_slice();
+        for place in from..self.tale.len() {
+            match rest.strip_prefix(self.dead_answer(place)) {
+                Some(behind) => rest = behind,
+                None => return false,
+            }
+        }
+        rest.is_empty()
+    }
+
+    // Plays the story as far as this register goes: one that fails once to its end, with the
+    // message that met the failure sent again; one that fails from then on until nothing is
+    // answered but that. It says which message met the failure.
+    fn play<S: Store>(
+        &self,
+        alloc: Global,
+        register: &mut Register<S>,
+        plan: Plan,
+    ) -> Option<usize> {
+        let met = meet(alloc, register, self.tale, plan.first)?;
+        let is_so = match plan.failing {
+            Failing::Once => {
+                self.tale
+                    .is_told_between(alloc, register, met, self.tale.len())
+            }
+            Failing::Always => self.is_dead_from(alloc, register, met),
+        };
+        if is_so { Some(met) } else { None }
+    }
+
+    // How a run went which met the failure there, if it did, and what the store below has then.
+    fn judge<S: Store>(
+        &self,
+        alloc: Global,
+        windows: &Windows,
+        store: Flaky<S>,
+        met: Option<usize>,
+        failing: Failing,
+    ) -> (Run, S) {
+        let failures = store.failures();
+        let store = store.into_store();
+        match met {
+            None => (Run::Otherwise, store),
+            Some(place) if place == self.tale.len() => {
+                let run = if failures == 0 {
+                    Run::Calm
+                } else {
+                    Run::Otherwise
+                };
+                (run, store)
+            }
+            Some(place) if failing == Failing::Once => (met_once(place, failures), store),
+            Some(place) => self.mend(alloc, windows, store, place),
+        }
+    }
+
+    // The store is mended: the message that met the failure is sent again, and all behind it.
+    fn mend<S: Store>(&self, alloc: Global, windows: &Windows, store: S, place: usize) -> (Run, S) {
+        let places = place..self.tale.len();
+        let (is_told, store) = goes_on(alloc, windows, self.tale, store, places);
+        if is_told {
+            (Run::Met(place), store)
+        } else {
+            (Run::Otherwise, store)
+        }
+    }
+
+    // Plays the story over an empty store, and hands that back.
+    fn play_over<S: Store>(
+        &self,
+        alloc: Global,
+        windows: &Windows,
+        store: S,
+        plan: Plan,
+    ) -> (Run, S) {
+        let store = Flaky::new(store, plan.before, plan.failing);
+        match Register::open(alloc, store, windows) {
+            Ok(mut register) => {
+                let met = self.play(alloc, &mut register, plan);
+                self.judge(alloc, windows, register.close(), met, plan.failing)
+            }
+            Err((store, OpenFault::Storage)) => self.mend(alloc, windows, store.into_store(), 0),
+            Err((store, _fault)) => (Run::Otherwise, store.into_store()),
+        }
+    }
+
+    fn play_once(
+        &self,
+        alloc: Global,
+        windows: &Windows,
+        over: Over,
+        plan: Plan,
+    ) -> Result<Run, Fault> {
+        match over {
+            Over::Memory => {
+                let (run, _store) = self.play_over(alloc, windows, MemoryStore::new(alloc), plan);
+                Ok(run)
+            }
+            Over::Database => {
+                let store = SqlStore::in_memory(alloc)?;
+                let (run, store) = self.play_over(alloc, windows, store, plan);
+                let _database = store.release().into_store();
+                Ok(run)
+            }
+        }
+    }
+
+    /// Plays the story until a run meets no failure, with a call that fails in each run: the first,
+    /// and then each so many calls later. In one run it fails once, in another all calls fail from
+    /// then on until the store is mended. It says how many calls failed so.
+    pub fn sweep(
+        &self,
+        alloc: Global,
+        windows: &Windows,
+        over: Over,
+        every: u64,
+    ) -> Result<Played, Fault> {
+        let mut first = 0;
+        for turn in 0..u64::MAX {
+            let before = turn.saturating_mul(every);
+            for failing in [Failing::Once, Failing::Always] {
+                let plan = Plan {
+                    failing,
+                    before,
+                    first,
+                };
+                match self.play_once(alloc, windows, over, plan)? {
+                    Run::Calm => return Ok(Played::Same(turn)),
+                    Run::Met(place) => first = place,
+                    Run::Otherwise => return Ok(Played::Otherwise(before)),
+                }
+            }
+        }
+        Ok(Played::Same(u64::MAX))
+    }
+}
+
+// A run that fails once meets one failure.
+fn met_once(place: usize, failures: u64) -> Run {
+    if failures == 1 {
+        Run::Met(place)
+    } else {
+        Run::Otherwise
+    }
+}
+
+// Whether a message asks anything of a store of which all calls fail, as its answer says too; and
+// the store then.
+fn asks_dead(
+    alloc: Global,
+    windows: &Windows,
+    tale: &Tale,
+    store: MemoryStore,
+    place: usize,
+) -> (Option<bool>, MemoryStore) {
+    let mut store = store;
+    let present = present_in(&mut store, windows);
+    // the first call reads the clock, as the register is opened
+    match Register::open(alloc, Flaky::new(store, 1, Failing::Always), &present) {
+        Ok(mut register) => {
+            let heard = tale.hear_between(alloc, &mut register, place, place.saturating_add(1));
+            let store = register.close();
+            let asks = store.failures() > 0;
+            let wanted = if asks { STORAGE } else { tale.answer(place) };
+            let is_so = heard.as_slice() == wanted;
+            (is_so.then_some(asks), store.into_store())
+        }
+        Err((store, _fault)) => (None, store.into_store()),
+    }
+}
+
+/// Plays the story with each message sent twice: to a store of which all calls fail, and to the
+/// same store once it is mended. Nothing, if one is answered otherwise than it should be.
+pub fn ask_dead<'a>(
+    alloc: Global,
+    windows: &Windows,
+    tale: &'a Tale,
+) -> Result<Option<Asking<'a>>, Fault> {
+    let mut asks = Vec::new(alloc);
+    let mut store = new_register(alloc, windows)?.close();
+    for place in 0..tale.len() {
+        let (asked, dead) = asks_dead(alloc, windows, tale, store, place);
+        let next = place.saturating_add(1);
+        let (is_told, mended) = goes_on(alloc, windows, tale, dead, place..next);
+        let Some(asked) = asked else {
+            return Ok(None);
+        };
+        if !is_told {
+            return Ok(None);
+        }
+        let Ok(()) = asks.push(asked) else {
+            return Err(Fault::Memory);
+        };
+        store = mended;
+    }
+    Ok(Some(Asking { tale, asks }))
 }

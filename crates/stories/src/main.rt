@@ -1,22 +1,30 @@
 //! Plays stories: the messages of each file that the command line names are served to a new
 //! register over memory, whole and byte by byte, and what is answered is printed. Then they are
 //! served to a new register over a database, and what that answers is printed where it is something
-//! else.
+//! else. The same is done message by message, with messages that are cut and with stores that fail,
+//! and what is answered otherwise than it should be is printed.
+//!
+//! With the word `--each` before the files each message is cut and each call fails, and what is
+//! printed is how many there are; without it some are left out, for the time of the gate.
 //!
 //! A file has the bytes of a connection, or of several to the same register with a byte 30 between
 //! them. The windows are those of `w.toml`.
 #![tactic(auto)]
 
+mod cuts;
 mod failing;
 mod fault;
 mod story;
+mod tale;
 
-use failing::{Played, play_failing};
+use cuts::{cuts_of, first_wrong_cut, is_hostile};
+use failing::{Asking, Over, Played, ask_dead};
 use fault::Fault;
 use std::io::Write;
 use std::rt::{Env, Files};
 use std::{env, fs, io};
-use story::{play, play_stored};
+use story::{new_register, play, play_stored};
+use tale::Tale;
 use windows::Windows;
 
 fn read_windows<T: Files + AllocGlobal>(rt: &T) -> Result<Windows, Fault> {
@@ -45,12 +53,122 @@ fn tell_stored<T: AllocGlobal + Print>(
     Ok(())
 }
 
+// How a story is played beside its answers.
+#[derive(Clone, Copy, Debug, PartialEq, Eq)]
+enum Manner {
+    // As far as it goes in the time of the gate.
+    Short,
+    // With each call of the database failing and each message cut, and their numbers printed.
+    Each,
+}
+
+// A story of more messages is played over a database with each 31st call failing alone.
+const FEW_MESSAGES: usize = 11;
+
+const STEP_OF_DATABASE: u64 = 31;
+
+// A story of more bytes is played over memory with each seventh call failing alone.
+const FEW_BYTES: usize = 100_000;
+
+const STEP_OF_MEMORY: u64 = 7;
+
+impl Manner {
+    // How many calls there are from one that fails to the next.
+    fn every(self, over: Over, tale: &Tale) -> u64 {
+        match over {
+            Over::Memory if self == Manner::Short && tale.size() > FEW_BYTES => STEP_OF_MEMORY,
+            Over::Database if self == Manner::Short && tale.len() > FEW_MESSAGES =>
+                STEP_OF_DATABASE,
+            _ => 1,
+        }
+    }
+}
+
+fn name_of(over: Over) -> &'static str {
+    match over {
+        Over::Memory => "memory",
+        Over::Database => "the database",
+    }
+}
+
+// Prints after which call of a store a message was answered otherwise than it should be, if one
+// was.
+fn tell_failing<T: AllocGlobal + Print>(
+    rt: &T,
+    windows: &Windows,
+    name: &str,
+    asking: &Asking<'_>,
+    manner: Manner,
+    over: Over,
+) -> Result<(), Fault> {
+    let over_it = name_of(over);
+    let every = manner.every(over, asking.tale);
+    let mut out = io::writer(rt);
+    match asking.sweep(rt.alloc(), windows, over, every)? {
+        Played::Same(0) => writeln!(out, "story {name}, no call of {over_it}")?,
+        Played::Same(count) if manner == Manner::Each => {
+            writeln!(out, "story {name}, {count} calls of {over_it}")?;
+        }
+        Played::Same(_) => {}
+        Played::Otherwise(before) => {
+            writeln!(out, "story {name}, a failure of {over_it} after {before}")?;
+        }
+    }
+    Ok(())
+}
+
+// Prints which message is answered otherwise than it should be where it is cut, if one is.
+fn tell_cuts<T: AllocGlobal + Print>(
+    rt: &T,
+    windows: &Windows,
+    name: &str,
+    tale: &Tale,
+    manner: Manner,
+) -> Result<(), Fault> {
+    if manner == Manner::Short && !is_hostile(tale) {
+        return Ok(());
+    }
+    let mut register = new_register(rt.alloc(), windows)?;
+    let mut out = io::writer(rt);
+    if let Some(cut) = first_wrong_cut(rt.alloc(), &mut register, tale) {
+        writeln!(
+            out,
+            "story {name}, message {} cut after {}",
+            cut.message, cut.place
+        )?;
+    } else if manner == Manner::Each {
+        writeln!(out, "story {name}, {} cuts", cuts_of(tale))?;
+    }
+    Ok(())
+}
+
+// Prints what goes otherwise than it should where the story is played message by message.
+fn tell_messages<T: AllocGlobal + Print>(
+    rt: &T,
+    windows: &Windows,
+    name: &str,
+    tale: &Tale,
+    manner: Manner,
+) -> Result<(), Fault> {
+    tell_cuts(rt, windows, name, tale, manner)?;
+    let Some(asking) = ask_dead(rt.alloc(), windows, tale)? else {
+        let mut out = io::writer(rt);
+        writeln!(out, "story {name}, a store that fails always")?;
+        return Ok(());
+    };
+    for over in [Over::Memory, Over::Database] {
+        tell_failing(rt, windows, name, &asking, manner, over)?;
+    }
+    Ok(())
+}
+
 // Prints a story's name and what is answered to it, and what is answered to it byte by byte where
 // that is something else.
 fn tell<T: Files + AllocGlobal + Print>(
     rt: &T,
     windows: &Windows,
     name: &str,
+    manner: Manner,
 ) -> Result<(), Fault> {
     let story = fs::read(rt, name)?;
     let heard = play(rt.alloc(), windows, &story, usize::MAX)?;
@@ -63,12 +181,12 @@ fn tell<T: Files + AllocGlobal + Print>(
         out.write_all(&again)?;
     }
     tell_stored(rt, windows, name, &story, &heard)?;
-    match play_failing(rt.alloc(), windows, &story)? {
-        Played::Same(0) => writeln!(out, "story {name}, no call of the store")?,
-        Played::Otherwise(before) => writeln!(out, "story {name}, a failure after {before}")?,
-        Played::Same(_) | Played::TooLong => {}
+    let tale = Tale::of(rt.alloc(), windows, &story)?;
+    if tale.heard != heard {
+        writeln!(out, "story {name}, message by message")?;
+        out.write_all(&tale.heard)?;
     }
-    Ok(())
+    tell_messages(rt, windows, name, &tale, manner)
 }
 
 fn words_of<T: AllocGlobal + Env>(rt: &T) -> io::Result<Vec<String>> {
@@ -78,8 +196,13 @@ fn words_of<T: AllocGlobal + Env>(rt: &T) -> io::Result<Vec<String>> {
 
 fn tell_all<T: Files + AllocGlobal + Print + Env>(rt: &T) -> Result<(), Fault> {
     let windows = read_windows(rt)?;
+    let mut manner = Manner::Short;
     for name in words_of(rt)?.iter().skip(1) {
-        tell(rt, &windows, name.as_str())?;
+        if name.as_str() == "--each" {
+            manner = Manner::Each;
+        } else {
+            tell(rt, &windows, name.as_str(), manner)?;
+        }
     }
     Ok(())
 }

@@ -20,6 +20,16 @@ pub struct Pieces<'a> {
     pub size: usize,
 }
 
+impl<'a> Pieces<'a> {
+    /// All bytes at once.
+    pub fn whole(rest: &'a [u8]) -> Pieces<'a> {
+        Pieces {
+            rest,
+            size: usize::MAX,
+        }
+    }
+}
+
 impl Read for Pieces<'_> {
     fn read(&mut self, buf: &mut [u8]) -> io::Result<usize> {
         let count = self.rest.len().min(buf.len()).min(self.size);
@@ -48,17 +58,21 @@ fn ended(served: Result<Served, api::Fault>) -> (u64, &'static str) {
     }
 }
 
-// Serves a connection: its answers, and a line that says how it ended.
-fn hear<S: Store>(
+/// Serves a connection: its answers, how many messages were answered, and how serving came to its
+/// end.
+pub fn hear<S: Store>(
     alloc: Global,
     register: &mut Register<S>,
     mut connection: Pieces<'_>,
     heard: &mut Vec<u8>,
-) -> io::Result<()> {
+) -> (u64, &'static str) {
     let options = Options { clock_route: true };
     let reader = &mut connection;
-    let served = serve(alloc, register, &mut NoTicks, &options, reader, heard);
-    let (count, how) = ended(served);
+    ended(serve(alloc, register, &mut NoTicks, &options, reader, heard))
+}
+
+/// Writes the line that stands behind the answers of a connection.
+pub fn tell_end(heard: &mut Vec<u8>, count: u64, how: &str) -> io::Result<()> {
     writeln!(heard, "\n{count} answered, {how}")
 }
 
@@ -70,18 +84,25 @@ fn hear_all<S: Store>(
 ) -> io::Result<Vec<u8>> {
     let mut heard = Vec::new(alloc);
     for rest in story.split(|byte| *byte == BREAK) {
-        hear(alloc, register, Pieces { rest, size }, &mut heard)?;
+        let (count, how) = hear(alloc, register, Pieces { rest, size }, &mut heard);
+        tell_end(&mut heard, count, how)?;
     }
     Ok(heard)
+}
+
+/// A new register over memory.
+pub fn new_register(alloc: Global, windows: &Windows) -> Result<Register<MemoryStore>, Fault> {
+    match Register::open(alloc, MemoryStore::new(alloc), windows) {
+        Ok(register) => Ok(register),
+        Err((_store, fault)) => Err(Fault::from(fault)),
+    }
 }
 
 /// What is answered to a story's connections, which are served one after the other to a new
 /// register in pieces of at most this size.
 pub fn play(alloc: Global, windows: &Windows, story: &[u8], size: usize) -> Result<Vec<u8>, Fault> {
-    match Register::open(alloc, MemoryStore::new(alloc), windows) {
-        Ok(mut register) => Ok(hear_all(alloc, &mut register, story, size)?),
-        Err((_store, fault)) => Err(Fault::from(fault)),
-    }
+    let mut register = new_register(alloc, windows)?;
+    Ok(hear_all(alloc, &mut register, story, size)?)
 }
 
 /// The same to a new register over a database in memory, and how often that store failed.
@@ -96,11 +117,11 @@ pub fn play_stored(
             let heard = hear_all(alloc, &mut register, story, usize::MAX);
             let store = register.close();
             let failures = store.failures();
-            let _database = store.into_connection().into_store();
+            let _database = store.release().into_store();
             Ok((heard?, failures))
         }
         Err((store, fault)) => {
-            let _database = store.into_connection().into_store();
+            let _database = store.release().into_store();
             Err(Fault::from(fault))
         }
     }

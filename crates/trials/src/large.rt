@@ -1,5 +1,6 @@
 //! Messages that are too large for a story's file.
-use crate::port::{answer, asked, hears, new_register, whole};
+use crate::port::{answer, asked, hears, new_register, served, whole};
+use api::{End, Fault, Served};
 use register::Register;
 use std::alloc::{AllocError, Global};
 use std::process::Abort;
@@ -69,4 +70,86 @@ fn is_too_long<T: Abort + AllocGlobal>(rt: &T) -> Option<()> {
 #[test]
 fn a_million_semicolons_are_too_long(rt: HostRuntime) {
     assert!(rt; is_too_long(&rt).is_some());
+}
+
+// A large message is cut after each of its first so many bytes.
+const CUTS: usize = 10_000;
+
+const BAD_HEAD: &str = r#"{"error":"bad_head","number":45}"#;
+
+const CUT_BODY: &str = r#"{"error":"cut_body","number":46}"#;
+
+// Why a message was refused that could not be read, if it was.
+fn refused_as(ended: Result<Served, Fault>) -> &'static str {
+    match ended {
+        Ok(
+            Served {
+                count: 1,
+                end: End::Refused(fault),
+            },
+        ) => fault.name(),
+        _ => "",
+    }
+}
+
+// The front of a message is answered so.
+fn is_cut_so(
+    alloc: Global,
+    register: &mut Register<MemoryStore>,
+    front: &[u8],
+    (name, body): (&str, &str),
+) -> Option<bool> {
+    let wanted = answer(alloc, "400 Bad Request", body).ok()?;
+    let mut reader = front;
+    let (heard, ended) = served(alloc, register, &mut reader);
+    if front.is_empty() {
+        return Some(heard.is_empty() && ended == whole(0));
+    }
+    Some(heard.as_slice() == wanted.as_bytes() && refused_as(ended) == name)
+}
+
+// The first cut of a message that is answered otherwise: in its head, or behind it.
+fn first_wrong_cut_in(
+    alloc: Global,
+    register: &mut Register<MemoryStore>,
+    message: &str,
+) -> Option<usize> {
+    let head = message
+        .find("\r\n\r\n")
+        .map_or(0, |line| line.saturating_add(4));
+    for place in 0..CUTS {
+        let wanted = if place < head {
+            ("bad_head", BAD_HEAD)
+        } else {
+            ("cut_body", CUT_BODY)
+        };
+        let front = message.as_bytes().get(..place).unwrap_or(&[]);
+        if is_cut_so(alloc, register, front, wanted) != Some(true) {
+            return Some(place);
+        }
+    }
+    None
+}
+
+// A query of so many characters of this kind behind its front is cut.
+fn first_wrong_cut(alloc: Global, front: &str, filler: char, back: &str) -> Option<usize> {
+    let Ok(body) = filled(alloc, front, filler, 1_000_000, back) else {
+        return Some(0);
+    };
+    let Ok(message) = asked(alloc, &("NPAC", "/query", body.as_str(), "")) else {
+        return Some(0);
+    };
+    let Some(mut register) = new_register(alloc) else {
+        return Some(0);
+    };
+    first_wrong_cut_in(alloc, &mut register, message.as_str())
+}
+
+#[test]
+fn large_messages_that_are_cut(rt: HostRuntime) {
+    assert_eq!(rt; first_wrong_cut(rt.alloc(), "", ' ', QUERY), None);
+    assert_eq!(rt;
+        first_wrong_cut(rt.alloc(), r#"{"uri":""#, ';', r#""}"#),
+        None
+    );
 }

@@ -4,6 +4,8 @@
 #[cfg(test)]
 mod blocks;
 #[cfg(test)]
+mod broken_off;
+#[cfg(test)]
 mod commands;
 #[cfg(test)]
 mod counted;

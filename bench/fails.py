@@ -1,0 +1,39 @@
+"""Each call of a store that fails in turn, and each cut of each message, in all stories."""
+import re
+import subprocess
+import sys
+import time
+from concurrent.futures import ThreadPoolExecutor
+from pathlib import Path
+
+sys.path.insert(0, "tests")
+import stories
+
+PROGRAM = Path("crates/stories/out/stories").resolve()
+TOLD = re.compile(r"story \S+, (\d+) cuts\nstory \S+, (\d+) calls of memory\nstory \S+, (\d+) calls of the database\n")
+
+
+def played(name):
+    """How many cuts a story has, and how many calls of memory and of a database; or none, if something is answered otherwise."""
+    ran = subprocess.run([PROGRAM, "--each", name], cwd=stories.CRATE / "data", capture_output=True, check=False)
+    heard = ran.stdout.decode(errors="replace")
+    wanted = "".join(piece.text for piece in stories.told(name)[1])
+    told = TOLD.fullmatch(heard.removeprefix(wanted)) if heard.startswith(wanted) and not ran.returncode else None
+    return [int(count) for count in told.groups()] if told else None
+
+
+def main(names):
+    names = names or [path.stem for path in sorted(stories.STORIES.glob("*.story"))]
+    start, counts = time.monotonic(), []
+    with ThreadPoolExecutor(2) as pool:
+        for name, count in zip(names, pool.map(played, names)):
+            if count is None:
+                sys.exit(f"{name}: answered otherwise")
+            print(f"{name}: {count[0]} cuts, {count[1]} calls of memory, {count[2]} of a database", flush=True)
+            counts.append(count)
+    cuts, memory, database = (sum(column) for column in zip(*counts))
+    print(f"{len(names)} stories: {memory} calls of memory and {database} of a database failed in turn, each once and then always")
+    print(f"{cuts} cuts; {time.monotonic() - start:.0f} seconds on two processors")
+
+
+main(sys.argv[1:])

@@ -1,0 +1,131 @@
+//! The messages of a story, cut after each of their bytes.
+use crate::story::{Pieces, hear};
+use crate::tale::{Tale, head_length};
+use register::Register;
+use std::alloc::Global;
+use store::MemoryStore;
+
+/// Where a message is cut that is answered otherwise than it should be.
+#[derive(Clone, Copy, Debug, PartialEq, Eq)]
+pub struct Cut {
+    pub message: usize,
+    pub place: usize,
+}
+
+// A longer message is cut after each of its first so many bytes.
+const MOST_CUTS: usize = 10_000;
+
+// Empty lines that are so many bytes, or more, are no head.
+const LEAST_NO_HEAD: usize = 8192;
+
+const BAD_HEAD: &[u8] =
+    b"HTTP/1.1 400 Bad Request\r\ncontent-type: application/json\r\ncontent-length: 32\r\n\r\n{\"error\":\"bad_head\",\"number\":45}";
+
+const TOO_LARGE: &[u8] =
+    b"HTTP/1.1 413 Payload Too Large\r\ncontent-type: application/json\r\ncontent-length: 33\r\n\r\n{\"error\":\"too_large\",\"number\":44}";
+
+const CUT_BODY: &[u8] =
+    b"HTTP/1.1 400 Bad Request\r\ncontent-type: application/json\r\ncontent-length: 32\r\n\r\n{\"error\":\"cut_body\",\"number\":46}";
+
+// What is answered, to how many messages, and how the connection ends.
+type Ended = (&'static [u8], u64, &'static str);
+
+// Whether bytes are nothing but empty lines that are dropped at the end of the input.
+fn are_dropped(bytes: &[u8]) -> bool {
+    let mut is_after_return = false;
+    for byte in bytes {
+        match (is_after_return, *byte) {
+            (_, b'\n') => is_after_return = false,
+            (false, b'\r') => is_after_return = true,
+            _ => return false,
+        }
+    }
+    !is_after_return && bytes.len() < LEAST_NO_HEAD
+}
+
+// What is answered to the front of a message, whose head ends there and which is answered so: the
+// head is judged when it has come whole, and then the length that it says.
+fn ended_of(front: &[u8], head: Option<usize>, answer: &[u8]) -> Ended {
+    let has_head = match head {
+        Some(head) => head <= front.len(),
+        None => false,
+    };
+    if are_dropped(front) {
+        (b"", 0, "input")
+    } else if !has_head || answer == BAD_HEAD {
+        (BAD_HEAD, 1, "bad_head")
+    } else if answer == TOO_LARGE {
+        (TOO_LARGE, 1, "too_large")
+    } else {
+        (CUT_BODY, 1, "cut_body")
+    }
+}
+
+fn is_cut_so(
+    alloc: Global,
+    register: &mut Register<MemoryStore>,
+    front: &[u8],
+    wanted: Ended,
+) -> bool {
+    let mut heard = Vec::new(alloc);
+    let (count, how) = hear(alloc, register, Pieces::whole(front), &mut heard);
+    (heard.as_slice(), count, how) == wanted
+}
+
+// The first byte after which a message is cut and answered otherwise than it should be.
+fn first_wrong_place(
+    alloc: Global,
+    register: &mut Register<MemoryStore>,
+    tale: &Tale,
+    message: usize,
+) -> Option<usize> {
+    let bytes = tale.message(message);
+    let head = head_length(bytes);
+    for place in 0..bytes.len().min(MOST_CUTS) {
+        let front = bytes.split_at(place).0;
+        let wanted = ended_of(front, head, tale.answer(message));
+        if !is_cut_so(alloc, register, front, wanted) {
+            return Some(place);
+        }
+    }
+    None
+}
+
+/// The first cut of a message of the story that is answered otherwise than it should be. Behind all
+/// its cuts each message is sent whole.
+pub fn first_wrong_cut(
+    alloc: Global,
+    register: &mut Register<MemoryStore>,
+    tale: &Tale,
+) -> Option<Cut> {
+    for message in 0..tale.len() {
+        if let Some(place) = first_wrong_place(alloc, register, tale, message) {
+            return Some(Cut { message, place });
+        }
+        if !tale.is_told_between(alloc, register, message, message.saturating_add(1)) {
+            let place = tale.message(message).len();
+            return Some(Cut { message, place });
+        }
+    }
+    None
+}
+
+/// How many cuts there are.
+pub fn cuts_of(tale: &Tale) -> usize {
+    let mut count = 0usize;
+    for message in 0..tale.len() {
+        count = count.saturating_add(tale.message(message).len().min(MOST_CUTS));
+    }
+    count
+}
+
+/// Whether the story has a message that is refused for its form.
+pub fn is_hostile(tale: &Tale) -> bool {
+    for message in 0..tale.len() {
+        let answer = tale.answer(message);
+        if answer.starts_with(b"HTTP/1.1 400 ") || answer.starts_with(b"HTTP/1.1 413 ") {
+            return true;
+        }
+    }
+    false
+}
