@@ -1,4 +1,5 @@
 """A register in a file, beside stock SQLite with the same statements."""
+import hashlib
 import os
 import sqlite3
 import subprocess
@@ -142,12 +143,17 @@ def state_of(file):
 
 
 def rows_of(file):
-    """The rows that a file has, table by table."""
+    """A digest of the rows that a file has, table by table: the rows themselves would count as memory of each program begun from here."""
     database = sqlite3.connect(file)
     tables = [name for name, in database.execute("SELECT name FROM sqlite_schema WHERE type = 'table' ORDER BY name")]
-    rows = {table: sorted(database.execute(f"SELECT * FROM {table}").fetchall(), key=str) for table in tables}
+    digest = hashlib.sha256()
+    for table in tables:
+        columns = [row[1] for row in database.execute(f"PRAGMA table_info({table})")]
+        digest.update(table.encode())
+        for row in database.execute(f"SELECT * FROM {table} ORDER BY {', '.join(columns)}"):
+            digest.update(repr(row).encode())
     database.close()
-    return rows
+    return digest.hexdigest()
 
 
 def ports_and_queries(programs, folder, ports, many):

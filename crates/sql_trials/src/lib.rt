@@ -13,6 +13,8 @@ mod failed_block;
 #[cfg(test)]
 mod files;
 #[cfg(test)]
+mod minutes;
+#[cfg(test)]
 mod moved;
 #[cfg(test)]
 mod program;
