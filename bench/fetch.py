@@ -46,9 +46,10 @@ def peak(process):
         return int(re.search(r"VmHWM:\s*(\d+)", status.read()).group(1)) / 1024
 
 
-def fetching_time(count, answers):
+def fetching_time(count, answers, file):
     with open(answers, "wb") as out:
-        program = subprocess.Popen([PROGRAM, "feed", "--windows", WINDOWS], stdin=subprocess.PIPE, stdout=out)
+        words = [PROGRAM, "feed", "--windows", WINDOWS, *(["--db", file] if file else [])]
+        program = subprocess.Popen(words, stdin=subprocess.PIPE, stdout=out)
 
         def feed(texts):
             program.stdin.write("".join(texts).encode())
@@ -67,10 +68,12 @@ def fetching_time(count, answers):
 
 def main():
     least = int(sys.argv[1])
+    files = sys.argv[2:] == ["file"]
     rates = []
-    with tempfile.TemporaryDirectory() as folder:
+    with tempfile.TemporaryDirectory(dir=".") as folder:
         for count in (least, 10 * least):
-            runs = [fetching_time(count, os.path.join(folder, "answers")) for _ in range(3)]
+            named = [os.path.join(folder, f"{count}-{turn}.db") if files else None for turn in range(1 if files else 3)]
+            runs = [fetching_time(count, os.path.join(folder, "answers"), file) for file in named]
             taken = min(run[0] for run in runs)
             rates.append(count / taken)
             print(f"{count} downloads: {rates[-1]:,.0f} acknowledgements/s of processor time, {runs[0][1]:.0f} MiB at most")
