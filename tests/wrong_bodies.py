@@ -93,7 +93,8 @@ def function_at(crate, path, before):
     indent, name = found[-1].groups()
     if indent:
         trait, argument, subject = re.findall(r"^impl(?:<.*?>)? (?:([\w:]+)(?:<(\w+).*?>)? for )?(\w+)", before, re.M)[-1]
-        return rf"{crate}::(?:\w+::)*{subject}{trait.split('::')[-1]}(?:{argument})?::{name}"
+        # an impl of one kind of the type alone names that kind behind it, as in Store+File::open
+        return rf"{crate}::(?:\w+::)*{subject}{trait.split('::')[-1]}(?:{argument})?(?:\+[\w+]+)?::{name}"
     module = path.removeprefix("src/").removesuffix(".rt").removesuffix("/mod")
     return "::".join([crate, *([] if module in ("lib", "main") else module.split("/")), name])
 

@@ -6,6 +6,7 @@ use std::io;
 use std::time::{Clock, Duration};
 
 // A clock that shows one time since 1970.
+#[derive(Clone, Copy)]
 struct Still(Duration);
 
 impl Clock for Still {
