@@ -183,13 +183,28 @@ def check_edited(crate, texts, below):
     return ran.stdout.split("\n")
 
 
+def noted_goal(lines):
+    """The last goal that the notes at the end of these lines say is not proved: those of a function stand before its own line."""
+    notes = re.compile(r"note: .*it is not proved that .*\((`[^`]*`)\)")
+    for line in reversed(lines):
+        if line.startswith("fn "):
+            break
+        if found := notes.match(line):
+            return found[1]
+    return None
+
+
 def goal_of(edit, lines):
     """A goal of the edit's own function that is not proved, None where there is none."""
-    said = [found for line in lines if (found := re.match(rf"fn ({edit.function}): (.*)", line))]
+    own_line = re.compile(rf"fn ({edit.function}): (.*)")
+    places = [place for place, line in enumerate(lines) if own_line.match(line)]
+    said = [own_line.match(lines[place]) for place in places]
     if len(said) != 1:
         stop(f"{edit.crate}/{edit.name}: the checker speaks {len(said)} times of {edit.function}; its last lines:\n" + "\n".join(lines[-6:]))
     if goal := re.search(r"`search` did not prove (`[^`]*`)", said[0][2]):
         return goal[1]
+    if goal := noted_goal(lines[:places[0]]):
+        return goal
     _, *parts = said[0][1].split("::")
     own = re.compile(rf"\./proofs/{'/'.join(parts)}/\w+\.antt:\d+:\d+: error: (.*)")
     names = re.compile(r"has no field|is not in scope|has no `|was not admitted")
