@@ -23,7 +23,7 @@ use Rattle.numbers.specs.Digits.{block_code_of, number_in}
 use Rattle.pool.specs.declared.facts.BlockFacts.{BlockFacts}
 use Rattle.pool.specs.declared.assignment.Assignment.{Assignment}
 use Rattle.pool.specs.Facts.{carrier_number, has_open_port, in_force_numbers}
-use Rattle.pool.specs.Blocks.{BlockFactsAre, NumbersAre}
+use Rattle.pool.specs.Blocks.{BlockFactsAre, IsBlockCommandIn, NumbersAre}
 use Rattle.pool.specs.declared.donation.Donation.{Donation}
 use Rattle.pool.specs.Donations.{command_of as donated, lines_of, used_by, unnamed, made_numbers, contaminated_numbers, donation_refusal}
 use Rattle.pool.specs.Assignments.{command_of, assignment_refusal}
@@ -195,3 +195,20 @@ module _ (st : State) (caller : ℕ) (facts : BlockFacts) where
       donate_by_table st caller d
       ∙ (λ i. first_that_holds ((1, unknown_carrier st (Requests caller (Commands (donated d)))) ∷ (3, code i) ∷ (7, lrn i) ∷ (11, not (holder i)) ∷ (22, nat_lt 100 (many i))
       ∷ (23, sym are.ports i) ∷ (24, donor i) ∷ (28, nat_lt limit (sym are.next_id i + length (made i))) ∷ []))
+
+-- where the facts are those of a block of a state, what is refused as they say is refused as the state says
+module _ (st : State) (caller : ℕ) (facts : BlockFacts) where
+  pub release_refused_in : (block : ℕ) → IsBlockCommandIn st caller block (Release block) facts → (refused : Option ℕ) →
+      refused ≡ release_refusal caller facts → refused ≡ refusal st (Requests caller (Commands (Release block)))
+  release_refused_in block is refused by_facts =
+      by_facts ∙ sym (release_refused st caller facts block is.are is.reached.history ∙ ap (λ b. if b then Some 1 else release_refusal caller facts) is.known)
+
+  pub assignment_refused_in : (a : Assignment) → IsBlockCommandIn st caller a.block.number (command_of a) facts → (refused : Option ℕ) →
+      refused ≡ assignment_refusal caller facts → refused ≡ refusal st (Requests caller (Commands (command_of a)))
+  assignment_refused_in a is refused by_facts =
+      by_facts ∙ sym (assignment_refused st caller facts a is.are ∙ ap (λ b. if b then Some 1 else assignment_refusal caller facts) is.known)
+
+  pub donation_refused_in : (d : Donation) → IsBlockCommandIn st caller d.block.number (donated d) facts → NumbersAre st d.block.number facts.numbers.now →
+      refusal st (Requests caller (Commands (donated d))) ≡ donation_refusal caller d facts
+  donation_refused_in d is numbers =
+      donation_refused st caller facts d is.are numbers ∙ ap (λ b. if b then Some 1 else donation_refusal caller d facts) is.known

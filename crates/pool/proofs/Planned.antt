@@ -14,7 +14,7 @@ use Rattle.meaning.specs.Refusals.{first_that_holds}
 use Rattle.pool.specs.declared.donation.Donation.{Donation}
 use Rattle.pool.specs.declared.facts.BlockFacts.{BlockFacts}
 use Rattle.pool.specs.Facts.{has_open_port, in_force_numbers}
-use Rattle.pool.specs.Donations.{tn_subject, numbers_in, used_by, is_unprotected, made_numbers, is_contaminated, donor_tests, tests_by, block_tests, donation_refusal, AreProtective, IsPlanned}
+use Rattle.pool.specs.Donations.{tn_subject, numbers_in, used_by, is_unprotected, made_numbers, is_contaminated, donor_tests, tests_by, block_tests, donation_refusal, AreProtective, IsPlanned, IsRefusedAs}
 use Rattle.pool.proofs.InUse.{picked}
 use Rattle.meaning.specs.Windows.{WindowSet}
 
@@ -69,6 +69,11 @@ pub handed : {A : Type 0} (result : Result A Refusal) (was : Refusal) (o : Optio
     IfErr result (λ r. r ≢ NoMemory → o ≡ Some (number_of r))
 handed (Ok value) was o is e = tt
 handed (Err r) was o is e = λ other. e ∙ ap (λ x. Some (number_of x)) (sym is)
+
+-- the same of a refusal that is the state's
+pub refused_as : {A : Type 0} (result : Result A Refusal) (was : Refusal) (o : Option ℕ) → IsErrAnd result (λ r. r ≡ was) → o ≡ Some (number_of was) → IsRefusedAs o result
+refused_as (Ok value) was o is e = absurd is
+refused_as (Err r) was o is e = λ other. e ∙ ap (λ x. Some (number_of x)) (sym is)
 
 -- the ids are within the limit where the block is not refused
 pub within : (facts : BlockFacts) (used : BTreeSet Tn) (versions : ℕ) → first_that_holds (tests_by (numbers_in used) versions facts) ≡ None → facts.next_id + versions ≤ limit

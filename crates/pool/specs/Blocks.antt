@@ -1,5 +1,5 @@
 -- What the facts of a block are, of a state.
-use Rattle.std.specs.Prelude.{ℕ, ◌≡◌, ◌<◌, not, ◌&&◌, List, map, filter, length, is_some}
+use Rattle.std.specs.Prelude.{ℕ, ◌≡◌, ◌<◌, false, not, ◌&&◌, List, map, filter, length, is_some}
 use Rattle.std.specs.List.{list_any}
 use Rattle.numbers.specs.Digits.{block_code_of, number_in}
 use Rattle.numbers.specs.Subjects.{Subject, Number, Block, subject_eq}
@@ -7,9 +7,10 @@ use Rattle.version.specs.declared.in_use.NumberInUse.{NumberInUse}
 use Rattle.version.specs.Facts.{Sees}
 use Rattle.meaning.specs.Commands.{Command}
 use Rattle.meaning.specs.Versions.{in_force, last_version, version_in_force}
-use Rattle.meaning.specs.History.{code_holder, donor_of, next_id}
+use Rattle.meaning.specs.History.{Commands, code_holder, donor_of, next_id}
 use Rattle.meaning.specs.Reading.{State, SubjectVersion, all_versions, record_now}
-use Rattle.meaning.specs.Refusals.{bad_lrn, is_in_block, has_open_port as has_open_port_in}
+use Rattle.meaning.specs.Refusals.{Requests, bad_lrn, is_in_block, has_open_port as has_open_port_in, unknown_carrier}
+use Rattle.meaning.specs.Laws.{IsState}
 use Rattle.pool.specs.declared.facts.BlockFacts.{BlockFacts}
 use Rattle.pool.specs.Facts.{carrier_number, has_open_port, in_force_numbers}
 use Rattle.pool.specs.Donations.{unnamed}
@@ -30,3 +31,9 @@ pub record NumbersAre (st : State) (block : ℕ) (numbers : List NumberInUse) : 
   pub others : (used : List Subject) →
       length (unnamed used (in_force_numbers numbers))
       ≡ length (filter (λ s. is_in_block block s && not (list_any (subject_eq s) used)) (map (λ (e : SubjectVersion). e.subject) (filter (λ e. in_force e.version) (all_versions st))))
+
+-- the command is told of a block of the state, which is one that a run can reach, and no carrier of it is unknown
+pub record IsBlockCommandIn (st : State) (caller block : ℕ) (c : Command) (facts : BlockFacts) : Type 0 where
+  pub reached : IsState st
+  pub known : unknown_carrier st (Requests caller (Commands c)) ≡ false
+  pub are : BlockFactsAre st caller block c facts

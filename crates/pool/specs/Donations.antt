@@ -1,5 +1,5 @@
 -- What a donation makes, and what it is refused for.
-use Rattle.std.specs.Prelude.{ℕ, suc, ◌+◌, ◌≡◌, Bool, not, ◌&&◌, ◌==◌, nat_lt, List, [], ◌∷◌, ◌++◌, map, filter, length, Option, is_none, is_some, option_map, ⊤}
+use Rattle.std.specs.Prelude.{ℕ, suc, ◌+◌, ◌≡◌, ◌≢◌, Bool, not, ◌&&◌, ◌==◌, nat_lt, List, [], ◌∷◌, ◌++◌, map, filter, length, Option, Some, None, is_none, is_some, option_map, Result, Ok, Err, ⊤}
 use Rattle.std.specs.List.{list_any}
 use Rattle.std.specs.BTreeSet.{BTreeSet, keys}
 use Rattle.numbers.specs.Subjects.{Subject, Number, subject_eq}
@@ -13,6 +13,9 @@ use Rattle.version.specs.Views.{IsSeen}
 use Rattle.meaning.specs.Commands.{Command, Donate}
 use Rattle.meaning.specs.Conditions.{limit, is_the}
 use Rattle.meaning.specs.History.{Commands, used_numbers, made_version}
+use Rattle.meaning.specs.declared.refusal.Refusal.{Refusal}
+use Rattle.meaning.specs.declared.refusal.Refusal.TheVariants.{NoMemory}
+use Rattle.meaning.specs.RefusalNumbers.{number_of}
 use Rattle.meaning.specs.Refusals.{first_that_holds}
 use Rattle.pool.specs.declared.donation.Donation.{Donation}
 use Rattle.pool.specs.declared.facts.BlockFacts.{BlockFacts}
@@ -86,6 +89,11 @@ block_tests used facts = tests_by used (length (made_numbers used (in_force_numb
 -- the least number whose condition holds of the donation by a registered carrier
 abbrev pub donation_refusal : (caller : ℕ) → Donation → BlockFacts → Option ℕ
 donation_refusal caller d facts = first_that_holds (donor_tests caller facts ++ block_tests (used_by d) facts)
+
+-- the call is refused for this, or is not where this is none. Want of memory tells nothing of it
+abbrev pub IsRefusedAs : {A : Type 0} → Option ℕ → Result A Refusal → Type 0
+IsRefusedAs refusal (Ok value) = refusal ≡ None
+IsRefusedAs refusal (Err r) = r ≢ NoMemory → refusal ≡ Some (number_of r)
 
 -- ---- what is made
 

@@ -1,10 +1,14 @@
 //! Assignment: the administrator gives a donated block to a carrier.
 ghost use Rattle.std.specs.Prelude.{◌≡◌, IfOk};
 ghost use Rattle.delivery.specs.Refused.{refusal_in};
+ghost use Rattle.meaning.specs.History.{Commands};
+ghost use Rattle.meaning.specs.Reading.{State};
+ghost use Rattle.meaning.specs.Refusals.{refusal, Requests};
 ghost use Rattle.meaning.specs.Conditions.{holds_of, takes_block};
 ghost use Rattle.version.specs.Views.{seen, set_of};
 ghost use Rattle.pool.specs.Facts.{carrier_number};
-ghost use Rattle.pool.specs.Assignments.{assignment_refusal, IsAssigned};
+ghost use Rattle.pool.specs.Assignments.{assignment_refusal, command_of, IsAssigned};
+ghost use Rattle.pool.specs.Blocks.{IsBlockCommandIn};
 
 use crate::facts::BlockFacts;
 use meaning::{Refusal, Status};
@@ -69,7 +73,8 @@ impl Assignment {
     /// `UnknownCode` where the block's code is not opened, `BadLrn` where the routing number is not
     /// the holder's, `NotFound` where the block is not donated, `OpenPorts` where a number of it is
     /// being ported, `BlockTaken` where its last version is sending, active or a partial failure,
-    /// and `Full` where no id is left.
+    /// and `Full` where no id is left. Where the facts are those of the block in a state, that is
+    /// what the state refuses the assignment for.
     pub fn made(
         &self,
         caller: Spid,
@@ -78,6 +83,11 @@ impl Assignment {
         present: &WindowSet,
     ) -> Result<Version, Refusal>
         ensures refusal { refusal_in result ≡ assignment_refusal caller.number facts.now }
+        ensures state { (st : State)
+            → IsBlockCommandIn st caller.number self.now.block.number (command_of self.now)
+            facts.now
+            → refusal_in result
+            ≡ refusal st (Requests caller.number (Commands (command_of self.now))) }
         ensures made { IfOk result
             (IsAssigned (set_of present.now) minute.number self.now
             (carrier_number facts.now.donor)) }

@@ -5,10 +5,13 @@ ghost use Rattle.meaning.specs.Conditions.{limit};
 ghost use Rattle.delivery.specs.Refused.{refusal_in};
 ghost use Rattle.meaning.specs.RefusalNumbers.{number_of};
 ghost use Rattle.meaning.specs.declared.refusal.Refusal.TheVariants.{NoMemory};
-ghost use Rattle.meaning.specs.Refusals.{first_that_holds};
+ghost use Rattle.meaning.specs.History.{Commands};
+ghost use Rattle.meaning.specs.Reading.{State};
+ghost use Rattle.meaning.specs.Refusals.{first_that_holds, refusal, Requests};
 ghost use Rattle.numbers.specs.Subjects.{Number};
 ghost use Rattle.version.specs.Views.{set_of};
-ghost use Rattle.pool.specs.Donations.{donation_refusal, donor_tests, is_contaminated, is_named, is_unnamed, is_unprotected, numbers_in, tests_by, tn_subject, used_by, AreProtective, IsPlanned, IsProtective};
+ghost use Rattle.pool.specs.Blocks.{IsBlockCommandIn, NumbersAre};
+ghost use Rattle.pool.specs.Donations.{command_of, donation_refusal, donor_tests, is_contaminated, is_named, is_unnamed, is_unprotected, numbers_in, tests_by, tn_subject, used_by, AreProtective, IsPlanned, IsProtective, IsRefusedAs};
 
 use crate::facts::BlockFacts;
 use meaning::{Refusal, Status};
@@ -197,7 +200,9 @@ impl Donation<'_> {
     /// `BadLrn` where the routing number is not the caller's, `NotYours` where the caller does not
     /// hold the code, `Contaminated` where more than a hundred numbers are used or in force,
     /// `OpenPorts` where a number is being ported, `BlockTaken` where the block is donated already,
-    /// and `Full` where no ids are left. `NoMemory` may come in place of any answer.
+    /// and `Full` where no ids are left. `NoMemory` may come in place of any answer. Where the
+    /// facts are those of the block in a state, every other refusal is what the state refuses the
+    /// donation for.
     pub fn plan(
         &self,
         alloc: Global,
@@ -210,6 +215,12 @@ impl Donation<'_> {
             (donation_refusal caller.number self.now facts.now ≡ None) }
         ensures refused { IfErr result (λ refusal. refusal ≢ NoMemory
             → donation_refusal caller.number self.now facts.now ≡ Some (number_of refusal)) }
+        ensures state { (st : State)
+            → IsBlockCommandIn st caller.number self.now.block.number (command_of self.now)
+            facts.now
+            → NumbersAre st self.now.block.number facts.now.numbers.now
+            → IsRefusedAs
+            (refusal st (Requests caller.number (Commands (command_of self.now)))) result }
         ensures planned { IfOk result (λ plan.
             IsPlanned (set_of present.now) caller.number minute.number self.now facts.now
             plan.versions.items) }

@@ -1,7 +1,12 @@
 //! Release: a block is given back to the pool.
 ghost use Rattle.std.specs.Prelude.{◌≡◌, ℕ, List, IfOk};
 ghost use Rattle.delivery.specs.Refused.{refusal_in};
+ghost use Rattle.meaning.specs.Commands.{Release};
+ghost use Rattle.meaning.specs.History.{Commands};
+ghost use Rattle.meaning.specs.Reading.{State};
+ghost use Rattle.meaning.specs.Refusals.{refusal, Requests};
 ghost use Rattle.version.specs.Views.{set_of};
+ghost use Rattle.pool.specs.Blocks.{IsBlockCommandIn};
 ghost use Rattle.pool.specs.Releases.{is_others, release_refusal, IsReleased};
 
 use crate::facts::BlockFacts;
@@ -25,7 +30,8 @@ fn is_others(version: &Version, caller: Spid) -> bool
 /// `NotFound` where it is not donated or was never assigned, `NotYours` where the caller is neither
 /// its last version's new provider nor the administrator, `WrongStatus` where that version is not
 /// active, `OpenPorts` where a number of the block is being ported, and `Full` where no attempt is
-/// left.
+/// left. Where the facts are those of a block of a state, that is what the state refuses its
+/// release for.
 pub fn release(
     caller: Spid,
     facts: &BlockFacts<'_>,
@@ -33,6 +39,9 @@ pub fn release(
     present: &WindowSet,
 ) -> Result<Step, Refusal>
     ensures refusal { refusal_in result ≡ release_refusal caller.number facts.now }
+    ensures state { (st : State) (block : ℕ)
+        → IsBlockCommandIn st caller.number block (Release block) facts.now
+        → refusal_in result ≡ refusal st (Requests caller.number (Commands (Release block))) }
     ensures released { IfOk result (IsReleased (set_of present.now) minute.number facts.now.last) }
 {
     if facts.code_holder.is_none() {

@@ -1,9 +1,10 @@
 -- The refusals in turn, and the versions.
-use Rattle.std.proofs.Common.{◌≡◌, List, Some, None, length, map, rules, sym, subst, arith}
+use Rattle.std.proofs.Common.{◌≡◌, ◌∙◌, List, Some, None, length, map, rules, sym, subst, arith}
 use Rattle.numbers.specs.declared.tn.Tn.{Tn}
 use Rattle.meaning.specs.RefusalNumbers.{number_of}
 use Rattle.pool.specs.Donations.{tn_subject, donation_refusal, AreProtective}
-use Rattle.pool.proofs.Planned.{refused, answered, handed, within, planned}
+use Rattle.pool.proofs.BlockRefused.{donation_refused_in}
+use Rattle.pool.proofs.Planned.{refused, answered, handed, refused_as, within, planned}
 use Rattle.pool.proofs.donation.Donation.plan.Goals as goal
 use Rattle.version.specs.Views.{set_of}
 
@@ -20,6 +21,29 @@ returns-in_err-check_block-clause-refused c =
     handed c.from_residual-in_err-check_block.result was (donation_refusal c.args.caller.number c.args.self.now c.args.facts.now) c.from_residual-in_err-check_block.ensures.1
     (answered c.args.caller.number c.args.self.now c.args.facts.now c.in_ok-used.used c.in_ok-made.made.items c.len.result (Some (number_of was))
     c.in_ok-check_donor.ensures c.in_ok-used.ensures c.in_ok-made.ensures many c.in_err-check_block.ensures)
+
+pub returns-in_err-check_donor-clause-state : goal.returns-in_err-check_donor-clause-state
+returns-in_err-check_donor-clause-state c = λ st is numbers.
+    let was = c.in_err-check_donor.field-0.0 in
+    refused_as c.from_residual.result was _ c.from_residual.ensures.1
+    (donation_refused_in st c.args.caller.number c.args.facts.now c.args.self.now is numbers
+    ∙ refused c.args.caller.number c.args.self.now c.args.facts.now (number_of was) (sym c.in_err-check_donor.ensures))
+
+pub returns-in_err-check_block-clause-state : goal.returns-in_err-check_block-clause-state
+returns-in_err-check_block-clause-state c = λ st is numbers.
+    let was = c.in_err-check_block.field-0.0 in
+    let many : c.len.result ≡ length c.in_ok-made.made.items = search rules in
+    refused_as c.from_residual-in_err-check_block.result was _ c.from_residual-in_err-check_block.ensures.1
+    (donation_refused_in st c.args.caller.number c.args.facts.now c.args.self.now is numbers
+    ∙ answered c.args.caller.number c.args.self.now c.args.facts.now c.in_ok-used.used c.in_ok-made.made.items c.len.result (Some (number_of was))
+    c.in_ok-check_donor.ensures c.in_ok-used.ensures c.in_ok-made.ensures many c.in_err-check_block.ensures)
+
+pub returns-clause-state : goal.returns-clause-state
+returns-clause-state c = λ st is numbers.
+    let many : c.len.result ≡ length c.in_ok-made.made.items = search rules in
+    donation_refused_in st c.args.caller.number c.args.facts.now c.args.self.now is numbers
+    ∙ answered c.args.caller.number c.args.self.now c.args.facts.now c.in_ok-used.used c.in_ok-made.made.items c.len.result None
+    c.in_ok-check_donor.ensures c.in_ok-used.ensures c.in_ok-made.ensures many c.in_ok-check_block.ensures
 
 pub versions-requires : goal.versions-requires
 versions-requires c = record {
