@@ -29,7 +29,7 @@ use Rattle.sql_rows.proofs.TableLemmas.{removed_shaped}
 use Rattle.sql_rows.proofs.PutLemmas.{Became}
 use Rattle.sql_rows.proofs.StatementLemmas.{Selects, query_is, query_plain, query_selects, query_unlisted}
 use Rattle.sql_store.proofs.Showing.{ShowsNone, never_shows, understood_none}
-use Rattle.sql_store.specs.Store.{settled, content_at, IsOurs, IsSame, Looked, Turned, IsInside, Stepped, Kept, Makes, Goes, Writes}
+use Rattle.sql_store.specs.Store.{CommitLeaves, settled, content_at, IsOurs, IsSame, Looked, Turned, IsInside, Stepped, Kept, Makes, Goes, Writes}
 
 module _ (sql : List ℕ) (params : Row) (old new : State) where
   pub shown_open : (rows : List Row) → Shown sql params old new rows → IsTrue old.is_open
@@ -445,6 +445,15 @@ module _ (a b d : State) (Turns Becomes : Content → Content → Type 0) (one :
     crash = survives_then a b d _ _ _ (λ clean db none. absurd none) (λ clean db h was. let up = one.stays refl (two.honest clean) in from_first up (content_in db) (h up)) one.survives two.crash;
   }
 
+  -- the read was answered, so that the connection was open
+  pub read_leaves : (done : Bool) → Turned b d done Turns → CommitLeaves a d Becomes
+  read_leaves done two clean db may =
+      let up = one.stays refl (two.honest clean) in
+      elim (two.crash.crash clean db may) [
+        | inr made ↦ inr (from_first up (content_in db) (made up))
+        | inl was ↦ elim (one.survives.crash (two.honest clean) db was) [ inl sooner ↦ inl sooner | inr none ↦ absurd none ]
+      ]
+
 -- a read that failed: nothing is committed
 pub looked_unturned : (a b : State) (Becomes : Content → Content → Type 0) → (IsTrue a.is_open → IsOurs a) → Looked a b false → Turned a b false Becomes
 looked_unturned a b Becomes ours one = record {
@@ -456,3 +465,7 @@ looked_unturned a b Becomes ours one = record {
   ours = looked_ours a b false ours one;
   crash = survives_weaker a b _ _ (λ clean db none. absurd none) one.survives;
 }
+
+-- nor may a crash leave more
+pub unread_leaves : (a b : State) (Becomes : Content → Content → Type 0) → Looked a b false → CommitLeaves a b Becomes
+unread_leaves a b Becomes one clean db may = elim (one.survives.crash clean db may) [ inl was ↦ inl was | inr none ↦ absurd none ]

@@ -1,5 +1,5 @@
 -- What the store's connection keeps, and what its calls leave.
-use Rattle.std.specs.Prelude.{◌≡◌, ℕ, pos, [], ◌∷◌, Option, Some, None, false, true, Bool, IsTrue, refl, not}
+use Rattle.std.specs.Prelude.{◌≡◌, ◌⊎◌, ℕ, pos, [], ◌∷◌, Option, Some, None, false, true, Bool, IsTrue, refl, not}
 use Rattle.std.proofs.Common.{sym, ap, ◌∙◌, true≢false}
 use Rattle.sqlite.specs.Store.{Ghosts}
 use Rattle.sqlite.specs.Schema.{Schema}
@@ -79,6 +79,10 @@ pub record Turned (old new : State) (done : Bool) (Becomes : Content → Content
   pub stays : IsTrue done → IsTrue old.is_open → HasCleanDisk new → IsTrue new.is_open
   pub ours : IsTrue new.is_open → IsOurs new
   pub crash : Survives old new (λ db. IsTrue old.is_open → Becomes (content_at old) (content_in db))
+
+-- a crash leaves what it could leave before, or what the call made, also of a connection that is shut
+abbrev pub CommitLeaves : (old new : State) → (Content → Content → Type 0) → Type 0
+CommitLeaves old new Becomes = HasCleanDisk new → (db : Trees) → new.may_leave db → old.may_leave db ⊎ Becomes (content_at old) (content_in db)
 
 -- ---- in a transaction
 

@@ -4,7 +4,7 @@ ghost use Rattle.sqlite.specs.Held.{state};
 ghost use Rattle.numbers.specs.Views.{subject_of};
 ghost use Rattle.settle.specs.Views.{spid_of, lrn_of, code_of, block_of, block_row_of, broadcast_row_of, broadcast_key_of, wait_key_of};
 ghost use Rattle.settle.specs.Changes.{changes_of, IsChanged};
-ghost use Rattle.sql_store.specs.Store.{IsOurs, Makes, Turned};
+ghost use Rattle.sql_store.specs.Store.{CommitLeaves, IsOurs, Makes, Turned};
 ghost use Rattle.sql_store.specs.Changes.{singles, lists, made, all_made, if_some, with_carrier, with_lrn, with_code, with_block, clock_made, IsChangedOver, with_version, without_version, with_broadcast, without_broadcast, with_wait, without_wait};
 
 use crate::lookups::clock;
@@ -267,18 +267,17 @@ fn commit_over<S: Alter>(
     Ok(())
 }
 
-/// Makes all changes in one transaction, or none. Where they move the clock or set the windows anew,
-/// the clock's row is read first.
+/// Makes all changes in one transaction, or none. The clock's row is read first: a connection that
+/// is shut answers no look-up, and nothing is written to it.
 pub(crate) fn commit<S: Alter>(conn: &mut Connection<S>, changes: &Changes) -> Result<(), Fault>
     requires ours { IsTrue (state S.Store conn.old).is_open → IsOurs (state S.Store conn.old) }
     requires idle { conn.old.in_transaction ≡ false }
     ensures turned { Turned (state S.Store conn.old) (state S.Store conn.new) (is_ok result)
         (IsChanged (changes_of changes.now)) }
+    ensures left { CommitLeaves (state S.Store conn.old) (state S.Store conn.new)
+        (IsChanged (changes_of changes.now)) }
     ensures idle { conn.new.in_transaction ≡ false }
 {
-    if changes.clock.is_none() && changes.set.is_none() {
-        return commit_over(conn, changes, None);
-    }
     let row = clock(conn)?;
     commit_over(conn, changes, row)
 }

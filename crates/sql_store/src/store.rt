@@ -1,6 +1,7 @@
 //! The store over a database of SQL.
 ghost use Rattle.std.specs.Prelude.{◌≡◌, ◌≤◌, false, Err, IfOk, IsTrue, Ok, OnErr, OnOk, is_ok};
 ghost use Rattle.sqlite.specs.Held.{state};
+ghost use Rattle.settle.specs.Owing.{Counts};
 ghost use Rattle.settle.specs.Reads.{HasRisen};
 ghost use Rattle.sql_store.specs.Store.{IsOurs, ours_if_open};
 
@@ -34,7 +35,7 @@ fn counted<A>(failures: &mut u64, answer: Result<A, Fault>) -> Result<A, StoreFa
     ensures err { OnErr result (is_ok answer ≡ false) }
     ensures device { answer ≡ Err Fault.Device → result ≡ Err StoreFault.Storage }
     ensures memory { answer ≡ Err Fault.Memory → result ≡ Err StoreFault.NoMemory }
-    ensures kept { OnOk result (failures.new ≡ failures.old) }
+    ensures counts { Counts result failures.old failures.new }
     ensures rises { failures.old ≤ failures.new }
     ensures storage { result ≡ Err StoreFault.Storage → HasRisen failures.old failures.new }
 {
@@ -64,6 +65,8 @@ impl<S: Alter> Store for SqlStore<S> {
     ghost MayLeave = { λ s. left_by S.Store s.conn };
 
     ghost failed = { λ s. s.failures };
+
+    ghost faults = { λ s. (state S.Store s.conn).faults };
 
     fn clock(&mut self) -> Result<Option<ClockRow>, StoreFault> {
         counted(&mut self.failures, lookups::clock(&mut self.conn))

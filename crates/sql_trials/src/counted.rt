@@ -28,6 +28,8 @@ impl<S: Store> Store for Counted<'_, S> {
 
     ghost failed = { λ s. S.failed s.store };
 
+    ghost faults = { λ s. S.faults s.store };
+
     ghost leaves_content = { λ s m usable left. S.leaves_content s.store m usable left };
 
     ghost usable_is_honest = { λ s usable. S.usable_is_honest s.store usable };

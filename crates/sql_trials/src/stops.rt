@@ -6,7 +6,9 @@ use crate::files::{
 };
 use crate::said::{Said, Story, is_accepted, is_unavailable};
 use crate::stories::{
-    ACKNOWLEDGEMENT, ACTIVATION, ASSIGNMENT, DONATION, JUMP, MODIFIED, MODIFY, NEWCOMER, Trial,
+    ACKNOWLEDGEMENT, ACTIVATION, ASSIGNMENT, DISCONNECT, DONATION, FAILED_DELETE, JUMP,
+    LATE_ACKNOWLEDGEMENT, MODIFIED, MODIFY, NEWCOMER, NEW_WINDOWS, PLANNED_DELETE, PLANNED_RELEASE,
+    PORTED_AGAIN, Trial,
 };
 use sqlite::{Files, Options};
 use sqlite_disk::{Crash, Disk};
@@ -27,8 +29,8 @@ struct After {
 }
 
 // What a run without a stop shows: the bytes before the request, the rows before it and after each
-// of its commits, its answer, and that to the same request once more; and how many calls the files
-// take until the register is opened, and until the request is answered.
+// of its commits, its answer, and that to what is asked then; and how many calls the files take until
+// the register is opened, and until the request is answered.
 #[derive(Drop)]
 struct Told {
     held: Held,
@@ -46,10 +48,10 @@ fn tell_once(alloc: Global, held: &Held, said: &Said<'_>) -> Option<After> {
     Some(After { answer, rows, held })
 }
 
-// What the request makes, and its answer once more, which changes nothing.
-fn tell_twice(alloc: Global, held: &Held, request: &Said<'_>) -> Option<(After, Vec<u8>)> {
-    let done = tell_once(alloc, held, request)?;
-    let again = tell_once(alloc, &done.held, request)?;
+// What the request makes, and the answer to what is asked then, which changes nothing.
+fn tell_twice(alloc: Global, held: &Held, trial: &Trial<'_>) -> Option<(After, Vec<u8>)> {
+    let done = tell_once(alloc, held, &trial.request)?;
+    let again = tell_once(alloc, &done.held, &trial.again)?;
     if is_accepted(&done.answer) && again.rows == done.rows {
         Some((done, again.answer))
     } else {
@@ -95,7 +97,7 @@ fn tell_request(alloc: Global, held: Held, trial: &Trial<'_>, options: Options) 
     let opened = calls_of(alloc, &held, options, Tell(&[]))?;
     let answered = calls_of(alloc, &held, options, Ask(&trial.request))?;
     let mut states = states_of(alloc, &held, trial.steps)?;
-    let (done, again) = tell_twice(alloc, &held, &trial.request)?;
+    let (done, again) = tell_twice(alloc, &held, trial)?;
     states.push(done.rows).ok()?;
     Some(Told {
         held,
@@ -253,17 +255,17 @@ fn bounds(told: &Told, answer: &Option<Vec<u8>>) -> Option<(usize, usize)> {
 fn goes_on(
     alloc: Global,
     told: &Told,
-    request: &Said<'_>,
+    trial: &Trial<'_>,
     held: &Held,
     place: usize,
 ) -> Option<bool> {
     let last = told.states.len().checked_sub(1)?;
-    let next = tell_once(alloc, held, request)?;
-    let wanted = if place == last {
-        &told.again
+    let (said, wanted) = if place == last {
+        (&trial.again, &told.again)
     } else {
-        &told.answer
+        (&trial.request, &told.answer)
     };
+    let next = tell_once(alloc, held, said)?;
     Some(next.answer == *wanted && Some(&next.rows) == told.states.get(last))
 }
 
@@ -275,10 +277,10 @@ struct Judged {
 }
 
 // Which state stands in these bytes, if it is one that goes on.
-fn judge(alloc: Global, told: &Told, request: &Said<'_>, held: &Held) -> Option<usize> {
+fn judge(alloc: Global, told: &Told, trial: &Trial<'_>, held: &Held) -> Option<usize> {
     let rows = rows_in(alloc, held)?;
     let place = place_of(&told.states, &rows)?;
-    if goes_on(alloc, told, request, held, place)? {
+    if goes_on(alloc, told, trial, held, place)? {
         Some(place)
     } else {
         None
@@ -298,14 +300,14 @@ fn known(judged: &[Judged], held: &Held) -> Option<usize> {
 fn judge_once(
     alloc: Global,
     told: &Told,
-    request: &Said<'_>,
+    trial: &Trial<'_>,
     held: Held,
     judged: &mut Vec<Judged>,
 ) -> Option<usize> {
     if let Some(place) = known(judged, &held) {
         return Some(place);
     }
-    let place = judge(alloc, told, request, &held)?;
+    let place = judge(alloc, told, trial, &held)?;
     judged.push(Judged { held, place }).ok()?;
     Some(place)
 }
@@ -314,13 +316,13 @@ fn judge_once(
 fn are_whole(
     alloc: Global,
     told: &Told,
-    request: &Said<'_>,
+    trial: &Trial<'_>,
     (answer, left): &(Option<Vec<u8>>, Left),
     judged: &mut Vec<Judged>,
 ) -> Option<bool> {
     let (least, most) = bounds(told, answer)?;
     for held in images(alloc, left)? {
-        let place = judge_once(alloc, told, request, held, judged)?;
+        let place = judge_once(alloc, told, trial, held, judged)?;
         if place < least || most < place {
             return Some(false);
         }
@@ -363,16 +365,16 @@ impl Stops {
 fn first_wrong_stop(
     alloc: Global,
     told: &Told,
-    request: &Said<'_>,
+    trial: &Trial<'_>,
     options: Options,
     stops: Stops,
     judged: &mut Vec<Judged>,
 ) -> Option<u64> {
     for count in stops.count(told.opened)..stops.count(told.answered) {
-        let Some(left) = stop_asked(alloc, &told.held, request, options, stops.after(count)) else {
+        let Some(left) = stop_asked(alloc, &told.held, &trial.request, options, stops.after(count)) else {
             return Some(count);
         };
-        if are_whole(alloc, told, request, &left, judged) != Some(true) {
+        if are_whole(alloc, told, trial, &left, judged) != Some(true) {
             return Some(count);
         }
     }
@@ -419,12 +421,12 @@ fn is_told_so(told: &Told, trial: &Trial<'_>) -> bool {
 fn wrong_stop(
     alloc: Global,
     told: &Told,
-    request: &Said<'_>,
+    trial: &Trial<'_>,
     options: Options,
     judged: &mut Vec<Judged>,
 ) -> Option<Wrong> {
     for stops in [Stops::Log, Stops::Database] {
-        match first_wrong_stop(alloc, told, request, options, stops, judged) {
+        match first_wrong_stop(alloc, told, trial, options, stops, judged) {
             None => {}
             Some(count) => return Some(Wrong::Stop(stops, count)),
         }
@@ -440,7 +442,7 @@ fn wrong_under(alloc: Global, trial: &Trial<'_>, options: Options) -> Option<Wro
         return Some(Wrong::Told);
     }
     let mut judged = Vec::new(alloc);
-    match wrong_stop(alloc, &told, &trial.request, options, &mut judged) {
+    match wrong_stop(alloc, &told, trial, options, &mut judged) {
         None => {}
         wrong => return wrong,
     }
@@ -466,7 +468,7 @@ fn wrong_opening(alloc: Global, trial: &Trial<'_>, options: Options) -> Option<W
     told.answered = told.opened;
     told.opened = Calls { log: 0, db: 0 };
     let mut judged = Vec::new(alloc);
-    wrong_stop(alloc, &told, &trial.request, options, &mut judged)
+    wrong_stop(alloc, &told, trial, options, &mut judged)
 }
 
 #[test]
@@ -512,4 +514,39 @@ fn a_jump_of_the_clock_that_is_stopped(rt: HostRuntime) {
 #[test]
 fn a_newcomer_that_is_stopped(rt: HostRuntime) {
     assert_eq!(rt; first_wrong(rt.alloc(), &NEWCOMER), None);
+}
+
+#[test]
+fn a_planned_release_that_is_stopped(rt: HostRuntime) {
+    assert_eq!(rt; first_wrong(rt.alloc(), &PLANNED_RELEASE), None);
+}
+
+#[test]
+fn its_delete_that_is_stopped(rt: HostRuntime) {
+    assert_eq!(rt; first_wrong(rt.alloc(), &PLANNED_DELETE), None);
+}
+
+#[test]
+fn a_delete_that_fails_and_is_stopped(rt: HostRuntime) {
+    assert_eq!(rt; first_wrong(rt.alloc(), &FAILED_DELETE), None);
+}
+
+#[test]
+fn a_disconnect_that_is_stopped(rt: HostRuntime) {
+    assert_eq!(rt; first_wrong(rt.alloc(), &DISCONNECT), None);
+}
+
+#[test]
+fn a_port_of_a_released_number_that_is_stopped(rt: HostRuntime) {
+    assert_eq!(rt; first_wrong(rt.alloc(), &PORTED_AGAIN), None);
+}
+
+#[test]
+fn a_late_acknowledgement_that_is_stopped(rt: HostRuntime) {
+    assert_eq!(rt; first_wrong(rt.alloc(), &LATE_ACKNOWLEDGEMENT), None);
+}
+
+#[test]
+fn a_change_of_windows_that_is_stopped(rt: HostRuntime) {
+    assert_eq!(rt; first_wrong(rt.alloc(), &NEW_WINDOWS), None);
 }

@@ -10,6 +10,8 @@ pub struct Trial<'a> {
     /// same.
     pub steps: Story<'a>,
     pub request: Said<'a>,
+    /// What is asked where the request was made already. It changes nothing.
+    pub again: Said<'a>,
 }
 
 // Three carriers, each with a routing number, and a code that BBBB holds.
@@ -163,6 +165,52 @@ const REROUTED_SENT: Story<'static> = &[
     ("CCCC", "/downloads/acknowledge", r#"{"attempt":2,"id":1}"#),
 ];
 
+// The number is in force, and is to be released at 400.
+const PLANNED: Said<'static> = (
+    "AAAA",
+    "/subscriptionVersionDisconnect",
+    r#"{"id":1,"release":400}"#,
+);
+
+const ASKED: Said<'static> = ("NPAC", "/versions/1", "");
+
+// At 10 it is released at once. Two of three carriers acknowledge that at 11.
+const RELEASED: Story<'static> = &[
+    ("NPAC", "/clock", r#"{"minute":10}"#),
+    NOW,
+    ("NPAC", "/clock", r#"{"minute":11}"#),
+    ("AAAA", "/downloads/acknowledge", r#"{"attempt":2,"id":1}"#),
+    ("CCCC", "/downloads/acknowledge", r#"{"attempt":2,"id":1}"#),
+    ("NPAC", "/clock", r#"{"minute":30}"#),
+];
+
+const NOW: Said<'static> = ("AAAA", "/subscriptionVersionDisconnect", r#"{"id":1}"#);
+
+// At 30 both providers create it again. The third carrier's download of its release still waits.
+const CREATED_AGAIN: Story<'static> = &[
+    ASKED,
+    (
+        "AAAA",
+        "/subscriptionVersionNewSP-Create",
+        r#"{"due":30,"lrn":"2025440000","new":"AAAA","old":"BBBB","tn":"2025331234"}"#,
+    ),
+    (
+        "BBBB",
+        "/subscriptionVersionOldSP-Create",
+        r#"{"authorized":true,"due":30,"new":"AAAA","old":"BBBB","tn":"2025331234"}"#,
+    ),
+];
+
+const ACTIVATED_AGAIN: Said<'static> = ("AAAA", "/subscriptionVersionActivate", r#"{"id":2}"#);
+
+const LATE: Said<'static> = ("BBBB", "/downloads/acknowledge", r#"{"attempt":2,"id":1}"#);
+
+const NINE: Said<'static> = (
+    "NPAC",
+    "/windows",
+    r#"{"broadcast":30,"cancellation_final":60,"cancellation_initial":60,"conflict_expiration":1000,"conflict_resolution":120,"conflict_restriction":30,"final_concurrence":10,"initial_concurrence":10,"pending_retention":500}"#,
+);
+
 /// A number in force with a carrier code, which is being taken from it, and a block of which three
 /// numbers are sent.
 pub static PORT: [Story<'static>; 4] = [
@@ -177,6 +225,7 @@ pub static ACTIVATION: Trial<'static> = Trial {
     stories: &[OPENING, CREATED],
     steps: &[],
     request: ("AAAA", "/subscriptionVersionActivate", r#"{"id":1}"#),
+    again: ("AAAA", "/subscriptionVersionActivate", r#"{"id":1}"#),
 };
 
 /// The last acknowledgement closes a broadcast.
@@ -184,6 +233,7 @@ pub static ACKNOWLEDGEMENT: Trial<'static> = Trial {
     stories: &[OPENING, CREATED, SENT],
     steps: &[],
     request: ACKNOWLEDGED,
+    again: ACKNOWLEDGED,
 };
 
 /// A routing is modified, and sent to each of three carriers.
@@ -191,6 +241,7 @@ pub static MODIFY: Trial<'static> = Trial {
     stories: &[OPENING, CREATED, SENT, &[ACKNOWLEDGED]],
     steps: &[],
     request: REROUTED,
+    again: REROUTED,
 };
 
 /// The last acknowledgement of a modify puts the routing in the place of the earlier one.
@@ -198,6 +249,7 @@ pub static MODIFIED: Trial<'static> = Trial {
     stories: &[OPENING, CREATED, SENT, REROUTED_SENT],
     steps: &[],
     request: ("BBBB", "/downloads/acknowledge", r#"{"attempt":2,"id":1}"#),
+    again: ("BBBB", "/downloads/acknowledge", r#"{"attempt":2,"id":1}"#),
 };
 
 /// Three numbers of a block are in use: each is made a version, and sent to each carrier.
@@ -205,6 +257,7 @@ pub static DONATION: Trial<'static> = Trial {
     stories: &[OPENING],
     steps: &[],
     request: THREE_DONATED,
+    again: THREE_DONATED,
 };
 
 /// A donated block is given to a carrier.
@@ -216,6 +269,11 @@ pub static ASSIGNMENT: Trial<'static> = Trial {
         "/blocks/assign",
         r#"{"block":"2025337","holder":"CCCC","lrn":"2025550000"}"#,
     ),
+    again: (
+        "NPAC",
+        "/blocks/assign",
+        r#"{"block":"2025337","holder":"CCCC","lrn":"2025550000"}"#,
+    ),
 };
 
 /// The clock jumps over the ends of five windows.
@@ -223,6 +281,7 @@ pub static JUMP: Trial<'static> = Trial {
     stories: &[OPENING, WINDOWED],
     steps: &[],
     request: JUMPED,
+    again: JUMPED,
 };
 
 /// A newcomer finds five windows that have ended.
@@ -230,4 +289,86 @@ pub static NEWCOMER: Trial<'static> = Trial {
     stories: &[OPENING, WINDOWED, SENT_AFTERWARDS],
     steps: SETTLED,
     request: ("NPAC", "/carriers", r#"{"spid":"DDDD"}"#),
+    again: ("NPAC", "/carriers", r#"{"spid":"DDDD"}"#),
+};
+
+/// The release of a number is planned.
+pub static PLANNED_RELEASE: Trial<'static> = Trial {
+    stories: &[OPENING, CREATED, SENT, &[ACKNOWLEDGED]],
+    steps: &[],
+    request: PLANNED,
+    again: PLANNED,
+};
+
+/// The minute of a planned release has come: a question finds it, and a delete is sent.
+pub static PLANNED_DELETE: Trial<'static> = Trial {
+    stories: &[
+        OPENING,
+        CREATED,
+        SENT,
+        &[ACKNOWLEDGED, PLANNED, ("NPAC", "/clock", r#"{"minute":401}"#)],
+    ],
+    steps: &[],
+    request: ASKED,
+    again: ASKED,
+};
+
+/// Nobody acknowledges the delete: its broadcast closes, and the number stays in force.
+pub static FAILED_DELETE: Trial<'static> = Trial {
+    stories: &[
+        OPENING,
+        CREATED,
+        SENT,
+        &[
+            ACKNOWLEDGED,
+            PLANNED,
+            ("NPAC", "/clock", r#"{"minute":401}"#),
+            ASKED,
+            ("NPAC", "/clock", r#"{"minute":1000}"#),
+        ],
+    ],
+    steps: &[],
+    request: ASKED,
+    again: ASKED,
+};
+
+/// A number is released at once.
+pub static DISCONNECT: Trial<'static> = Trial {
+    stories: &[OPENING, CREATED, SENT, &[ACKNOWLEDGED]],
+    steps: &[],
+    request: NOW,
+    again: NOW,
+};
+
+/// A released number is ported again, while a carrier has not heard of its release.
+pub static PORTED_AGAIN: Trial<'static> = Trial {
+    stories: &[OPENING, CREATED, SENT, &[ACKNOWLEDGED], RELEASED, CREATED_AGAIN],
+    steps: &[],
+    request: ACTIVATED_AGAIN,
+    again: ACTIVATED_AGAIN,
+};
+
+/// That carrier acknowledges the release, behind which the next port waits for it.
+pub static LATE_ACKNOWLEDGEMENT: Trial<'static> = Trial {
+    stories: &[
+        OPENING,
+        CREATED,
+        SENT,
+        &[ACKNOWLEDGED],
+        RELEASED,
+        CREATED_AGAIN,
+        &[ACTIVATED_AGAIN],
+    ],
+    steps: &[],
+    request: LATE,
+    again: LATE,
+};
+
+/// The windows are set anew. Set once more they would be a further set, so that a version is asked
+/// for in its place.
+pub static NEW_WINDOWS: Trial<'static> = Trial {
+    stories: &[OPENING, CREATED],
+    steps: &[],
+    request: NINE,
+    again: ASKED,
 };

@@ -1,7 +1,9 @@
 //! A store whose device fails when it is told to.
-ghost use Rattle.std.specs.Prelude.{◌≡◌, ◌≤◌, ℕ, Err, Some, OnOk, OnErr};
+ghost use Rattle.std.specs.Prelude.{◌≡◌, ◌≤◌, ◌+◌, ◌-◌, ◌^◌, min, ℕ, Err, Some, OnOk, OnErr};
 ghost use Rattle.meaning.specs.Content.{Content};
+ghost use Rattle.settle.specs.Owing.{Counts};
 ghost use Rattle.settle.specs.Reads.{HasRisen};
+ghost use Rattle.store.specs.Countdown.{after_failing, one_fewer};
 
 use delivery::{Broadcast, Download, DownloadKey, RoutedRow};
 use numbers::{BlockId, CodeId, Lrn, Minute, Spid, Subject};
@@ -37,6 +39,7 @@ impl<S: Store> Flaky<S> {
     pub fn new(store: S, before: u64, failing: Failing) -> Flaky<S>
         ensures store { result.store ≡ store }
         ensures before { result.before ≡ Some before }
+        ensures failing { result.failing ≡ failing }
         ensures none { result.failures ≡ 0 }
     {
         Flaky {
@@ -59,6 +62,9 @@ impl<S: Store> Flaky<S> {
     fn fail(&mut self) -> StoreFault
         ensures fault { result ≡ StoreFault.Storage }
         ensures same { self.new.store ≡ self.old.store }
+        ensures one { self.new.failures ≡ min (self.old.failures + 1) (2 ^ 64 - 1) }
+        ensures before { self.new.before ≡ self.old.before }
+        ensures failing { self.new.failing ≡ self.old.failing }
         ensures rises { self.old.failures ≤ self.new.failures }
         ensures risen { HasRisen self.old.failures self.new.failures }
     {
@@ -73,6 +79,12 @@ impl<S: Store> Flaky<S> {
         ensures fault { OnErr result (result ≡ Err StoreFault.Storage) }
         ensures risen { OnErr result (HasRisen self.old.failures self.new.failures) }
         ensures calm { OnOk result (self.new.failures ≡ self.old.failures) }
+        ensures fails { OnErr result (self.old.before ≡ Some 0) }
+        ensures next { OnErr result (self.new.before ≡ after_failing self.old.failing) }
+        ensures others { OnOk result (¬ (self.old.before ≡ Some 0)) }
+        ensures passes { OnOk result (self.new.before ≡ one_fewer self.old.before) }
+        ensures failing { self.new.failing ≡ self.old.failing }
+        ensures one { OnErr result (self.new.failures ≡ min (self.old.failures + 1) (2 ^ 64 - 1)) }
     {
         match self.before {
             None => Ok(()),
@@ -94,6 +106,7 @@ impl<S: Store> Flaky<S> {
 // What the store below answered. Its failures are counted too.
 fn counted<A>(failures: &mut u64, answer: Result<A, StoreFault>) -> Result<A, StoreFault>
     ensures same { result ≡ answer }
+    ensures counts { Counts answer failures.old failures.new }
     ensures rises { failures.old ≤ failures.new }
     ensures risen { answer ≡ Err StoreFault.Storage → HasRisen failures.old failures.new }
 {
@@ -116,6 +129,14 @@ impl<S: Store> Store for Flaky<S> {
     ghost MayLeave = { λ s. S.MayLeave s.store };
 
     ghost failed = { λ s. s.failures };
+
+    ghost faults = { λ s. S.faults s.store };
+
+    ghost use Rattle.store.specs.Countdown.{CountsDown};
+
+    ghost IsStep = { λ old new tells.
+        CountsDown old.before old.failing new.before tells (new.store ≡ old.store)
+        × (new.failing ≡ old.failing) };
 
     ghost leaves_content = { λ s. S.leaves_content s.store };
 

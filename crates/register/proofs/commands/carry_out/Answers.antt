@@ -72,7 +72,7 @@ returns-in_err-commit-clause-left g c = λ honest m may.
     let ready = c.in_ok-reply.ensures.open before in
     let start = c.in_ok-reply.ensures.reads.same ready in
     let old = g.S.Store.content c.args.store.now in
-    elim (c.commit.ensures.left ready honest m may) [
+    elim (c.commit.ensures.left honest m may) [
       | inl earlier ↦ inl (c.in_ok-reply.ensures.reads.left before m earlier)
       | inr changed ↦ inr (
         start.0,

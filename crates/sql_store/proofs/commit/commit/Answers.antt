@@ -7,7 +7,7 @@ use Rattle.settle.specs.Views.{clock_row_of}
 use Rattle.sql_rows.specs.Content.{content_in}
 use Rattle.sql_store.specs.Store.{Turned}
 use Rattle.sql_store.specs.Changes.{IsChangedOver}
-use Rattle.sql_store.proofs.CallLemmas.{looked_ours, looked_turned, looked_unturned}
+use Rattle.sql_store.proofs.CallLemmas.{looked_ours, looked_turned, looked_unturned, read_leaves, unread_leaves}
 use Rattle.sql_store.proofs.commit.commit.Goals as goal
 
 pub returns-in_err-row-clause-turned : goal.returns-in_err-row-clause-turned
@@ -17,14 +17,26 @@ returns-in_err-row-clause-turned g c =
     let fails : is_ok c.from_residual.result ≡ false = search rules in
     subst (λ d. Turned old new d (IsChanged (changes_of c.args.changes.now))) (sym fails) (looked_unturned old new (IsChanged (changes_of c.args.changes.now)) c.requires.ours c.in_err-row.ensures.looked)
 
-pub commit_over-requires-2-clause-ours : goal.commit_over-requires-2-clause-ours
-commit_over-requires-2-clause-ours g c = looked_ours (state g.S.Store c.args.conn.now) (state g.S.Store c.clock.new.conn) _ c.requires.ours c.in_ok-row.ensures.looked
+pub returns-in_err-row-clause-left : goal.returns-in_err-row-clause-left
+returns-in_err-row-clause-left g c = unread_leaves (state g.S.Store c.args.conn.now) (state g.S.Store c.clock.new.conn) (IsChanged (changes_of c.args.changes.now)) c.in_err-row.ensures.looked
+
+pub commit_over-requires-clause-ours : goal.commit_over-requires-clause-ours
+commit_over-requires-clause-ours g c = looked_ours (state g.S.Store c.args.conn.now) (state g.S.Store c.clock.new.conn) _ c.requires.ours c.in_ok-row.ensures.looked
 
 pub returns-clause-turned : goal.returns-clause-turned
 returns-clause-turned g c =
     let old = state g.S.Store c.args.conn.now in
     let mid = state g.S.Store c.clock.new.conn in
-    let new = state g.S.Store c.commit_over-2.new.conn in
+    let new = state g.S.Store c.commit_over.new.conn in
     looked_turned old mid new (IsChangedOver c.args.changes.now c.in_ok-row.row) (IsChanged (changes_of c.args.changes.now)) c.in_ok-row.ensures.looked
     (λ up after turns. turns (λ moves. subst (λ (d : Database). option_map clock_row_of c.in_ok-row.row ≡ (content_in d.trees).clock) (sym (c.in_ok-row.ensures.looked.same up).now) (c.in_ok-row.ensures.value up)))
-    (is_ok c.commit_over-2.result) c.commit_over-2.ensures.turned
+    (is_ok c.commit_over.result) c.commit_over.ensures.turned
+
+pub returns-clause-left : goal.returns-clause-left
+returns-clause-left g c =
+    let old = state g.S.Store c.args.conn.now in
+    let mid = state g.S.Store c.clock.new.conn in
+    let new = state g.S.Store c.commit_over.new.conn in
+    read_leaves old mid new (IsChangedOver c.args.changes.now c.in_ok-row.row) (IsChanged (changes_of c.args.changes.now)) c.in_ok-row.ensures.looked
+    (λ up after turns. turns (λ moves. subst (λ (d : Database). option_map clock_row_of c.in_ok-row.row ≡ (content_in d.trees).clock) (sym (c.in_ok-row.ensures.looked.same up).now) (c.in_ok-row.ensures.value up)))
+    (is_ok c.commit_over.result) c.commit_over.ensures.turned
