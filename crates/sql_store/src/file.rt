@@ -55,7 +55,8 @@ impl<S: Start> SqlStore<FileStore<FileFrom<S>>> {
     ///
     /// `WindowsDiffer` where the file is of an earlier form and was made with other windows;
     /// `Storage` where it cannot be opened as a database, is none of ours, has a row that does not
-    /// read, or the device failed; `NoMemory`. A file that is refused so is left as it was.
+    /// read, or the device failed; `NoMemory`. A database that lists tables and is refused is handed
+    /// back with what it had.
     pub fn at(
         rt: &HostRuntime,
         path: &str,
