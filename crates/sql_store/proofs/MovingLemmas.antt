@@ -51,9 +51,9 @@ use Rattle.sql_rows.proofs.Picked.{Picks}
 use Rattle.sql_rows.proofs.MovingLemmas.{old_query_is, old_query_plain, old_query_unlisted}
 use Rattle.sql_rows.proofs.PutLemmas.{version_left}
 use Rattle.sql_rows.proofs.StatementLemmas.{query_is, query_plain, query_selects, query_unlisted}
-use Rattle.sql_rows.proofs.TableLemmas.{old_clock_framed, old_version_framed, versions_framed}
+use Rattle.sql_rows.proofs.TableLemmas.{framed_twice, old_clock_framed, old_version_framed, removed_shaped, versions_framed}
 use Rattle.sql_store.specs.Changes.{if_some, with_set}
-use Rattle.sql_store.specs.Moving.{Alters, AreOldShaped, ArePutBut, HasIds, IsBarePut, IsBegunAs, IsCarried, IsCarriedOver, IsFilled, IsGrown, IsIndexed, IsOfForm, IsOldPut, IsRebuilt, IsRebuiltAs, Moves, WereItsWindows, WereOtherWindows, all_of, all_old, ids_in, put_if, seen_of}
+use Rattle.sql_store.specs.Moving.{Alters, AreOldShaped, ArePutBut, HasIds, IsBarePut, IsBegunAs, IsCarried, IsCarriedOver, IsFilled, IsGrown, IsIndexed, IsOfForm, IsOldPut, IsOldTaken, IsRebuilt, IsRebuiltAs, IsThinned, Moves, WereItsWindows, WereOtherWindows, all_of, all_old, ids_in, put_if, seen_of}
 use Rattle.sql_store.specs.Store.{IsInside, IsSame, Kept, Looked, Makes, Writes, Wrote}
 use Rattle.sql_store.proofs.WholeLemmas.{moved_read}
 use Rattle.sql_store.proofs.CallLemmas.{both_survive, call_keeps, earlier, fails_as, fails_open, fails_same, kept_then, looked_then, query_commits_nothing, shown_open, shown_same, shown_unchanged}
@@ -226,6 +226,48 @@ module _ (a b c : State) (id : ℕ) (more ids : List ℕ) where
 pub puts_stop : (a b c : State) (id : ℕ) (more ids : List ℕ) → Writes a b true (ArePutBut more ids) → Writes b c false (IsOldPut id) → Writes a c false (ArePutBut [] ids)
 puts_stop a b c id more ids first two =
     to_writes a c false (ArePutBut [] ids) (does_stop a b c IsInside IsInside (ArePutBut more ids) (IsOldPut id) (ArePutBut [] ids) (from_writes a b true (ArePutBut more ids) first) (from_writes b c false (IsOldPut id) two))
+
+-- ---- rows taken away
+
+pub thinned_none : (a : State) → Writes a a true IsThinned
+thinned_none a = record {
+  wrote = λ ok clean it. record { is_open = it.is_open; inside = it.inside; committed = refl; did = record { schema = λ e. e; shaped = λ s. s; frame = λ u other. refl } };
+  kept = λ up. record { was_open = up; committed = refl };
+  survives = record { clean = omega arith; shield = λ s. s; counts = omega arith; limit = refl; closes = λ clean up. inl up; crash = λ clean db may. inl may };
+}
+
+inside_thinned : (a b : State) → IsInside a → Wrote a b IsThinned → IsInside b
+inside_thinned a b inside w = record { is_open = w.is_open; inside = w.inside; schema = w.did.schema inside.schema; shaped = w.did.shaped inside.shaped }
+
+thinned_and : (a b c : State) (Did : Database → Database → Type 0) → Writes a b true IsThinned → Writes b c true Did → Alters IsInside a c true (Both IsThinned Did)
+thinned_and a b c Did first two = does_then a b c IsInside IsInside IsThinned Did true (from_writes a b true IsThinned first) (from_writes b c true Did two) (inside_thinned a b)
+
+one_thinned : (id : ℕ) (old new : Database) → Both IsThinned (IsOldTaken id) old new → IsThinned old new
+one_thinned id old new it =
+    let m = it.0 in
+    let first = it.1 in
+    let taken = it.2 in
+    record {
+      schema = λ has. taken.schema;
+      shaped = λ s. removed_shaped OldVersion (Int (pos id) ∷ []) m new (first.shaped s) taken;
+      frame = framed_twice OldVersion old.trees m.trees new.trees first.frame taken.frame;
+    }
+
+pub thins_then : (a b c : State) (id : ℕ) → Writes a b true IsThinned → Writes b c true (IsOldTaken id) → Writes a c true IsThinned
+thins_then a b c id first two =
+    to_writes a c true IsThinned (alters_as a c IsInside IsInside true (Both IsThinned (IsOldTaken id)) IsThinned (thinned_and a b c (IsOldTaken id) first two) (λ inside. inside) (λ inside it. one_thinned id a.now c.now it))
+
+-- what was left was taken away then
+thinned_cleared : (old new : Database) → Both IsThinned (IsCleared former.Version) old new → IsCleared former.Version old new
+thinned_cleared old new it = record {
+  schema = it.2.schema;
+  rows = it.2.rows;
+  frame = framed_twice OldVersion old.trees (it.0).trees new.trees it.1.frame it.2.frame;
+}
+
+pub clears_then : (a b c : State) → Writes a b true IsThinned → Writes b c true (IsCleared former.Version) → Writes a c true (IsCleared former.Version)
+clears_then a b c first two =
+    to_writes a c true (IsCleared former.Version) (alters_as a c IsInside IsInside true (Both IsThinned (IsCleared former.Version)) (IsCleared former.Version) (thinned_and a b c (IsCleared former.Version) first two) (λ inside. inside) (λ inside it. thinned_cleared a.now c.now it))
 
 -- the id at a place, and those behind it
 pub one_left : (ids : List ℕ) (i : ℕ) → i < length ids → drop i ids ≡ get_or ids i 0 ∷ drop (i + 1) ids

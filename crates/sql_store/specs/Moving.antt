@@ -23,7 +23,7 @@ use Rattle.sql_rows.specs.Moving.{schema_of}
 use Rattle.sql_rows.specs.Shaped.{AreShaped}
 use Rattle.sql_rows.specs.Tables.{no_schema, the_schema}
 use Rattle.sql_rows.specs.Versions.{bare, old_version_entry, old_version_in, version_entry, version_params, version_row}
-use Rattle.sql_rows.specs.Written.{IsFrame, Replaced}
+use Rattle.sql_rows.specs.Written.{IsFrame, Removed, Replaced}
 use Rattle.sql_rows.specs.declared.keyed.OldClock.{OldClock}
 use Rattle.sql_rows.specs.declared.moving.Form.{Form}
 use Rattle.sql_rows.specs.declared.moving.Form.TheVariants.{Modify}
@@ -179,6 +179,16 @@ pub record ArePutBut (left whole : List ℕ) (old new : Database) : Type 0 where
   pub shaped : AreShaped old.trees → AreShaped new.trees
   pub versions : AreShaped old.trees → all_old old.trees left (versions_in (new.trees 18)) ≡ all_old old.trees whole (versions_in (old.trees 18))
   pub frame : IsFrame Version old.trees new.trees
+
+-- the version with an id was taken away from the table of the earlier forms
+abbrev pub IsOldTaken : ℕ → Database → Database → Type 0
+IsOldTaken id = Removed OldTable (Int (pos id) ∷ [])
+
+-- rows may have been taken away from that table, and every other is as it was
+pub record IsThinned (old new : Database) : Type 0 where
+  pub schema : old.schema ≡ the_schema → new.schema ≡ the_schema
+  pub shaped : AreShaped old.trees → AreShaped new.trees
+  pub frame : IsFrame OldTable old.trees new.trees
 
 -- the rows were put, and the old tables emptied
 pub record IsFilled (ids : List ℕ) (clock : Option OldClock) (old new : Database) : Type 0 where

@@ -14,11 +14,11 @@ ghost use Rattle.sql_rows.specs.Moving.{IsCleared, IsMade, IsTableOf, schema_aft
 ghost use Rattle.sql_store.specs.Changes.{if_some, with_set};
 ghost use Rattle.sql_rows.specs.Content.{stored_clock};
 ghost use Rattle.version.specs.Views.{windows_of};
-ghost use Rattle.sql_store.specs.Moving.{Alters, AreIdsOf, ArePutBut, HasIds, AreStayingRead, IsBarePut, IsBegun, IsBegunAs, IsCarried, IsFilled, IsGrown, IsIndexed, IsMovedFrom, IsOfForm, IsOldPut, IsRebuilt, IsRebuiltAs, IsSentRead, Moves, WereItsWindows, WereOtherWindows};
+ghost use Rattle.sql_store.specs.Moving.{Alters, AreIdsOf, ArePutBut, HasIds, AreStayingRead, IsBarePut, IsBegun, IsBegunAs, IsCarried, IsFilled, IsGrown, IsIndexed, IsMovedFrom, IsOfForm, IsOldPut, IsOldTaken, IsRebuilt, IsRebuiltAs, IsSentRead, IsThinned, Moves, WereItsWindows, WereOtherWindows};
 ghost use Rattle.sql_store.specs.Store.{Looked, Makes, Writes};
 ghost use Rattle.sql_store.specs.Whole.{AreRegistryRead, IsRead};
 
-use crate::change::replace;
+use crate::change::{replace, take};
 use crate::file_fault::FileFault;
 use crate::rows::put_set;
 use crate::through::{next_read, read_table};
@@ -165,6 +165,42 @@ fn clear<S: Alter>(tx: &mut Transaction<'_, S>, table: OldTable) -> Result<(), F
     Ok(())
 }
 
+// Takes the version with an id away from the table of the earlier forms.
+fn take_old<S: Alter>(tx: &mut Transaction<'_, S>, id: u64) -> Result<(), Fault>
+    ensures same_reference { tx.new.conn.ghost_name ≡ tx.old.conn.ghost_name }
+    ensures writes { Writes (state S.Store tx.old.conn.now) (state S.Store tx.new.conn.now)
+        (is_ok result) (IsOldTaken id) }
+{
+    if id >= 9223372036854775808 {
+        return Err(Fault::Device);
+    }
+    take(tx, Table::OldVersion, &[number(id)])
+}
+
+// Takes the versions with these ids away from there, one at a time.
+fn take_each<S: Alter>(tx: &mut Transaction<'_, S>, ids: &[u64]) -> Result<(), Fault>
+    ensures same_reference { tx.new.conn.ghost_name ≡ tx.old.conn.ghost_name }
+    ensures writes { Writes (state S.Store tx.old.conn.now) (state S.Store tx.new.conn.now)
+        (is_ok result) IsThinned }
+{
+    for id in ids {
+        take_old(tx, *id)?;
+    }
+    Ok(())
+}
+
+// Empties the table of the earlier forms' versions, of which these are the ids. Each is taken away
+// by its id first: one statement that takes a million away writes a log of many times the file.
+fn clear_versions<S: Alter>(tx: &mut Transaction<'_, S>, ids: &[u64]) -> Result<(), Fault>
+    ensures same_reference { tx.new.conn.ghost_name ≡ tx.old.conn.ghost_name }
+    ensures writes { Writes (state S.Store tx.old.conn.now) (state S.Store tx.new.conn.now)
+        (is_ok result) (IsCleared OldTable.Version) }
+{
+    take_each(tx, ids)?;
+    clear(tx, OldTable::Version)?;
+    Ok(())
+}
+
 // The rows of the earlier form, put into the tables of this one: the versions with these ids.
 fn fill<S: Alter>(
     tx: &mut Transaction<'_, S>,
@@ -177,7 +213,7 @@ fn fill<S: Alter>(
 {
     put_each(tx, ids)?;
     put_first_set(tx, clock)?;
-    clear(tx, OldTable::Version)?;
+    clear_versions(tx, ids)?;
     clear(tx, OldTable::Clock)?;
     Ok(())
 }

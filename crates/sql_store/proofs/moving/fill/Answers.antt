@@ -40,49 +40,49 @@ returns-in_err-put_first_set-clause-writes g c =
     (to_writes a d false Filled (does_stop a b d IsInside IsInside (ArePutBut [] c.args.ids.now) (IsChangedBy (first_set c.args.clock)) Filled (from_writes a b true (ArePutBut [] c.args.ids.now) c.in_ok-put_each.ensures.writes)
     (from_makes b d false (first_set c.args.clock) c.in_err-put_first_set.ensures.makes)))
 
+pub returns-in_err-clear_versions-clause-writes : goal.returns-in_err-clear_versions-clause-writes
+returns-in_err-clear_versions-clause-writes g c =
+    let a = state g.S.Store c.args.tx.now.conn.now in
+    let b = state g.S.Store c.put_each.new.tx.conn.now in
+    let d = state g.S.Store c.put_first_set.new.tx.conn.now in
+    let e = state g.S.Store c.clear_versions.new.tx.conn.now in
+    let fails : is_ok c.from_residual-in_err-clear_versions.result ≡ false = search rules in
+    let Filled = IsFilled c.args.ids.now c.args.clock in
+    let One = Both (ArePutBut [] c.args.ids.now) (IsChangedBy (first_set c.args.clock)) in
+    subst (λ x. Writes a e x Filled) (sym fails)
+    (to_writes a e false Filled (does_stop a d e IsInside IsInside One (IsCleared former.Version) Filled (one c.args.ids.now c.args.clock a b d c.in_ok-put_each.ensures.writes c.in_ok-put_first_set.ensures.makes)
+    (from_writes d e false (IsCleared former.Version) c.in_err-clear_versions.ensures.writes)))
+
 pub returns-in_err-clear-clause-writes : goal.returns-in_err-clear-clause-writes
 returns-in_err-clear-clause-writes g c =
     let a = state g.S.Store c.args.tx.now.conn.now in
     let b = state g.S.Store c.put_each.new.tx.conn.now in
     let d = state g.S.Store c.put_first_set.new.tx.conn.now in
-    let e = state g.S.Store c.clear.new.tx.conn.now in
-    let fails : is_ok c.from_residual-in_err-clear.result ≡ false = search rules in
-    let Filled = IsFilled c.args.ids.now c.args.clock in
-    let One = Both (ArePutBut [] c.args.ids.now) (IsChangedBy (first_set c.args.clock)) in
-    subst (λ x. Writes a e x Filled) (sym fails)
-    (to_writes a e false Filled (does_stop a d e IsInside IsInside One (IsCleared former.Version) Filled (one c.args.ids.now c.args.clock a b d c.in_ok-put_each.ensures.writes c.in_ok-put_first_set.ensures.makes)
-    (from_writes d e false (IsCleared former.Version) c.in_err-clear.ensures.writes)))
-
-pub returns-in_err-clear-2-clause-writes : goal.returns-in_err-clear-2-clause-writes
-returns-in_err-clear-2-clause-writes g c =
-    let a = state g.S.Store c.args.tx.now.conn.now in
-    let b = state g.S.Store c.put_each.new.tx.conn.now in
-    let d = state g.S.Store c.put_first_set.new.tx.conn.now in
-    let e = state g.S.Store c.clear.new.tx.conn.now in
-    let f = state g.S.Store c.clear-2.new.tx.conn.now in
+    let e = state g.S.Store c.clear_versions.new.tx.conn.now in
+    let f = state g.S.Store c.clear.new.tx.conn.now in
     let xs = c.args.ids.now in
     let clock = c.args.clock in
-    let fails : is_ok c.from_residual-in_err-clear-2.result ≡ false = search rules in
+    let fails : is_ok c.from_residual-in_err-clear.result ≡ false = search rules in
     let Filled = IsFilled xs clock in
     let Two = Both (Both (ArePutBut [] xs) (IsChangedBy (first_set clock))) (IsCleared former.Version) in
     subst (λ x. Writes a f x Filled) (sym fails)
     (to_writes a f false Filled (does_stop a e f IsInside IsInside Two (IsCleared former.Clock) Filled
-    (two xs clock a d e (one xs clock a b d c.in_ok-put_each.ensures.writes c.in_ok-put_first_set.ensures.makes) c.in_ok-clear.ensures.writes)
-    (from_writes e f false (IsCleared former.Clock) c.in_err-clear-2.ensures.writes)))
+    (two xs clock a d e (one xs clock a b d c.in_ok-put_each.ensures.writes c.in_ok-put_first_set.ensures.makes) c.in_ok-clear_versions.ensures.writes)
+    (from_writes e f false (IsCleared former.Clock) c.in_err-clear.ensures.writes)))
 
 pub returns-clause-writes : goal.returns-clause-writes
 returns-clause-writes g c =
     let a = state g.S.Store c.args.tx.now.conn.now in
     let b = state g.S.Store c.put_each.new.tx.conn.now in
     let d = state g.S.Store c.put_first_set.new.tx.conn.now in
-    let e = state g.S.Store c.clear.new.tx.conn.now in
-    let f = state g.S.Store c.clear-2.new.tx.conn.now in
+    let e = state g.S.Store c.clear_versions.new.tx.conn.now in
+    let f = state g.S.Store c.clear.new.tx.conn.now in
     let xs = c.args.ids.now in
     let clock = c.args.clock in
     let Two = Both (Both (ArePutBut [] xs) (IsChangedBy (first_set clock))) (IsCleared former.Version) in
     to_writes a f true (IsFilled xs clock) (alters_as a f IsInside IsInside true (Both Two (IsCleared former.Clock)) (IsFilled xs clock)
     (does_then a e f IsInside IsInside Two (IsCleared former.Clock) true
-    (two xs clock a d e (one xs clock a b d c.in_ok-put_each.ensures.writes c.in_ok-put_first_set.ensures.makes) c.in_ok-clear.ensures.writes)
-    (from_writes e f true (IsCleared former.Clock) c.in_ok-clear-2.ensures.writes)
+    (two xs clock a d e (one xs clock a b d c.in_ok-put_each.ensures.writes c.in_ok-put_first_set.ensures.makes) c.in_ok-clear_versions.ensures.writes)
+    (from_writes e f true (IsCleared former.Clock) c.in_ok-clear.ensures.writes)
     (λ inside w. let cleared = w.did.2 in record { is_open = w.is_open; inside = w.inside; schema = cleared.schema; shaped = cleared_shaped former.Version w.did.0 e.now w.did.2 w.did.1.2.1 }))
     (λ inside. inside) (λ inside it. filled xs clock a.now f.now inside.shaped it))
