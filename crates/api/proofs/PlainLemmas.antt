@@ -14,7 +14,7 @@ use Rattle.telnp.specs.Grammar.{cut, has_name, is_global, is_name, is_parameter,
 use Rattle.telnp.specs.Answer.{Uri, added, added_carrier, added_routing, all_placed, answer_parameters, answer_text, goes_before, is_kept, kept, placed}
 use Rattle.telnp.specs.Uri.{IsTelUri, written}
 use Rattle.telnp.proofs.Cuts.{Cut}
-use Rattle.telnp.proofs.Only.{both_true}
+use Rattle.numbers.proofs.Small.{true_both}
 use Rattle.telnp.proofs.Wholes.{IsCut, cut-whole}
 use Rattle.api.specs.Plain.{is_plain, IsPlain, AnswersArePlain}
 use Rattle.api.specs.Step.{IsUri}
@@ -53,24 +53,24 @@ plain_all : (P : ℕ → Bool) → ((b : ℕ) → P b ≡ true → is_plain b �
 plain_all P each [] h = refl
 plain_all P each (b ∷ bs) h =
     let (here, more) = and_parts (P b) (list_all P bs) h in
-    both_true _ _ (each b here) (plain_all P each bs more)
+    true_both _ _ (each b here) (plain_all P each bs more)
 
 plain_append : (xs ys : List ℕ) → IsPlain xs → IsPlain ys → IsPlain (xs ++ ys)
 plain_append [] ys h k = k
 plain_append (x ∷ xs) ys h k =
     let (here, more) = and_parts (is_plain x) (list_all is_plain xs) h in
-    both_true _ _ here (plain_append xs ys more k)
+    true_both _ _ here (plain_append xs ys more k)
 
 plain_digits : (width n : ℕ) → IsPlain (digits_of width n)
 unfolding digits_of
 plain_digits zero n = refl
-plain_digits (suc width) n = plain_append (digits_of width (n / 10)) ((48 + n % 10) ∷ []) (plain_digits width (n / 10)) (both_true _ _ (plain_digit n) refl)
+plain_digits (suc width) n = plain_append (digits_of width (n / 10)) ((48 + n % 10) ∷ []) (plain_digits width (n / 10)) (true_both _ _ (plain_digit n) refl)
 
 plain_lower : (bs : List ℕ) → IsPlain (lower bs) → IsPlain bs
 plain_lower [] h = refl
 plain_lower (b ∷ bs) h =
     let (here, more) = and_parts (is_plain (to_ascii_lowercase b)) (list_all is_plain (lower bs)) h in
-    both_true _ _ (plain_lower_byte b here) (plain_lower bs more)
+    true_both _ _ (plain_lower_byte b here) (plain_lower bs more)
 
 plain_scheme : (scheme : List ℕ) → lower scheme ≡ codes "tel" → IsPlain scheme
 plain_scheme scheme e = plain_lower scheme (rw e refl)
@@ -80,7 +80,7 @@ plain_global [] h = refl
 plain_global (b ∷ bs) h =
     let (front, digits) = and_parts ((b == 43) && list_all (λ d. is_digit d || is_separator d) bs) _ h in
     let (plus, all) = and_parts (b == 43) _ front in
-    both_true _ _ (plain_equal b 43 plus refl) (plain_all (λ d. is_digit d || is_separator d) plain_phone bs all)
+    true_both _ _ (plain_equal b 43 plus refl) (plain_all (λ d. is_digit d || is_separator d) plain_phone bs all)
 
 -- ---- values
 
@@ -106,7 +106,7 @@ plain_rest wanted (b ∷ bs) h = at_next (wanted_after wanted b) refl h (λ next
     at_next : (o : Option ℕ) → wanted_after wanted b ≡ o → option_map_or (λ next. is_value_rest next bs) o false ≡ true
         → ((next : ℕ) → is_value_rest next bs ≡ true → IsPlain bs) → IsPlain (b ∷ bs)
     at_next None e k go = absurd (false≢true k)
-    at_next (Some next) e k go = both_true _ _ (plain_wanted wanted b next e) (go next k)
+    at_next (Some next) e k go = true_both _ _ (plain_wanted wanted b next e) (go next k)
 
 -- ---- parameters
 
@@ -136,7 +136,7 @@ plain_parts : (parts : List (List ℕ)) → list_all is_parameter parts ≡ true
 plain_parts [] h = refl
 plain_parts (p ∷ parts) h =
     let (here, more) = and_parts (is_parameter p) (list_all is_parameter parts) h in
-    both_true _ _ (plain_part p (cut 61 p) refl here) (plain_parts parts more)
+    true_both _ _ (plain_part p (cut 61 p) refl here) (plain_parts parts more)
 
 plain_written : (parts : List (List ℕ)) → AllPlain parts → IsPlain (written parts)
 plain_written [] h = refl
@@ -151,14 +151,14 @@ plain_kept [] h = refl
 plain_kept (p ∷ parts) h = at_test (is_kept p) (plain_kept parts)
   where
     at_test : (t : Bool) → (AllPlain parts → AllPlain (kept parts)) → AllPlain (cond t (p ∷ kept parts) (kept parts))
-    at_test true go = let (here, more) = and_parts (list_all is_plain p) (list_all (list_all is_plain) parts) h in both_true _ _ here (go more)
+    at_test true go = let (here, more) = and_parts (list_all is_plain p) (list_all (list_all is_plain) parts) h in true_both _ _ here (go more)
     at_test false go = let (here, more) = and_parts (list_all is_plain p) (list_all (list_all is_plain) parts) h in go more
 
 plain_lists : (xs ys : List (List ℕ)) → AllPlain xs → AllPlain ys → AllPlain (xs ++ ys)
 plain_lists [] ys h k = k
 plain_lists (x ∷ xs) ys h k =
     let (here, more) = and_parts (list_all is_plain x) (list_all (list_all is_plain) xs) h in
-    both_true _ _ here (plain_lists xs ys more k)
+    true_both _ _ here (plain_lists xs ys more k)
 
 plain_carrier : (parts : List (List ℕ)) (cic : Option ℕ) → AllPlain (added_carrier parts cic)
 plain_carrier parts None = refl
@@ -166,22 +166,22 @@ plain_carrier parts (Some cic) = at_test (has_name (codes "cic") parts)
   where
     at_test : (t : Bool) → AllPlain (cond t [] ((codes "cic=+1" ++ cic_text cic) ∷ []))
     at_test true = refl
-    at_test false = both_true _ _ (plain_append (codes "cic=+1") (cic_text cic) refl (plain_digits 4 cic)) refl
+    at_test false = true_both _ _ (plain_append (codes "cic=+1") (cic_text cic) refl (plain_digits 4 cic)) refl
 
 plain_routing : (parts : List (List ℕ)) (routing : Option Routing) → AllPlain (added_routing parts routing)
 plain_routing parts None = refl
-plain_routing parts (Some r) = both_true _ _ (plain_append (codes "rn=+1") (lrn_text r.lrn) refl (plain_digits 10 r.lrn)) (plain_carrier parts r.cic)
+plain_routing parts (Some r) = true_both _ _ (plain_append (codes "rn=+1") (lrn_text r.lrn) refl (plain_digits 10 r.lrn)) (plain_carrier parts r.cic)
 
 plain_added : (parts : List (List ℕ)) (routing : Option Routing) → AllPlain (added parts routing)
-plain_added parts routing = both_true _ _ refl (plain_routing parts routing)
+plain_added parts routing = true_both _ _ refl (plain_routing parts routing)
 
 plain_placed : (p : List ℕ) (xs : List (List ℕ)) → IsPlain p → AllPlain xs → AllPlain (placed p xs)
-plain_placed p [] h k = both_true _ _ h refl
+plain_placed p [] h k = true_both _ _ h refl
 plain_placed p (q ∷ more) h k = at_test (goes_before p q) (plain_placed p more h)
   where
     at_test : (t : Bool) → (AllPlain more → AllPlain (placed p more)) → AllPlain (cond t (p ∷ q ∷ more) (q ∷ placed p more))
-    at_test true go = both_true _ _ h k
-    at_test false go = let (here, rest) = and_parts (list_all is_plain q) (list_all (list_all is_plain) more) k in both_true _ _ here (go rest)
+    at_test true go = true_both _ _ h k
+    at_test false go = let (here, rest) = and_parts (list_all is_plain q) (list_all (list_all is_plain) more) k in true_both _ _ here (go rest)
 
 plain_all_placed : (done parts : List (List ℕ)) → AllPlain done → AllPlain parts → AllPlain (all_placed done parts)
 plain_all_placed done [] h k = h

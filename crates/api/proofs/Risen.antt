@@ -1,10 +1,7 @@
 -- The count of the device's failures from one call to the next.
 use Rattle.std.proofs.Common.{◌≤◌, ℕ, arith}
 use Rattle.settle.specs.Reads.{HasRisen}
-
--- what rose after a message began rose while it was served
-pub risen_since : (from between to : ℕ) → from ≤ between → between ≤ to → HasRisen between to → HasRisen from to
-risen_since from between to before behind risen = grind arith
+use Rattle.settle.proofs.Risen.{risen-since}
 
 -- what rose while a message was served has risen after later messages
 pub risen_until : (from between to : ℕ) → HasRisen from between → between ≤ to → HasRisen from to

@@ -40,7 +40,7 @@ use Rattle.messages.specs.declared.paths.Route.TheVariants.{Carriers, Clock, Rou
 use Rattle.messages.specs.Table.{takes, among_offered}
 use Rattle.bodies.proofs.RefusalLemmas.{text_by_number}
 use Rattle.std.proofs.Math.Nat.{le_trans}
-use Rattle.api.proofs.Risen.{risen_since}
+use Rattle.settle.proofs.Risen.{risen-since}
 
 -- ---- a question changes nothing
 
@@ -86,7 +86,7 @@ blamed owed usable st stands says =
     owed.storage (record { usable = usable; st = st; represents = stands.represents; written = stands.written; says = says })
 
 pub blames_since : (from between to : ℕ) (old mid : Content) (r : Refusal) → from ≤ between → between ≤ to → ((st : State) → Stands old st → Stands mid st) → BlamesRightly between to mid r → BlamesRightly from to old r
-blames_since from between to old mid r before behind same blames = λ st s e. risen_since from between to before behind (blames st (same st s) e)
+blames_since from between to old mid r before behind same blames = λ st s e. risen-since from between to before behind (blames st (same st s) e)
 
 -- ---- what a refusal means
 
@@ -519,7 +519,7 @@ step_told offered from to new st request body text said e x = (x.0, subst (λ (t
 
 -- what is withheld since the message began, and not since the clock moved
 withheld_since : (from between to : ℕ) (st : State) (text : List ℕ) (after : State) → from ≤ between → between ≤ to → Withholds between to st text after → Withholds from to st text after
-withheld_since from between to st text after before behind (inl x, e) = (inl (x.0, risen_since from between to before behind x.1), e)
+withheld_since from between to st text after before behind (inl x, e) = (inl (x.0, risen-since from between to before behind x.1), e)
 withheld_since from between to st text after before behind (inr x, e) = (inr x, e)
 
 or_since : {P : Type 0} (from between to : ℕ) (st : State) (text : List ℕ) (after : State) → from ≤ between → between ≤ to → Withholds between to st text after ⊎ P → Withholds from to st text after ⊎ P

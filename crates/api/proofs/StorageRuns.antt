@@ -8,7 +8,8 @@ use Rattle.meaning.specs.Reading.{State}
 use Rattle.bodies.specs.RefusalTexts.{refusal_text}
 use Rattle.api.specs.Run.{Exchange, Run}
 use Rattle.api.specs.Step.{Step}
-use Rattle.api.proofs.Risen.{risen_since, risen_until}
+use Rattle.api.proofs.Risen.{risen_until}
+use Rattle.settle.proofs.Risen.{risen-since}
 use Rattle.api.proofs.StorageLemmas.{storage_tells}
 
 run_rises : (offered : Bool) (from to : ℕ) (st end : State) (input rest : List ℕ) (xs : List Exchange) → Run offered from to st input xs end rest → from ≤ to
@@ -25,4 +26,4 @@ stays_clear offered from to st end input rest (x ∷ xs) run calm =
     let after : run.0 ≤ to = run_rises offered run.0 to run.1 end run.2 rest xs run.6 in
     All-cons IsClear x xs
     (λ e. calm (risen_until from run.0 to (storage_tells offered x.tick from run.0 st x.request x.body run.1 (subst (λ (t : List ℕ). Step offered x.tick from run.0 st x.request x.body t run.1) e run.5)).0 after))
-    (stays_clear offered run.0 to run.1 end run.2 rest xs run.6 (λ risen. calm (risen_since from run.0 to run.5.rises after risen)))
+    (stays_clear offered run.0 to run.1 end run.2 rest xs run.6 (λ risen. calm (risen-since from run.0 to run.5.rises after risen)))

@@ -12,6 +12,7 @@ use Rattle.serde_json.specs.Data.{Data, Members, no_members, member, put}
 use Rattle.bodies.specs.Flat.{scalar_data, members_upon}
 use Rattle.bodies.specs.Forms.{only_members}
 use Rattle.bodies.specs.declared.flat.Member.{Member}
+use Rattle.numbers.proofs.Small.{and_true}
 
 once : (b c : Bool) → (b && c) ≡ (b && (b && c))
 once true c = refl
@@ -59,10 +60,6 @@ any_seen k (s ∷ ss) = rw (any_seen k ss) refl
 all_seen : (allowed : List (Bor (List ℕ))) (ms : List Member) → list_all (λ (m : Member). list_any (λ (s : Bor (List ℕ)). bytes_eq m.key.now s.now) allowed) ms ≡ list_all (is_one (map (λ (s : Bor (List ℕ)). s.now) allowed)) ms
 all_seen allowed [] = refl
 all_seen allowed (m ∷ ms) = rw (all_seen allowed ms, any_seen m.key.now allowed) refl
-
-and_true : (b : Bool) → (b && true) ≡ b
-and_true true = refl
-and_true false = refl
 
 pub only_flat : (allowed : List (Bor (List ℕ))) (ms : List Member) →
     list_all (λ (m : Member). list_any (λ (s : Bor (List ℕ)). bytes_eq m.key.now s.now) allowed) ms ≡ only_members (map (λ (s : Bor (List ℕ)). s.now) allowed) (members_upon no_members ms)

@@ -1,5 +1,5 @@
 -- What the register's answers to questions say.
-use Rattle.std.proofs.Common.{◌≡◌, ℕ, ◌≤◌, arith, List, Option, Some, None, refl, subst}
+use Rattle.std.proofs.Common.{◌≡◌, ℕ, List, Option, Some, None, refl, subst}
 use Rattle.meaning.specs.Content.{Content}
 use Rattle.meaning.specs.Machine.{Reply, Rows, Found, out, next, unless_refused, refused_or}
 use Rattle.meaning.specs.Reading.{State, InForce, all_in_force}
@@ -7,8 +7,8 @@ use Rattle.meaning.specs.Refusals.{Question, Asks, AllInForce, Ids, refusal}
 use Rattle.register.specs.Answers.{Stands, AnswersAs}
 use Rattle.bulk.specs.Report.{in_force_id, open_id}
 use Rattle.settle.specs.Owing.{Owes, SaysStorage}
-use Rattle.settle.specs.Reads.{HasRisen}
 use Rattle.std.proofs.Math.Nat.{le_refl, le_trans}
+use Rattle.settle.proofs.Risen.{risen-since}
 
 -- a question changes nothing
 unless_same : (r : Option ℕ) (st : State) → unless_refused r st st ≡ st
@@ -55,10 +55,6 @@ pub ids_are : (st : State) (tn : ℕ) (a b : Option ℕ) → Found a b ≡ out s
 unfolding out
 ids_are st tn a b e = same_ids (refusal st (Asks 0 (Ids tn))) a b (in_force_id st tn) (open_id st tn) e
 
--- what rose after a call began rose since an earlier one began
-pub risen_since : (from between to : ℕ) → from ≤ between → between ≤ to → HasRisen between to → HasRisen from to
-risen_since from between to before behind risen = grind arith
-
 -- what two calls owe, one after the other
 pub owes_then :
     {S First Settles Answers Says : Type 0} {IsUsable IsHonest : S → Type 0} {failed : S → ℕ} {before mid after : S} {old between : Content} →
@@ -71,7 +67,7 @@ owes_then {failed = failed} {before = before} {mid = mid} {after = after} first 
   rises = le_trans first.rises second.rises;
   storage = λ s.
       let at = kept (second.usable s.usable) s.st (record { represents = s.represents; written = s.written }) in
-      risen_since (failed before) (failed mid) (failed after) first.rises second.rises
+      risen-since (failed before) (failed mid) (failed after) first.rises second.rises
       (second.storage (record { usable = s.usable; st = s.st; represents = at.represents; written = at.written; says = s.says }));
 }
 
@@ -87,7 +83,7 @@ owes_on {failed = failed} {before = before} {mid = mid} {after = after} first se
   rises = le_trans first.rises second.rises;
   storage = λ s.
       let at = on (second.usable s.usable) s.st (record { represents = s.represents; written = s.written }) in
-      risen_since (failed before) (failed mid) (failed after) first.rises second.rises
+      risen-since (failed before) (failed mid) (failed after) first.rises second.rises
       (second.storage (record { usable = s.usable; st = at.0; represents = at.1.represents; written = at.1.written; says = s.says }));
 }
 

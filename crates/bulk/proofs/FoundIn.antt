@@ -1,6 +1,6 @@
 -- What is found of each subject, read off an ordered map of their sides.
 use Rattle.std.proofs.Common.{◌≡◌, ℕ, ◌<◌, Bool, true, false, List, [], ◌∷◌, map, Option, Some, None, refl, ap, sym, ◌∙◌, subst, arith}
-use Rattle.std.specs.Prelude.{unwrap_or, if◌then◌else◌, nat_lt}
+use Rattle.std.specs.Prelude.{unwrap_or, if◌then◌else◌}
 use Rattle.std.specs.BTreeMap.{is_at}
 use Rattle.std.specs.List.Sorted.{IsStrictlySortedBy}
 use Rattle.std.specs.Map.{keys_of, lookup}
@@ -19,12 +19,10 @@ use Rattle.bulk.specs.Sides.{found_in, found_of, no_sides, with_found}
 use Rattle.bulk.specs.declared.finding.Finding.{Finding}
 use Rattle.bulk.specs.declared.finding.Found.{Found}
 use Rattle.bulk.specs.declared.sides.Sides.{Sides}
+use Rattle.numbers.proofs.Small.{is_less}
 
 abbrev Entry : Type 0
 Entry = Subject × Sides
-
-lt-to : (a b : ℕ) → a < b → nat_lt a b ≡ true
-lt-to a b less = grind (arith, nat_tests)
 
 level : (a : ℕ) → is_eq (nat_cmp a a) ≡ true
 level a = grind (arith, nat_tests)
@@ -44,7 +42,7 @@ rise_above s (e ∷ es) above = go (found_of e.1) (rise_above s es above.1)
     go : (o : Option Finding) → AllAbove (subject_of s) (map (λ (f : Found). subject_of f.subject) (found_in es)) →
         AllAbove (subject_of s) (map (λ (f : Found). subject_of f.subject) (with_found e.0 o (found_in es)))
     go None rest = rest
-    go (Some finding) rest = (lt-to (key_of s) (key_of e.0) above.0, rest)
+    go (Some finding) rest = (is_less (key_of s) (key_of e.0) above.0, rest)
 
 found_rise : (es : List Entry) → Rise key_of (keys_of es) → SubjectsRise (map (λ (f : Found). subject_of f.subject) (found_in es))
 found_rise [] rise = tt

@@ -7,7 +7,7 @@ use Rattle.meaning.specs.declared.words.Outcome.TheVariants.{Open, AllAcknowledg
 use Rattle.meaning.specs.Statuses.{Status}
 use Rattle.meaning.specs.Versions.{Version}
 use Rattle.meaning.specs.Changes.{status_after, outcome_at_end}
-use Rattle.meaning.proofs.Small.{or_true}
+use Rattle.numbers.proofs.Small.{or_true}
 use Rattle.meaning.proofs.Moves.{MovesKeep, is_before_sending}
 use Rattle.meaning.specs.Windows.{WindowSet}
 

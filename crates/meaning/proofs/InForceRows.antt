@@ -8,7 +8,7 @@ use Rattle.numbers.proofs.SubjectKeys.{subject_key-exact}
 use Rattle.meaning.specs.Versions.{Version, Record, in_force, version_with}
 use Rattle.meaning.specs.History.{subject_of_id}
 use Rattle.meaning.specs.Reading.{SubjectVersion, InForce, of_its_subject, versions_made, row_inserted, rows_in_force}
-use Rattle.meaning.proofs.Small.{equal_numbers}
+use Rattle.numbers.proofs.Small.{same_number, less_is}
 use Rattle.meaning.proofs.Lists.{Among}
 use Rattle.meaning.proofs.Ascending as ascending
 
@@ -52,9 +52,6 @@ among-inserted r (q ∷ qs) x is = go (among-inserted r qs x) (subject_lt r.subj
     go later false (inr (inl e)) = inl e
     go later false (inr (inr there)) = inr (later (inr there))
 
-pub lt-of : (a b : ℕ) → nat_lt a b ≡ true → a < b
-lt-of a b e = grind (arith, nat_tests)
-
 le-of : (a b : ℕ) → nat_lt a b ≡ false → b ≤ a
 le-of a b e = grind (arith, nat_tests)
 
@@ -70,7 +67,7 @@ inserted-rise r (q ∷ qs) rise apart = go (inserted-rise r qs rise.1 (λ x is. 
     at_most a b le apart_from = split (nat_lt a b) refl
       where
         split : (c : Bool) → nat_lt a b ≡ c → a < b
-        split true f = lt-of a b f
+        split true f = less_is a b f
         split false f = let ge : b ≤ a = le-of a b f in absurd (apart_from (omega (arith, le, ge)))
 
     by : (x : InForce) → key q < key r → (x ≡ r) ⊎ Among x qs → key q < key x
@@ -78,7 +75,7 @@ inserted-rise r (q ∷ qs) rise apart = go (inserted-rise r qs rise.1 (λ x is. 
     by x less (inr there) = ascending.above_each key (key q) qs x rise.0 there
 
     go : Rise (row_inserted r qs) → (b : Bool) → subject_lt r.subject q.subject ≡ b → Rise (if b then r ∷ q ∷ qs else q ∷ row_inserted r qs)
-    go later true e = let less : key r < key q = lt-of (key r) (key q) e in ((less, more_above (key r) (key q) qs less rise.0), rise)
+    go later true e = let less : key r < key q = less_is (key r) (key q) e in ((less, more_above (key r) (key q) qs less rise.0), rise)
     go later false e =
         let less : key q < key r = at_most (key q) (key r) (le-of (key r) (key q) e) (apart q (inl refl)) in
         (ascending.all_above key (key q) (row_inserted r qs) (λ x is. by x less (inserted-among r qs x is)), later)
@@ -128,7 +125,7 @@ listed-row at from (s ∷ ss) r is = go (λ there. later-row at from s ss r (lis
         by (inl f) = record {
           e = record { subject = s; version = v };
           id = from;
-          is = record { given = ap (λ b. if b then Some s else subject_of_id from (suc from) ss) (equal_numbers from); found = found; later = omega arith };
+          is = record { given = ap (λ b. if b then Some s else subject_of_id from (suc from) ss) (same_number from); found = found; later = omega arith };
           force = e;
           row = f;
         }

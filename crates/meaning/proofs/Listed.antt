@@ -1,5 +1,5 @@
 -- What the definitions list rises by subject, each subject once.
-use Rattle.std.proofs.Common.{◌≡◌, ℕ, ◌≤◌, ◌<◌, inl, inr, Bool, true, false, List, [], ◌∷◌, length, map, Some, refl, ap, sym, ◌∙◌, arith}
+use Rattle.std.proofs.Common.{◌≡◌, ℕ, ◌≤◌, inl, inr, Bool, true, false, List, [], ◌∷◌, length, map, Some, refl, ap, sym, ◌∙◌, arith}
 use Rattle.std.specs.Prelude.{nat_lt, filter, if◌then◌else◌}
 use Rattle.std.proofs.lemmas.Bool.Decides.{nat_tests}
 use Rattle.numbers.specs.Subjects.{Subject, subject_eq, subject_key, subject_lt}
@@ -9,14 +9,14 @@ use Rattle.meaning.specs.History.{made_by}
 use Rattle.meaning.specs.Reading.{State, InForce, record_now, all_in_force}
 use Rattle.meaning.specs.Machine.{with_subject, each_once}
 use Rattle.meaning.specs.Laws.{IsState, AllAbove, SubjectsRise, IsOfForce, ForceIsListed, EachIsOnce}
-use Rattle.meaning.proofs.Small.{true-false}
+use Rattle.numbers.proofs.Small.{true-false, is_less, less_is}
 use Rattle.meaning.proofs.Lists.{Among, filtered-to, found-among, found-there, contained, contains-among, all_of}
 use Rattle.meaning.proofs.Ids.{same_subject, found_given}
 use Rattle.meaning.proofs.Entered.{subject_eq-refl, given_now}
 use Rattle.meaning.proofs.Shown.{id_found}
 use Rattle.meaning.proofs.Orderly.{no_two_active}
 use Rattle.meaning.proofs.Ascending as ascending
-use Rattle.meaning.proofs.InForceRows.{AreAbove, Rise, lt-of, listed-row, row-listed, listed-rise}
+use Rattle.meaning.proofs.InForceRows.{AreAbove, Rise, listed-row, row-listed, listed-rise}
 use Rattle.meaning.proofs.Copies.Queue.{found_by_id}
 
 -- ---- what is in force
@@ -28,12 +28,9 @@ one_only (x ∷ []) a b most (inr is) there = absurd is
 one_only (x ∷ []) a b most (inl e) (inr there) = absurd there
 one_only (x ∷ y ∷ ys) a b most is there = absurd (omega (arith, most))
 
-lt-to : (a b : ℕ) → a < b → nat_lt a b ≡ true
-lt-to a b less = grind (arith, nat_tests)
-
 subjects_above : (s : Subject) (rows : List InForce) → AreAbove (subject_key s) rows → AllAbove s (map (λ (r : InForce). r.subject) rows)
 subjects_above s [] above = tt
-subjects_above s (r ∷ rs) above = (lt-to (subject_key s) (subject_key r.subject) above.0, subjects_above s rs above.1)
+subjects_above s (r ∷ rs) above = (is_less (subject_key s) (subject_key r.subject) above.0, subjects_above s rs above.1)
 
 subjects_rise : (rows : List InForce) → Rise rows → SubjectsRise (map (λ (r : InForce). r.subject) rows)
 subjects_rise [] rise = tt
@@ -176,7 +173,7 @@ subjects-ascend (s ∷ ss) rise = (above ss rise.0, subjects-ascend ss rise.1)
   where
     above : (ts : List Subject) → AllAbove s ts → ascending.AreAbove subject_key (subject_key s) ts
     above [] all = tt
-    above (t ∷ ts) all = (lt-of (subject_key s) (subject_key t) all.0, above ts all.1)
+    above (t ∷ ts) all = (less_is (subject_key s) (subject_key t) all.0, above ts all.1)
 
 pub each_is_once : EachIsOnce
 each_is_once ss = (

@@ -2,7 +2,7 @@
 use Rattle.std.proofs.Common.{◌≡◌, zero, suc, inl, inr, Bool, true, false, cond, ◌||◌, List, [], ◌∷◌, ◌++◌, map, Some, refl, ap, sym, ◌∙◌, subst, arith}
 use Rattle.std.specs.Prelude.{◌⊎◌, find, filter, flat_map, All, Contains}
 use Rattle.std.specs.List.{list_any, AllByRecursion}
-use Rattle.meaning.proofs.Small.{true-false, or_true}
+use Rattle.numbers.proofs.Small.{true-false, or_true}
 
 -- ---- among them
 

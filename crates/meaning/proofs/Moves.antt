@@ -23,10 +23,10 @@ use Rattle.meaning.specs.History.{Request, Commands, Acknowledges, carriers, car
 use Rattle.meaning.specs.Reading.{State, SubjectVersion, record_now, version_of_id, is_carrier, set_now}
 use Rattle.meaning.specs.Refusals.{Requests, refusal, tests, registry_is_full, attempts_too_often}
 use Rattle.meaning.specs.Machine.{IsHistory}
-use Rattle.meaning.proofs.Small.{true-false, denied, and_first, and_second, or_first, or_second}
+use Rattle.numbers.proofs.Small.{true-false, denied, and_first, and_second, or_first, or_second, equal_number}
 use Rattle.meaning.proofs.Lists.{found_has}
 use Rattle.meaning.proofs.Accepted.{AcceptedCommand, accepted_command, none_holds}
-use Rattle.meaning.proofs.Ids.{same_id, same_subject}
+use Rattle.meaning.proofs.Ids.{same_subject}
 use Rattle.meaning.proofs.Entries.{named_test, is_active-is}
 use Rattle.meaning.proofs.Entered.{given_now, sound_now, record-carriers}
 
@@ -374,7 +374,7 @@ module _ {P : Property} (st : State) (keeps : MovesKeep (set_now st) P) (is : Is
           awaits_creates v.status ≡ true
       awaits lacks = and_first (awaits_creates v.status) _ (and_first _ _ (and_second (subject_eq s (Number tn)) (lacks_new_create old_provider new_provider v) lacks))
   done_kept caller (Commands (OnVersion id c)) ok v found p = either keeps st.now everyone v p (v.id == id) (change_of (set_now st) caller st.now everyone c v)
-      (λ named. change_kept caller id c (accepted_command st caller (OnVersion id c) ok) v (subst (λ k. version_with k (record_now st s) ≡ Some v) (same_id v.id id named) found) p)
+      (λ named. change_kept caller id c (accepted_command st caller (OnVersion id c) ok) v (subst (λ k. version_with k (record_now st s) ≡ Some v) (equal_number v.id id named) found) p)
   done_kept caller (Commands (Release block)) ok v found p = either keeps st.now everyone v p (subject_eq s (Block block) && in_force v) (sent (set_now st) Delete everyone st.now v)
       (λ released. released_kept caller block (accepted_command st caller (Release block) ok) v found released p)
   done_kept caller (Acknowledges id attempt) ok v found p = either keeps st.now everyone v p (v.id == id) (acknowledged_by (set_now st) caller attempt st.now v)

@@ -21,12 +21,12 @@ use Rattle.meaning.proofs.Accepted.{accepted_command}
 use Rattle.meaning.proofs.Donated.{donate-unforced, donate-inside, open_port-none}
 use Rattle.meaning.proofs.Entered.{given_now, sound_now}
 use Rattle.meaning.proofs.Entries.{entry-respects}
-use Rattle.meaning.proofs.Ids.{AreGiven, same_id}
+use Rattle.meaning.proofs.Ids.{AreGiven}
 use Rattle.meaning.proofs.Kept.{kept, record_after}
 use Rattle.meaning.proofs.Lists.{everywhere, each, found-among, there_any}
 use Rattle.meaning.proofs.Made.{none_in_force-found}
 use Rattle.meaning.proofs.Minutes.{changed_at-same}
-use Rattle.meaning.proofs.Small.{true-false, and_first, and_second, or_true, equal_numbers}
+use Rattle.numbers.proofs.Small.{true-false, and_first, and_second, or_true, same_number, equal_number}
 use Rattle.meaning.proofs.Sound.{done_to-same, judged_version-same}
 use Rattle.meaning.proofs.Unique.{Respects, RespectsEach, by_status, judged_version-respects, changed-none, retired-none, open_not_in_force}
 
@@ -60,7 +60,7 @@ made_of_block st b k id (Commands (Donate block used lrn cic)) made =
 made_of_block st b k id (Commands (Assign block holder lrn cic)) made = go (b == block) refl made
   where
     go : (c : Bool) → (b == block) ≡ c → (if c then Some k else None) ≡ Some id → block ≡ b
-    go true e f = sym (same_id b block e)
+    go true e f = sym (equal_number b block e)
     go false e f = cc
 made_of_block st b k id _ made = cc
 
@@ -129,7 +129,7 @@ module _ (st : State) (is : IsHistory st.windows st.history st.now) (n : ℕ) wh
 
   made_port : (caller id : ℕ) (everyone : List ℕ) (donor : Option ℕ) (k : ℕ) (request : Request) → HasValues request → refusal st (Requests caller request) ≡ None →
       id_among (Number n) k (makes request (record_now st)) ≡ Some id → is_port n (made_version (set_now st) id caller st.now everyone donor request) ≡ true → IsDonated n request
-  made_port caller id everyone donor k (Commands (Donate block used lrn cic)) lines ok made port = same_id (block_of n) block (donate-inside st (Number n) k id block used lrn cic lines made)
+  made_port caller id everyone donor k (Commands (Donate block used lrn cic)) lines ok made port = equal_number (block_of n) block (donate-inside st (Number n) k id block used lrn cic lines made)
   made_port caller id everyone donor k (Commands (OldProviderCreate tn old_provider new_provider due true)) lines ok made port = cc
   made_port caller id everyone donor k (Commands (OldProviderCreate tn old_provider new_provider due false)) lines ok made port = cc
   made_port caller id everyone donor k _ lines ok made port = cc
@@ -271,10 +271,10 @@ module _ (st : State) (is : IsHistory st.windows st.history st.now) (n : ℕ) wh
       let rest : NoneInForce vs = subst (PortIsAlone n) e (ports_alone st.windows n st.history st.now is) port in
       let unforced : version_in_force (record_now st (Number n)) ≡ None = ap (find in_force) e ∙ ap (λ b. cond b (Some v) (find in_force vs)) (open_not_in_force (Number n) v.status open_now) ∙ none_found vs rest in
       let given : AreGiven (made_by st.windows st.history) (Number n) (v ∷ vs) = subst (AreGiven (made_by st.windows st.history) (Number n)) e (given_now st is (Number n)) in
-      let found : version_with v.id (record_now st (Number n)) ≡ Some v = ap (find (λ u. u.id == v.id)) e ∙ ap (λ b. cond b (Some v) (find (λ u. u.id == v.id) vs)) (equal_numbers v.id) in
+      let found : version_with v.id (record_now st (Number n)) ≡ Some v = ap (find (λ u. u.id == v.id)) e ∙ ap (λ b. cond b (Some v) (find (λ u. u.id == v.id) vs)) (same_number v.id) in
       let shut : (is_in_block (block_of n) (Number n) && is_open (Number n) v && is_none (version_in_force (record_now st (Number n)))) ≡ false =
       open_port-none st caller (block_of n) none (Number n) v.id v given.0 found in
-      let never : true ≡ false = sym (three (is_in_block (block_of n) (Number n)) (is_open (Number n) v) (is_none (version_in_force (record_now st (Number n)))) (equal_numbers (block_of n)) open_now (ap is_none unforced)) ∙ shut in cc
+      let never : true ≡ false = sym (three (is_in_block (block_of n) (Number n)) (is_open (Number n) v) (is_none (version_in_force (record_now st (Number n)))) (same_number (block_of n)) open_now (ap is_none unforced)) ∙ shut in cc
     where
       three : (a b c : Bool) → a ≡ true → b ≡ true → c ≡ true → (a && b && c) ≡ true
       three true true true e f g = refl

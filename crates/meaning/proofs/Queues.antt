@@ -13,7 +13,7 @@ use Rattle.meaning.proofs.Lists.{Among, mapped-from, filtered-from, flat-from, f
 use Rattle.meaning.proofs.Shown.{id_found}
 use Rattle.meaning.proofs.Tended.{AreBelow, AreApart, tended_kept}
 use Rattle.meaning.proofs.KeptVersions.{version_now}
-use Rattle.meaning.proofs.Small.{some_is}
+use Rattle.numbers.proofs.Small.{some_is}
 use Rattle.meaning.proofs.Entered.{found_is}
 use Rattle.meaning.proofs.Copies.Published.{among_filter}
 use Rattle.meaning.proofs.Copies.Queue.{listed-from, sorted-from, queued-from, queued-to}

@@ -9,6 +9,7 @@ use Rattle.meaning.specs.Versions.{is_among, with_number}
 use Rattle.meaning.specs.Changes.{is_empty}
 use Rattle.meaning.specs.Content.{is_nonempty}
 use Rattle.meaning.specs.History.{Entry, carriers, carrier_named, carrier_added, rising}
+use Rattle.numbers.proofs.Small.{equal_number, same_number}
 
 -- ---- one more number
 
@@ -73,12 +74,6 @@ abbrev pub Rise : List ℕ → Type 0
 Rise [] = ⊤
 Rise (n ∷ ns) = AreAbove n ns × Rise ns
 
-equal_of : (a b : ℕ) → (a == b) ≡ true → a ≡ b
-equal_of a b e = grind (arith, nat_tests)
-
-same_of : (a : ℕ) → (a == a) ≡ true
-same_of a = grind (arith, nat_tests)
-
 not_above : (k : ℕ) (ns : List ℕ) (m : ℕ) → m ≤ k → AreAbove k ns → is_among m ns ≡ false
 not_above k [] m le above = refl
 not_above k (n ∷ ns) m le above =
@@ -88,8 +83,8 @@ not_above k (n ∷ ns) m le above =
 
 pub same_numbers : (xs ys : List ℕ) → Rise xs → Rise ys → ((k : ℕ) → is_among k xs ≡ is_among k ys) → xs ≡ ys
 same_numbers [] [] rise sises same = refl
-same_numbers [] (y ∷ ys) rise sises same = let never : false ≡ true = same y ∙ ap (λ b. b || is_among y ys) (same_of y) in cc
-same_numbers (x ∷ xs) [] rise sises same = let never : false ≡ true = sym (same x) ∙ ap (λ b. b || is_among x xs) (same_of x) in cc
+same_numbers [] (y ∷ ys) rise sises same = let never : false ≡ true = same y ∙ ap (λ b. b || is_among y ys) (same_number y) in cc
+same_numbers (x ∷ xs) [] rise sises same = let never : false ≡ true = sym (same x) ∙ ap (λ b. b || is_among x xs) (same_number x) in cc
 same_numbers (x ∷ xs) (y ∷ ys) rise sises same = heads (same_numbers xs ys rise.1 sises.1) (nat_lt x y) (nat_lt y x) refl refl
   where
     lt_of : (a b : ℕ) → nat_lt a b ≡ true → a ≤ b
@@ -106,17 +101,17 @@ same_numbers (x ∷ xs) (y ∷ ys) rise sises same = heads (same_numbers xs ys r
       where
         go : (b : Bool) → (x == k) ≡ b → is_among k xs ≡ is_among k ys
         go true f =
-            let at : x ≡ k = equal_of x k f in
+            let at : x ≡ k = equal_number x k f in
             ap (λ n. is_among n xs) (sym at) ∙ not_above x xs x (omega arith) rise.0 ∙ sym (ap (λ n. is_among n ys) (sym at ∙ e) ∙ not_above y ys y (omega arith) sises.0)
         go false f = sym (ap (λ b. b || is_among k xs) f) ∙ same k ∙ ap (λ n. (n == k) || is_among k ys) (sym e) ∙ ap (λ b. b || is_among k ys) f
 
     heads : (((k : ℕ) → is_among k xs ≡ is_among k ys) → xs ≡ ys) → (p q : Bool) → nat_lt x y ≡ p → nat_lt y x ≡ q → x ∷ xs ≡ y ∷ ys
     heads later true q e f =
-        let there : is_among x (y ∷ ys) ≡ true = sym (same x) ∙ ap (λ b. b || is_among x xs) (same_of x) in
+        let there : is_among x (y ∷ ys) ≡ true = sym (same x) ∙ ap (λ b. b || is_among x xs) (same_number x) in
         let gone : is_among x (y ∷ ys) ≡ false = ap (λ b. b || is_among x ys) (apart_of x y e) ∙ not_above y ys x (lt_of x y e) sises.0 in
         let never : true ≡ false = sym there ∙ gone in cc
     heads later false true e f =
-        let there : is_among y (x ∷ xs) ≡ true = same y ∙ ap (λ b. b || is_among y ys) (same_of y) in
+        let there : is_among y (x ∷ xs) ≡ true = same y ∙ ap (λ b. b || is_among y ys) (same_number y) in
         let gone : is_among y (x ∷ xs) ≡ false = ap (λ b. b || is_among y xs) (apart_of y x f) ∙ not_above x xs y (lt_of y x f) rise.0 in
         let never : true ≡ false = sym there ∙ gone in cc
     heads later false false e f = let e2 : x ≡ y = meets x y e f in ap (λ n. n ∷ xs) e2 ∙ ap (λ ns. y ∷ ns) (later (tails e2))

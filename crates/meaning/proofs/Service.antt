@@ -18,10 +18,10 @@ use Rattle.meaning.proofs.Accepted.{AcceptedCommand, accepted_command}
 use Rattle.meaning.proofs.Donated.{donate-room, donate-inside}
 use Rattle.meaning.proofs.Elsewhere.{after-elsewhere}
 use Rattle.meaning.proofs.Entered.{judged-now, given_now, sound_now}
-use Rattle.meaning.proofs.Ids.{same_id, same_subject}
+use Rattle.meaning.proofs.Ids.{same_subject}
 use Rattle.meaning.proofs.Lists.{everywhere}
 use Rattle.meaning.proofs.Minutes.{changed_at-same}
-use Rattle.meaning.proofs.Small.{denied}
+use Rattle.numbers.proofs.Small.{denied, equal_number}
 
 -- ---- what is held
 
@@ -153,7 +153,7 @@ module _ (st : State) (is : IsState st) (caller block : ℕ) (used : List ℕ) (
       server_of (serving st n) ≡ Some caller
   by_code n id made unforced =
       let room = donate-room st caller (Number n) ids_from id block used lrn cic lines accepted_it made (given_now st is.history (Number n)) (sound_now st is.history (Number n)) in
-      let inside : block_of n ≡ block = same_id (block_of n) block (donate-inside st (Number n) ids_from id block used lrn cic lines made) in
+      let inside : block_of n ≡ block = equal_number (block_of n) block (donate-inside st (Number n) ids_from id block used lrn cic lines made) in
       let code : code_of n ≡ block_code_of block = ten n block inside in
       ap (λ o. server_of (elim o [ Some v ↦ ByVersion v.new_provider | None ↦ protected_by (open_version (Number n) (record_now st (Number n))) (served_by_code st n) ])) unforced
       ∙ ap (λ o. server_of (protected_by o (served_by_code st n))) (none_open (record_now st (Number n)).versions room.1.closed)

@@ -14,6 +14,7 @@ use Rattle.meaning.proofs.Lists.{each, found_has}
 use Rattle.meaning.proofs.Kept.{record_after, kept}
 use Rattle.meaning.proofs.Moves.{MovesKeep}
 use Rattle.meaning.proofs.KeptVersions.{minute_kept, entry_kept}
+use Rattle.numbers.proofs.Small.{same_number}
 
 -- ---- windows of at least a minute
 
@@ -30,9 +31,6 @@ present-are w (e ∷ h) now are is = added-are e.request (present_set w h) is.1 
 -- the set is that of its number
 abbrev pub IsSetOf : Windows → List Entry → WindowSet → Type 0
 IsSetOf w h set = set_of_number set.number w h ≡ Some set
-
-same_number : (n : ℕ) → (n == n) ≡ true
-same_number n = grind (arith, nat_tests)
 
 -- a set's number is not above the present one's
 set-below : (w : Windows) (h : List Entry) (number : ℕ) (set : WindowSet) → set_of_number number w h ≡ Some set → number ≤ (present_set w h).number

@@ -10,6 +10,7 @@ use Rattle.httparse.specs.Spans.{header_bytes, span_bytes, IsWithin}
 use Rattle.messages.specs.declared.head.Found.{Found}
 use Rattle.messages.specs.declared.head.Found.TheVariants.{Absent, Once, Twice}
 use Rattle.messages.specs.Fields.{lower, values_in, IsFound, IsFoundWithin}
+use Rattle.numbers.proofs.Small.{or_right}
 
 cond-append : (b : Bool) (v : List ℕ) (xs ys : List (List ℕ)) → cond b (v ∷ xs) xs ++ ys ≡ cond b (v ∷ (xs ++ ys)) (xs ++ ys)
 cond-append true v xs ys = refl
@@ -51,10 +52,6 @@ or_false a b e f = rw (e, f) refl
 or_true : (a b : Bool) → a ≡ true → (a || b) ≡ true
 or_true a b e = rw e refl
 
-or_second : (a b : Bool) → b ≡ true → (a || b) ≡ true
-or_second true b e = refl
-or_second false b e = e
-
 any_more : (P : List ℕ → Bool) (name buf : List ℕ) (hs : List HeaderSpan) (i : ℕ) (d : HeaderSpan) → i < length hs →
     any_value P name buf (take (i + 1) hs) ≡ (any_value P name buf (take i hs) || list_any P (values_in name (header_bytes buf (get_or hs i d) ∷ [])))
 any_more P name buf hs i d l = ap (list_any P) (values_more name buf hs i d l) ∙ list_any-append P _ _
@@ -72,7 +69,7 @@ pub any_found : (P : List ℕ → Bool) (name buf : List ℕ) (hs : List HeaderS
     → lower (header_bytes buf (get_or hs i d)).0 ≡ name → P (header_bytes buf (get_or hs i d)).1 ≡ true → any_value P name buf hs ≡ true
 any_found P name buf hs i d l n p =
     let here : any_value P name buf (take (i + 1) hs) ≡ true =
-    any_more P name buf hs i d l ∙ or_second _ _ (ap (list_any P) (one_value name (header_bytes buf (get_or hs i d)) n) ∙ or_true _ false p) in
+    any_more P name buf hs i d l ∙ or_right _ _ (ap (list_any P) (one_value name (header_bytes buf (get_or hs i d)) n) ∙ or_true _ false p) in
     let cut : take (i + 1) hs ++ drop (i + 1) hs ≡ hs = take-append-drop (i + 1) hs in
     ap (any_value P name buf) (sym cut) ∙ ap (list_any P) (ap (values_in name) (map-append (header_bytes buf) (take (i + 1) hs) (drop (i + 1) hs)) ∙ values_in-append name _ _) ∙ list_any-append P _ _ ∙ or_true _ _ here
 

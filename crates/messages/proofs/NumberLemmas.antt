@@ -7,6 +7,7 @@ use Rattle.std.specs.Str.{all_ascii_digits}
 use Rattle.std.specs.Str.Parse.{digits_value, digits_value_after}
 use Rattle.std.specs.Prelude.{nat_lt, nat_le}
 use Rattle.messages.specs.Fields.{number_of}
+use Rattle.numbers.proofs.Small.{and_false}
 
 value_snoc : (n : ℕ) (xs : List ℕ) (c : ℕ) → digits_value_after 10 n (xs ++ c ∷ []) ≡ digits_value_after 10 n xs * 10 + digit_value c
 value_snoc n [] c = refl
@@ -15,14 +16,6 @@ value_snoc n (x ∷ xs) c = value_snoc (n * 10 + digit_value x) xs c
 and_assoc : (a b c : Bool) → (a && (b && c)) ≡ ((a && b) && c)
 and_assoc true b c = refl
 and_assoc false b c = refl
-
-and_true : (a : Bool) → (a && true) ≡ a
-and_true true = refl
-and_true false = refl
-
-and_false : (a : Bool) → (a && false) ≡ false
-and_false true = refl
-and_false false = refl
 
 digits-append : (xs ys : List ℕ) → all_ascii_digits (xs ++ ys) ≡ (all_ascii_digits xs && all_ascii_digits ys)
 digits-append [] ys = refl

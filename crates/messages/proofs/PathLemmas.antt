@@ -13,6 +13,7 @@ use Rattle.matchit.specs.declared.error.InsertError.TheVariants.{Conflict, OutOf
 use Rattle.matchit.specs.Seek.{first, seek, own, step, or_else, param_step, has_slash}
 use Rattle.messages.specs.declared.paths.Route.{Route}
 use Rattle.messages.specs.Table.{fixed, path_among, paths, table}
+use Rattle.numbers.proofs.Small.{and_both}
 
 abbrev are_bytes : List ℕ → Bool
 are_bytes [] = true
@@ -22,10 +23,6 @@ are_bytes (x ∷ t) = nat_lt x 256 && are_bytes t
 abbrev AreFixed : {K : Type 0} → RowsOf K → Type 0
 AreFixed [] = Unit {0}
 AreFixed (row ∷ rs) = (are_bytes row.0 ≡ true) × AreFixed rs
-
-and_both : (a b : Bool) → (a && b) ≡ true → (a ≡ true) × (b ≡ true)
-and_both true b e = (refl, e)
-and_both false b e = cc
 
 abbrev row_at : {K : Type 0} → RowsOf K → List ℕ → Option K
 row_at [] p = None

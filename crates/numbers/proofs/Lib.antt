@@ -2,3 +2,4 @@ pub mod SubjectKeys
 pub mod DigitLemmas
 pub mod SpidLemmas
 pub mod SubjectOrder
+pub mod Small

@@ -14,6 +14,7 @@ use Rattle.numbers.specs.declared.line.Line.{Line}
 use Rattle.numbers.specs.declared.tn.Tn.{Tn}
 use Rattle.std.proofs.lemmas.List.{take_more, take_all, map-append}
 use Rattle.pool.specs.Donations.{lines_of, tn_subject}
+use Rattle.numbers.proofs.Small.{is_less, less_is, equal_number}
 
 -- ---- one number at the front of a list
 
@@ -23,11 +24,8 @@ not-less c d more = grind (arith, nat_tests)
 not-same : (c d : ℕ) → d < c → (c == d) ≡ false
 not-same c d more = grind (arith, nat_tests)
 
-is-less : (c d : ℕ) → c < d → nat_lt c d ≡ true
-is-less c d less = grind (arith, nat_tests)
-
 before : (c d : ℕ) (ds : List ℕ) → c < d → with_number c (d ∷ ds) ≡ c ∷ d ∷ ds
-before c d ds less = ap (λ b. if b then c ∷ d ∷ ds else (if c == d then d ∷ ds else d ∷ with_number c ds)) (is-less c d less)
+before c d ds less = ap (λ b. if b then c ∷ d ∷ ds else (if c == d then d ∷ ds else d ∷ with_number c ds)) (is_less c d less)
 
 behind : (c d : ℕ) (ds : List ℕ) → d < c → with_number c (d ∷ ds) ≡ d ∷ with_number c ds
 behind c d ds more =
@@ -40,14 +38,8 @@ there c d ds e f =
 
 -- ---- two numbers
 
-lt-of : (a b : ℕ) → nat_lt a b ≡ true → a < b
-lt-of a b e = grind (arith, nat_tests)
-
 gt-of : (a b : ℕ) → nat_lt a b ≡ false → (a == b) ≡ false → b < a
 gt-of a b e f = grind (arith, nat_tests)
-
-same-of : (a b : ℕ) → (a == b) ≡ true → a ≡ b
-same-of a b e = grind (arith, nat_tests)
 
 less-swap : (a b : ℕ) (ds : List ℕ) → a < b → with_number a (with_number b ds) ≡ with_number b (with_number a ds)
 less-swap a b [] less = before a b [] less ∙ sym (behind b a [] less)
@@ -57,8 +49,8 @@ less-swap a b (d ∷ ds) less = go (less-swap a b ds less) (nat_lt b d) (b == d)
     far : with_number a (with_number b ds) ≡ with_number b (with_number a ds) → d < b → (p q : Bool) → nat_lt a d ≡ p → (a == d) ≡ q →
         with_number a (d ∷ with_number b ds) ≡ with_number b (with_number a (d ∷ ds))
     far later more true q e f =
-        before a d (with_number b ds) (lt-of a d e)
-        ∙ sym (ap (with_number b) (before a d ds (lt-of a d e)) ∙ behind b a (d ∷ ds) less ∙ ap (λ ns. a ∷ ns) (behind b d ds more))
+        before a d (with_number b ds) (less_is a d e)
+        ∙ sym (ap (with_number b) (before a d ds (less_is a d e)) ∙ behind b a (d ∷ ds) less ∙ ap (λ ns. a ∷ ns) (behind b d ds more))
     far later more false true e f = there a d (with_number b ds) e f ∙ sym (ap (with_number b) (there a d ds e f) ∙ behind b d ds more)
     far later more false false e f =
         behind a d (with_number b ds) (gt-of a d e f) ∙ ap (λ ns. d ∷ ns) later
@@ -67,12 +59,12 @@ less-swap a b (d ∷ ds) less = go (less-swap a b ds less) (nat_lt b d) (b == d)
     go : with_number a (with_number b ds) ≡ with_number b (with_number a ds) → (p q : Bool) → nat_lt b d ≡ p → (b == d) ≡ q →
         with_number a (with_number b (d ∷ ds)) ≡ with_number b (with_number a (d ∷ ds))
     go later true q e f =
-        let next : b < d = lt-of b d e in
+        let next : b < d = less_is b d e in
         let first : a < d = omega (arith, less, next) in
         ap (with_number a) (before b d ds next) ∙ before a b (d ∷ ds) less
         ∙ sym (ap (with_number b) (before a d ds first) ∙ behind b a (d ∷ ds) less ∙ ap (λ ns. a ∷ ns) (before b d ds next))
     go later false true e f =
-        let same : b ≡ d = same-of b d f in
+        let same : b ≡ d = equal_number b d f in
         let first : a < d = omega (arith, less, same) in
         ap (with_number a) (there b d ds e f) ∙ before a d ds first
         ∙ sym (ap (with_number b) (before a d ds first) ∙ behind b a (d ∷ ds) less ∙ ap (λ ns. a ∷ ns) (there b d ds e f))
@@ -82,8 +74,8 @@ swap : (a b : ℕ) (ds : List ℕ) → with_number a (with_number b ds) ≡ with
 swap a b ds = go (nat_lt a b) (a == b) refl refl
   where
     go : (p q : Bool) → nat_lt a b ≡ p → (a == b) ≡ q → with_number a (with_number b ds) ≡ with_number b (with_number a ds)
-    go true q e f = less-swap a b ds (lt-of a b e)
-    go false true e f = ap (λ n. with_number n (with_number b ds)) (same-of a b f) ∙ ap (λ n. with_number b (with_number n ds)) (sym (same-of a b f))
+    go true q e f = less-swap a b ds (less_is a b e)
+    go false true e f = ap (λ n. with_number n (with_number b ds)) (equal_number a b f) ∙ ap (λ n. with_number b (with_number n ds)) (sym (equal_number a b f))
     go false false e f = sym (less-swap b a ds (gt-of a b e f))
 
 -- one more number at the end
@@ -102,9 +94,9 @@ of-block block n (m ∷ ms) = go (of-block block n ms) (nat_lt n m) (n == m) ref
 
     go : with_number (number_in block n) (map (number_in block) ms) ≡ map (number_in block) (with_number n ms) → (p q : Bool) → nat_lt n m ≡ p → (n == m) ≡ q →
         with_number (number_in block n) (number_in block m ∷ map (number_in block) ms) ≡ map (number_in block) (if p then n ∷ m ∷ ms else (if q then m ∷ ms else m ∷ with_number n ms))
-    go later true q e f = before (number_in block n) (number_in block m) (map (number_in block) ms) (less-in n m (lt-of n m e))
+    go later true q e f = before (number_in block n) (number_in block m) (map (number_in block) ms) (less-in n m (less_is n m e))
     go later false true e f =
-        let same : number_in block n ≡ number_in block m = ap (number_in block) (same-of n m f) in
+        let same : number_in block n ≡ number_in block m = ap (number_in block) (equal_number n m f) in
         there (number_in block n) (number_in block m) (map (number_in block) ms) (grind (arith, nat_tests, same)) (grind (arith, nat_tests, same))
     go later false false e f = behind (number_in block n) (number_in block m) (map (number_in block) ms) (less-in m n (gt-of n m e f)) ∙ ap (λ ns. number_in block m ∷ ns) later
 

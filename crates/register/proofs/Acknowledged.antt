@@ -12,7 +12,8 @@ use Rattle.meaning.specs.Reading.{State, View, record_now, view_of, set_now}
 use Rattle.meaning.specs.Refusals.{Requests, refusal}
 use Rattle.meaning.specs.Machine.{IsHistory, Shown, accepted, answer_of}
 use Rattle.meaning.specs.Content.{Content, VersionRow, BroadcastRow, BlockRow, BroadcastKey, ClockRow, SameRows, Shows, row_of, of_subject, stored_broadcast, stored_wait, broadcast_with}
-use Rattle.meaning.proofs.Ids.{same_id, same_subject}
+use Rattle.meaning.proofs.Ids.{same_subject}
+use Rattle.numbers.proofs.Small.{equal_number, and_both}
 use Rattle.meaning.proofs.Entered.{judged-now, given_now, sound_now, entered-elsewhere, none_elsewhere, none_with}
 use Rattle.meaning.proofs.Shown.{some_is, own, others}
 use Rattle.meaning.proofs.Tended.{IsTended, tended_kept}
@@ -33,7 +34,7 @@ use Rattle.register.proofs.OnVersion.{acknowledge-names, clock_same, shown_is}
 use Rattle.settle.proofs.Tables.{same_broadcast_with}
 use Rattle.settle.proofs.Taking.{sends_create-open, retired_broadcasts, version_after, others_after}
 use Rattle.settle.proofs.KeptRows.{row_there, puts_of, the_replaced, replaced_row, put_last, none_apart, retired_apart, retired_shows}
-use Rattle.settle.proofs.Among.{and_both, among-filtered, same_truth, among_keys}
+use Rattle.settle.proofs.Among.{among-filtered, same_truth, among_keys}
 use Rattle.register.proofs.Queued.{IsAwaited, waiting-awaited, awaited-waiting}
 use Rattle.register.proofs.Answering.{last_is, acknowledged_one, left_without, waiters_are, answered_one, row_was, stored_before, stored_after, waits_after, answered_all, acknowledged_is, other_broadcast, this_broadcast, takes_is, acknowledging-quiet, acknowledged_id, last-same}
 
@@ -228,7 +229,7 @@ module _ (st : State) (old new : Content) (stands : Stands old st) (caller : ℕ
       where
         mine : (id == k) ≡ true → (b : Bool) → completes ≡ b → of_subject s (λ (y : VersionRow). y.subject) (if b && true then Some (row_of s finished) else replaced_row (set_now st) st.now s (record_now st s) old (b && sends_create is.version.status) k) ≡ Some (row_of s finished)
         mine f true g = own s (λ (y : VersionRow). y.subject) (row_of s finished) refl
-        mine f false g = due.shows.versions k ∙ ap (option_map (row_of s)) (ap (λ n. version_with n (record_now st s)) (sym (same_id id k f)) ∙ is.found)
+        mine f false g = due.shows.versions k ∙ ap (option_map (row_of s)) (ap (λ n. version_with n (record_now st s)) (sym (equal_number id k f)) ∙ is.found)
             ∙ sym (ap (λ b. Some (row_of s (completed_if (set_now st) b st.now (answered_all caller attempt st.now is.version)))) g)
 
         never : (b : Bool) (o p : Option VersionRow) → (if b && false then o else p) ≡ p
@@ -238,7 +239,7 @@ module _ (st : State) (old new : Content) (stands : Stands old st) (caller : ℕ
         at : (b : Bool) → (id == k) ≡ b → of_subject s (λ (y : VersionRow). y.subject) (if completes && b then Some (row_of s finished) else replaced_row (set_now st) st.now s (record_now st s) old takes_over k)
             ≡ option_map (row_of s) (version_with k (record_after st caller id attempt s))
         at true f = mine f completes refl ∙ ap (λ u. Some (row_of s u)) (sym change_is)
-            ∙ sym (ap (option_map (row_of s)) (ap (λ n. version_with n (record_after st caller id attempt s)) (sym (same_id id k f)) ∙ hit))
+            ∙ sym (ap (option_map (row_of s)) (ap (λ n. version_with n (record_after st caller id attempt s)) (sym (equal_number id k f)) ∙ hit))
         at false f = ap (of_subject s (λ (y : VersionRow). y.subject)) (never completes (Some (row_of s finished)) (replaced_row (set_now st) st.now s (record_now st s) old takes_over k))
             ∙ retired_shows (set_now st) st.now s (made_by st.windows st.history) (record_now st s) old due.shows (given_now st stands.represents.history s) (one_in_force st old stands s) takes_over k
             ∙ sym (ap (option_map (row_of s)) (miss k f))
@@ -248,11 +249,11 @@ module _ (st : State) (old new : Content) (stands : Stands old st) (caller : ℕ
     same_elsewhere k a false e apart = same_broadcast_with (record_now st s) (record_after st caller id attempt s) k
         (ap (option_map (λ (u : Version). u.broadcasts)) (miss k e) ∙ retired_broadcasts (set_now st) takes_over st.now (version_with k (record_now st s))) a
     same_elsewhere k a true e apart =
-        ap (λ n. broadcast_with n a (record_after st caller id attempt s)) (sym (same_id id k e))
+        ap (λ n. broadcast_with n a (record_after st caller id attempt s)) (sym (equal_number id k e))
         ∙ ap (option_and_then (λ (v : Version). find (λ x. x.attempt == a) v.broadcasts)) hit
         ∙ other_broadcast caller attempt st.now is.version (record_now st s).carriers is.broadcast tended is.sent last is_left (set_now st) a apart
         ∙ sym (ap (option_and_then (λ (v : Version). find (λ x. x.attempt == a) v.broadcasts)) is.found)
-        ∙ ap (λ n. broadcast_with n a (record_now st s)) (same_id id k e)
+        ∙ ap (λ n. broadcast_with n a (record_now st s)) (equal_number id k e)
 
     this_after : broadcast_with id attempt (record_after st caller id attempt s) ≡ Some (answered_one caller is.broadcast is.waits closes)
     this_after = ap (option_and_then (λ (v : Version). find (λ x. x.attempt == attempt) v.broadcasts)) hit
@@ -261,7 +262,7 @@ module _ (st : State) (old new : Content) (stands : Stands old st) (caller : ℕ
     at_key : (k a : ℕ) → ((id == k) && (attempt == a)) ≡ true → (record_now_or : Record) → broadcast_with k a record_now_or ≡ broadcast_with id attempt record_now_or
     at_key k a e x =
         let parts = and_both (id == k) (attempt == a) e in
-        ap (λ n. broadcast_with n a x) (sym (same_id id k parts.0)) ∙ ap (λ n. broadcast_with id n x) (sym (same_id attempt a parts.1))
+        ap (λ n. broadcast_with n a x) (sym (equal_number id k parts.0)) ∙ ap (λ n. broadcast_with id n x) (sym (equal_number attempt a parts.1))
 
     broadcast_at : (k a : ℕ) (x : Bool) → ((id == k) && (attempt == a)) ≡ x → of_subject s (λ (y : BroadcastRow). y.subject) (get new.broadcasts (record { id = k; attempt = a }))
         ≡ option_and_then (stored_broadcast s) (broadcast_with k a (record_after st caller id attempt s))

@@ -20,7 +20,7 @@ use Rattle.meaning.specs.Refusals.{Requests, is_in_block, refusal}
 use Rattle.meaning.specs.Versions.{Version, version_with}
 use Rattle.meaning.proofs.Accepted.{accepted_command}
 use Rattle.meaning.proofs.Entered.{subject_eq-refl}
-use Rattle.meaning.proofs.Small.{equal_numbers, or_second}
+use Rattle.numbers.proofs.Small.{same_number, or_second}
 use Rattle.version.specs.declared.version.Version.{Version as VersionCode}
 use Rattle.version.specs.Views.{IsSeen, version_of}
 use Rattle.settle.specs.Changes.{ClockMove, IsChanged}
@@ -174,7 +174,7 @@ module _ (old new : Content) (caller : ℕ) (a : Assignment) (clock : ClockRow) 
             carriers = (record_now st (Block a.block.number)).carriers;
             versions = with_made (if b then Some (next_id st.windows st.history) else None) (λ id. sent (set_now st) Create (record_now st (Block a.block.number)).carriers st.now (blank id)) (record_now st (Block a.block.number)).versions;
           })) (subject_eq-refl (Block a.block.number))
-          ∙ ap (λ b. cond b (Some made_one) (version_with (next_id st.windows st.history) (record_now st (Block a.block.number)))) (equal_numbers (next_id st.windows st.history))
+          ∙ ap (λ b. cond b (Some made_one) (version_with (next_id st.windows st.history) (record_now st (Block a.block.number)))) (same_number (next_id st.windows st.history))
 
       seen_as : view ≡ view_of after_it (record { subject = Block a.block.number; version = made_one })
       seen_as =

@@ -16,7 +16,7 @@ use Rattle.meaning.specs.Reading.{State, View, record_now, view_of, set_now}
 use Rattle.meaning.specs.Refusals.{Requests, refusal}
 use Rattle.meaning.proofs.Accepted.{accepted_command}
 use Rattle.meaning.proofs.Entries.{is_active-is}
-use Rattle.meaning.proofs.Small.{equal_numbers, some_is}
+use Rattle.numbers.proofs.Small.{same_number, some_is}
 use Rattle.version.specs.declared.version.Version.{Version as VersionCode}
 use Rattle.version.specs.Views.{Becomes, IsSeen, seen_by, version_of}
 use Rattle.settle.specs.Changes.{IsChanged}
@@ -35,7 +35,7 @@ first_has_id : (vs : List Version) (v : Version) → first_of_versions vs ≡ So
 first_has_id [] v is = cc
 first_has_id (u ∷ us) v is =
     let same : u ≡ v = some_is u v is in
-    ap (λ b. cond b (Some u) (find (λ x. x.id == v.id) us)) (ap (λ (x : Version). x.id == v.id) same ∙ equal_numbers v.id) ∙ is
+    ap (λ b. cond b (Some u) (find (λ x. x.id == v.id) us)) (ap (λ (x : Version). x.id == v.id) same ∙ same_number v.id) ∙ is
 
 -- `u` is what was read of the block's last version, and `next` what becomes of it
 module _ (st : State) (old new : Content) (caller block : ℕ) (v : Version) (u next : VersionCode) (id : ℕ) (clock : ClockRow) (everyone : List ℕ) (view : View)

@@ -16,7 +16,7 @@ use Rattle.meaning.specs.Reading.{State, record_now, set_now}
 use Rattle.meaning.specs.Refusals.{Requests, refusal}
 use Rattle.meaning.proofs.Accepted.{accepted_command}
 use Rattle.meaning.proofs.Entered.{given_now, subject_eq-refl}
-use Rattle.meaning.proofs.Ids.{same_id}
+use Rattle.numbers.proofs.Small.{equal_number}
 use Rattle.meaning.proofs.Protected.{undonated}
 use Rattle.settle.specs.Changes.{put_row}
 use Rattle.register.specs.Answers.{Stands}
@@ -94,7 +94,7 @@ donation-blocks st old caller block used lrn cic lines stands none k = go (block
         (if b then Some (record { donor = caller; last = None }) else get old.blocks k)
         ≡ option_map (row_of (last_version (record_now (accepted st (Requests caller (Commands (Donate block used lrn cic)))) (Block k)))) (or_else (if b then Some caller else None) (donor_of k st.history))
     go true e =
-        let none_made : last_version (record_now st (Block k)) ≡ None = ap (λ j. last_version (record_now st (Block j))) (sym (same_id block k e))
+        let none_made : last_version (record_now st (Block k)) ≡ None = ap (λ j. last_version (record_now st (Block j))) (sym (equal_number block k e))
         ∙ ap (λ vs. last_version (record { carriers = []; versions = vs })) (undonated st.windows block st.history st.now stands.represents.history free) in
         sym (ap (λ v. Some (row_of v caller)) (ap last_version (same k) ∙ none_made))
     go false e = stands.represents.blocks k ∙ sym (ap (λ r. option_map (row_of (last_version r)) (donor_of k st.history)) (same k))
@@ -142,8 +142,8 @@ assignment-blocks st old caller block holder lrn cic donor stands donated k = go
         (if b then Some (record { donor = donor; last = Some (next_id st.windows st.history) }) else get old.blocks k)
         ≡ option_map (row_of (last_version (record_now (accepted st (Requests caller (Commands (Assign block holder lrn cic)))) (Block k)))) (donor_of k st.history)
     go true e =
-        let here : subject_eq (Block k) (Block block) ≡ true = ap (λ j. subject_eq (Block j) (Block block)) (sym (same_id block k e)) ∙ subject_eq-refl (Block block) in
-        sym (ap (λ j. option_map (row_of (last_version (record_now (accepted st (Requests caller (Commands (Assign block holder lrn cic)))) (Block k)))) (donor_of j st.history)) (sym (same_id block k e))
+        let here : subject_eq (Block k) (Block block) ≡ true = ap (λ j. subject_eq (Block j) (Block block)) (sym (equal_number block k e)) ∙ subject_eq-refl (Block block) in
+        sym (ap (λ j. option_map (row_of (last_version (record_now (accepted st (Requests caller (Commands (Assign block holder lrn cic)))) (Block k)))) (donor_of j st.history)) (sym (equal_number block k e))
         ∙ ap (option_map (row_of (last_version (record_now (accepted st (Requests caller (Commands (Assign block holder lrn cic)))) (Block k))))) donated
         ∙ ap (λ (r : Record). Some (row_of (last_version r) donor)) (made-records st caller (Commands (Assign block holder lrn cic)) (Block block ∷ []) (unsent_block (set_now st) (donor_of block st.history) holder st.now lrn cic) (assignment-makes st caller block holder lrn cic) (Block k))
         ∙ ap (λ b. Some (row_of (first_of_versions (with_made (if b then Some (next_id st.windows st.history) else None) (λ id. sent (set_now st) Create (record_now st (Block k)).carriers st.now (unsent_block (set_now st) (donor_of block st.history) holder st.now lrn cic id)) (record_now st (Block k)).versions)) donor)) here)

@@ -12,7 +12,7 @@ use Rattle.meaning.specs.Reading.{State, record_now, set_now}
 use Rattle.meaning.specs.Refusals.{block_named, bad_lrn}
 use Rattle.meaning.specs.Content.{Content, BlockRow, ClockRow, row_of}
 use Rattle.meaning.proofs.Lists.{Among}
-use Rattle.meaning.proofs.Small.{some_is}
+use Rattle.numbers.proofs.Small.{some_is}
 use Rattle.meaning.proofs.Entered.{subject_eq-refl}
 use Rattle.meaning.proofs.Protected.{undonated}
 use Rattle.meaning.proofs.Copies.Queue.{found_by_id}

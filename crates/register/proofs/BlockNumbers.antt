@@ -11,11 +11,11 @@ use Rattle.meaning.specs.Laws.{IsState}
 use Rattle.meaning.specs.Reading.{State, SubjectVersion, InForce, record_now, all_versions, all_in_force, set_now}
 use Rattle.meaning.specs.Refusals.{is_in_block, has_open_port as has_open_port_in}
 use Rattle.meaning.specs.Content.{Content, VersionRow, row_of, subject_if}
-use Rattle.meaning.proofs.Small.{and_first, and_second, equal_numbers, or_right}
+use Rattle.numbers.proofs.Small.{and_first, and_second, same_number, or_right, true_both, some_there, equal_number}
 use Rattle.meaning.proofs.Lists.{Among, any_there, there_any, contains-among, mapped-from, mapped-to, filtered-from, filtered-to, found-among}
 use Rattle.meaning.proofs.Ascending as ascending
 use Rattle.meaning.proofs.Entered.{sound_now, subject_eq-refl}
-use Rattle.meaning.proofs.Ids.{same_id, same_subject}
+use Rattle.meaning.proofs.Ids.{same_subject}
 use Rattle.meaning.proofs.Listed.{rows_rise, row_is, row_there as row_listed}
 use Rattle.meaning.proofs.Copies.Queue.{found_by_id, is_listed, listed-from}
 use Rattle.settle.specs.Reads.{AreInBlock, IsInBlock, IsTold, Holds, Opens}
@@ -55,21 +55,12 @@ same_tests true b there back = sym (there refl)
 same_tests false true there back = back refl
 same_tests false false there back = refl
 
-both : (a b : Bool) → a ≡ true → b ≡ true → (a && b) ≡ true
-both true true e f = refl
-both true false e f = cc
-both false b e f = cc
-
 not_is : (b : Bool) → b ≡ false → not b ≡ true
 not_is b e = ap not e
 
 is_not : (b : Bool) → not b ≡ true → b ≡ false
 is_not false e = refl
 is_not true e = cc
-
-some_there : {A : Type 0} (o : Option A) → is_some o ≡ true → (x : A) × (o ≡ Some x)
-some_there None e = cc
-some_there (Some x) e = (x, refl)
 
 none_there : {A : Type 0} (o : Option A) → is_none o ≡ true → o ≡ None
 none_there None e = refl
@@ -122,7 +113,7 @@ module _ (st : State) (c : Content) (stands : Stands c st) where
 
   module _ (block : ℕ) (settled : (s : Subject) → is_of_block block st s ≡ true → IsSettled c st s) (numbers : List NumberInUse) (are : AreInBlock c block numbers) where
     number_settled : (n : ℕ) → block_of n ≡ block → IsSettled c st (Number n)
-    number_settled n own = settled (Number n) (or_right (subject_eq (Number n) (Block block)) (is_in_block block (Number n)) (ap (λ b. b == block) own ∙ equal_numbers block))
+    number_settled n own = settled (Number n) (or_right (subject_eq (Number n) (Block block)) (is_in_block block (Number n)) (ap (λ b. b == block) own ∙ same_number block))
 
     its : (x : NumberInUse) → Among x numbers → IsInBlock c block x
     its x there = all-among (IsInBlock c block) numbers are.only x there
@@ -146,9 +137,9 @@ module _ (st : State) (c : Content) (stands : Stands c st) where
         let free : x.0.is_in_force ≡ false = is_not x.0.is_in_force (and_second x.0.is_open (not x.0.is_in_force) x.2) in
         let v = opens-open s due (told_is x.0.is_open is.is_open opened) in
         let none : is_none (version_in_force (record_now st s)) ≡ true = none-force s due (told_not x.0.is_in_force is.is_in_force free) in
-        let inside : is_in_block block s ≡ true = ap (λ b. b == block) is.own ∙ equal_numbers block in
+        let inside : is_in_block block s ≡ true = ap (λ b. b == block) is.own ∙ same_number block in
         there_any is_port (record { subject = s; version = v.0 }) (all_versions st) (is_listed st stands.represents.history s v.0 v.1)
-        (both (is_in_block block s && is_open s v.0) (is_none (version_in_force (record_now st s))) (both (is_in_block block s) (is_open s v.0) inside v.2) none)
+        (true_both (is_in_block block s && is_open s v.0) (is_none (version_in_force (record_now st s))) (true_both (is_in_block block s) (is_open s v.0) inside v.2) none)
 
     open_number : (n : ℕ) (id : ℕ) (v : Version) → version_with id (record_now st (Number n)) ≡ Some v →
         (is_in_block block (Number n) && is_open (Number n) v && is_none (version_in_force (record_now st (Number n)))) ≡ true → has_open_port numbers ≡ true
@@ -156,13 +147,13 @@ module _ (st : State) (c : Content) (stands : Stands c st) where
         let first = and_first (is_in_block block (Number n) && is_open (Number n) v) (is_none (version_in_force (record_now st (Number n)))) test in
         let none = and_second (is_in_block block (Number n) && is_open (Number n) v) (is_none (version_in_force (record_now st (Number n)))) test in
         let inside = and_first (is_in_block block (Number n)) (is_open (Number n) v) first in
-        let own : block_of n ≡ block = same_id (block_of n) block inside in
+        let own : block_of n ≡ block = equal_number (block_of n) block inside in
         let due : IsSettled c st (Number n) = number_settled n own in
         let opens : Opens c (Number n) = open-opens (Number n) due id v found (and_second (is_in_block block (Number n)) (is_open (Number n) v) first) in
         let free : Holds c (Number n) → ⊥ = force-none (Number n) due none in
         let x = the_number n own (inr opens) in
         let is = its x.0 x.1 in
-        there_any is_open_port x.0 numbers x.1 (both x.0.is_open (not x.0.is_in_force)
+        there_any is_open_port x.0 numbers x.1 (true_both x.0.is_open (not x.0.is_in_force)
         (is_told x.0.is_open is.is_open (subst (λ k. Opens c (Number k)) (sym x.2) opens))
         (not_is x.0.is_in_force (not_told x.0.is_in_force is.is_in_force (λ held. free (subst (λ k. Holds c (Number k)) x.2 held)))))
 
@@ -250,9 +241,9 @@ module _ (st : State) (c : Content) (stands : Stands c st) where
           let x = told_force s inner.0 in
           let v = holds-force (Number x.0.tn.number) (number_settled x.0.tn.number x.2) x.3 in
           let row = mapped-to (λ (r : InForce). r.subject) (all_in_force st) (record { subject = Number x.0.tn.number; routing = v.0.routing }) (row_listed st is (Number x.0.tn.number) v.0 v.1) in
-          let inside : is_in_block block s ≡ true = ap (is_in_block block) x.1 ∙ ap (λ b. b == block) x.2 ∙ equal_numbers block in
+          let inside : is_in_block block s ≡ true = ap (is_in_block block) x.1 ∙ ap (λ b. b == block) x.2 ∙ same_number block in
           filtered-to is_other_inside (map (λ (r : InForce). r.subject) (all_in_force st)) s
-          (subst (λ t. Among t (map (λ (r : InForce). r.subject) (all_in_force st))) (sym x.1) row) (both (is_in_block block s) (is_other s) inside inner.1)
+          (subst (λ t. Among t (map (λ (r : InForce). r.subject) (all_in_force st))) (sym x.1) row) (true_both (is_in_block block s) (is_other s) inside inner.1)
 
       back : (s : Subject) → Among s (passing_rows is_other_inside (all_in_force st)) → Among s (unnamed used (in_force_numbers numbers))
       back s listed =
@@ -265,7 +256,7 @@ module _ (st : State) (c : Content) (stands : Stands c st) where
           go : (t : Subject) (v : Version) → version_in_force (record_now st t) ≡ Some v → is_in_block block t ≡ true → Among t (in_force_numbers numbers)
           go (Block b) v found inside = cc
           go (Number n) v found inside =
-              let own : block_of n ≡ block = same_id (block_of n) block inside in
+              let own : block_of n ≡ block = equal_number (block_of n) block inside in
               force_told n own (force-holds (Number n) (number_settled n own) v found)
 
       others_are : length (unnamed used (in_force_numbers numbers))

@@ -8,7 +8,7 @@ use Rattle.meaning.specs.History.{donor_of}
 use Rattle.meaning.specs.Reading.{State, record_now}
 use Rattle.meaning.specs.Concerns.{has_id}
 use Rattle.meaning.specs.Content.{Content, BlockRow, VersionRow, Represents}
-use Rattle.meaning.proofs.Small.{equal_numbers}
+use Rattle.numbers.proofs.Small.{same_number}
 use Rattle.meaning.proofs.Lagging.{no_row_at}
 use Rattle.settle.specs.declared.rows.BlockRow.{BlockRow as BlockRowCode}
 use Rattle.settle.specs.Views.{block_row_of}
@@ -30,7 +30,7 @@ stored_last (Some d) last = refl
 
 pub first_has_id : (vs : List Version) (v : Version) → first_of_versions vs ≡ Some v → has_id v.id vs ≡ true
 first_has_id [] v is = cc
-first_has_id (u ∷ us) v is = let same : u ≡ v = cc in ap (λ (x : Version). (x.id == v.id) || has_id v.id us) same ∙ ap (λ b. b || has_id v.id us) (equal_numbers v.id)
+first_has_id (u ∷ us) v is = let same : u ≡ v = cc in ap (λ (x : Version). (x.id == v.id) || has_id v.id us) same ∙ ap (λ b. b || has_id v.id us) (same_number v.id)
 
 -- a version of a record has a row
 pub row_is_there : (st : State) (c : Content) → Represents c st → (s : Subject) (id : ℕ) → has_id id (record_now st s).versions ≡ true → is_some (get c.versions id) ≡ true

@@ -7,9 +7,9 @@ use Rattle.meaning.specs.Reading.{State}
 use Rattle.meaning.specs.Refusals.{is_in_block}
 use Rattle.meaning.specs.Content.{Content, SameRows}
 use Rattle.meaning.proofs.Entered.{subject_eq-refl}
-use Rattle.meaning.proofs.Ids.{same_id, same_subject}
+use Rattle.meaning.proofs.Ids.{same_subject}
 use Rattle.meaning.proofs.Lists.{any_there, contains-among, there_any}
-use Rattle.meaning.proofs.Small.{equal_numbers, or_first, or_second}
+use Rattle.numbers.proofs.Small.{same_number, or_first, or_second, equal_number}
 use Rattle.settle.specs.Reads.{AreInBlock, Holds, IsInBlock, Opens}
 use Rattle.settle.specs.Settling.{IsSettled, KeepsMeaning, Settles}
 use Rattle.settle.proofs.Settled.{none-due}
@@ -100,7 +100,7 @@ module _ (c : Content) (block : ℕ) (numbers : List NumberInUse) (are : AreInBl
   any_inside : (t : Subject) → is_any_of numbers st t ≡ true → is_in_block block t ≡ true
   any_inside t is =
       let x = any_there (λ (n : NumberInUse). subject_eq t (Number n.tn.number)) numbers is in
-      ap (is_in_block block) (sym (same_subject t (Number x.0.tn.number) x.2)) ∙ ap (λ b. b == block) (all-among (IsInBlock c block) numbers are.only x.0 x.1).own ∙ equal_numbers block
+      ap (is_in_block block) (sym (same_subject t (Number x.0.tn.number) x.2)) ∙ ap (λ b. b == block) (all-among (IsInBlock c block) numbers are.only x.0 x.1).own ∙ same_number block
 
   listed : (n : ℕ) (x : NumberInUse) → Contains numbers x → x.tn.number ≡ n → is_any_of numbers st (Number n) ≡ true
   listed n x there is = there_any (λ (y : NumberInUse). subject_eq (Number n) (Number y.tn.number)) x numbers (contains-among numbers x there)
@@ -117,7 +117,7 @@ module _ (c : Content) (block : ℕ) (numbers : List NumberInUse) (are : AreInBl
     where
       unlisted : Holds c (Number n) ⊎ Opens c (Number n) → ⊥
       unlisted stood =
-          let x = are.each n (same_id (block_of n) block inside) stood in
+          let x = are.each n (equal_number (block_of n) block inside) stood in
           let never : true ≡ false = sym (listed n x.0 x.1 x.2) ∙ other in cc
 
 module _ (old mid new : Content) (block : ℕ) (numbers : List NumberInUse) (are : AreInBlock old block numbers) (kept : KeepsOthers (is_any_of numbers) old mid) where

@@ -19,7 +19,7 @@ use Rattle.meaning.specs.Versions.{version_in_force}
 use Rattle.meaning.proofs.Accepted.{accepted_command}
 use Rattle.meaning.proofs.Ids.{same_subject}
 use Rattle.meaning.proofs.Lists.{Among, any_there, filtered-from, mapped-from}
-use Rattle.meaning.proofs.Small.{equal_numbers, or_right, or_second}
+use Rattle.numbers.proofs.Small.{same_number, or_right, or_second}
 use Rattle.version.specs.declared.version.Version.{Version as VersionCode}
 use Rattle.settle.specs.Changes.{ClockMove, IsChanged}
 use Rattle.settle.specs.Sending.{Begun, begun_of, sending_each}
@@ -58,7 +58,7 @@ used-inside st block test used lines t named =
     let own : block_of (number_in block line.0) ≡ block = in_this_block block line.0 (each_line (rising used) (rising-lines used lines) line.0 line.1) in
     let is : t ≡ Number (number_in block line.0) = sym (same_subject t s.0 s.2) ∙ line.2 in
     subst (λ x. is_of_block block st x ≡ true) (sym is)
-    (or_right (subject_eq (Number (number_in block line.0)) (Block block)) (is_in_block block (Number (number_in block line.0))) (ap (λ b. b == block) own ∙ equal_numbers block))
+    (or_right (subject_eq (Number (number_in block line.0)) (Block block)) (is_in_block block (Number (number_in block line.0))) (ap (λ b. b == block) own ∙ same_number block))
 
 -- ---- their ids
 

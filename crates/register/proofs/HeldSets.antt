@@ -11,7 +11,7 @@ use Rattle.meaning.specs.Machine.{IsHistory}
 use Rattle.meaning.specs.Reading.{State, record_now, set_now}
 use Rattle.meaning.specs.Versions.{Version, version_with}
 use Rattle.meaning.specs.Windows.{Windows, WindowSet, AreWindows, first_set}
-use Rattle.meaning.proofs.Ids.{same_id}
+use Rattle.numbers.proofs.Small.{equal_number}
 use Rattle.meaning.proofs.Sets.{IsSetOf, held-is, present-are, present-is}
 use Rattle.meaning.proofs.Shown.{some_is}
 use Rattle.register.specs.Answers.{Stands}
@@ -89,7 +89,7 @@ module _ (st : State) (c : Content) (clock : ClockRow) (represents : Represents 
       go : (b : Bool) → (set.number == clock.present.number) ≡ b → w ≡ set.windows
       go true e =
           let same : set.number ≡ clock.present.number =
-          same_id set.number clock.present.number e in
+          equal_number set.number clock.present.number e in
           are.present same ∙ sym (ap (λ (x : WindowSet). x.windows) (same_set same))
       go false e = some_is w set.windows (sym (are.earlier (λ same. apart same e)) ∙ stored)
 

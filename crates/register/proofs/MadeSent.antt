@@ -15,7 +15,7 @@ use Rattle.meaning.specs.History.{id_among, with_made}
 use Rattle.meaning.proofs.Entered.{none_with, subject_eq-refl}
 use Rattle.meaning.proofs.Ids.{same_subject}
 use Rattle.meaning.proofs.Represented.{same_rows_show}
-use Rattle.meaning.proofs.Small.{or_first, or_second, equal_numbers}
+use Rattle.numbers.proofs.Small.{or_first, or_second, same_number}
 use Rattle.settle.specs.Changes.{IsChanged}
 use Rattle.settle.specs.Sending.{Begun, putting, sending}
 use Rattle.settle.proofs.Applied.{applied, applied_puts, sending_one, sent_in_turn, one_changed}
@@ -70,13 +70,13 @@ module _ (w : WindowSet) (s : Subject) (now id : ℕ) (blank : Version) (everyon
   made_sent-shows =
       subst (λ vs. Shows new s (record { carriers = r.carriers; versions = vs })) whole
       (stepped-shows w s now id (sent w Create r.carriers now) keeps_id everyone blank (record { carriers = r.carriers; versions = blank ∷ r.versions }) between new
-      (ap (λ b. cond b (Some blank) (version_with id r)) (ap (λ k. k == id) is_id ∙ equal_numbers id))
+      (ap (λ b. cond b (Some blank) (version_with id r)) (ap (λ k. k == id) is_id ∙ same_number id))
       (made-shows w s id blank r None old between put_before is_id unsent free shows)
       (Some Create) (refl, ap (λ b. not b && false) quiet_before) sent_then (ap (find (λ b. b.attempt == blank.attempt + 1)) unsent) agree)
     where
       whole : map (of_id id (sent w Create r.carriers now)) (blank ∷ r.versions) ≡ sent w Create r.carriers now blank ∷ r.versions
       whole =
-          ap (λ b. (if b then sent w Create r.carriers now blank else blank) ∷ map (of_id id (sent w Create r.carriers now)) r.versions) (ap (λ k. k == id) is_id ∙ equal_numbers id)
+          ap (λ b. (if b then sent w Create r.carriers now blank else blank) ∷ map (of_id id (sent w Create r.carriers now)) r.versions) (ap (λ k. k == id) is_id ∙ same_number id)
           ∙ ap (λ vs. sent w Create r.carriers now blank ∷ vs) (others_left id (sent w Create r.carriers now) r.versions (none_with id r.versions free))
 
 -- ---- many versions, one after the other

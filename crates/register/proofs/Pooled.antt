@@ -19,7 +19,7 @@ use Rattle.meaning.proofs.Ids.{fresh}
 use Rattle.meaning.proofs.Lists.{everywhere}
 use Rattle.meaning.proofs.Minutes.{changed_at-same}
 use Rattle.meaning.proofs.Settling.{newborn}
-use Rattle.meaning.proofs.Small.{or_first, or_second, or_right}
+use Rattle.numbers.proofs.Small.{or_first, or_second, or_right}
 use Rattle.settle.specs.Changes.{IsChanged, wait_put, ClockMove}
 use Rattle.settle.specs.Sending.{Begun, begun_version, begun_broadcast, begun_waits, sending_each}
 use Rattle.settle.specs.Settling.{IsSettled}

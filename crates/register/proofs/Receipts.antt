@@ -40,9 +40,8 @@ use Rattle.register.proofs.HeldSets.{row_held, same_set}
 use Rattle.meaning.specs.Changes.{completed}
 use Rattle.meaning.specs.Statuses.{Status, Pending, Conflict, CancelPending, Sending, Active, PartialFailure, Failed, DisconnectPending, Old, Canceled}
 use Rattle.meaning.specs.Windows.{Windows, WindowSet}
-use Rattle.meaning.proofs.Ids.{same_id}
 use Rattle.meaning.proofs.Sets.{held-is}
-use Rattle.meaning.proofs.Small.{equal_numbers}
+use Rattle.numbers.proofs.Small.{same_number, equal_number}
 use Rattle.register.proofs.Composed.{answers_refused_same, answers_accepted, answers_without}
 use Rattle.register.proofs.OnVersion.{clock_of, clock_is_of}
 use Rattle.register.proofs.RowVersion.{row_version}
@@ -165,7 +164,7 @@ either_held : (present before after : WindowSet) → (after ≡ before) ⊎ (aft
     windows_after present before.windows before.number after.number ≡ after.windows
 either_held present before after (inl stays) one =
     ap (λ (x : WindowSet). windows_after present before.windows before.number x.number) stays
-    ∙ ap (λ b. if b then before.windows else present.windows) (equal_numbers before.number)
+    ∙ ap (λ b. if b then before.windows else present.windows) (same_number before.number)
     ∙ sym (ap (λ (x : WindowSet). x.windows) stays)
 either_held present before after (inr enters) one =
     ap (λ (x : WindowSet). windows_after present before.windows before.number x.number) enters
@@ -175,7 +174,7 @@ either_held present before after (inr enters) one =
     go : (b : Bool) → (present.number == before.number) ≡ b →
         (if b then before.windows else present.windows) ≡ present.windows
     go true e = ap (λ (x : WindowSet). x.windows)
-        (one (sym (same_id present.number before.number e)))
+        (one (sym (equal_number present.number before.number e)))
     go false e = refl
 
 pub answers_acknowledged : (old new : Content) (caller id attempt : ℕ) (clock : ClockRow)

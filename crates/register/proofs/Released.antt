@@ -18,7 +18,7 @@ use Rattle.meaning.specs.Refusals.{Requests, refusal}
 use Rattle.meaning.specs.Versions.{Version, last_version}
 use Rattle.meaning.proofs.Accepted.{accepted_command}
 use Rattle.meaning.proofs.Copies.Queue.{found_by_id}
-use Rattle.meaning.proofs.Small.{some_is}
+use Rattle.numbers.proofs.Small.{some_is}
 use Rattle.version.specs.declared.version.Version.{Version as VersionCode}
 use Rattle.version.specs.Facts.{Sees}
 use Rattle.version.specs.Views.{Becomes, IsSeen, seen_by}

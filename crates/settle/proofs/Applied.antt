@@ -1,12 +1,11 @@
 -- Rows put one after the other, and the content after them.
-use Rattle.std.proofs.Common.{◌≡◌, ℕ, Bool, true, false, cond, ◌&&◌, List, [], ◌∷◌, ◌++◌, map, Option, Some, refl, ap, sym, ◌∙◌, arith}
+use Rattle.std.proofs.Common.{◌≡◌, ℕ, Bool, cond, ◌&&◌, List, [], ◌∷◌, ◌++◌, map, Option, Some, refl, ap, sym, ◌∙◌}
 use Rattle.std.specs.Prelude.{◌==◌, flat_map, if◌then◌else◌}
 use Rattle.std.specs.declared.cmp.Ordering.{Ordering}
 use Rattle.std.specs.Ordering.{nat_cmp, ordering_then, eq_by_cmp}
 use Rattle.std.specs.Cmp.{IsTotalOrder, nat_cmp_total, unsigned_tied, tied_then}
 use Rattle.std.specs.FinMap.{FinMap, get, insert, get-insert}
 use Rattle.std.proofs.lemmas.Cmp.{then_total, on_total}
-use Rattle.std.proofs.lemmas.Bool.Decides.{nat_tests}
 use Rattle.numbers.specs.Subjects.{Subject}
 use Rattle.meaning.specs.Statuses.{Send}
 use Rattle.meaning.specs.Windows.{WindowSet}
@@ -15,6 +14,7 @@ use Rattle.meaning.specs.Changes.{routing_sent}
 use Rattle.meaning.specs.Content.{Content, VersionRow, BroadcastRow, BroadcastKey, WaitKey, broadcast_cmp, wait_cmp, Shows, of_subject}
 use Rattle.settle.specs.Changes.{Changes, IsChanged, put_rows, same_broadcast, same_wait}
 use Rattle.settle.specs.Sending.{Begun, begun_version, begun_broadcast, begun_waits, sending, sending_each}
+use Rattle.numbers.proofs.Small.{numbers_turned, grouped}
 
 -- ---- one table
 
@@ -33,11 +33,8 @@ module _ {K X : Type 0} {R : K → K → Ordering} (o : IsTotalOrder R) (same : 
 
 -- ---- the three tables
 
-turned : (a b : ℕ) → (a == b) ≡ (b == a)
-turned a b = grind (arith, nat_tests)
-
 number_ties : (a b : ℕ) → eq_by_cmp nat_cmp b a ≡ (a == b)
-number_ties a b = unsigned_tied b a ∙ turned b a
+number_ties a b = unsigned_tied b a ∙ numbers_turned b a
 
 broadcast_total : IsTotalOrder broadcast_cmp
 broadcast_total = then_total (on_total (λ (k : BroadcastKey). k.id) nat_cmp_total) (on_total (λ (k : BroadcastKey). k.attempt) nat_cmp_total)
@@ -49,12 +46,6 @@ wait_total : IsTotalOrder wait_cmp
 wait_total =
     then_total (on_total (λ (k : WaitKey). k.carrier) nat_cmp_total)
     (then_total (on_total (λ (k : WaitKey). k.minute) nat_cmp_total) (then_total (on_total (λ (k : WaitKey). k.id) nat_cmp_total) (on_total (λ (k : WaitKey). k.attempt) nat_cmp_total)))
-
-grouped : (x p q r : Bool) → (x && (p && (q && r))) ≡ (((x && p) && q) && r)
-grouped true true true r = refl
-grouped true true false r = refl
-grouped true false q r = refl
-grouped false p q r = refl
 
 wait_ties : (a b : WaitKey) → eq_by_cmp wait_cmp b a ≡ same_wait a b
 wait_ties a b =

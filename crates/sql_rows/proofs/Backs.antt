@@ -40,9 +40,7 @@ use Rattle.sql_rows.specs.Content.{next_entry, next_params, carrier_entry, lrn_e
 use Rattle.settle.specs.declared.rows.VersionRow.TheInside.{Inside}
 use Rattle.sql_rows.specs.Values.{number_in, minute_in, lrn_in, cic_in, bool_in, subject_in, spid_in, or_null_in, status_in, routing_in, number_value, spid_value, bool_value, subject_value, lrn_value, cic_value, status_word, sends_word, release_value, by_value, found_in, found_value, subject_number, window_in, set_number_in, action_in, action_word}
 use Rattle.sql_rows.specs.Versions.{version_entry, version_row}
-
-is_less : (n m : ℕ) → n < m → nat_lt n m ≡ true
-is_less n m h = grind arith
+use Rattle.numbers.proofs.Small.{is_less}
 
 is_at_most : (n m : ℕ) → n ≤ m → nat_le n m ≡ true
 is_at_most n m h = grind arith

@@ -14,7 +14,7 @@ use Rattle.sqlite_trees.proofs.ListLemmas.{all-permutation}
 use Rattle.sqlite.specs.declared.types.Value.{Value}
 use Rattle.sqlite.specs.declared.types.Value.TheVariants.{Null, Int}
 use Rattle.sqlite.specs.Order.{Row, column, value_cmp}
-use Rattle.sqlite.specs.Ops.{binary, is_true, from_truth}
+use Rattle.sqlite.specs.Ops.{binary, is_true}
 use Rattle.sqlite.specs.Term.{Term}
 use Rattle.sqlite_sql.specs.declared.ops.BinaryOp.TheVariants.{Compare}
 use Rattle.sqlite_sql.specs.declared.ops.CompareOp.TheVariants.{Ge, Le}
@@ -40,6 +40,8 @@ use Rattle.sql_rows.proofs.QueryLemmas.{passes, picked, map_twice}
 use Rattle.sql_rows.proofs.Inversions.{reads, minute_read, some_read, none_read}
 use Rattle.sql_rows.proofs.Lookups.{none_passes}
 use Rattle.sql_rows.proofs.FoundLemmas.{version_row_of, version_stands}
+use Rattle.sql_rows.proofs.OnceLemmas.{true_of}
+use Rattle.numbers.proofs.Small.{less_is}
 
 abbrev due_query : Asked
 due_query = query_of VersionDue
@@ -52,10 +54,6 @@ is_due n = passes due_terms (Int (pos n) ∷ [])
 
 same_head : (a b : Row) → a ∷ [] ≡ b ∷ [] → a ≡ b
 same_head a b h = cc
-
-true_of : (b : Bool) → is_true (from_truth (Some b)) ≡ b
-true_of true = refl
-true_of false = refl
 
 behind_true : (b : Bool) → list_all (λ (c : Bool). c) (true ∷ b ∷ []) ≡ b
 behind_true true = refl
@@ -115,9 +113,6 @@ by_deadline a b = ap is_lt (then-Equal (value_cmp (column a.0 0) (column b.0 0))
 
 abbrev out : Row → Output
 out r = (column r 18 ∷ [], shown_of r)
-
-lt_yes : (n m : ℕ) → nat_lt n m ≡ true → n < m
-lt_yes n m h = grind arith
 
 lt_no : (n m : ℕ) → nat_lt n m ≡ false → m ≤ n
 lt_no n m h = grind arith
@@ -206,7 +201,7 @@ module _ (db : Trees) (shaped : AreShaped db) (n : ℕ) where
   none_due none id row at d given = go (nat_lt n d) refl
     where
       go : (b : Bool) → nat_lt n d ≡ b → n < d
-      go true e = lt_yes n d e
+      go true e = less_is n d e
       go false e =
           let f = version_row_of db id row at in
           let low : d ≤ n = lt_no n d e in
@@ -230,7 +225,7 @@ module _ (db : Trees) (shaped : AreShaped db) (n : ℕ) where
               by (nat_lt n f) refl other.row other.has at_f
             where
               by : (b : Bool) → nat_lt n f ≡ b → (other : Row) → Has (db 18) other → column other 18 ≡ Int (pos f) → d ≤ f
-              by true e other has at_f = let up : n < f = lt_yes n f e in omega arith
+              by true e other has at_f = let up : n < f = less_is n f e in omega arith
               by false e other has at_f =
                   let due_f : is_due n other ≡ true = number_due n f other at_f ∙ le_told f n (lt_no n f e) in
                   not_less d f (ap (λ w. is_lt (value_cmp (Int (pos f)) w)) (sym col) ∙ ap (λ w. is_lt (value_cmp w (column r 18))) (sym at_f) ∙ low other has due_f)

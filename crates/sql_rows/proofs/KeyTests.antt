@@ -10,7 +10,7 @@ use Rattle.std.proofs.lemmas.Bool.Decides.{nat_tests}
 use Rattle.sqlite.specs.declared.types.Value.{Value}
 use Rattle.sqlite.specs.declared.types.Value.TheVariants.{Int, Text}
 use Rattle.sqlite.specs.Order.{Row, column, value_cmp}
-use Rattle.sqlite.specs.Ops.{binary, is_true, from_truth}
+use Rattle.sqlite.specs.Ops.{binary, is_true}
 use Rattle.sqlite_sql.specs.declared.ops.BinaryOp.TheVariants.{Compare}
 use Rattle.sqlite_sql.specs.declared.ops.CompareOp.TheVariants.{Eq}
 use Rattle.sqlite.specs.Collation.TheVariants.{Binary}
@@ -29,13 +29,10 @@ use Rattle.sql_rows.proofs.Inversions.{number_read, minute_read, spid_read, carr
 use Rattle.sql_rows.proofs.Backs.{spid_back}
 use Rattle.sql_rows.proofs.Orders.{broadcast_total, wait_total, broadcast_tie, wait_tie, same_number}
 use Rattle.std.proofs.lemmas.Map.Lookups.{exact_bytes}
+use Rattle.sql_rows.proofs.OnceLemmas.{true_of}
 
 abbrev pub equals : Value → Value → Bool
 equals v w = is_true (binary (Compare Eq Binary) v w)
-
-pub true_of : (b : Bool) → is_true (from_truth (Some b)) ≡ b
-true_of true = refl
-true_of false = refl
 
 same_numbers : (m n : ℕ) → is_eq (int_cmp (pos m) (pos n)) ≡ is_eq (nat_cmp m n)
 same_numbers m n = grind (arith, ints, nat_tests)

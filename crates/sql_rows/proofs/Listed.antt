@@ -7,17 +7,12 @@ use Rattle.sqlite_rules.specs.Lists.{Has}
 use Rattle.sqlite_rules.proofs.ListLemmas.{has_filtered, has_kept}
 use Rattle.sql_rows.specs.Found.{AreRead}
 use Rattle.sql_rows.proofs.DueLemmas.{has_permuted}
+use Rattle.sql_rows.proofs.RowLemmas.{same_first, same_rest}
 
 -- the items are the rows of the table that pass the test, as they read
 pub record Lists {T X : Type 0} (seen : T → X) (entry : Row → Option X) (p : Row → Bool) (rows : List Row) (items : List T) : Type 0 where
   pub only : (x : T) → Has items x → (r : Row) × Has rows r × (p r ≡ true) × (entry r ≡ Some (seen x))
   pub each : (r : Row) (e : X) → Has rows r → p r ≡ true → entry r ≡ Some e → (x : T) × Has items x × (seen x ≡ e)
-
-same_first : {X : Type 0} {x y : X} {xs ys : List X} → x ∷ xs ≡ y ∷ ys → x ≡ y
-same_first e = cc
-
-same_rest : {X : Type 0} {x y : X} {xs ys : List X} → x ∷ xs ≡ y ∷ ys → xs ≡ ys
-same_rest e = cc
 
 same_some : {X : Type 0} (x y : X) → ◌≡◌ {A = Option X} (Some x) (Some y) → x ≡ y
 same_some x y e = cc

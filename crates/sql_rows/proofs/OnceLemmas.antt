@@ -18,7 +18,7 @@ use Rattle.sqlite_rules.proofs.RuleLemmas.{keeps_at}
 use Rattle.sql_rows.specs.Tables.{the_schema, carrier_table, wait_table, broadcast_table}
 use Rattle.sql_rows.proofs.DeleteLemmas.{int_at}
 
-true_of : (b : Bool) → is_true (from_truth (Some b)) ≡ b
+pub true_of : (b : Bool) → is_true (from_truth (Some b)) ≡ b
 true_of true = refl
 true_of false = refl
 

@@ -1,5 +1,5 @@
 -- The orders of the keys.
-use Rattle.std.proofs.Common.{◌≡◌, ℕ, ◌&&◌, true, false, refl, sym, ap, ◌∙◌, arith}
+use Rattle.std.proofs.Common.{◌≡◌, ℕ, ◌&&◌, true, refl, sym, ap, ◌∙◌, arith}
 use Rattle.std.specs.declared.cmp.Ordering.{Ordering}
 use Rattle.std.specs.declared.cmp.Ordering.TheVariants.{Less, Equal, Greater}
 use Rattle.std.specs.Ordering.{nat_cmp, ordering_then, eq_by_cmp, is_eq}
@@ -8,6 +8,7 @@ use Rattle.std.proofs.lemmas.Cmp.{then_total, on_total}
 use Rattle.std.proofs.lemmas.Bool.Decides.{nat_tests}
 use Rattle.std.specs.FinMap.{IsAntisymmetric, nat_cmp-IsAntisymmetric}
 use Rattle.meaning.specs.Content.{BroadcastKey, WaitKey, broadcast_cmp, wait_cmp}
+use Rattle.numbers.proofs.Small.{tied}
 
 pub both_Equal : (a b : Ordering) → ordering_then a b ≡ Equal → (a ≡ Equal) × (b ≡ Equal)
 both_Equal Equal b e = (refl, e)
@@ -39,7 +40,7 @@ wait_exact a b e =
       attempt = nat_cmp-IsAntisymmetric a.attempt b.attempt r.1 i;
     }
 
--- a tie of keys is one of each part
+-- a tied of keys is one of each part
 pub broadcast_tie : (a b : BroadcastKey) → eq_by_cmp broadcast_cmp a b ≡ (is_eq (nat_cmp a.id b.id) && is_eq (nat_cmp a.attempt b.attempt))
 broadcast_tie a b = sym (tied_then (nat_cmp a.id b.id) (nat_cmp a.attempt b.attempt))
 
@@ -49,17 +50,12 @@ wait_tie a b =
     ∙ ap (λ t. is_eq (nat_cmp a.carrier b.carrier) && t) (sym (tied_then (nat_cmp a.minute b.minute) (ordering_then (nat_cmp a.id b.id) (nat_cmp a.attempt b.attempt)))
     ∙ ap (λ t. is_eq (nat_cmp a.minute b.minute) && t) (sym (tied_then (nat_cmp a.id b.id) (nat_cmp a.attempt b.attempt))))
 
--- keys that tie are one key
+-- keys that tied are one key
 pub same_number : (m n : ℕ) → eq_by_cmp nat_cmp m n ≡ true → m ≡ n
 same_number m n h = grind (arith, nat_tests)
 
-pub tie : (o : Ordering) → is_eq o ≡ true → o ≡ Equal
-tie Less h = absurd (let no : false ≡ true = h in cc)
-tie Equal h = refl
-tie Greater h = absurd (let no : false ≡ true = h in cc)
-
 pub same_broadcast : (a b : BroadcastKey) → eq_by_cmp broadcast_cmp a b ≡ true → a ≡ b
-same_broadcast a b h = broadcast_exact a b (tie (broadcast_cmp a b) h)
+same_broadcast a b h = broadcast_exact a b (tied (broadcast_cmp a b) h)
 
 pub same_wait : (a b : WaitKey) → eq_by_cmp wait_cmp a b ≡ true → a ≡ b
-same_wait a b h = wait_exact a b (tie (wait_cmp a b) h)
+same_wait a b h = wait_exact a b (tied (wait_cmp a b) h)

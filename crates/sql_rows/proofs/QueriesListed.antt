@@ -40,6 +40,7 @@ use Rattle.sql_rows.proofs.Listed.{listed}
 use Rattle.sql_rows.proofs.Orders.{broadcast_total, same_broadcast, same_number, same_wait, wait_total}
 use Rattle.sql_rows.proofs.Picked.{Picks, Says, picks}
 use Rattle.sql_rows.proofs.QueryLemmas.{passes, plain_answer}
+use Rattle.numbers.proofs.Small.{and_both, true_both}
 
 abbrev pub carrier_seen : Spid → ℕ × Unit {0}
 carrier_seen c = (spid_of c, tt)
@@ -54,14 +55,6 @@ abbrev pub version_seen : NumberedRow → ℕ × VersionRow
 version_seen v = (v.id, v.row)
 
 -- ---- tests
-
-both_true : (a b : Bool) → (a && b) ≡ true → (a ≡ true) × (b ≡ true)
-both_true true b e = (refl, e)
-both_true false b e = absurd (true≢false (sym e))
-
-true_both : (a b : Bool) → a ≡ true → b ≡ true → (a && b) ≡ true
-true_both true b e f = f
-true_both false b e f = absurd (true≢false (sym e))
 
 same_told : (m n : ℕ) → m ≡ n → is_eq (nat_cmp m n) ≡ true
 same_told m n e = ap (λ k. is_eq (nat_cmp m k)) (sym e) ∙ ap is_eq (tied_itself nat_cmp_total m)
@@ -83,7 +76,7 @@ of_says id attempt r k v is =
     ∙ ap (λ v. both (equals (Int (pos k.id)) (Int (pos id)) ∷ equals v (Int (pos attempt)) ∷ [])) (number_read (column r 4) k.attempt reads.attempt)
     ∙ rw (equal_numbers k.id id, equal_numbers k.attempt attempt) (two_of _ _)
     in (
-      λ e. let t = both_true _ _ (sym test ∙ e) in (same_number k.id id t.0, same_number k.attempt attempt t.1),
+      λ e. let t = and_both _ _ (sym test ∙ e) in (same_number k.id id t.0, same_number k.attempt attempt t.1),
       λ h. test ∙ true_both _ _ (same_told k.id id h.0) (same_told k.attempt attempt h.1),
     )
 
@@ -105,7 +98,7 @@ about_says c s r k v is =
     ∙ ap (λ w. both (equals (subject_value v) (Int (pos n)) ∷ equals w (spid_value c.number) ∷ [])) col
     ∙ rw (equal_numbers (subject_number v) n, equal_spids k.carrier c (ap spid_in (sym col) ∙ reads.carrier)) (two_of _ _)
     in (
-      λ e. let t = both_true _ _ (sym test ∙ e) in (same_number k.carrier c.number t.1, same_subject (column r 5) v s reads.subject (same_number (subject_number v) n t.0)),
+      λ e. let t = and_both _ _ (sym test ∙ e) in (same_number k.carrier c.number t.1, same_subject (column r 5) v s reads.subject (same_number (subject_number v) n t.0)),
       λ h. test ∙ true_both _ _ (same_told (subject_number v) n (ap subject_number h.1)) (same_told k.carrier c.number h.0),
     )
 
@@ -176,7 +169,7 @@ IsAmong low high (Some t) = (low ≤ subject_number t) × (subject_number t ≤ 
 within_says : (low high id : ℕ) (v : Value) (t : Subject) (b : Bool) → found_in id t v ≡ Some b → (within low high v ≡ true → IsAmong low high (subject_if b t)) × (IsAmong low high (subject_if b t) → within low high v ≡ true)
 within_says low high id v t true is =
     let test : within low high v ≡ (is_ge (nat_cmp (subject_number t) low) && is_le (nat_cmp (subject_number t) high)) = ap (within low high) (found_read id t v is) ∙ number_within low high (subject_number t) in (
-      λ e. let both = both_true _ _ (sym test ∙ e) in (ge_said (subject_number t) low both.0, le_said (subject_number t) high both.1),
+      λ e. let both = and_both _ _ (sym test ∙ e) in (ge_said (subject_number t) low both.0, le_said (subject_number t) high both.1),
       λ h. test ∙ true_both _ _ (ge_told (subject_number t) low h.0) (le_told (subject_number t) high h.1),
     )
 within_says low high id v t false is = (λ e. absurd (true≢false (sym e ∙ ap (within low high) (unfound_read id t v is) ∙ unfound_within low high id)), λ h. absurd h)

@@ -9,10 +9,10 @@ use Rattle.sqlite.specs.Tree.{put_row, rowid}
 use Rattle.sqlite.specs.Edit.{is_taken}
 use Rattle.sql_rows.specs.Content.{content_of}
 
-same_first : {X : Type 0} {x y : X} {xs ys : List X} → x ∷ xs ≡ y ∷ ys → x ≡ y
+pub same_first : {X : Type 0} {x y : X} {xs ys : List X} → x ∷ xs ≡ y ∷ ys → x ≡ y
 same_first e = cc
 
-same_rest : {X : Type 0} {x y : X} {xs ys : List X} → x ∷ xs ≡ y ∷ ys → xs ≡ ys
+pub same_rest : {X : Type 0} {x y : X} {xs ys : List X} → x ∷ xs ≡ y ∷ ys → xs ≡ ys
 same_rest e = cc
 
 module _ {K V : Type 0} (R : K → K → Ordering) (read : Row → Option (K × V)) (k : K) (p : Row → Bool) where

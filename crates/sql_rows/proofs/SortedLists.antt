@@ -1,5 +1,5 @@
 -- Lists that rise and have the same members are one list; a finite map's entries are such a list.
-use Rattle.std.proofs.Common.{◌≡◌, List, [], ◌∷◌, Bool, true, false, cond, ◌&&◌, Some, inl, inr, refl, sym, ap, ◌∙◌, true≢false, Less, Equal, Greater}
+use Rattle.std.proofs.Common.{◌≡◌, List, [], ◌∷◌, Bool, true, false, cond, Some, inl, inr, refl, sym, ap, ◌∙◌, true≢false, Less, Equal, Greater}
 use Rattle.std.specs.Prelude.{◌⊎◌, T}
 use Rattle.std.specs.declared.cmp.Ordering.{Ordering}
 use Rattle.std.specs.Ordering.{eq_by_cmp, is_eq, is_lt, ordering_reverse}
@@ -10,7 +10,8 @@ use Rattle.std.specs.FinMap.{FinMap, get, entries, entries_sorted, get-entries, 
 use Rattle.std.specs.FinMap.Entries.{below_all}
 use Rattle.sqlite_rules.specs.Lists.{Has}
 use Rattle.sqlite_rules.proofs.ListLemmas.{all_has}
-use Rattle.sql_rows.proofs.Orders.{tie}
+use Rattle.numbers.proofs.Small.{tied}
+use Rattle.numbers.proofs.Small.{truth, and_both}
 
 module _ {X : Type 0} (c : X → X → Ordering) (never : (x y : X) → c x y ≡ Less → c y x ≡ Less → ⊥) where
   head_of : (x : X) (xs : List X) → IsStrictlySortedBy c (x ∷ xs) → (y : X) → Has xs y → c x y ≡ Less
@@ -45,17 +46,9 @@ module _ {X : Type 0} (c : X → X → Ordering) (never : (x y : X) → c x y �
       go rest (inr is) (inl e) = same_head rest (sym e)
       go rest (inr is) (inr also) = absurd (never x y (head_of x xs up y also) (head_of y ys high x is))
 
-of_T : (b : Bool) → T b → b ≡ true
-of_T true t = refl
-of_T false t = absurd t
-
 to_T : (b : Bool) → b ≡ true → T b
 to_T true e = tt
 to_T false e = absurd (true≢false (sym e))
-
-and_true : (a b : Bool) → (a && b) ≡ true → (a ≡ true) × (b ≡ true)
-and_true true b e = (refl, e)
-and_true false b e = absurd (true≢false (sym e))
 
 less_of : (o : Ordering) → is_lt o ≡ true → o ≡ Less
 less_of Less e = refl
@@ -76,15 +69,15 @@ module _ {K V : Type 0} {R : K → K → Ordering} (o : IsTotalOrder R) (exact :
 
   above : (k : K) (es : List (K × V)) → below_all R k es ≡ true → AllByRecursion (λ e. R k e.0 ≡ Less) es
   above k [] h = tt
-  above k (e ∷ es) h = let both = and_true (is_lt (R k e.0)) (below_all R k es) h in (less_of _ both.0, above k es both.1)
+  above k (e ∷ es) h = let both = and_both (is_lt (R k e.0)) (below_all R k es) h in (less_of _ both.0, above k es both.1)
 
   sorted : (es : List (K × V)) → is_sorted R es ≡ true → IsStrictlySortedBy by_key es
   unfolding IsStrictlySortedBy
   sorted [] h = tt
-  sorted (e ∷ es) h = let both = and_true (below_all R e.0 es) (is_sorted R es) h in (above e.0 es both.0, sorted es both.1)
+  sorted (e ∷ es) h = let both = and_both (below_all R e.0 es) (is_sorted R es) h in (above e.0 es both.0, sorted es both.1)
 
   pub entries_rise : (m : FinMap R V) → IsStrictlySortedBy by_key (entries m)
-  entries_rise m = sorted (entries m) (of_T _ (entries_sorted m))
+  entries_rise m = sorted (entries m) (truth _ (entries_sorted m))
 
   find_has : (k : K) (v : V) (es : List (K × V)) → find R k es ≡ Some v → Has es (k, v)
   find_has k v [] h = absurd cc
@@ -92,7 +85,7 @@ module _ {K V : Type 0} {R : K → K → Ordering} (o : IsTotalOrder R) (exact :
     where
       go : (b : Bool) → eq_by_cmp R k e.0 ≡ b → cond b (Some e.1) (find R k es) ≡ Some v → (find R k es ≡ Some v → Has es (k, v)) → Has (e ∷ es) (k, v)
       go true t h more =
-          let key : k ≡ e.0 = exact k e.0 (tie (R k e.0) t) in
+          let key : k ≡ e.0 = exact k e.0 (tied (R k e.0) t) in
           let value : e.1 ≡ v = cc in
           inl (ap (λ x. (x, v)) key ∙ ap (λ x. (e.0, x)) (sym value))
       go false t h more = inr (more h)

@@ -35,6 +35,7 @@ use Rattle.sql_store.specs.declared.blocks.Standing.TheVariants.{InForce, Open}
 use Rattle.sql_store.proofs.ListLemmas.{all_there, sorted_map}
 use Rattle.sql_store.proofs.MappedLemmas.{from_filter_mapped, has_filter_mapped}
 use Rattle.sql_store.proofs.WaiterLemmas.{has_any}
+use Rattle.numbers.proofs.Small.{equal_number, or_right}
 
 -- ---- numbers of the block by one column
 
@@ -97,9 +98,6 @@ module _ (db : Trees) (standing : Standing) where
 
 -- ---- both columns
 
-is_same : (m n : ℕ) → (m == n) ≡ true → m ≡ n
-is_same m n e = grind (arith, nat_tests)
-
 same_is : (m n : ℕ) → m ≡ n → (m == n) ≡ true
 same_is m n e = grind (arith, nat_tests)
 
@@ -115,7 +113,7 @@ module _ (c : Content) (block : ℕ) (standing : Standing) (listed : List Tn) (a
   listed_told tn own = told_by (is_listed listed tn) (Stands c standing tn.number)
       (λ e.
       let t = some_has (λ (t : Tn). t.number == tn.number) listed e in
-      subst (Stands c standing) (is_same t.0.number tn.number t.2) (are.only t.0 t.1).1)
+      subst (Stands c standing) (equal_number t.0.number tn.number t.2) (are.only t.0 t.1).1)
       (λ stands. let t = are.each tn.number own stands in has_any (λ (t : Tn). t.number == tn.number) listed t.0 t.1 (same_is t.0.number tn.number t.2))
 
 has_appended : {X : Type 0} (xs ys : List X) (x : X) → Has (xs ++ ys) x → Has xs x ⊎ Has ys x
@@ -135,10 +133,6 @@ has_second (z ∷ zs) ys x at = inr (has_second zs ys x at)
 left_true : (a b : Bool) → a ≡ true → (a || b) ≡ true
 left_true true b e = refl
 left_true false b e = absurd (true≢false (sym e))
-
-right_true : (a b : Bool) → b ≡ true → (a || b) ≡ true
-right_true true b e = refl
-right_true false b e = e
 
 pub block_is : (c : Content) (block : ℕ) (in_force opened tns : List Tn) → AreNumbers c InForce block in_force → AreNumbers c Open block opened → IsStrictlySortedBy (on number_of_tn nat_cmp) tns
     → ((x : Tn) → Has tns x → Has (in_force ++ opened) x) → ((x : Tn) → Has (in_force ++ opened) x → (y : Tn) × Has tns y × (on number_of_tn nat_cmp x y ≡ Equal))
@@ -169,6 +163,6 @@ block_is c block in_force opened tns one two rises only each = record {
           is_open = listed_told c block Open opened two tn own;
           in_use = elim where_it_is [
             | inl first ↦ left_true _ _ (listed_there c block InForce in_force one tn first)
-            | inr second ↦ right_true _ _ (listed_there c block Open opened two tn second)
+            | inr second ↦ or_right _ _ (listed_there c block Open opened two tn second)
           ];
         }

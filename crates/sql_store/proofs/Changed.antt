@@ -22,6 +22,7 @@ use Rattle.settle.specs.Views.{spid_of, lrn_of, code_of, block_of, block_row_of,
 use Rattle.settle.specs.declared.changes.Changes.{Changes}
 use Rattle.sql_rows.proofs.Orders.{broadcast_total, wait_total, broadcast_tie, wait_tie}
 use Rattle.sql_store.specs.Changes.{all_made, go_by_clock, if_some, singles, lists, made, with_carrier, with_lrn, with_code, with_block, clock_made, with_version, without_version, with_broadcast, without_broadcast, with_wait, without_wait}
+use Rattle.numbers.proofs.Small.{grouped}
 
 -- ---- a part of the content that a change leaves
 
@@ -116,12 +117,6 @@ turned a b = grind (arith, nat_tests)
 
 broadcast_ties : (a b : BroadcastKey) → eq_by_cmp broadcast_cmp b a ≡ same_broadcast a b
 broadcast_ties a b = broadcast_tie b a ∙ ap (λ x. x && is_eq (nat_cmp b.attempt a.attempt)) (turned a.id b.id) ∙ ap (λ x. (a.id == b.id) && x) (turned a.attempt b.attempt)
-
-grouped : (x p q r : Bool) → (x && (p && (q && r))) ≡ (((x && p) && q) && r)
-grouped true true true r = refl
-grouped true true false r = refl
-grouped true false q r = refl
-grouped false p q r = refl
 
 wait_ties : (a b : WaitKey) → eq_by_cmp wait_cmp b a ≡ same_wait a b
 wait_ties a b =

@@ -25,7 +25,7 @@ use Rattle.sqlite_trees.specs.declared.store.Shape.TheVariants.{Table as AsTable
 use Rattle.meaning.specs.Content.{ClockRow, Content, VersionRow}
 use Rattle.version.specs.Views.{windows_of}
 use Rattle.meaning.specs.Windows.{Windows}
-use Rattle.meaning.proofs.Small.{equal_numbers}
+use Rattle.numbers.proofs.Small.{same_number}
 use Rattle.sql_rows.specs.Clocks.{StoredClock, old_clock_of, with_windows}
 use Rattle.sql_rows.specs.Content.{content_in, old_clock_in, stored_clock, versions_in}
 use Rattle.sql_rows.specs.Former.{content_with, old_clock, old_versions_in}
@@ -632,7 +632,7 @@ abbrev pub are_same : Windows → Windows → Bool
 are_same v w = (v.initial_concurrence == w.initial_concurrence) && ((v.final_concurrence == w.final_concurrence) && ((v.conflict_restriction == w.conflict_restriction) && ((v.conflict_resolution == w.conflict_resolution) && ((v.conflict_expiration == w.conflict_expiration) && ((v.cancellation_initial == w.cancellation_initial) && ((v.cancellation_final == w.cancellation_final) && ((v.pending_retention == w.pending_retention) && (v.broadcast == w.broadcast))))))))
 
 are_itself : (w : Windows) → are_same w w ≡ true
-are_itself w = rw (equal_numbers w.initial_concurrence, equal_numbers w.final_concurrence, equal_numbers w.conflict_restriction, equal_numbers w.conflict_resolution, equal_numbers w.conflict_expiration, equal_numbers w.cancellation_initial, equal_numbers w.cancellation_final, equal_numbers w.pending_retention, equal_numbers w.broadcast) refl
+are_itself w = rw (same_number w.initial_concurrence, same_number w.final_concurrence, same_number w.conflict_restriction, same_number w.conflict_resolution, same_number w.conflict_expiration, same_number w.cancellation_initial, same_number w.cancellation_final, same_number w.pending_retention, same_number w.broadcast) refl
 
 pub same_told : (v w : Windows) (told : Bool) → told ≡ are_same v w → told ≡ false → v ≢ w
 same_told v w told is none same = true≢false (sym (is ∙ subst (λ x. are_same v x ≡ true) same (are_itself v)) ∙ none)

@@ -1,5 +1,5 @@
 -- What stands at the front of a queue.
-use Rattle.std.proofs.Common.{◌≡◌, ◌⊎◌, inl, inr, ℕ, ◌≤◌, List, [], ◌∷◌, ◌++◌, map, filter, take, drop, get_or, length, zero, suc, ◌+◌, ◌<◌, true, cond, Option, Some, None, refl, sym, ap, subst, ◌∙◌, true≢false, Less, Equal, arith}
+use Rattle.std.proofs.Common.{◌≡◌, ◌⊎◌, inl, inr, ℕ, ◌≤◌, List, [], ◌∷◌, ◌++◌, map, filter, take, drop, get_or, length, zero, suc, ◌+◌, ◌<◌, true, cond, Option, Some, None, refl, sym, ap, subst, ◌∙◌, Less, Equal, arith}
 use Rattle.std.specs.Prelude.{is_some, option_to_list}
 use Rattle.std.specs.declared.cmp.Ordering.{Ordering}
 use Rattle.std.specs.Ordering.{nat_cmp, ordering_then}
@@ -22,15 +22,12 @@ use Rattle.sql_rows.proofs.QueriesListed.{wait_seen}
 use Rattle.sql_store.specs.Lists.{download_of}
 use Rattle.sql_store.specs.Queues.{AreFirstTold, AreFront, AreQueued, AreTold, IsNext, IsTold, is_told, key_in, queue_order}
 use Rattle.sql_store.proofs.ListLemmas.{all_there, download_tie}
+use Rattle.numbers.proofs.Small.{some_there}
 
 abbrev key_at : ℕ → (minute id attempt : ℕ) → WaitKey
 key_at carrier minute id attempt = record { carrier = carrier; minute = minute; id = id; attempt = attempt }
 
 -- ---- lists
-
-there : {X : Type 0} (o : Option X) → is_some o ≡ true → (x : X) × (o ≡ Some x)
-there None e = absurd (true≢false (sym e))
-there (Some x) e = (x, refl)
 
 module _ {X : Type 0} where
   pub has_taken : (n : ℕ) (xs : List X) (x : X) → Has (take n xs) x → Has xs x
@@ -96,7 +93,7 @@ module _ (c : Content) (spid : ℕ) (found : List KeyedWait) (items : List Downl
   pub queued_are : Picks wait_seen c.waits (λ k v. k.carrier ≡ spid) found → AreQueued c spid ⊥ items
   queued_are picks = record {
     each = λ minute id attempt waits.
-        let s = there (get c.waits (key_at spid minute id attempt)) waits in
+        let s = some_there (get c.waits (key_at spid minute id attempt)) waits in
         let w = picks.each (key_at spid minute id attempt) s.0 s.1 refl in
         inl (one_of_them (key_at spid minute id attempt) w.0 w.1 (ap (λ (e : WaitKey × Subject). e.0) w.2));
     only = waits_there picks.only;
@@ -107,7 +104,7 @@ module _ (c : Content) (spid : ℕ) (found : List KeyedWait) (items : List Downl
   front_queued n Left full front = record {
     each = λ minute id attempt waits.
         let k = key_at spid minute id attempt in
-        let s = there (get c.waits k) waits in
+        let s = some_there (get c.waits k) waits in
         elim (front.each k s.0 s.1 refl) [
           | inl w ↦ inl (one_of_them k w.0 w.1 (ap (λ (e : WaitKey × Subject). e.0) w.2))
           | inr left ↦ inr (

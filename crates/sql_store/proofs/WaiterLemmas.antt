@@ -22,6 +22,7 @@ use Rattle.sql_rows.proofs.Orders.{same_wait, wait_total}
 use Rattle.sql_rows.proofs.Picked.{Picks}
 use Rattle.sql_rows.proofs.QueriesListed.{wait_seen}
 use Rattle.sql_store.specs.Lists.{is_waiting}
+use Rattle.numbers.proofs.Small.{and_both, true_both, equal_number, some_there}
 
 abbrev pub key_at : ℕ → (minute id attempt : ℕ) → WaitKey
 key_at carrier minute id attempt = record { carrier = carrier; minute = minute; id = id; attempt = attempt }
@@ -51,23 +52,8 @@ has_any p (y ∷ ys) x (inr at) is = or_true (p y) (has_any p ys x at is)
     or_true true e = refl
     or_true false e = e
 
-both_true : (a b : Bool) → (a && b) ≡ true → (a ≡ true) × (b ≡ true)
-both_true true b e = (refl, e)
-both_true false b e = absurd (true≢false (sym e))
-
-true_both : (a b : Bool) → a ≡ true → b ≡ true → (a && b) ≡ true
-true_both true b e f = f
-true_both false b e f = absurd (true≢false (sym e))
-
-is_same : (m n : ℕ) → (m == n) ≡ true → m ≡ n
-is_same m n e = grind (arith, nat_tests)
-
 same_is : (m n : ℕ) → m ≡ n → (m == n) ≡ true
 same_is m n e = grind (arith, nat_tests)
-
-there : {X : Type 0} (o : Option X) → is_some o ≡ true → (x : X) × (o ≡ Some x)
-there None e = absurd (true≢false (sym e))
-there (Some x) e = (x, refl)
 
 module _ (c : Content) (minute id attempt : ℕ) where
   abbrev waits_there : ℕ → Bool
@@ -77,17 +63,17 @@ module _ (c : Content) (minute id attempt : ℕ) where
     waiting_is : (carrier : Spid) → waits_there carrier.number ≡ is_waiting waits minute carrier
     waiting_is carrier = same_truth (waits_there carrier.number) (is_waiting waits minute carrier)
         (λ e.
-        let s = there (get c.waits (key_at carrier.number minute id attempt)) e in
+        let s = some_there (get c.waits (key_at carrier.number minute id attempt)) e in
         let w = picks.each (key_at carrier.number minute id attempt) s.0 s.1 (refl, refl) in
         let key = ap (λ (e : WaitKey × Subject). e.0) w.2 in
         has_any (λ (w : KeyedWait). (w.key.minute.number == minute) && (w.key.carrier.number == carrier.number)) waits w.0 w.1
         (true_both _ _ (same_is w.0.key.minute.number minute (ap (λ (k : WaitKey). k.minute) key)) (same_is w.0.key.carrier.number carrier.number (ap (λ (k : WaitKey). k.carrier) key))))
         (λ e.
         let w = some_has (λ (w : KeyedWait). (w.key.minute.number == minute) && (w.key.carrier.number == carrier.number)) waits e in
-        let test = both_true _ _ w.2 in
+        let test = and_both _ _ w.2 in
         let it = picks.only w.0 w.1 in
-        ap (λ k. is_some (get c.waits (key_at k minute id attempt))) (sym (is_same w.0.key.carrier.number carrier.number test.1))
-        ∙ ap (λ k. is_some (get c.waits (key_at w.0.key.carrier.number k id attempt))) (sym (is_same w.0.key.minute.number minute test.0))
+        ap (λ k. is_some (get c.waits (key_at k minute id attempt))) (sym (equal_number w.0.key.carrier.number carrier.number test.1))
+        ∙ ap (λ k. is_some (get c.waits (key_at w.0.key.carrier.number k id attempt))) (sym (equal_number w.0.key.minute.number minute test.0))
         ∙ ap (λ k. is_some (get c.waits (key_at w.0.key.carrier.number w.0.key.minute.number k attempt))) (sym it.1.0)
         ∙ ap (λ k. is_some (get c.waits (key_at w.0.key.carrier.number w.0.key.minute.number w.0.key.id k))) (sym it.1.1)
         ∙ ap is_some it.0)

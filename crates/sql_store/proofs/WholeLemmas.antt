@@ -27,14 +27,9 @@ use Rattle.sql_rows.proofs.DueLemmas.{has_permuted}
 use Rattle.sql_rows.proofs.Listed.{has_mapped}
 use Rattle.sql_rows.proofs.QueryLemmas.{plain_answer}
 use Rattle.sql_store.specs.Whole.{AreAddedBlank, AreRegistryRead, AreVersionsBlank, AreVersionsRead, EachReads, IsMoved, IsRead, IsRegistryBlank, ReadsAdded, ReadsAll, ReadsRegistry, ReadsVersions}
+use Rattle.sql_rows.proofs.RowLemmas.{same_first, same_rest}
 
 -- ---- one table
-
-same_first : {X : Type 0} {x y : X} {xs ys : List X} → x ∷ xs ≡ y ∷ ys → x ≡ y
-same_first e = cc
-
-same_rest : {X : Type 0} {x y : X} {xs ys : List X} → x ∷ xs ≡ y ∷ ys → xs ≡ ys
-same_rest e = cc
 
 none_there : {X : Type 0} (xs : List X) → ((x : X) → Has xs x → ⊥) → xs ≡ []
 none_there [] none = refl

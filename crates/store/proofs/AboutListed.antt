@@ -30,8 +30,9 @@ use Rattle.store.specs.declared.keys.SubjectDownload.{SubjectDownload as Subject
 use Rattle.store.specs.declared.waiting.Waiting.{Waiting as WaitingCode}
 use Rattle.store.proofs.Maps.{get-seen, entry-of}
 use Rattle.store.proofs.Listed.{Among, contained, all-places, filter_map-filter, all-listed, listed-sorted, found-listed, equal_cmp}
-use Rattle.store.proofs.Found.{same_number, equal_number, both}
-use Rattle.store.proofs.RowsFlat.{download_total, download_exact, get-waits_of, tied}
+use Rattle.numbers.proofs.Small.{equal_number, tied}
+use Rattle.numbers.proofs.Small.{same_number, true_both}
+use Rattle.store.proofs.RowsFlat.{download_total, download_exact, get-waits_of}
 use Rattle.store.proofs.RowsChanged.{subject_download_total, subject_download_exact}
 
 -- all broadcasts about the subject are from the first to the last
@@ -135,7 +136,7 @@ module _ (rows : List (RowKeyCode × WaitingCode)) (carrier : Spid) (subject : S
       within : (k : SubjectDownloadCode) (d : Download) → IsDownload d → subject_download_of k ≡ key_about (subject_of subject) d → between k ≡ true
       within k d small same =
           (λ i. is_le (subject_download_cmp (low i) (same i)) && not (is_lt (subject_download_cmp (high i) (same i))))
-          ∙ both _ _ (from_first (key_of subject) d.minute d.id d.attempt) (to_last (key_of subject) d.minute d.id d.attempt small.0 small.1 small.2)
+          ∙ true_both _ _ (from_first (key_of subject) d.minute d.id d.attempt) (to_last (key_of subject) d.minute d.id d.attempt small.0 small.1 small.2)
 
       waits : (k : SubjectDownloadCode) (d : Download) → Waits d.minute d.id d.attempt → subject_download_of k ≡ key_about (subject_of subject) d → listed_about rows carrier subject k ≡ Some (download_in k)
       waits k d is same =

@@ -27,9 +27,9 @@ use Rattle.store.specs.declared.tables.Tables.{Tables}
 use Rattle.store.specs.declared.keys.SubjectVersion.{SubjectVersion as SubjectVersionCode}
 use Rattle.store.proofs.Maps.{get-map_of, set_map_of, entry-of, get-set}
 use Rattle.store.proofs.Orders.{subject_version_total, subject_version_exact}
-use Rattle.store.proofs.Found.{same_number, equal_number, tied, both}
 use Rattle.store.proofs.Listed.{Among, contained, all-places, among-mapped}
 use Rattle.store.proofs.SubjectsListed.{filtered-among, found-entry, all-of}
+use Rattle.numbers.proofs.Small.{or_true, same_number, equal_number, tied, true_both}
 
 -- ---- what a walk has gathered
 
@@ -41,10 +41,6 @@ is_number n (Some k) = eq_by_cmp nat_cmp k n
 or-false : (b : Bool) → (b || false) ≡ b
 or-false true = refl
 or-false false = refl
-
-or-true : (b : Bool) → (b || true) ≡ true
-or-true true = refl
-or-true false = refl
 
 or-assoc : (a b c : Bool) → ((a || b) || c) ≡ (a || (b || c))
 or-assoc true b c = refl
@@ -73,7 +69,7 @@ module _ (mark : Option Standing → Standing) where
         ∙ or-assoc (see (get m n)) (names e) (list_any names es)
       where
         go : (b : Bool) → see (cond b (Some (mark (get m n))) (get m n)) ≡ (see (get m n) || b)
-        go true = says (get m n) ∙ sym (or-true (see (get m n)))
+        go true = says (get m n) ∙ sym (or_true (see (get m n)))
         go false = sym (or-false (see (get m n)))
 
     -- what it leaves as it is
@@ -122,7 +118,7 @@ module _ (block : ℕ) (lo hi : SubjectVersionCode) (low : subject_version_of lo
   within : (k : SubjectVersionCode) (n id : ℕ) → subject_version_of k ≡ record { subject = Number n; id = id } → block_of n ≡ block → id < 18446744073709551616 → is_between lo hi k ≡ true
   within k n id same own small =
       (λ i. is_le (subject_version_cmp (low i) (same i)) && not (is_lt (subject_version_cmp (high i) (same i))))
-      ∙ both _ _ (from_first block n id own) (to_last block n id own small)
+      ∙ true_both _ _ (from_first block n id own) (to_last block n id own small)
 
   -- ---- what the part says of the number's rows
 
@@ -166,7 +162,7 @@ module _ (block : ℕ) (lo hi : SubjectVersionCode) (low : subject_version_of lo
     unfolding Among
     among-met [] e there is = absurd there
     among-met (x ∷ xs) e (inl same) is = ap (λ b. b || list_any is_met xs) (ap is_met same ∙ is)
-    among-met (x ∷ xs) e (inr there) is = ap (λ b. is_met x || b) (among-met xs e there is) ∙ or-true (is_met x)
+    among-met (x ∷ xs) e (inr there) is = ap (λ b. is_met x || b) (among-met xs e there is) ∙ or_true (is_met x)
 
     has-met : block_of n ≡ block → Has → list_any is_met part ≡ true
     has-met own has =
@@ -344,4 +340,4 @@ module _ (c : Content) (block : ℕ) (numbers : BTreeMap Tn Standing) (ordered :
     where
       stands : (n : ℕ) → block_of n ≡ block → Holds c (Number n) ⊎ Opens c (Number n) → (has_held (at n) || has_opened (at n)) ≡ true
       stands n own (inl holds) = ap (λ b. b || has_opened (at n)) (sure ((block_of n ≡ block) × Holds c (Number n)) (has_held (at n)) (known.held n) (own, holds))
-      stands n own (inr opens) = ap (λ b. has_held (at n) || b) (sure ((block_of n ≡ block) × Opens c (Number n)) (has_opened (at n)) (known.opened n) (own, opens)) ∙ or-true (has_held (at n))
+      stands n own (inr opens) = ap (λ b. has_held (at n) || b) (sure ((block_of n ≡ block) × Opens c (Number n)) (has_opened (at n)) (known.opened n) (own, opens)) ∙ or_true (has_held (at n))

@@ -12,7 +12,7 @@ use Rattle.meaning.specs.Content.{wait_cmp}
 use Rattle.settle.specs.Views.{wait_key_of}
 use Rattle.settle.specs.declared.rows.WaitKey.{WaitKey as WaitKeyCode}
 use Rattle.store.specs.QueueRows.{lowest, highest}
-use Rattle.store.proofs.Found.{both}
+use Rattle.numbers.proofs.Small.{true_both}
 
 from_first : (c m i a : ℕ) → is_le (ordering_then (nat_cmp c c) (ordering_then (nat_cmp 0 m) (ordering_then (nat_cmp 0 i) (nat_cmp 0 a)))) ≡ true
 from_first c m i a = grind (arith, nat_tests)
@@ -44,4 +44,4 @@ module _ (carrier : ℕ) (lo hi : WaitKeyCode) (low : wait_key_of lo ≡ lowest 
       minute < 1099511627776 → id < 18446744073709551616 → attempt < 18446744073709551616 → is_between lo hi k ≡ true
   within k minute id attempt same p q r =
       (λ i. is_le (wait_cmp (low i) (same i)) && not (is_lt (wait_cmp (high i) (same i))))
-      ∙ both _ _ (from_first carrier minute id attempt) (to_last carrier minute id attempt p q r)
+      ∙ true_both _ _ (from_first carrier minute id attempt) (to_last carrier minute id attempt p q r)

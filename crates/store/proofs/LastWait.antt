@@ -1,36 +1,25 @@
 -- Whether another registered carrier waits for a broadcast: it is enough to ask those of its row.
-use Rattle.std.proofs.Common.{◌≡◌, ℕ, Bool, true, false, List, [], ◌∷◌, map, refl, ap, sym, ◌∙◌, ◌&&◌, ◌||◌, arith}
+use Rattle.std.proofs.Common.{◌≡◌, ℕ, Bool, true, false, List, [], ◌∷◌, map, refl, ap, sym, ◌∙◌, ◌&&◌, ◌||◌}
 use Rattle.std.specs.Prelude.{filter, not, is_some, ◌==◌}
 use Rattle.std.specs.Cmp.{nat_cmp_total}
 use Rattle.std.specs.FinMap.{get, keys, nat_cmp-IsAntisymmetric}
 use Rattle.std.specs.List.{list_all, list_any}
 use Rattle.std.specs.Ordering.{on, nat_cmp}
 use Rattle.std.specs.BTreeMap as tree
-use Rattle.std.proofs.lemmas.Bool.Decides.{nat_tests}
 use Rattle.numbers.specs.declared.spid.Spid.{Spid}
 use Rattle.meaning.specs.Versions.{is_among}
-use Rattle.meaning.proofs.Ids.{same_id}
 use Rattle.settle.specs.Reads.{is_last_wait}
 use Rattle.settle.specs.Views.{spid_of, wait_key_of}
 use Rattle.settle.specs.declared.rows.WaitKey.{WaitKey}
-use Rattle.settle.proofs.Among.{same_truth, and_both, among-filtered, among_keys}
+use Rattle.settle.proofs.Among.{same_truth, among-filtered, among_keys}
 use Rattle.store.specs.Tables.{content_of, is_another}
 use Rattle.store.specs.WaitRows.{download_of, wait_for}
 use Rattle.store.specs.declared.tables.Tables.{Tables}
 use Rattle.store.proofs.Maps.{get-map_of}
 use Rattle.store.proofs.Orders.{is_some-option_map}
+use Rattle.numbers.proofs.Small.{or_right, same_number, numbers_turned, equal_number, and_both}
 
 -- ---- lists of numbers
-
-or_true : (a b : Bool) → b ≡ true → (a || b) ≡ true
-or_true true b e = refl
-or_true false b e = e
-
-same_number : (n : ℕ) → (n == n) ≡ true
-same_number n = grind (arith, nat_tests)
-
-turned : (a b : ℕ) → (a == b) ≡ (b == a)
-turned a b = grind (arith, nat_tests)
 
 -- a number that passes is among them
 passing : (p : ℕ → Bool) (xs : List ℕ) → list_any p xs ≡ true → (x : ℕ) × (is_among x xs ≡ true) × (p x ≡ true)
@@ -39,7 +28,7 @@ passing p (x ∷ xs) e = go (passing p xs) (p x) refl e
   where
     go : (list_any p xs ≡ true → (k : ℕ) × (is_among k xs ≡ true) × (p k ≡ true)) → (b : Bool) → p x ≡ b → (b || list_any p xs) ≡ true → (k : ℕ) × (is_among k (x ∷ xs) ≡ true) × (p k ≡ true)
     go later true is f = (x, ap (λ b. b || is_among x xs) (same_number x), is)
-    go later false is f = let more = later f in (more.0, or_true (x == more.0) (is_among more.0 xs) more.1, more.2)
+    go later false is f = let more = later f in (more.0, or_right (x == more.0) (is_among more.0 xs) more.1, more.2)
 
 -- a number among them passes
 passes : (p : ℕ → Bool) (xs : List ℕ) (k : ℕ) → is_among k xs ≡ true → p k ≡ true → list_any p xs ≡ true
@@ -47,8 +36,8 @@ passes p [] k e is = e
 passes p (x ∷ xs) k e is = go (λ f. passes p xs k f is) (x == k) refl e
   where
     go : (is_among k xs ≡ true → list_any p xs ≡ true) → (b : Bool) → (x == k) ≡ b → (b || is_among k xs) ≡ true → list_any p (x ∷ xs) ≡ true
-    go later true at f = ap (λ b. b || list_any p xs) (ap p (same_id x k at) ∙ is)
-    go later false at f = or_true (p x) (list_any p xs) (later f)
+    go later true at f = ap (λ b. b || list_any p xs) (ap p (equal_number x k at) ∙ is)
+    go later false at f = or_right (p x) (list_any p xs) (later f)
 
 all-not : (p : ℕ → Bool) (xs : List ℕ) → list_all p xs ≡ not (list_any (λ x. not (p x)) xs)
 all-not p [] = refl
@@ -63,7 +52,7 @@ any-seen p q same [] = refl
 any-seen p q same (c ∷ cs) = ap (λ b. b || list_any p (map spid_of cs)) (same c) ∙ ap (λ b. q c || b) (any-seen p q same cs)
 
 among-seen : (k : ℕ) (cs : List Spid) → list_any (λ (c : Spid). k == c.number) cs ≡ is_among k (map spid_of cs)
-among-seen k cs = sym (any-seen (λ d. d == k) (λ c. k == c.number) (λ c. turned c.number k) cs)
+among-seen k cs = sym (any-seen (λ d. d == k) (λ c. k == c.number) (λ c. numbers_turned c.number k) cs)
 
 -- ---- a broadcast's row
 

@@ -29,7 +29,7 @@ use Rattle.store.proofs.Maps.{get-map_of, entry-of}
 use Rattle.store.proofs.Orders.{wait_total, wait_exact, broadcast_total, broadcast_exact}
 use Rattle.store.proofs.Listed.{Among, contained, all-places, filter_map-filter, listed-sorted, found-listed, equal_cmp}
 use Rattle.store.proofs.CarrierKeys.{is_between, carrier-is, within}
-use Rattle.store.proofs.RowsFlat.{tied}
+use Rattle.numbers.proofs.Small.{tied}
 
 -- ---- lists
 

@@ -1,10 +1,9 @@
 -- One broadcast's row changed: what the downloads are then, and that the index by subjects agrees.
-use Rattle.std.proofs.Common.{◌≡◌, ℕ, Bool, true, false, cond, Option, Some, None, refl, ap, sym, ◌∙◌, subst, ◌&&◌, arith}
+use Rattle.std.proofs.Common.{◌≡◌, ℕ, Bool, true, false, cond, Option, Some, None, refl, ap, sym, ◌∙◌, subst, ◌&&◌}
 use Rattle.std.specs.Prelude.{◌==◌, is_some, option_map}
 use Rattle.std.specs.Ordering.{nat_cmp, ordering_then, is_eq, eq_by_cmp}
 use Rattle.std.specs.Cmp.{IsTotalOrder, nat_cmp_total, tied_itself}
 use Rattle.std.proofs.lemmas.Cmp.{then_total, on_total}
-use Rattle.std.proofs.lemmas.Bool.Decides.{nat_tests}
 use Rattle.std.specs.FinMap.{FinMap, get, same_map, IsAntisymmetric, nat_cmp-IsAntisymmetric}
 use Rattle.numbers.specs.Subjects.{Subject, subject_key}
 use Rattle.numbers.proofs.SubjectKeys.{subject_key-exact}
@@ -13,7 +12,9 @@ use Rattle.store.specs.Maps.{set}
 use Rattle.store.specs.WaitRows.{Download, download_cmp, download_of, Waiting, waits_of, awaited, SubjectDownload, subject_download_cmp, key_about, download_about, IsDownload, AreAbout, AboutIsNeeded}
 use Rattle.store.proofs.Maps.{get-set}
 use Rattle.store.proofs.Orders.{both_equal, wait_total, wait_exact}
-use Rattle.store.proofs.RowsFlat.{download_total, download_exact, wait-ties, get-waits_of, tied}
+use Rattle.store.proofs.RowsFlat.{download_total, download_exact, wait-ties, get-waits_of}
+use Rattle.numbers.proofs.Small.{tied}
+use Rattle.numbers.proofs.Small.{numbers_turned}
 
 pub subject_download_total : IsTotalOrder subject_download_cmp
 subject_download_total =
@@ -32,9 +33,6 @@ subject_download_exact a b e =
       attempt = nat_cmp-IsAntisymmetric a.attempt b.attempt r.1 i;
     }
 
-same-test : (a b : ℕ) → (a == b) ≡ (b == a)
-same-test a b = grind (arith, nat_tests)
-
 -- the row of one broadcast is w now
 abbrev pub IsRow : FinMap download_cmp Waiting → FinMap download_cmp Waiting → Download → Option Waiting → Type 0
 IsRow old new d w = (q : Download) → get new q ≡ cond (eq_by_cmp download_cmp d q) w (get old q)
@@ -50,7 +48,7 @@ row-changed old new k w v row each = same_map wait_total wait_exact (waits_of ne
         awaited (cond b w (get old (download_of q))) q.carrier ≡ cond ((k.carrier == q.carrier) && b) v (awaited (get old (download_of q)) q.carrier)
     go q true t =
         let d : download_of k ≡ download_of q = download_exact (download_of k) (download_of q) (tied _ t) in
-        each q.carrier ∙ (λ i. cond (same-test q.carrier k.carrier i) v (awaited (get old (d i)) q.carrier)) ∙ last (k.carrier == q.carrier) (awaited (get old (download_of q)) q.carrier)
+        each q.carrier ∙ (λ i. cond (numbers_turned q.carrier k.carrier i) v (awaited (get old (d i)) q.carrier)) ∙ last (k.carrier == q.carrier) (awaited (get old (download_of q)) q.carrier)
       where
         last : (b : Bool) (x : Option Subject) → cond b v x ≡ cond (b && true) v x
         last true x = refl

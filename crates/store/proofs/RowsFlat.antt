@@ -1,6 +1,6 @@
 -- Looking up a download finds it in its broadcast's row.
 use Rattle.std.proofs.Common.{◌≡◌, ℕ, Bool, true, false, cond, List, [], ◌∷◌, ◌++◌, Some, None, refl, ap, sym, ◌∙◌, ◌&&◌, ◌||◌}
-use Rattle.std.specs.Prelude.{T, ◌==◌}
+use Rattle.std.specs.Prelude.{◌==◌}
 use Rattle.std.specs.List.{list_any}
 use Rattle.std.specs.declared.cmp.Ordering.{Ordering}
 use Rattle.std.specs.declared.cmp.Ordering.TheVariants.{Less, Equal, Greater}
@@ -13,6 +13,7 @@ use Rattle.numbers.specs.Subjects.{Subject}
 use Rattle.meaning.specs.Content.{WaitKey, wait_cmp}
 use Rattle.store.specs.WaitRows.{Download, download_cmp, download_of, wait_for, Waiting, waits_of_row, waits_of_rows, waits_of, awaited}
 use Rattle.store.proofs.Orders.{both_equal, wait_total}
+use Rattle.numbers.proofs.Small.{tied, and_second, and_first, truth}
 
 pub download_total : IsTotalOrder download_cmp
 download_total = then_total (on_total (λ (d : Download). d.minute) nat_cmp_total) (then_total (on_total (λ (d : Download). d.id) nat_cmp_total) (on_total (λ (d : Download). d.attempt) nat_cmp_total))
@@ -44,11 +45,6 @@ find-row k d s (c ∷ cs) rest =
     go false true y = refl
     go false false y = refl
 
-pub tied : (r : Ordering) → is_eq r ≡ true → r ≡ Equal
-tied Equal e = refl
-tied Less e = let no : false ≡ true = e in cc
-tied Greater e = let no : false ≡ true = e in cc
-
 -- what ties with a key below all others is none of them
 below : (d : Download) (es : List (Download × Waiting)) → below_all download_cmp d es ≡ true → find download_cmp d es ≡ None
 below d [] is = refl
@@ -59,25 +55,17 @@ below d (e ∷ es) is = go (download_cmp d e.0) (below d es) is
     go Equal later more = let no : false ≡ true = more in cc
     go Greater later more = let no : false ≡ true = more in cc
 
-second : (a b : Bool) → (a && b) ≡ true → b ≡ true
-second true b e = e
-second false b e = let no : false ≡ true = e in cc
-
-first : (a b : Bool) → (a && b) ≡ true → a ≡ true
-first true b e = refl
-first false b e = e
-
 find-rows : (k : WaitKey) (es : List (Download × Waiting)) → is_sorted download_cmp es ≡ true → find wait_cmp k (waits_of_rows es) ≡ awaited (find download_cmp (download_of k) es) k.carrier
 unfolding waits_of_rows
 find-rows k [] is = refl
 find-rows k (e ∷ es) is =
     find-row k e.0 e.1.0 e.1.1 (waits_of_rows es)
-    ∙ go (find-rows k es (second (below_all download_cmp e.0 es) (is_sorted download_cmp es) is)) (eq_by_cmp download_cmp (download_of k) e.0) refl
+    ∙ go (find-rows k es (and_second (below_all download_cmp e.0 es) (is_sorted download_cmp es) is)) (eq_by_cmp download_cmp (download_of k) e.0) refl
   where
     none : eq_by_cmp download_cmp (download_of k) e.0 ≡ true → find download_cmp (download_of k) es ≡ None
     none tie =
         ap (λ d. find download_cmp d es) (download_exact (download_of k) e.0 (tied (download_cmp (download_of k) e.0) tie))
-        ∙ below e.0 es (first (below_all download_cmp e.0 es) (is_sorted download_cmp es) is)
+        ∙ below e.0 es (and_first (below_all download_cmp e.0 es) (is_sorted download_cmp es) is)
 
     here : find wait_cmp k (waits_of_rows es) ≡ awaited (find download_cmp (download_of k) es) k.carrier → find download_cmp (download_of k) es ≡ None →
         (y : Bool) → cond y (Some e.1.0) (find wait_cmp k (waits_of_rows es)) ≡ cond y (Some e.1.0) None
@@ -88,10 +76,6 @@ find-rows k (e ∷ es) is =
         cond (b && list_any (λ c. k.carrier == c) e.1.1) (Some e.1.0) (find wait_cmp k (waits_of_rows es)) ≡ awaited (cond b (Some e.1) (find download_cmp (download_of k) es)) k.carrier
     go later true tie = here later (none tie) (list_any (λ c. k.carrier == c) e.1.1)
     go later false tie = later
-
-truth : (b : Bool) → T b → b ≡ true
-truth true t = refl
-truth false t = absurd t
 
 pub get-waits_of : (m : FinMap download_cmp Waiting) (k : WaitKey) → get (waits_of m) k ≡ awaited (get m (download_of k)) k.carrier
 unfolding waits_of

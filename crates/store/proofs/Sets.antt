@@ -1,11 +1,10 @@
 -- The set of windows that a commit puts.
-use Rattle.std.proofs.Common.{◌≡◌, ℕ, Bool, true, false, Option, Some, None, refl, ap, sym, ◌∙◌, arith}
+use Rattle.std.proofs.Common.{◌≡◌, ℕ, Bool, true, false, Option, Some, None, refl, ap, sym, ◌∙◌}
 use Rattle.std.specs.Prelude.{◌==◌, if◌then◌else◌, option_map}
 use Rattle.std.specs.Ordering.{nat_cmp}
 use Rattle.std.specs.Cmp.{nat_cmp_total}
 use Rattle.std.specs.BTreeMap.{BTreeMap}
 use Rattle.std.specs.FinMap.{get, nat_cmp-IsAntisymmetric}
-use Rattle.std.proofs.lemmas.Bool.Decides.{nat_tests}
 use Rattle.meaning.specs.Content.{Content}
 use Rattle.meaning.specs.Windows.{WindowSet}
 use Rattle.settle.specs.Changes.{put_row}
@@ -20,9 +19,7 @@ use Rattle.store.specs.declared.tables.Tables.{Tables}
 use Rattle.store.proofs.Changed.{set_first}
 use Rattle.store.proofs.Maps.{get-set_here}
 use Rattle.store.proofs.Places.{put-shown, sets-is}
-
-same-number : (a b : ℕ) → (a == b) ≡ true → a ≡ b
-same-number a b e = grind (arith, nat_tests, e)
+use Rattle.numbers.proofs.Small.{equal_number}
 
 -- where the set is there already, the sets are as if it was put once more
 pub sets-there : (named : Option WindowSetCode) (t : Tables) → IsSetThere named t → (k : ℕ)
@@ -34,7 +31,7 @@ sets-there (Some s) t there k = go (s.number == k) refl
   where
     go : (b : Bool) → (s.number == k) ≡ b → get (content_of t).sets k
         ≡ (if b then Some (windows_of s.windows) else get (content_of t).sets k)
-    go true e = ap (get (content_of t).sets) (sym (same-number s.number k e)) ∙ there
+    go true e = ap (get (content_of t).sets) (sym (equal_number s.number k e)) ∙ there
     go false e = refl
 
 module _ (t : Tables) (m : BTreeMap ℕ WindowsCode) (number : ℕ) (windows : WindowsCode) where

@@ -28,7 +28,7 @@ use Rattle.store.proofs.Orders.{wait_total, wait_exact}
 use Rattle.store.proofs.Listed.{Among, contained, all-places}
 use Rattle.store.proofs.CarrierKeys.{is_between, carrier-is, within}
 use Rattle.store.proofs.QueueListed.{found-own}
-use Rattle.store.proofs.RowsFlat.{tied}
+use Rattle.numbers.proofs.Small.{tied}
 
 -- ---- what a walk has gathered
 

@@ -5,6 +5,7 @@ use Rattle.std.proofs.lemmas.Bool.Decides.{nat_tests}
 use Rattle.std.specs.List.{onto_first}
 use Rattle.telnp.specs.Grammar.{cut}
 use Rattle.telnp.specs.Faults.{parts}
+use Rattle.numbers.proofs.Small.{same_number}
 
 -- none of the bytes is the mark
 abbrev Lacks : ℕ → List ℕ → Type 0
@@ -16,15 +17,12 @@ lacks_head mark b bs h = let ne : b ≡ mark → ⊥ = h 0 (omega arith) in grin
 lacks_tail : (mark b : ℕ) (bs : List ℕ) → Lacks mark (b ∷ bs) → Lacks mark bs
 lacks_tail mark b bs h = λ i lt. h (suc i) (omega arith)
 
-same_mark : (mark : ℕ) → (mark == mark) ≡ true
-same_mark mark = grind (arith, nat_tests)
-
 pub cut-none : (mark : ℕ) (bs : List ℕ) → Lacks mark bs → cut mark bs ≡ None
 cut-none mark [] h = refl
 cut-none mark (b ∷ bs) h = rw (lacks_head mark b bs h, cut-none mark bs (lacks_tail mark b bs h))
 
 pub cut-found : (mark : ℕ) (front bs : List ℕ) → Lacks mark front → cut mark (front ++ mark ∷ bs) ≡ Some (front, bs)
-cut-found mark [] bs h = rw (same_mark mark)
+cut-found mark [] bs h = rw (same_number mark)
 cut-found mark (b ∷ front) bs h = rw (lacks_head mark b front h, cut-found mark front bs (lacks_tail mark b front h))
 
 pub cut_once : (mark : ℕ) (bs : List ℕ) (r : Option (Bor (List ℕ) × Bor (List ℕ)))

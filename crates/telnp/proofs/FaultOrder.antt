@@ -12,7 +12,8 @@ use Rattle.telnp.specs.Faults.{parts, fault_of, fault_in_rest, first_fault, rest
 use Rattle.telnp.specs.Laws.{HasFault, IsCutUp, FaultsAreInOrder}
 use Rattle.telnp.proofs.Cuts.{Cut}
 use Rattle.telnp.proofs.Wholes.{rest_whole, tel_scheme}
-use Rattle.telnp.proofs.Only.{Other, Lacks, EachLacks, both_true, scheme_cut, rest_cut}
+use Rattle.telnp.proofs.Only.{Other, Lacks, EachLacks, scheme_cut, rest_cut}
+use Rattle.numbers.proofs.Small.{true_both}
 
 -- what is cut at a mark does not hold it
 abbrev CutLacks : ℕ → List ℕ → Option Cut → Type 0
@@ -22,18 +23,18 @@ CutLacks mark bs (Some p) = Lacks mark p.0
 at_head : (mark b : ℕ) (bs : List ℕ) (test : Bool) (found : Option Cut) → (b == mark) ≡ test → CutLacks mark bs found
     → CutLacks mark (b ∷ bs) (cond test (Some ([], bs)) (option_map (λ (p : Cut). (b ∷ p.0, p.1)) found))
 at_head mark b bs true found e h = refl
-at_head mark b bs false None e h = both_true _ _ (ap not e) h
-at_head mark b bs false (Some p) e h = both_true _ _ (ap not e) h
+at_head mark b bs false None e h = true_both _ _ (ap not e) h
+at_head mark b bs false (Some p) e h = true_both _ _ (ap not e) h
 
 cut_lacks : (mark : ℕ) (bs : List ℕ) → CutLacks mark bs (cut mark bs)
 cut_lacks mark [] = refl
 cut_lacks mark (b ∷ bs) = at_head mark b bs (b == mark) (cut mark bs) refl (cut_lacks mark bs)
 
 onto_lacks : (b : ℕ) (ps : List (List ℕ)) → Other 59 b ≡ true → EachLacks ps ≡ true → EachLacks (onto_first b ps) ≡ true
-onto_lacks b [] e h = both_true _ _ (both_true _ _ e refl) refl
+onto_lacks b [] e h = true_both _ _ (true_both _ _ e refl) refl
 onto_lacks b (p ∷ ps) e h =
     let (here, more) = and_parts (list_all (Other 59) p) (EachLacks ps) h in
-    both_true _ _ (both_true _ _ e here) more
+    true_both _ _ (true_both _ _ e here) more
 
 parts_lack : (bs : List ℕ) → EachLacks (parts 59 bs) ≡ true
 parts_lack [] = refl

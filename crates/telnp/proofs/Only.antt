@@ -13,6 +13,7 @@ use Rattle.telnp.specs.Uri.{written}
 use Rattle.telnp.specs.Laws.{TelUrisAreRead}
 use Rattle.telnp.proofs.Cuts.{Cut, cut-none, cut-found}
 use Rattle.telnp.proofs.Wholes.{IsCut, cut-whole}
+use Rattle.numbers.proofs.Small.{true_both}
 
 -- the byte is another one
 abbrev pub Other : ℕ → ℕ → Bool
@@ -34,20 +35,17 @@ other P mark b skips passes = at_test (b == mark) refl
     at_test true e = let same : b ≡ mark = grind (arith, nat_tests) in absurd (false≢true (sym skips ∙ ap P (sym same) ∙ passes))
     at_test false e = refl
 
-pub both_true : (a b : Bool) → a ≡ true → b ≡ true → (a && b) ≡ true
-both_true a b x y = rw (x, y)
-
 lacks_all : (P : ℕ → Bool) (mark : ℕ) → P mark ≡ false → (bs : List ℕ) → list_all P bs ≡ true → Lacks mark bs
 lacks_all P mark skips [] h = refl
 lacks_all P mark skips (b ∷ bs) h =
     let (here, more) = and_parts (P b) (list_all P bs) h in
-    both_true _ _ (other P mark b skips here) (lacks_all P mark skips bs more)
+    true_both _ _ (other P mark b skips here) (lacks_all P mark skips bs more)
 
 lacks_append : (mark : ℕ) (xs ys : List ℕ) → Lacks mark xs → Lacks mark ys → Lacks mark (xs ++ ys)
 lacks_append mark [] ys a b = b
 lacks_append mark (x ∷ xs) ys a b =
     let (here, more) = and_parts (Other mark x) (list_all (Other mark) xs) a in
-    both_true _ _ here (lacks_append mark xs ys more b)
+    true_both _ _ here (lacks_append mark xs ys more b)
 
 -- the number part
 pub lacks_global : (number : List ℕ) → is_global number ≡ true → Lacks 59 number
@@ -55,7 +53,7 @@ lacks_global [] h = refl
 lacks_global (b ∷ bs) h =
     let (front, digits) = and_parts ((b == 43) && list_all (λ d. is_digit d || is_separator d) bs) _ h in
     let (plus, all) = and_parts (b == 43) _ front in
-    both_true _ _ (other (λ c. c == 43) 59 b refl plus) (lacks_all (λ d. is_digit d || is_separator d) 59 refl bs all)
+    true_both _ _ (other (λ c. c == 43) 59 b refl plus) (lacks_all (λ d. is_digit d || is_separator d) 59 refl bs all)
 
 -- the parts of what is written
 parts_of_one : (bs : List ℕ) → Lacks 59 bs → parts 59 bs ≡ bs ∷ []
@@ -103,7 +101,7 @@ lacks_value wanted (b ∷ bs) h = at_next (wanted_after wanted b) refl h (λ nex
     at_next : (o : Option ℕ) → wanted_after wanted b ≡ o → option_map_or (λ next. is_value_rest next bs) o false ≡ true
         → ((next : ℕ) → is_value_rest next bs ≡ true → Lacks 59 bs) → Lacks 59 (b ∷ bs)
     at_next None e k go = absurd (false≢true k)
-    at_next (Some next) e k go = both_true _ _ (some_at wanted b next e) (go next k)
+    at_next (Some next) e k go = true_both _ _ (some_at wanted b next e) (go next k)
 
 -- a parameter
 abbrev Formed : List ℕ → Option Cut → Type 0
@@ -129,14 +127,14 @@ each_lacks : (ps : List (List ℕ)) → list_all is_parameter ps ≡ true → Ea
 each_lacks [] h = refl
 each_lacks (p ∷ ps) h =
     let (here, more) = and_parts (is_parameter p) (list_all is_parameter ps) h in
-    both_true _ _ (lacks_part p (cut 61 p) refl here) (each_lacks ps more)
+    true_both _ _ (lacks_part p (cut 61 p) refl here) (each_lacks ps more)
 
 -- the scheme
 lacks_lower : (bs : List ℕ) → Lacks 58 (lower bs) → Lacks 58 bs
 lacks_lower [] h = refl
 lacks_lower (b ∷ bs) h =
     let (here, more) = and_parts (Other 58 (to_ascii_lowercase b)) (list_all (Other 58) (lower bs)) h in
-    both_true _ _ (other (λ c. Other 58 (to_ascii_lowercase c)) 58 b refl here) (lacks_lower bs more)
+    true_both _ _ (other (λ c. Other 58 (to_ascii_lowercase c)) 58 b refl here) (lacks_lower bs more)
 
 pub scheme_cut : (scheme rest : List ℕ) → lower scheme ≡ codes "tel" → rest_of (scheme ++ 58 ∷ rest) ≡ Some rest
 scheme_cut scheme rest tel =

@@ -10,10 +10,9 @@ use Rattle.meaning.specs.History.{Acknowledges}
 use Rattle.meaning.specs.Reading.{State, SubjectVersion, Download, record_now, version_of_id, download, downloads_of, downloads_acknowledged, first_of, is_before, queue, set_now}
 use Rattle.meaning.specs.Refusals.{Requests, refusal, tests, is_download, is_preceded}
 use Rattle.meaning.specs.Machine.{IsHistory}
-use Rattle.meaning.proofs.Small.{equal_numbers, true-false, and_first, and_second, denied, some_is}
+use Rattle.numbers.proofs.Small.{same_number, true-false, and_first, and_second, denied, some_is, equal_number}
 use Rattle.meaning.proofs.Lists.{Among, any_there, there_any, mapped-from, mapped-to, filtered-from, filtered-to, flat-from, flat-to, each, each_there, each-among}
 use Rattle.meaning.proofs.Accepted.{none_holds}
-use Rattle.meaning.proofs.Ids.{same_id}
 use Rattle.meaning.proofs.Entered.{found_is, subject_eq-refl}
 use Rattle.meaning.proofs.Shown.{id_found}
 use Rattle.meaning.proofs.Begun.{HasBegun, begun_kept}
@@ -55,7 +54,7 @@ module _ (id attempt : ℕ) where
       go false = refl
 
   higher_differs : (p q : Placed) → IsLower p q → matches id attempt q ≡ true → matches id attempt p ≡ false
-  higher_differs p q under is = go under (same_id q.id id (and_first (q.id == id) (q.attempt == attempt) is)) (same_id q.attempt attempt (and_second (q.id == id) (q.attempt == attempt) is))
+  higher_differs p q under is = go under (equal_number q.id id (and_first (q.id == id) (q.attempt == attempt) is)) (equal_number q.attempt attempt (and_second (q.id == id) (q.attempt == attempt) is))
     where
       drop : (b : Bool) → (b && false) ≡ false
       drop true = refl
@@ -111,7 +110,7 @@ module _ (w : WindowSet) (c id attempt : ℕ) where
 
       first : (a : Bool) → a ≡ true → (t : Bool) → place (Carrier c) i (if t then record b { acknowledged = with_number c b.acknowledged } else b) ≡ marked_if (a && t) (place (Carrier c) i b)
       first true e true = ap (λ x. let p : Placed = record { id = i; attempt = b.attempt; minute = b.minute; action = b.action; routing = b.routing; marked = x } in p)
-          (among-with_number c c b.acknowledged ∙ ap (λ x. x || is_among c b.acknowledged) (equal_numbers c))
+          (among-with_number c c b.acknowledged ∙ ap (λ x. x || is_among c b.acknowledged) (same_number c))
       first true e false = refl
       first false e t = cc
 
@@ -205,7 +204,7 @@ module _ (st : State) (is : IsHistory st.windows st.history st.now) (s : Subject
   -- those of the version with the attempt
   pub of_version : (v : Version) (b : Broadcast) → Among v versions → Among b v.broadcasts → (v.id == id) ≡ true → (b.attempt == attempt) ≡ true → Among (download (as_listed s v) b) acknowledged
   of_version v b there sent same at = flat-to answered_downloads (map (as_listed s) versions) (as_listed s v) (download (as_listed s v) b) (mapped-to (as_listed s) versions v there)
-      (subst (λ t. Among (download (as_listed s v) b) (if t && (v.id == id) then downloads_of (λ x. x.attempt == attempt) (as_listed s v) else [])) (sym (equal_numbers c))
+      (subst (λ t. Among (download (as_listed s v) b) (if t && (v.id == id) then downloads_of (λ x. x.attempt == attempt) (as_listed s v) else [])) (sym (same_number c))
       (subst (λ t. Among (download (as_listed s v) b) (if true && t then downloads_of (λ x. x.attempt == attempt) (as_listed s v) else [])) (sym same)
       (mapped-to (download (as_listed s v)) (filter (λ (x : Broadcast). x.attempt == attempt) v.broadcasts) b (filtered-to (λ (x : Broadcast). x.attempt == attempt) v.broadcasts b sent at))))
 
@@ -238,7 +237,7 @@ module _ (st : State) (is : IsHistory st.windows st.history st.now) (s : Subject
       inner v there true true e is =
           let mapped = mapped-from (download (as_listed s v)) (filter (λ (x : Broadcast). x.attempt == attempt) v.broadcasts) d is in
           let sent = filtered-from (λ (x : Broadcast). x.attempt == attempt) v.broadcasts mapped.0 mapped.1 in
-          record { version = v; broadcast = mapped.0; there = there; sent = sent.0; has_id = same_id v.id id e; has_attempt = same_id mapped.0.attempt attempt sent.1; is_its = mapped.2 }
+          record { version = v; broadcast = mapped.0; there = there; sent = sent.0; has_id = equal_number v.id id e; has_attempt = equal_number mapped.0.attempt attempt sent.1; is_its = mapped.2 }
       inner v there true false e is = absurd is
       inner v there false b e is = absurd is
 
@@ -252,8 +251,8 @@ module _ (st : State) (is : IsHistory st.windows st.history st.now) (s : Subject
       (x ≡ download (as_listed s one.version) one.broadcast) × (is_among c (waiters one.broadcast) ≡ true)
   same_download d one x there matched =
       let of_it : IsQueued st c x = queued-from st c x there in
-      let its_id : of_it.at.version.id ≡ id = ap (λ (y : Download). y.id) (sym of_it.is) ∙ same_id x.id id (and_first (x.id == id) (x.attempt == attempt) matched) in
-      let its_attempt : of_it.broadcast.attempt ≡ attempt = ap (λ (y : Download). y.attempt) (sym of_it.is) ∙ same_id x.attempt attempt (and_second (x.id == id) (x.attempt == attempt) matched) in
+      let its_id : of_it.at.version.id ≡ id = ap (λ (y : Download). y.id) (sym of_it.is) ∙ equal_number x.id id (and_first (x.id == id) (x.attempt == attempt) matched) in
+      let its_attempt : of_it.broadcast.attempt ≡ attempt = ap (λ (y : Download). y.attempt) (sym of_it.is) ∙ equal_number x.attempt attempt (and_second (x.id == id) (x.attempt == attempt) matched) in
       let by_its_id : of_it.id ≡ id = sym (id_found of_it.id (record_now st of_it.at.subject).versions of_it.at.version of_it.found) ∙ its_id in
       let same : as_listed s one.version ≡ of_it.at = some_is (as_listed s one.version) of_it.at
       (sym (found_is st is s one.version.id one.version (found_by_id st is s one.version one.there)) ∙ ap (version_of_id st) (one.has_id ∙ sym by_its_id) ∙ found_is st is of_it.at.subject of_it.id of_it.at.version of_it.found) in
@@ -313,7 +312,7 @@ module _ (st : State) (is : IsHistory st.windows st.history st.now) (s : Subject
         let waits : Among (download (as_listed s one.version) one.broadcast) (queue st c) × (is_among c (waiters one.broadcast) ≡ true) = waits_for d one in
         let p : Placed = place (Carrier c) one.version.id one.broadcast in
         let stands : stands_for (Carrier c) one.broadcast ≡ true = waiting_stands c one.broadcast waits.1 in
-        let is_it : matches id attempt p ≡ true = ap (λ k. (k == id) && (one.broadcast.attempt == attempt)) one.has_id ∙ ap (λ k. (id == id) && (k == attempt)) one.has_attempt ∙ ap (λ b. b && (attempt == attempt)) (equal_numbers id) ∙ equal_numbers attempt in
+        let is_it : matches id attempt p ≡ true = ap (λ k. (k == id) && (one.broadcast.attempt == attempt)) one.has_id ∙ ap (λ k. (id == id) && (k == attempt)) one.has_attempt ∙ ap (λ b. b && (attempt == attempt)) (same_number id) ∙ same_number attempt in
         let not_yet : is_among c one.broadcast.acknowledged ≡ false = out (is_among c one.broadcast.acknowledged) (sym (waits_or_not c one.broadcast stands) ∙ waits.1) in
         let before : list_any (λ e. subject_eq e.subject s && is_before e (download_of s p)) (queue st c) ≡ false = first_in_turn (download (as_listed s one.version) one.broadcast) waits.0 is_it in
         subst (λ r. IsMarkedNow r olds news) (ap (λ (x : Download). x.routing) (sym one.is_its))

@@ -19,7 +19,7 @@ use Rattle.meaning.specs.History.{Request, Entry, Commands, Acknowledges, effect
 use Rattle.meaning.specs.Reading.{State, record_now}
 use Rattle.meaning.specs.Machine.{IsHistory}
 use Rattle.meaning.specs.Sound.{NoneOpen, ForceIsActive, AreSound}
-use Rattle.meaning.proofs.Small.{true-false, or_first, or_second}
+use Rattle.numbers.proofs.Small.{true-false, or_first, or_second}
 use Rattle.meaning.proofs.Lists.{everywhere, each, each_two}
 use Rattle.meaning.proofs.Minutes.{retired-never}
 use Rattle.meaning.proofs.Unique.{KeepsActive, respect_active, judged_version-respects}

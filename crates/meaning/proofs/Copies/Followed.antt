@@ -10,7 +10,7 @@ use Rattle.meaning.specs.Judge.{judge}
 use Rattle.meaning.specs.History.{Entry, replay, present_set}
 use Rattle.meaning.specs.Reading.{SubjectVersion, Download, registers, starting_row, copy_of, downloads_acknowledged, first_of, routing_in_force}
 use Rattle.meaning.specs.Machine.{IsHistory}
-use Rattle.meaning.proofs.Small.{true-false}
+use Rattle.numbers.proofs.Small.{true-false}
 use Rattle.meaning.proofs.Kept.{record_after, kept}
 use Rattle.meaning.proofs.Copies.{Carrier, Placed, placed, AllMarked, NoneMarked, AreMarkedInOrder, held}
 

@@ -13,9 +13,9 @@ use Rattle.meaning.specs.Refusals.{Requests, refusal, is_download}
 use Rattle.meaning.specs.Machine.{IsHistory}
 use Rattle.meaning.specs.Laws.{IsState, IsOfForce, CopyIsHanded}
 use Rattle.meaning.specs.Copies.{applied, started, rows_handed, acknowledged_of, and_then, downloads_handed, copy_handed}
-use Rattle.meaning.proofs.Small.{equal_numbers, and_first, and_second}
+use Rattle.numbers.proofs.Small.{same_number, and_first, and_second, equal_number}
 use Rattle.meaning.proofs.Lists.{Among, any_there, there_any, found-among, found-there, each_there}
-use Rattle.meaning.proofs.Ids.{same_id, same_subject}
+use Rattle.meaning.proofs.Ids.{same_subject}
 use Rattle.meaning.proofs.Entered.{subject_eq-refl}
 use Rattle.meaning.proofs.Listed.{row_is, row_there}
 use Rattle.meaning.proofs.Copies.{Carrier}
@@ -88,16 +88,16 @@ module _ (st : State) (is : IsHistory st.windows st.history st.now) (s : Subject
       stands = queued-from st c x there
 
       its_id : stands.at.version.id ≡ id
-      its_id = ap (λ (y : Download). y.id) (sym stands.is) ∙ same_id x.id id (and_first (x.id == id) (x.attempt == attempt) matched)
+      its_id = ap (λ (y : Download). y.id) (sym stands.is) ∙ equal_number x.id id (and_first (x.id == id) (x.attempt == attempt) matched)
 
       its_attempt : stands.broadcast.attempt ≡ attempt
-      its_attempt = ap (λ (y : Download). y.attempt) (sym stands.is) ∙ same_id x.attempt attempt (and_second (x.id == id) (x.attempt == attempt) matched)
+      its_attempt = ap (λ (y : Download). y.attempt) (sym stands.is) ∙ equal_number x.attempt attempt (and_second (x.id == id) (x.attempt == attempt) matched)
 
       never : s ≡ stands.at.subject → ⊥
       never same = none_first (flat_map (downloads_acknowledged c c (Acknowledges id attempt)) (map (as_listed s) (record_now st s).versions)) (download (as_listed s stands.at.version) stands.broadcast) none
           (of_version st is s c id attempt stands.at.version stands.broadcast
           (subst (λ t. Among stands.at.version (record_now st t).versions) (sym same) (found-among _ (record_now st stands.at.subject).versions stands.at.version stands.found).0)
-          stands.sent (ap (λ k. k == id) its_id ∙ equal_numbers id) (ap (λ k. k == attempt) its_attempt ∙ equal_numbers attempt))
+          stands.sent (ap (λ k. k == id) its_id ∙ same_number id) (ap (λ k. k == attempt) its_attempt ∙ same_number attempt))
 
       go : (b : Bool) → subject_eq x.subject s ≡ b → b ≡ false
       go false e = refl
@@ -122,7 +122,7 @@ module _ (st : State) (is : IsHistory st.windows st.history st.now) (s : Subject
       let waits = any_there (is_download id attempt) (queue st c) (queued st is s c id attempt ok) in
       let found = found-there (is_download id attempt) (queue st c) waits.0 waits.1 waits.2 in
       says found.0 found.1 before
-      ∙ sym (ap (λ o. taken s o before) (ap (λ b. if b then find (is_download id attempt) (queue st c) else None) (equal_numbers c) ∙ found.1))
+      ∙ sym (ap (λ o. taken s o before) (ap (λ b. if b then find (is_download id attempt) (queue st c) else None) (same_number c) ∙ found.1))
 
 -- ---- every history
 

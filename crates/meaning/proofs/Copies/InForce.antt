@@ -9,7 +9,7 @@ use Rattle.meaning.specs.Versions.{Broadcast, Version, in_force, in_force_status
 use Rattle.meaning.specs.Reading.{State, SubjectVersion, Download, record_now, all_versions, any_open}
 use Rattle.meaning.specs.Machine.{IsHistory}
 use Rattle.meaning.specs.Laws.{is_steady, CopyIsInForce}
-use Rattle.meaning.proofs.Small.{true-false}
+use Rattle.numbers.proofs.Small.{true-false}
 use Rattle.meaning.proofs.Lists.{Among, there_any, each_two, each_there}
 use Rattle.meaning.proofs.Begun.{HasBegun, HasBegunAs, begun_kept}
 use Rattle.meaning.proofs.KeptVersions.{versions_kept}

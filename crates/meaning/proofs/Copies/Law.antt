@@ -8,8 +8,7 @@ use Rattle.meaning.specs.History.{Request, Commands, Acknowledges, Entry, effect
 use Rattle.meaning.specs.Reading.{SubjectVersion, Download, registers, downloads_of, downloads_acknowledged, first_of}
 use Rattle.meaning.specs.Machine.{IsHistory}
 use Rattle.meaning.specs.Laws.{CopyIsPublished}
-use Rattle.meaning.proofs.Small.{true-false, denied}
-use Rattle.meaning.proofs.Ids.{same_id}
+use Rattle.numbers.proofs.Small.{true-false, denied, equal_number}
 use Rattle.meaning.proofs.Kept.{record_after, kept}
 use Rattle.meaning.proofs.Copies.{Carrier, Nobody, placed, AreInOrder}
 use Rattle.meaning.proofs.Copies.Published.{all_answered, held_is_published}
@@ -56,7 +55,7 @@ others_none c caller (Acknowledges id attempt) es other = none_of (downloads_ack
 -- one that is not another's and no registration is its acknowledgement
 pub its_own : (c caller : ℕ) (request : Request) → registers c request ≡ false → is_others (Carrier c) caller request ≡ false → (id : ℕ) × (attempt : ℕ) × (request ≡ Acknowledges id attempt) × (caller ≡ c)
 its_own c caller (Commands command) unregistered own = true-false (registers c (Commands command)) (denied (registers c (Commands command)) own) unregistered
-its_own c caller (Acknowledges id attempt) unregistered own = (id, attempt, refl, same_id caller c (denied (caller == c) own))
+its_own c caller (Acknowledges id attempt) unregistered own = (id, attempt, refl, equal_number caller c (denied (caller == c) own))
 
 module _ (w : Windows) (c : ℕ) (s : Subject) (h : List Entry) where
   abbrev acknowledging : (m id attempt : ℕ) → Entry

@@ -9,7 +9,7 @@ use Rattle.meaning.specs.Versions.{Broadcast, Version, is_among, is_withdrawn, w
 use Rattle.meaning.specs.Reading.{State, SubjectVersion, Download, record_now, download, downloads_of, is_before, inserted, sorted, last, starting_row, published, queue}
 use Rattle.meaning.specs.Machine.{IsHistory}
 use Rattle.meaning.specs.Laws.{NothingWaits}
-use Rattle.meaning.proofs.Ids.{same_id}
+use Rattle.numbers.proofs.Small.{equal_number}
 use Rattle.meaning.proofs.Entered.{subject_eq-refl}
 use Rattle.meaning.proofs.Lists.{each, each_there, each-among, each_mapped}
 use Rattle.meaning.proofs.Copies.{Carrier, Placed, stands_for, place, own, placed, download_of, AreInOrder, AllMarked, held, each_placed}
@@ -35,9 +35,9 @@ among_filter c test (d ∷ ds) = go (test d) (d == c) refl refl (among_filter c 
 
     go : (a b : Bool) → test d ≡ a → (d == c) ≡ b → is_among c (filter test ds) ≡ (test c && is_among c ds) →
         is_among c (cond a (d ∷ filter test ds) (filter test ds)) ≡ (test c && (b || is_among c ds))
-    go true true e f later = ap (λ b. b || is_among c (filter test ds)) f ∙ sym (both (test c) ∙ (ap test (sym (same_id d c f)) ∙ e))
+    go true true e f later = ap (λ b. b || is_among c (filter test ds)) f ∙ sym (both (test c) ∙ (ap test (sym (equal_number d c f)) ∙ e))
     go true false e f later = ap (λ b. b || is_among c (filter test ds)) f ∙ later
-    go false true e f later = later ∙ drop (test c) (is_among c ds) (ap test (sym (same_id d c f)) ∙ e)
+    go false true e f later = later ∙ drop (test c) (is_among c ds) (ap test (sym (equal_number d c f)) ∙ e)
     go false false e f later = later
 
 -- a recipient of a broadcast that is not withdrawn waits for it until it acknowledges

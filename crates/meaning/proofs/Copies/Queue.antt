@@ -7,9 +7,9 @@ use Rattle.meaning.specs.Versions.{Broadcast, Version, Record, is_among, waiters
 use Rattle.meaning.specs.History.{subject_of_id, made_by}
 use Rattle.meaning.specs.Reading.{State, SubjectVersion, Download, record_now, of_its_subject, versions_made, all_versions, download, downloads_of, is_before, inserted, sorted, queue}
 use Rattle.meaning.specs.Machine.{IsHistory}
-use Rattle.meaning.proofs.Small.{some_is, true-false}
+use Rattle.numbers.proofs.Small.{some_is, true-false, equal_number}
 use Rattle.meaning.proofs.Lists.{Among, there_any, mapped-from, mapped-to, filtered-from, filtered-to, flat-from, flat-to, each-among}
-use Rattle.meaning.proofs.Ids.{same_id, found_given, all_found, given_apart}
+use Rattle.meaning.proofs.Ids.{found_given, all_found, given_apart}
 use Rattle.meaning.proofs.Entered.{given_now}
 
 -- ---- a sorted list has the same downloads
@@ -79,7 +79,7 @@ listed-to at from (s ∷ ss) e id given found = go (λ g. listed-to at (suc from
 
     go : (subject_of_id id (suc from) ss ≡ Some e.subject → Among e (versions_made at (suc from) ss)) → (b : Bool) → (id == from) ≡ b →
         (if b then Some s else subject_of_id id (suc from) ss) ≡ Some e.subject → Among e (cons_option (of_its_subject s (version_with from (at s))) (versions_made at (suc from) ss))
-    go later true f g = here (some_is s e.subject g) (same_id id from f)
+    go later true f g = here (some_is s e.subject g) (equal_number id from f)
     go later false f g = past (version_with from (at s)) (later g)
 
 -- ---- the queue

@@ -13,9 +13,8 @@ use Rattle.meaning.specs.History.{Request, Commands, Entry, carriers, carrier_na
 use Rattle.meaning.specs.Reading.{registers, is_carrier, starting_row, routing_in_force}
 use Rattle.meaning.specs.Refusals.{Requests, refusal, npac}
 use Rattle.meaning.specs.Machine.{IsHistory}
-use Rattle.meaning.proofs.Small.{true-false, or_first}
+use Rattle.numbers.proofs.Small.{true-false, or_first, equal_number}
 use Rattle.meaning.proofs.Accepted.{accepted_command}
-use Rattle.meaning.proofs.Ids.{same_id}
 use Rattle.meaning.proofs.Entered.{record-carriers}
 use Rattle.meaning.proofs.Recipients.{AllKnown, IsKnown, known_kept}
 use Rattle.meaning.proofs.Rising.{among-with_number}
@@ -25,7 +24,7 @@ use Rattle.meaning.proofs.Copies.{Unsent, Closed, Placed, stands_for, place, own
 use Rattle.meaning.proofs.Copies.Followed.{IsNext, next_in_order, next_held}
 use Rattle.meaning.proofs.Copies.Steps.{changed_placed, minute_next}
 use Rattle.meaning.proofs.Copies.Passing.{entry_next}
-use Rattle.meaning.proofs.Small.{equal_numbers}
+use Rattle.numbers.proofs.Small.{same_number}
 use Rattle.meaning.proofs.Copies.LastWord.{Say, force_says}
 
 -- ---- where the carrier registers, it becomes a recipient of what is open
@@ -50,7 +49,7 @@ module _ (c : ℕ) (cs : List ℕ) (out : is_among c cs ≡ false) where
       first : (t : Bool) → place (Unsent c) id (if t then record b { recipients = with_number c b.recipients } else b)
           ≡ (let p : Placed = record { id = id; attempt = b.attempt; minute = b.minute; action = b.action; routing = b.routing; marked = not t } in p)
       first true = ap (λ x. let p : Placed = record { id = id; attempt = b.attempt; minute = b.minute; action = b.action; routing = b.routing; marked = not x } in p)
-          (among-with_number c c b.recipients ∙ ap (λ x. x || is_among c b.recipients) (equal_numbers c))
+          (among-with_number c c b.recipients ∙ ap (λ x. x || is_among c b.recipients) (same_number c))
       first false = ap (λ x. let p : Placed = record { id = id; attempt = b.attempt; minute = b.minute; action = b.action; routing = b.routing; marked = not x } in p) (never (is_among c b.recipients) refl)
 
       go : (t : Bool) → map (place (Unsent c) id) rest ≡ own_of Closed id bs →
@@ -95,7 +94,7 @@ module _ (w : Windows) (c : ℕ) (s : Subject) where
       go : (request : Request) → e.request ≡ request → registers c request ≡ true → refusal (record { windows = w; history = h; now = e.minute }) (Requests e.caller e.request) ≡ None →
           placed (Unsent c) (record_after w s h e).versions ≡ placed Closed (replay w s h e.minute).versions
       go (Commands (RegisterCarrier spid)) f r ok =
-          let same : spid ≡ c = same_id spid c r in
+          let same : spid ≡ c = equal_number spid c r in
           let free : is_among c (carriers h) ≡ false = subst (λ k. is_among k (carriers h) ≡ false) same
           (or_first (is_carrier (record { windows = w; history = h; now = e.minute }) spid) (spid == npac)
           (accepted_command (record { windows = w; history = h; now = e.minute }) e.caller (RegisterCarrier spid) (subst (λ q. refusal (record { windows = w; history = h; now = e.minute }) (Requests e.caller q) ≡ None) f ok)).carrier_taken) in

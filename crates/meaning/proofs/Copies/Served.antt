@@ -21,7 +21,7 @@ use Rattle.meaning.specs.Conditions.{is_active, can_activate, is_pending, is_con
 use Rattle.meaning.specs.Refusals.{Requests, refusal}
 use Rattle.meaning.specs.Machine.{IsHistory}
 use Rattle.meaning.specs.Sound.{NoneOpen, NoneInForce, AreSound}
-use Rattle.meaning.proofs.Small.{true-false, and_first, and_second}
+use Rattle.numbers.proofs.Small.{true-false, and_first, and_second}
 use Rattle.meaning.proofs.Lists.{everywhere}
 use Rattle.meaning.proofs.Accepted.{AcceptedCommand, accepted_command}
 use Rattle.meaning.proofs.Unique.{retired-none, retired-all}

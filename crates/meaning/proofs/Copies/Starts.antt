@@ -11,10 +11,9 @@ use Rattle.meaning.specs.History.{Request, Commands, Entry, carriers, effect, re
 use Rattle.meaning.specs.Reading.{State, registers, is_carrier}
 use Rattle.meaning.specs.Refusals.{Requests, refusal, npac}
 use Rattle.meaning.specs.Machine.{IsHistory}
-use Rattle.meaning.proofs.Small.{true-false, or_first}
+use Rattle.numbers.proofs.Small.{true-false, or_first, equal_number}
 use Rattle.meaning.proofs.Lists.{each, each_mapped}
 use Rattle.meaning.proofs.Accepted.{accepted_command}
-use Rattle.meaning.proofs.Ids.{same_id}
 use Rattle.meaning.proofs.Entered.{record-carriers}
 use Rattle.meaning.proofs.Recipients.{AreKnown, IsKnown, known_kept}
 use Rattle.meaning.proofs.Kept.{record_after}
@@ -54,7 +53,7 @@ starts_none w c s h e is registered = go e.request refl registered is.2
 
     go : (request : Request) → e.request ≡ request → registers c request ≡ true → refusal (record { windows = w; history = h; now = e.minute }) (Requests e.caller e.request) ≡ None → NoneMarked (placed (Carrier c) (record_after w s h e).versions)
     go (Commands (RegisterCarrier spid)) f r ok =
-        let same : spid ≡ c = same_id spid c r in
+        let same : spid ≡ c = equal_number spid c r in
         let free : is_among c (carriers h) ≡ false = subst (λ k. is_among k (carriers h) ≡ false) same
         (or_first (is_carrier (record { windows = w; history = h; now = e.minute }) spid) (spid == npac)
         (accepted_command (record { windows = w; history = h; now = e.minute }) e.caller (RegisterCarrier spid) (subst (λ q. refusal (record { windows = w; history = h; now = e.minute }) (Requests e.caller q) ≡ None) f ok)).carrier_taken) in

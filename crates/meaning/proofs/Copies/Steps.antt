@@ -17,7 +17,7 @@ use Rattle.meaning.specs.Judge.{is_over, ended, judged_version, judge}
 use Rattle.meaning.specs.History.{Entry, replay, present_set}
 use Rattle.meaning.specs.Machine.{IsHistory}
 use Rattle.meaning.specs.Sound.{NoneOpen, NoneInForce, ForceIsActive, AreSound}
-use Rattle.meaning.proofs.Small.{true-false, or_first, or_second}
+use Rattle.numbers.proofs.Small.{true-false, or_first, or_second}
 use Rattle.meaning.proofs.Lists.{each, each_two}
 use Rattle.meaning.proofs.Begun.{HasBegun, HasBegunAs, begun_kept}
 use Rattle.meaning.proofs.KeptVersions.{versions_kept}

@@ -3,7 +3,7 @@ use Rattle.std.specs.Prelude.{if◌then◌else◌}
 use Rattle.std.specs.FinMap.{get}
 use Rattle.settle.specs.Changes.{IsChanged}
 use Rattle.settle.specs.Views.{broadcast_row_of}
-use Rattle.meaning.proofs.Small.{equal_numbers}
+use Rattle.numbers.proofs.Small.{same_number}
 use Rattle.version.specs.Views.{set_of, windows_of}
 use Rattle.calls.specs.Calls.{view_of}
 use Rattle.register.proofs.acknowledgement.take_one.Goals as goal
@@ -19,7 +19,7 @@ returns-clause-taken g c = λ usable last m changed. (
     after = c.args.version.now;
     windows = windows_of c.args.held.now;
     windows_are = sym (ap (λ b. if b then windows_of c.args.held.now else windows_of
-        c.args.clock.now.present.windows) (equal_numbers c.args.version.now.held));
+        c.args.clock.now.present.windows) (same_number c.args.version.now.held));
     found = record {
       stored = ap (get (g.S.Store.content c.args.store.now).broadcasts) (sym c.broadcast_of.ensures)
           ∙ sym (c.in_ok-broadcast.ensures.value usable) ∙ ap (option_map broadcast_row_of)

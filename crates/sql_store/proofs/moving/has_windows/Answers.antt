@@ -5,7 +5,7 @@ use Rattle.sql_rows.specs.Found.{IsListAnswer}
 use Rattle.sql_rows.specs.declared.keyed.OldClock.{OldClock as ClockCode}
 use Rattle.sql_rows.specs.declared.statement.Query.TheVariants.{All}
 use Rattle.sql_rows.specs.declared.statement.Table.TheVariants.{OldClock}
-use Rattle.meaning.proofs.Small.{some_is}
+use Rattle.numbers.proofs.Small.{some_is}
 use Rattle.sql_rows.proofs.Formers.{clock_seen}
 use Rattle.version.specs.Views.{windows_of}
 use Rattle.sql_store.proofs.MovingLemmas.{no_item, one_item, other_windows, own_windows, same_told}

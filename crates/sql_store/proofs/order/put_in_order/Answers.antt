@@ -5,7 +5,7 @@ use Rattle.std.proofs.lemmas.List.Sorted.{Contains-permutation, IsPermutation-sy
 use Rattle.std.specs.List.Sorted.{IsStrictlySortedBy}
 use Rattle.sqlite_rules.specs.Lists.{Has}
 use Rattle.sqlite_rules.proofs.ListLemmas.{any_has, contains_had, has_contained}
-use Rattle.sql_rows.proofs.Orders.{tie}
+use Rattle.numbers.proofs.Small.{tied}
 use Rattle.sql_store.proofs.order.put_in_order.Goals as goal
 
 pub returns-clause-rises : goal.returns-clause-rises
@@ -22,4 +22,4 @@ returns-clause-each g c = λ x at.
     let sorted = c.sort_unstable.new.self.items in
     let there = Contains-permutation c.args.items.now.items sorted x c.sort_unstable.ensures.permutation (contains_had c.args.items.now.items x at) in
     let one = any_has _ _ (Any-dedup g.met.T.Eq.laws sorted x there) in
-    (one.0, subst (λ l. Has l one.0) (sym (dedup_is _ _ _ c.dedup.ensures.filtered)) one.1, tie _ (sym (g.met.T.Ord.matches_eq x one.0) ∙ one.2))
+    (one.0, subst (λ l. Has l one.0) (sym (dedup_is _ _ _ c.dedup.ensures.filtered)) one.1, tied _ (sym (g.met.T.Ord.matches_eq x one.0) ∙ one.2))

@@ -4,7 +4,7 @@ use Rattle.numbers.specs.Views.{subject_of, key_of}
 use Rattle.numbers.proofs.SubjectKeys.{subject_key-exact}
 use Rattle.settle.specs.Views.{spid_of}
 use Rattle.store.specs.WaitRows.{IsAdded}
-use Rattle.store.proofs.Found.{equal_number}
+use Rattle.numbers.proofs.Small.{equal_number}
 use Rattle.store.proofs.OneRow.{added}
 use Rattle.store.proofs.waiting.Waiting.add.Goals as goal
 
