@@ -26,7 +26,9 @@ use Rattle.api.specs.declared.serving.Fault.TheVariants as fault
 use Rattle.api.proofs.Follows.{follows_on}
 
 -- k messages were carried out and answered, and so much of the input is left
-pub record Going (offered : Bool) (from to : ℕ) (st : State) (new : Content) (input : List ℕ) (left had has : Option (List ℕ)) (before behind : Option (List (Option ℕ))) (k : ℕ) : Type 0 where
+pub record Going (offered : Bool) (from to : ℕ) (st : State) (new : Content) (input : List ℕ)
+    (left had has : Option (List ℕ)) (before behind : Option (List (Option ℕ)))
+    (k : ℕ) : Type 0 where
   pub exchanges : List Exchange
   pub end : State
   pub rest : List ℕ
@@ -38,32 +40,48 @@ pub record Going (offered : Bool) (from to : ℕ) (st : State) (new : Content) (
   pub left_is : left ≡ Some rest
 
 -- from each state that the content stood for
-abbrev pub Progress : (offered : Bool) → (from to : ℕ) → Content → Content → (all left had has : Option (List ℕ)) → (before behind : Option (List (Option ℕ))) → ℕ → Type 0
-Progress offered from to old new all left had has before behind k = (st : State) → Stands old st → Follows st new × IfSome all (λ input. Going offered from to st new input left had has before behind k)
+abbrev pub Progress : (offered : Bool) → (from to : ℕ) → Content → Content
+    → (all left had has : Option (List ℕ)) → (before behind : Option (List (Option ℕ))) → ℕ → Type 0
+Progress offered from to old new all left had has before behind k = (st : State) → Stands old st
+    → Follows st new × IfSome all (λ input. Going offered from to st new input left had has before
+    behind k)
 
-pub known : (all : Option (List ℕ)) (P Q : List ℕ → Type 0) → ((input : List ℕ) → P input → Q input) → IfSome all P → IfSome all Q
+pub known : (all : Option (List ℕ)) (P Q : List ℕ → Type 0) → ((input : List ℕ) → P input → Q input)
+    → IfSome all P → IfSome all Q
 known None P Q f p = tt
 known (Some input) P Q f p = f input p
 
-pub at_rest : (left : Option (List ℕ)) (rest : List ℕ) (P : List ℕ → Type 0) → left ≡ Some rest → IfSome left P → P rest
+pub at_rest : (left : Option (List ℕ)) (rest : List ℕ) (P : List ℕ → Type 0) → left ≡ Some rest
+    → IfSome left P → P rest
 at_rest left rest P e p = subst (λ l. IfSome l P) e p
 
 -- what is held is no more than the buffer has room for
-pub held_ahead : (held : Held) (unread : Option (List ℕ)) (rest : List ℕ) → vec_len held.bytes ≡ 8192 → input_left held unread ≡ Some rest → IsReadAhead rest unread
+pub held_ahead : (held : Held) (unread : Option (List ℕ)) (rest : List ℕ)
+    → vec_len held.bytes ≡ 8192 → input_left held unread ≡ Some rest → IsReadAhead rest unread
 held_ahead held unread rest size e =
     let short : length (held_bytes held) ≤ length held.bytes.items = grind (arith, common_steps) in
     record { read = held_bytes held; short = omega (arith, short, held.bytes.ok.0, size); all = e }
 
 -- ---- the minutes handed in
 
-hands_in_more : (before mid behind : Option (List (Option ℕ))) (ticks : List (Option ℕ)) (tick : Option ℕ) → HandsInAll before ticks mid → HandsIn mid tick behind → HandsInAll before (ticks ++ tick ∷ []) behind
+hands_in_more : (before mid behind : Option (List (Option ℕ))) (ticks : List (Option ℕ))
+    (tick : Option ℕ) → HandsInAll before ticks mid → HandsIn mid tick behind
+    → HandsInAll before (ticks ++ tick ∷ []) behind
 hands_in_more None mid behind ticks tick x y = tt
-hands_in_more (Some told) mid behind [] tick x y = subst (λ (m : Option (List (Option ℕ))). HandsIn m tick behind) x y
-hands_in_more (Some told) mid behind (t ∷ ticks) tick x y = (x.0, hands_in_more (Some (later_ticks told)) mid behind ticks tick x.1 y)
+hands_in_more (Some told) mid behind [] tick x y =
+    subst (λ (m : Option (List (Option ℕ))). HandsIn m tick behind) x y
+hands_in_more (Some told) mid behind (t ∷ ticks) tick x y = (
+  x.0,
+  hands_in_more (Some (later_ticks told)) mid behind ticks tick x.1 y,
+)
 
-handed_then : (before mid behind : Option (List (Option ℕ))) (xs : List Exchange) (x : Exchange) → HandsInAll before (ticks_of xs) mid → HandsIn mid x.tick behind → HandsInAll before (ticks_of (xs ++ x ∷ [])) behind
+handed_then : (before mid behind : Option (List (Option ℕ))) (xs : List Exchange) (x : Exchange)
+    → HandsInAll before (ticks_of xs) mid → HandsIn mid x.tick behind
+    → HandsInAll before (ticks_of (xs ++ x ∷ [])) behind
 handed_then before mid behind xs x handed hands =
-    subst (λ (ts : List (Option ℕ)). HandsInAll before ts behind) (sym (map-append (λ (y : Exchange). y.tick) xs (x ∷ []))) (hands_in_more before mid behind (ticks_of xs) x.tick handed hands)
+    subst (λ (ts : List (Option ℕ)). HandsInAll before ts behind)
+    (sym (map-append (λ (y : Exchange). y.tick) xs (x ∷ []))) (hands_in_more before mid behind
+    (ticks_of xs) x.tick handed hands)
 
 handed_none : (before : Option (List (Option ℕ))) → HandsInAll before [] before
 handed_none None = tt
@@ -72,32 +90,61 @@ handed_none (Some told) = refl
 -- ---- one exchange more
 
 answers-then : (xs : List Exchange) (x : Exchange) → answers (xs ++ x ∷ []) ≡ answers xs ++ x.answer
-answers-then xs x = flat_map-append (λ (y : Exchange). y.answer) xs (x ∷ []) ∙ ap (λ (t : List ℕ). answers xs ++ t) (append-nil x.answer)
+answers-then xs x = flat_map-append (λ (y : Exchange). y.answer) xs (x ∷ [])
+    ∙ ap (λ (t : List ℕ). answers xs ++ t) (append-nil x.answer)
 
-Run-then : (offered : Bool) (from between to : ℕ) (st mid end : State) (input rest left : List ℕ) (xs : List Exchange) (x : Exchange) → Run offered from between st input xs mid rest
-    → Cuts rest (Whole x.request x.body left) → x.request.closes ≡ false → Step offered x.tick between to mid x.request x.body x.answer end → Run offered from to st input (xs ++ x ∷ []) end left
+Run-then : (offered : Bool) (from between to : ℕ) (st mid end : State) (input rest left : List ℕ)
+    (xs : List Exchange) (x : Exchange) → Run offered from between st input xs mid rest
+    → Cuts rest (Whole x.request x.body left) → x.request.closes ≡ false
+    → Step offered x.tick between to mid x.request x.body x.answer end
+    → Run offered from to st input (xs ++ x ∷ []) end left
 Run-then offered from between to st mid end input rest left [] x run cuts stays step = (
   to,
   end,
   left,
   subst (λ (i : List ℕ). Cuts i (Whole x.request x.body left)) run.2 cuts,
   stays,
-  subst (λ (n : ℕ). Step offered x.tick n to st x.request x.body x.answer end) run.0 (subst (λ (s : State). Step offered x.tick between to s x.request x.body x.answer end) run.1 step),
+  subst (λ (n : ℕ). Step offered x.tick n to st x.request x.body x.answer end) run.0
+      (subst (λ (s : State). Step offered x.tick between to s x.request x.body x.answer end) run.1
+      step),
   (refl, refl, refl),
 )
-Run-then offered from between to st mid end input rest left (y ∷ ys) x run cuts stays step =
-    (run.0, run.1, run.2, run.3, run.4, run.5, Run-then offered run.0 between to run.1 mid end run.2 rest left ys x run.6 cuts stays step)
+Run-then offered from between to st mid end input rest left (y ∷ ys) x run cuts stays step = (
+  run.0,
+  run.1,
+  run.2,
+  run.3,
+  run.4,
+  run.5,
+  Run-then offered run.0 between to run.1 mid end run.2 rest left ys x run.6 cuts stays step,
+)
 
 -- ---- the start
 
-start_of : (offered : Bool) (n : ℕ) (c : Content) (all had : Option (List ℕ)) (before : Option (List (Option ℕ))) (st : State) → Stands c st → IfSome all (λ input. Going offered n n st c input (prepend_known [] all) had had before before 0)
+start_of : (offered : Bool) (n : ℕ) (c : Content) (all had : Option (List ℕ))
+    (before : Option (List (Option ℕ))) (st : State) → Stands c st
+    → IfSome all (λ input. Going offered n n st c input (prepend_known [] all) had had before before
+    0)
 start_of offered n c None had before st s = tt
 start_of offered n c (Some input) had before st s =
-    record { exchanges = []; end = st; rest = input; run = (refl, refl, refl); stands = s; count = refl; handed = handed_none before; written = Appends-nil had; left_is = refl }
+    record {
+      exchanges = [];
+      end = st;
+      rest = input;
+      run = (refl, refl, refl);
+      stands = s;
+      count = refl;
+      handed = handed_none before;
+      written = Appends-nil had;
+      left_is = refl;
+    }
 
-pub started : (offered : Bool) (n : ℕ) (c : Content) (held : List ℕ) (all had : Option (List ℕ)) (before : Option (List (Option ℕ))) → held ≡ [] → Progress offered n n c c all (prepend_known held all) had had before before 0
+pub started : (offered : Bool) (n : ℕ) (c : Content) (held : List ℕ) (all had : Option (List ℕ))
+    (before : Option (List (Option ℕ))) → held ≡ []
+    → Progress offered n n c c all (prepend_known held all) had had before before 0
 started offered n c held all had before e =
-    subst (λ (h : List ℕ). Progress offered n n c c all (prepend_known h all) had had before before 0) (sym e) (λ st s. (([], s), start_of offered n c all had before st s))
+    subst (λ (h : List ℕ). Progress offered n n c c all (prepend_known h all) had had before before
+    0) (sym e) (λ st s. (([], s), start_of offered n c all had before st s))
 
 -- ---- whether what comes is the last
 
@@ -108,46 +155,93 @@ open_of false e = refl
 no_end : (end : End) → Some end ≡ None → ⊥
 no_end end e = cc
 
-open_next : (next : Next) → end_of next ≡ None → (request : Request) × (next ≡ Next.Message request) × (request.closes ≡ false)
+open_next : (next : Next) → end_of next ≡ None → (request : Request) × (next ≡ Next.Message request)
+    × (request.closes ≡ false)
 open_next (Next.Message request) e = (request, refl, open_of request.closes e)
 open_next (Next.Refused fault) e = absurd (no_end (Refused fault) e)
 
-closed_of : (b : Bool) (end : End) → cond b (Some Closed) None ≡ Some end → (b ≡ true) × (Closed ≡ end)
+closed_of : (b : Bool) (end : End) → cond b (Some Closed) None ≡ Some end
+    → (b ≡ true) × (Closed ≡ end)
 closed_of true end e = (refl, cc)
 closed_of false end e = cc
 
 some_inj : (a b : End) → Some a ≡ Some b → a ≡ b
 some_inj a b e = cc
 
-module _ (offered : Bool) (from between : ℕ) (old mid : Content) (all left had has : Option (List ℕ)) (before untold : Option (List (Option ℕ))) (k : ℕ) (progress : Progress offered from between old mid all left had has before untold k) where
+module _ (offered : Bool) (from between : ℕ) (old mid : Content)
+    (all left had has : Option (List ℕ)) (before untold : Option (List (Option ℕ))) (k : ℕ)
+    (progress : Progress offered from between old mid all left had has before untold k) where
   -- what is told where no more was answered
   abbrev told : List ℕ → Option (List ℕ) → Told
-  told input unread = record { input = input; unread = unread; before = before; behind = untold; had = had; has = has }
+  told input unread = record {
+    input = input;
+    unread = unread;
+    before = before;
+    behind = untold;
+    had = had;
+    has = has;
+  }
 
-  abbrev whole_of : (st : State) (input : List ℕ) (unread : Option (List ℕ)) → Going offered from between st mid input left had has before untold k → AfterWhole offered from between st mid (told input unread) k
-  whole_of st input unread g = record { exchanges = g.exchanges; end = g.end; rest = g.rest; run = g.run; stands = g.stands; count = g.count; handed = g.handed; written = g.written }
+  abbrev whole_of : (st : State) (input : List ℕ) (unread : Option (List ℕ))
+      → Going offered from between st mid input left had has before untold k
+      → AfterWhole offered from between st mid (told input unread) k
+  whole_of st input unread g = record {
+    exchanges = g.exchanges;
+    end = g.end;
+    rest = g.rest;
+    run = g.run;
+    stands = g.stands;
+    count = g.count;
+    handed = g.handed;
+    written = g.written;
+  }
 
   -- the input ended, or nothing more could be told of it
-  pub ended : (unread : Option (List ℕ)) → IfSome left (λ rest. Cuts rest Done) → IfSome left (λ rest. IsAtEnd unread) → (st : State) → Stands old st
+  pub ended : (unread : Option (List ℕ)) → IfSome left (λ rest. Cuts rest Done)
+      → IfSome left (λ rest. IsAtEnd unread) → (st : State) → Stands old st
       → IfSome all (λ input. EndsAt Input offered from between st mid (told input unread) k)
   ended unread done end st s =
       known all _ (λ input. EndsAt Input offered from between st mid (told input unread) k)
-      (λ input g. (whole_of st input unread g, at_rest left g.rest (λ rest. Cuts rest Done) g.left_is done, at_rest left g.rest (λ rest. IsAtEnd unread) g.left_is end)) (progress st s).1
+      (λ input g. (
+        whole_of st input unread g,
+        at_rest left g.rest (λ rest. Cuts rest Done) g.left_is done,
+        at_rest left g.rest (λ rest. IsAtEnd unread) g.left_is end,
+      )) (progress st s).1
 
-  pub failed_read : (unread : Option (List ℕ)) → IfSome left (λ rest. HasNoWhole rest unread) → (st : State) → Stands old st → IfSome all (λ input. FailsAt (fault.Read k) offered from between st mid (told input unread))
+  pub failed_read : (unread : Option (List ℕ)) → IfSome left (λ rest. HasNoWhole rest unread)
+      → (st : State) → Stands old st
+      → IfSome all (λ input. FailsAt (fault.Read k) offered from between st mid (told input unread))
   failed_read unread none st s =
-      known all _ (λ input. FailsAt (fault.Read k) offered from between st mid (told input unread)) (λ input g. (whole_of st input unread g, at_rest left g.rest (λ rest. HasNoWhole rest unread) g.left_is none)) (progress st s).1
+      known all _ (λ input. FailsAt (fault.Read k) offered from between st mid (told input unread))
+      (λ input g. (
+        whole_of st input unread g,
+        at_rest left g.rest (λ rest. HasNoWhole rest unread) g.left_is none,
+      )) (progress st s).1
 
-  pub no_memory : (unread : Option (List ℕ)) → IfSome left (λ rest. IsReadAhead rest unread) → (st : State) → Stands old st → IfSome all (λ input. FailsAt (fault.Memory k) offered from between st mid (told input unread))
+  pub no_memory : (unread : Option (List ℕ)) → IfSome left (λ rest. IsReadAhead rest unread)
+      → (st : State) → Stands old st
+      → IfSome all (λ input. FailsAt (fault.Memory k) offered from between st mid
+      (told input unread))
   no_memory unread ahead st s =
-      known all _ (λ input. FailsAt (fault.Memory k) offered from between st mid (told input unread)) (λ input g. (whole_of st input unread g, inl (at_rest left g.rest (λ rest. IsReadAhead rest unread) g.left_is ahead))) (progress st s).1
+      known all _ (λ input. FailsAt (fault.Memory k) offered from between st mid
+      (told input unread)) (λ input g. (
+        whole_of st input unread g,
+        inl (at_rest left g.rest (λ rest. IsReadAhead rest unread) g.left_is ahead),
+      )) (progress st s).1
 
   -- there are more messages than can be counted
-  pub full : (unread : Option (List ℕ)) → k ≡ 18446744073709551615 → (st : State) → Stands old st → IfSome all (λ input. FailsAt (fault.Memory k) offered from between st mid (told input unread))
-  full unread most st s = known all _ (λ input. FailsAt (fault.Memory k) offered from between st mid (told input unread)) (λ input g. (whole_of st input unread g, inr most)) (progress st s).1
+  pub full : (unread : Option (List ℕ)) → k ≡ 18446744073709551615 → (st : State) → Stands old st
+      → IfSome all (λ input. FailsAt (fault.Memory k) offered from between st mid
+      (told input unread))
+  full unread most st s =
+      known all _ (λ input. FailsAt (fault.Memory k) offered from between st mid
+      (told input unread)) (λ input g. (whole_of st input unread g, inr most)) (progress st s).1
 
-  -- something came, and was answered by the text: so much is left of the input, and what the buffer holds of that was read
-  module _ (to : ℕ) (new : Content) (held : Held) (unread : Option (List ℕ)) (size : vec_len held.bytes ≡ 8192) (behind : Option (List (Option ℕ))) (body text : List ℕ) where
+  -- something came, and was answered by the text: so much is left of the input, and what the buffer
+  -- holds of that was read
+  module _ (to : ℕ) (new : Content) (held : Held) (unread : Option (List ℕ))
+      (size : vec_len held.bytes ≡ 8192) (behind : Option (List (Option ℕ)))
+      (body text : List ℕ) where
     abbrev left' : Option (List ℕ)
     left' = input_left held unread
 
@@ -158,50 +252,82 @@ module _ (offered : Bool) (from between : ℕ) (old mid : Content) (all left had
     Answered next = Responds offered untold behind between to next body text mid new
 
     pub state_then : (next : Next) → Answered next → (st : State) → Stands old st → Follows st new
-    state_then (Next.Message request) responds st s = follows_on offered responds.0 between to st mid new request body text (progress st s).0 responds.2
-    state_then (Next.Refused fault) responds st s = subst (λ (c : Content). Follows st c) (sym responds.1) (progress st s).0
+    state_then (Next.Message request) responds st s =
+        follows_on offered responds.0 between to st mid new request body text (progress st s).0
+        responds.2
+    state_then (Next.Refused fault) responds st s =
+        subst (λ (c : Content). Follows st c) (sym responds.1) (progress st s).0
 
     module _ (has' : Option (List ℕ)) where
       -- what is told then
       abbrev told' : List ℕ → Told
-      told' input = record { input = input; unread = unread; before = before; behind = behind; had = had; has = has' }
+      told' input = record {
+        input = input;
+        unread = unread;
+        before = before;
+        behind = behind;
+        had = had;
+        has = has';
+      }
 
-      going_then : (request : Request) → request.closes ≡ false → Came (Next.Message request) → Answered (Next.Message request) → Appends has has' text
-          → (st : State) (input : List ℕ) → Going offered from between st mid input left had has before untold k → Going offered from to st new input left' had has' before behind (k + 1)
+      going_then : (request : Request) → request.closes ≡ false → Came (Next.Message request)
+          → Answered (Next.Message request) → Appends has has' text
+          → (st : State) (input : List ℕ) → Going offered from between st mid input left had has
+          before untold k → Going offered from to st new input left' had has' before behind (k + 1)
       going_then request stays comes responds sent st input g =
-          let c = at_rest left g.rest (λ i. Comes i (Next.Message request) body left') g.left_is comes in
+          let c = at_rest left g.rest (λ i. Comes i (Next.Message request) body left') g.left_is
+          comes in
           let r = responds.2 g.end g.stands in
-          let x : Exchange = record { tick = responds.0; request = request; body = body; answer = text } in
+          let x : Exchange = record {
+            tick = responds.0;
+            request = request;
+            body = body;
+            answer = text;
+          } in
           record {
             exchanges = g.exchanges ++ x ∷ [];
             end = r.0;
             rest = c.0;
-            run = Run-then offered from between to st g.end r.0 input g.rest c.0 g.exchanges x g.run c.2 stays r.1;
+            run = Run-then offered from between to st g.end r.0 input g.rest c.0 g.exchanges x g.run
+                c.2 stays r.1;
             stands = r.2;
             count = length-append g.exchanges (x ∷ []) ∙ ap (λ (n : ℕ). n + 1) g.count;
             handed = handed_then before untold behind g.exchanges x g.handed responds.1;
-            written = subst (Appends had has') (sym (answers-then g.exchanges x)) (Appends-trans had has has' (answers g.exchanges) text g.written sent);
+            written = subst (Appends had has') (sym (answers-then g.exchanges x))
+                (Appends-trans had has has' (answers g.exchanges) text g.written sent);
             left_is = c.1;
           }
 
-      on_message : (request : Request) → request.closes ≡ false → Came (Next.Message request) → Answered (Next.Message request) → Appends has has' text
+      on_message : (request : Request) → request.closes ≡ false → Came (Next.Message request)
+          → Answered (Next.Message request) → Appends has has' text
           → Progress offered from to old new all left' had has' before behind (k + 1)
       on_message request stays comes responds sent = λ st s. (
         state_then (Next.Message request) responds st s,
-        known all _ (λ input. Going offered from to st new input left' had has' before behind (k + 1)) (going_then request stays comes responds sent st) (progress st s).1,
+        known all _ (λ input. Going offered from to st new input left' had has' before behind
+            (k + 1)) (going_then request stays comes responds sent st) (progress st s).1,
       )
 
-      pub went_on : (next : Next) → end_of next ≡ None → Came next → Answered next → Appends has has' text → Progress offered from to old new all left' had has' before behind (k + 1)
+      pub went_on : (next : Next) → end_of next ≡ None → Came next → Answered next
+          → Appends has has' text → Progress offered from to old new all left' had has' before
+          behind (k + 1)
       went_on next goes comes responds sent =
           let o = open_next next goes in
           on_message o.0 o.2 (subst Came o.1 comes) (subst Answered o.1 responds) sent
 
-      close_of : (request : Request) → request.closes ≡ true → Came (Next.Message request) → Answered (Next.Message request) → Appends has has' text
-          → (st : State) (input : List ℕ) → Going offered from between st mid input left had has before untold k → AfterClose offered from to st new (told' input) (k + 1)
+      close_of : (request : Request) → request.closes ≡ true → Came (Next.Message request)
+          → Answered (Next.Message request) → Appends has has' text
+          → (st : State) (input : List ℕ) → Going offered from between st mid input left had has
+          before untold k → AfterClose offered from to st new (told' input) (k + 1)
       close_of request closes comes responds sent st input g =
-          let c = at_rest left g.rest (λ i. Comes i (Next.Message request) body left') g.left_is comes in
+          let c = at_rest left g.rest (λ i. Comes i (Next.Message request) body left') g.left_is
+          comes in
           let r = responds.2 g.end g.stands in
-          let x : Exchange = record { tick = responds.0; request = request; body = body; answer = text } in
+          let x : Exchange = record {
+            tick = responds.0;
+            request = request;
+            body = body;
+            answer = text;
+          } in
           record {
             exchanges = g.exchanges;
             between = between;
@@ -221,37 +347,59 @@ module _ (offered : Bool) (from between : ℕ) (old mid : Content) (all left had
             written = Appends-trans had has has' (answers g.exchanges) text g.written sent;
           }
 
-      refusal_of : (fault : MessageFault) → Came (Next.Refused fault) → IfSome left (λ rest. IsReadTo fault rest unread) → Answered (Next.Refused fault) → Appends has has' text
-          → (st : State) (input : List ℕ) → Going offered from between st mid input left had has before untold k → AfterRefusal fault offered from to st new (told' input) (k + 1)
+      refusal_of : (fault : MessageFault) → Came (Next.Refused fault)
+          → IfSome left (λ rest. IsReadTo fault rest unread) → Answered (Next.Refused fault)
+          → Appends has has' text
+          → (st : State) (input : List ℕ) → Going offered from between st mid input left had has
+          before untold k → AfterRefusal fault offered from to st new (told' input) (k + 1)
       refusal_of fault comes reads responds sent st input g = record {
         exchanges = g.exchanges;
         end = g.end;
         rest = g.rest;
-        run = subst (λ (n : ℕ). Run offered from n st input g.exchanges g.end g.rest) (sym responds.2) g.run;
-        refused = at_rest left g.rest (λ i. Comes i (Next.Refused fault) body left') g.left_is comes;
+        run = subst (λ (n : ℕ). Run offered from n st input g.exchanges g.end g.rest)
+            (sym responds.2) g.run;
+        refused = at_rest left g.rest (λ i. Comes i (Next.Refused fault) body left') g.left_is
+            comes;
         stands = subst (λ (c : Content). Stands c g.end) (sym responds.1) g.stands;
         count = ap (λ (n : ℕ). n + 1) g.count;
         handed = subst (HandsInAll before (ticks_of g.exchanges)) (sym responds.3) g.handed;
         read = at_rest left g.rest (λ i. IsReadTo fault i unread) g.left_is reads;
-        written = Appends-trans had has has' (answers g.exchanges) (refusal fault) g.written (subst (Appends has has') responds.0 sent);
+        written = Appends-trans had has has' (answers g.exchanges) (refusal fault) g.written
+            (subst (Appends has has') responds.0 sent);
       }
 
-      pub finished : (next : Next) (end : End) → end_of next ≡ Some end → Came next → IfSome left (λ rest. IsRead (Ok (Some next)) rest unread) → Answered next → Appends has has' text
-          → (st : State) → Stands old st → IfSome all (λ input. EndsAt end offered from to st new (told' input) (k + 1))
+      pub finished : (next : Next) (end : End) → end_of next ≡ Some end → Came next
+          → IfSome left (λ rest. IsRead (Ok (Some next)) rest unread) → Answered next
+          → Appends has has' text
+          → (st : State) → Stands old st
+          → IfSome all (λ input. EndsAt end offered from to st new (told' input) (k + 1))
       finished (Next.Message request) end ends comes reads responds sent st s =
           let is = closed_of request.closes end ends in
-          subst (λ (e : End). IfSome all (λ input. EndsAt e offered from to st new (told' input) (k + 1))) is.1
-          (known all _ (λ input. AfterClose offered from to st new (told' input) (k + 1)) (close_of request is.0 comes responds sent st) (progress st s).1)
+          subst (λ (e : End). IfSome all (λ input. EndsAt e offered from to st new (told' input)
+          (k + 1))) is.1
+          (known all _ (λ input. AfterClose offered from to st new (told' input) (k + 1))
+          (close_of request is.0 comes responds sent st) (progress st s).1)
       finished (Next.Refused fault) end ends comes reads responds sent st s =
-          subst (λ (e : End). IfSome all (λ input. EndsAt e offered from to st new (told' input) (k + 1))) (some_inj (Refused fault) end ends)
-          (known all _ (λ input. AfterRefusal fault offered from to st new (told' input) (k + 1)) (refusal_of fault comes reads responds sent st) (progress st s).1)
+          subst (λ (e : End). IfSome all (λ input. EndsAt e offered from to st new (told' input)
+          (k + 1))) (some_inj (Refused fault) end ends)
+          (known all _ (λ input. AfterRefusal fault offered from to st new (told' input) (k + 1))
+          (refusal_of fault comes reads responds sent st) (progress st s).1)
 
-      part_of : (next : Next) → Came next → IfSome left (λ rest. IsRead (Ok (Some next)) rest unread) → Answered next → AppendsFront has has' text
-          → (st : State) (input : List ℕ) → Going offered from between st mid input left had has before untold k → AfterPart offered from to st new (told' input) k
+      part_of : (next : Next) → Came next
+          → IfSome left (λ rest. IsRead (Ok (Some next)) rest unread) → Answered next
+          → AppendsFront has has' text
+          → (st : State) (input : List ℕ) → Going offered from between st mid input left had has
+          before untold k → AfterPart offered from to st new (told' input) k
       part_of (Next.Message request) comes reads responds sent st input g =
-          let c = at_rest left g.rest (λ i. Comes i (Next.Message request) body left') g.left_is comes in
+          let c = at_rest left g.rest (λ i. Comes i (Next.Message request) body left') g.left_is
+          comes in
           let r = responds.2 g.end g.stands in
-          let x : Exchange = record { tick = responds.0; request = request; body = body; answer = text } in
+          let x : Exchange = record {
+            tick = responds.0;
+            request = request;
+            body = body;
+            answer = text;
+          } in
           record {
             exchanges = g.exchanges;
             between = between;
@@ -266,7 +414,8 @@ module _ (offered : Bool) (from between : ℕ) (old mid : Content) (all left had
             stands = r.2;
             count = g.count;
             part = sent.0;
-            written = Appends-trans had has has' (answers g.exchanges) (take sent.0 text) g.written sent.2;
+            written = Appends-trans had has has' (answers g.exchanges) (take sent.0 text) g.written
+                sent.2;
           }
       part_of (Next.Refused fault) comes reads responds sent st input g = record {
         exchanges = g.exchanges;
@@ -278,22 +427,53 @@ module _ (offered : Bool) (from between : ℕ) (old mid : Content) (all left had
         handed = g.handed;
         answer = text;
         end = g.end;
-        next = inr (fault, at_rest left g.rest (λ i. Comes i (Next.Refused fault) body left') g.left_is comes, at_rest left g.rest (λ i. IsReadTo fault i unread) g.left_is reads, responds.3, responds.0, refl, responds.2);
+        next = inr (
+          fault,
+          at_rest left g.rest (λ i. Comes i (Next.Refused fault) body left') g.left_is comes,
+          at_rest left g.rest (λ i. IsReadTo fault i unread) g.left_is reads,
+          responds.3,
+          responds.0,
+          refl,
+          responds.2,
+        );
         stands = subst (λ (c : Content). Stands c g.end) (sym responds.1) g.stands;
         count = g.count;
         part = sent.0;
-        written = Appends-trans had has has' (answers g.exchanges) (take sent.0 text) g.written sent.2;
+        written = Appends-trans had has has' (answers g.exchanges) (take sent.0 text) g.written
+            sent.2;
       }
 
-      pub partly : (next : Next) → Came next → IfSome left (λ rest. IsRead (Ok (Some next)) rest unread) → Answered next → AppendsFront has has' text
-          → (st : State) → Stands old st → IfSome all (λ input. FailsAt (fault.Write k) offered from to st new (told' input))
-      partly next comes reads responds sent st s = known all _ (λ input. AfterPart offered from to st new (told' input) k) (part_of next comes reads responds sent st) (progress st s).1
+      pub partly : (next : Next) → Came next
+          → IfSome left (λ rest. IsRead (Ok (Some next)) rest unread) → Answered next
+          → AppendsFront has has' text
+          → (st : State) → Stands old st
+          → IfSome all (λ input. FailsAt (fault.Write k) offered from to st new (told' input))
+      partly next comes reads responds sent st s =
+          known all _ (λ input. AfterPart offered from to st new (told' input) k)
+          (part_of next comes reads responds sent st) (progress st s).1
 
 -- no buffer was had, and nothing was read
-pub not_begun : (offered : Bool) (n : ℕ) (c : Content) (all had : Option (List ℕ)) (before : Option (List (Option ℕ))) (st : State) → Stands c st
-    → IfSome all (λ input. FailsAt (fault.Memory 0) offered n n st c (record { input = input; unread = all; before = before; behind = before; had = had; has = had }))
+pub not_begun : (offered : Bool) (n : ℕ) (c : Content) (all had : Option (List ℕ))
+    (before : Option (List (Option ℕ))) (st : State) → Stands c st
+    → IfSome all (λ input. FailsAt (fault.Memory 0) offered n n st c (record {
+      input = input;
+      unread = all;
+      before = before;
+      behind = before;
+      had = had;
+      has = had;
+    }))
 not_begun offered n c None had before st s = tt
 not_begun offered n c (Some input) had before st s = (
-  record { exchanges = []; end = st; rest = input; run = (refl, refl, refl); stands = s; count = refl; handed = handed_none before; written = Appends-nil had },
+  record {
+    exchanges = [];
+    end = st;
+    rest = input;
+    run = (refl, refl, refl);
+    stands = s;
+    count = refl;
+    handed = handed_none before;
+    written = Appends-nil had;
+  },
   inl (record { read = []; short = omega arith; all = refl }),
 )

@@ -22,10 +22,12 @@ use Rattle.telnp.specs.Answer.{Uri as TelUri}
 use Rattle.bodies.proofs.ClearLemmas.{same_form}
 use Rattle.api.proofs.UriLemmas.{faultless, not_asked, same_fault, same_uri, same_number as same_asked_number}
 
-refuses_once : (st : State) (fault : MessageFault) (text said : List ℕ) (after later : State) → Refuses st fault text after → Refuses st fault said later → IsOnce text said after later
+refuses_once : (st : State) (fault : MessageFault) (text said : List ℕ) (after later : State)
+    → Refuses st fault text after → Refuses st fault said later → IsOnce text said after later
 refuses_once st fault text said after later x y = inr (inr (x.0 ∙ sym y.0, x.1 ∙ sym y.1))
 
-withheld : (from to : ℕ) (st : State) (text : List ℕ) (after : State) → Withholds from to st text after → IsWithheld text
+withheld : (from to : ℕ) (st : State) (text : List ℕ) (after : State)
+    → Withholds from to st text after → IsWithheld text
 withheld from to st text after (inl x, e) = inl x.0
 withheld from to st text after (inr x, e) = inr x
 
@@ -35,43 +37,67 @@ not_both reply k e f = let h : Refused k ≡ Known = sym e ∙ f in cc
 same_number : (reply : Reply) (j k : ℕ) → reply ≡ Refused j → reply ≡ Refused k → j ≡ k
 same_number reply j k e f = cc
 
-uri_once : (st : State) (caller : ℕ) (uri : TelUri) (text said : List ℕ) → AnswersUri st caller uri text → AnswersUri st caller uri said → text ≡ said
+uri_once : (st : State) (caller : ℕ) (uri : TelUri) (text said : List ℕ)
+    → AnswersUri st caller uri text → AnswersUri st caller uri said → text ≡ said
 uri_once st caller uri text said (inl x) (inl y) = x.1 ∙ sym y.1
 uri_once st caller uri text said (inl x) (inr y) = absurd (not_asked uri y.0 x.0 y.1)
 uri_once st caller uri text said (inr x) (inl y) = absurd (not_asked uri x.0 y.0 x.1)
 uri_once st caller uri text said (inr x) (inr y) =
-    x.2 ∙ ap (λ (tn : ℕ). routed_text uri (out st (Asks caller (Query tn)))) (same_asked_number uri x.0 y.0 x.1 y.1) ∙ sym y.2
+    x.2 ∙ ap (λ (tn : ℕ). routed_text uri (out st (Asks caller (Query tn))))
+    (same_asked_number uri x.0 y.0 x.1 y.1) ∙ sym y.2
 
-query_once : (st : State) (caller : ℕ) (uri text said : List ℕ) → AnswersQuery st caller uri text → AnswersQuery st caller uri said → text ≡ said
-query_once st caller uri text said (inl x) (inl y) = x.2 ∙ ap refusal_text (same_number (out st (Asks caller Knows)) x.0 y.0 x.1 y.1) ∙ sym y.2
-query_once st caller uri text said (inl x) (inr (inl y)) = absurd (not_both (out st (Asks caller Knows)) x.0 x.1 y.0)
-query_once st caller uri text said (inl x) (inr (inr y)) = absurd (not_both (out st (Asks caller Knows)) x.0 x.1 y.0)
-query_once st caller uri text said (inr (inl x)) (inl y) = absurd (not_both (out st (Asks caller Knows)) y.0 y.1 x.0)
-query_once st caller uri text said (inr (inr x)) (inl y) = absurd (not_both (out st (Asks caller Knows)) y.0 y.1 x.0)
+query_once : (st : State) (caller : ℕ) (uri text said : List ℕ) → AnswersQuery st caller uri text
+    → AnswersQuery st caller uri said → text ≡ said
+query_once st caller uri text said (inl x) (inl y) =
+    x.2 ∙ ap refusal_text (same_number (out st (Asks caller Knows)) x.0 y.0 x.1 y.1) ∙ sym y.2
+query_once st caller uri text said (inl x) (inr (inl y)) =
+    absurd (not_both (out st (Asks caller Knows)) x.0 x.1 y.0)
+query_once st caller uri text said (inl x) (inr (inr y)) =
+    absurd (not_both (out st (Asks caller Knows)) x.0 x.1 y.0)
+query_once st caller uri text said (inr (inl x)) (inl y) =
+    absurd (not_both (out st (Asks caller Knows)) y.0 y.1 x.0)
+query_once st caller uri text said (inr (inr x)) (inl y) =
+    absurd (not_both (out st (Asks caller Knows)) y.0 y.1 x.0)
 query_once st caller uri text said (inr (inl x)) (inr (inl y)) =
-    x.1.2 ∙ ap (λ (fault : TelFault). failure_text (Uri fault)) (same_fault uri x.1.0 y.1.0 x.1.1 y.1.1) ∙ sym y.1.2
-query_once st caller uri text said (inr (inl x)) (inr (inr y)) = absurd (faultless uri y.1.0 x.1.0 y.1.1 x.1.1)
-query_once st caller uri text said (inr (inr x)) (inr (inl y)) = absurd (faultless uri x.1.0 y.1.0 x.1.1 y.1.1)
+    x.1.2 ∙ ap (λ (fault : TelFault). failure_text (Uri fault)) (same_fault uri x.1.0 y.1.0 x.1.1
+    y.1.1) ∙ sym y.1.2
+query_once st caller uri text said (inr (inl x)) (inr (inr y)) =
+    absurd (faultless uri y.1.0 x.1.0 y.1.1 x.1.1)
+query_once st caller uri text said (inr (inr x)) (inr (inl y)) =
+    absurd (faultless uri x.1.0 y.1.0 x.1.1 y.1.1)
 query_once st caller uri text said (inr (inr x)) (inr (inr y)) =
     let e : x.1.0 ≡ y.1.0 = same_uri uri x.1.0 y.1.0 x.1.1 y.1.1 in
-    let moved : AnswersUri st caller y.1.0 text = subst (λ (u : TelUri). AnswersUri st caller u text) e x.1.2 in
+    let moved : AnswersUri st caller y.1.0 text =
+    subst (λ (u : TelUri). AnswersUri st caller u text) e x.1.2 in
     uri_once st caller y.1.0 text said moved y.1.2
 
 -- a call is refused for its caller in one way, or taken in one way
-admitted_once : (st : State) (away : Option ℕ) (input : Input) (text said : List ℕ) (after later : State) → AnswersAdmitted st away input text after → AnswersAdmitted st away input said later → (text ≡ said) × (after ≡ later)
+admitted_once : (st : State) (away : Option ℕ) (input : Input) (text said : List ℕ)
+    (after later : State) → AnswersAdmitted st away input text after
+    → AnswersAdmitted st away input said later → (text ≡ said) × (after ≡ later)
 admitted_once st (Some number) input text said after later x y = (x.0 ∙ sym y.0, x.1 ∙ sym y.1)
 admitted_once st None input text said after later x y = (x.0 ∙ sym y.0, x.1 ∙ sym y.1)
 
-answers_once : (from to from' to' : ℕ) (st : State) (caller : ℕ) (asked : Asked) (text said : List ℕ) (after later : State) → Answers from to st caller asked text after → Answers from' to' st caller asked said later → IsOnce text said after later
-answers_once from to from' to' st caller (Calling called) text said after later (inl x) y = inl (withheld from to st text after x)
-answers_once from to from' to' st caller (Calling called) text said after later (inr x) (inl y) = inr (inl (withheld from' to' st said later y))
+answers_once : (from to from' to' : ℕ) (st : State) (caller : ℕ) (asked : Asked)
+    (text said : List ℕ) (after later : State) → Answers from to st caller asked text after
+    → Answers from' to' st caller asked said later → IsOnce text said after later
+answers_once from to from' to' st caller (Calling called) text said after later (inl x) y =
+    inl (withheld from to st text after x)
+answers_once from to from' to' st caller (Calling called) text said after later (inr x) (inl y) =
+    inr (inl (withheld from' to' st said later y))
 answers_once from to from' to' st caller (Calling called) text said after later (inr x) (inr y) =
-    inr (inr (admitted_once st (turned_away st caller called) (input_of caller called) text said after later x y))
-answers_once from to from' to' st caller (Seeking uri) text said after later (inl x) y = inl (withheld from to st text after x)
-answers_once from to from' to' st caller (Seeking uri) text said after later (inr x) (inl y) = inr (inl (withheld from' to' st said later y))
-answers_once from to from' to' st caller (Seeking uri) text said after later (inr x) (inr y) = inr (inr (query_once st caller uri text said x.0 y.0, x.1 ∙ sym y.1))
+    inr (inr (admitted_once st (turned_away st caller called) (input_of caller called) text said
+    after later x y))
+answers_once from to from' to' st caller (Seeking uri) text said after later (inl x) y =
+    inl (withheld from to st text after x)
+answers_once from to from' to' st caller (Seeking uri) text said after later (inr x) (inl y) =
+    inr (inl (withheld from' to' st said later y))
+answers_once from to from' to' st caller (Seeking uri) text said after later (inr x) (inr y) =
+    inr (inr (query_once st caller uri text said x.0 y.0, x.1 ∙ sym y.1))
 
-same_asked : (route : Route) (read : Option Data) (a b : Asked) → IsSomeAnd read (λ (d : Data). HasForm route d a) → IsSomeAnd read (λ (d : Data). HasForm route d b) → a ≡ b
+same_asked : (route : Route) (read : Option Data) (a b : Asked)
+    → IsSomeAnd read (λ (d : Data). HasForm route d a)
+    → IsSomeAnd read (λ (d : Data). HasForm route d b) → a ≡ b
 same_asked route None a b x y = absurd x
 same_asked route (Some d) a b x y = same_form route d a b x y
 
@@ -79,10 +105,17 @@ some_number : (n m : ℕ) → Some n ≡ Some m → n ≡ m
 some_number n m e = cc
 
 -- a message on a path asks one thing at most
-asks_once : (route : Route) (body : List ℕ) (a b : Asked) → PathAsks route body a → PathAsks route body b → a ≡ b
-asks_once (Version number) body a b x y = x.3 ∙ ap (λ (id : ℕ). Calling (Wonders (ShowVersion id))) (some_number x.0 y.0 (sym x.1 ∙ y.1)) ∙ sym y.3
-asks_once (Number number) body a b x y = x.4 ∙ ap (λ (tn : ℕ). Calling (Wonders (Ids tn))) (some_number x.0 y.0 (sym x.1 ∙ y.1)) ∙ sym y.4
-asks_once (Downloads count) body a b x y = x.5 ∙ ap (λ (n : ℕ). Calling (Wonders (Fetch n))) (some_number x.0 y.0 (sym x.1 ∙ y.1)) ∙ sym y.5
+asks_once : (route : Route) (body : List ℕ) (a b : Asked) → PathAsks route body a
+    → PathAsks route body b → a ≡ b
+asks_once (Version number) body a b x y =
+    x.3 ∙ ap (λ (id : ℕ). Calling (Wonders (ShowVersion id))) (some_number x.0 y.0 (sym x.1 ∙ y.1))
+    ∙ sym y.3
+asks_once (Number number) body a b x y =
+    x.4 ∙ ap (λ (tn : ℕ). Calling (Wonders (Ids tn))) (some_number x.0 y.0 (sym x.1 ∙ y.1))
+    ∙ sym y.4
+asks_once (Downloads count) body a b x y =
+    x.5 ∙ ap (λ (n : ℕ). Calling (Wonders (Fetch n))) (some_number x.0 y.0 (sym x.1 ∙ y.1))
+    ∙ sym y.5
 asks_once Carriers body a b x y = same_asked Carriers (json_of body) a b x y
 asks_once Clock body a b x y = same_asked Clock (json_of body) a b x y
 asks_once RoutingNumbers body a b x y = same_asked RoutingNumbers (json_of body) a b x y
@@ -95,42 +128,73 @@ asks_once Acknowledge body a b x y = same_asked Acknowledge (json_of body) a b x
 asks_once QueryPath body a b x y = same_asked QueryPath (json_of body) a b x y
 asks_once WindowsPath body a b x y = same_asked WindowsPath (json_of body) a b x y
 
-calls_once : (from to from' to' : ℕ) (st : State) (IsAsked : Asked → Type 0) (caller : ℕ) (text said : List ℕ) (after later : State) → ((a b : Asked) → IsAsked a → IsAsked b → a ≡ b) →
-    Calls from to st IsAsked caller text after → Calls from' to' st IsAsked caller said later → IsOnce text said after later
-calls_once from to from' to' st IsAsked caller text said after later one (inl x) y = inl (withheld from to st text after x)
-calls_once from to from' to' st IsAsked caller text said after later one (inr (inl x)) (inl y) = inr (inl (withheld from' to' st said later y))
-calls_once from to from' to' st IsAsked caller text said after later one (inr (inr x)) (inl y) = inr (inl (withheld from' to' st said later y))
-calls_once from to from' to' st IsAsked caller text said after later one (inr (inl x)) (inr (inl y)) = inr (inr (x.1.0 ∙ sym y.1.0, x.1.1 ∙ sym y.1.1))
-calls_once from to from' to' st IsAsked caller text said after later one (inr (inl x)) (inr (inr y)) = absurd (x.0 y.0 y.1)
-calls_once from to from' to' st IsAsked caller text said after later one (inr (inr x)) (inr (inl y)) = absurd (y.0 x.0 x.1)
-calls_once from to from' to' st IsAsked caller text said after later one (inr (inr x)) (inr (inr y)) =
+calls_once : (from to from' to' : ℕ) (st : State) (IsAsked : Asked → Type 0) (caller : ℕ)
+    (text said : List ℕ) (after later : State) → ((a b : Asked) → IsAsked a → IsAsked b → a ≡ b) →
+    Calls from to st IsAsked caller text after → Calls from' to' st IsAsked caller said later
+    → IsOnce text said after later
+calls_once from to from' to' st IsAsked caller text said after later one (inl x) y =
+    inl (withheld from to st text after x)
+calls_once from to from' to' st IsAsked caller text said after later one (inr (inl x)) (inl y) =
+    inr (inl (withheld from' to' st said later y))
+calls_once from to from' to' st IsAsked caller text said after later one (inr (inr x)) (inl y) =
+    inr (inl (withheld from' to' st said later y))
+calls_once from to from' to' st IsAsked caller text said after later one (inr (inl x))
+    (inr (inl y)) = inr (inr (x.1.0 ∙ sym y.1.0, x.1.1 ∙ sym y.1.1))
+calls_once from to from' to' st IsAsked caller text said after later one (inr (inl x))
+    (inr (inr y)) = absurd (x.0 y.0 y.1)
+calls_once from to from' to' st IsAsked caller text said after later one (inr (inr x))
+    (inr (inl y)) = absurd (y.0 x.0 x.1)
+calls_once from to from' to' st IsAsked caller text said after later one (inr (inr x))
+    (inr (inr y)) =
     let e : x.0 ≡ y.0 = one x.0 y.0 x.1 y.1 in
-    let moved : Answers from to st caller y.0 text after = subst (λ (a : Asked). Answers from to st caller a text after) e x.2 in
+    let moved : Answers from to st caller y.0 text after =
+    subst (λ (a : Asked). Answers from to st caller a text after) e x.2 in
     answers_once from to from' to' st caller y.0 text said after later moved y.2
 
-path_once : (from to from' to' : ℕ) (st : State) (route : Route) (has_method : Bool) (caller : Option Spid) (body text said : List ℕ) (after later : State) →
-    MeetsPath from to st route has_method caller body text after → MeetsPath from' to' st route has_method caller body said later → IsOnce text said after later
-path_once from to from' to' st route false caller body text said after later x y = refuses_once st _ text said after later x y
-path_once from to from' to' st route true None body text said after later x y = refuses_once st _ text said after later x y
-path_once from to from' to' st route true (Some caller) body text said after later x y = calls_once from to from' to' st (PathAsks route body) caller.number text said after later (asks_once route body) x y
+path_once : (from to from' to' : ℕ) (st : State) (route : Route) (has_method : Bool)
+    (caller : Option Spid) (body text said : List ℕ) (after later : State) →
+    MeetsPath from to st route has_method caller body text after
+    → MeetsPath from' to' st route has_method caller body said later → IsOnce text said after later
+path_once from to from' to' st route false caller body text said after later x y =
+    refuses_once st _ text said after later x y
+path_once from to from' to' st route true None body text said after later x y =
+    refuses_once st _ text said after later x y
+path_once from to from' to' st route true (Some caller) body text said after later x y =
+    calls_once from to from' to' st (PathAsks route body) caller.number text said after later
+    (asks_once route body) x y
 
-met_once : (from to from' to' : ℕ) (st : State) (route : Option Route) (method : Method) (caller : Option Spid) (body text said : List ℕ) (after later : State) →
-    Meets from to st route method caller body text after → Meets from' to' st route method caller body said later → IsOnce text said after later
-met_once from to from' to' st None method caller body text said after later x y = refuses_once st _ text said after later x y
-met_once from to from' to' st (Some route) method caller body text said after later x y = path_once from to from' to' st route (takes route method) caller body text said after later x y
+met_once : (from to from' to' : ℕ) (st : State) (route : Option Route) (method : Method)
+    (caller : Option Spid) (body text said : List ℕ) (after later : State) →
+    Meets from to st route method caller body text after
+    → Meets from' to' st route method caller body said later → IsOnce text said after later
+met_once from to from' to' st None method caller body text said after later x y =
+    refuses_once st _ text said after later x y
+met_once from to from' to' st (Some route) method caller body text said after later x y =
+    path_once from to from' to' st route (takes route method) caller body text said after later x y
 
-tick_withheld : (from to : ℕ) (st : State) (tick : Option ℕ) (text : List ℕ) (after : State) → WithholdsTick from to st tick text after → IsWithheld text
+tick_withheld : (from to : ℕ) (st : State) (tick : Option ℕ) (text : List ℕ) (after : State)
+    → WithholdsTick from to st tick text after → IsWithheld text
 tick_withheld from to st None text after x = absurd x
 tick_withheld from to st (Some minute) text after x = withheld from to st text after x
 
 -- a message may meet its end at the minute that is handed in, or after it
-step_once : (tick : Option ℕ) (from to from' to' : ℕ) (st : State) (route : Option Route) (method : Method) (caller : Option Spid) (body text said : List ℕ) (after later : State) →
-    WithholdsTick from to st tick text after ⊎ Meets from to (ticked st tick) route method caller body text after →
-    WithholdsTick from' to' st tick said later ⊎ Meets from' to' (ticked st tick) route method caller body said later → IsOnce text said after later
-step_once tick from to from' to' st route method caller body text said after later (inl x) y = inl (tick_withheld from to st tick text after x)
-step_once tick from to from' to' st route method caller body text said after later (inr x) (inl y) = inr (inl (tick_withheld from' to' st tick said later y))
-step_once tick from to from' to' st route method caller body text said after later (inr x) (inr y) = met_once from to from' to' (ticked st tick) route method caller body text said after later x y
+step_once : (tick : Option ℕ) (from to from' to' : ℕ) (st : State) (route : Option Route)
+    (method : Method) (caller : Option Spid) (body text said : List ℕ) (after later : State) →
+    WithholdsTick from to st tick text after ⊎ Meets from to (ticked st tick) route method caller
+    body text after →
+    WithholdsTick from' to' st tick said later ⊎ Meets from' to' (ticked st tick) route method
+    caller body said later → IsOnce text said after later
+step_once tick from to from' to' st route method caller body text said after later (inl x) y =
+    inl (tick_withheld from to st tick text after x)
+step_once tick from to from' to' st route method caller body text said after later (inr x) (inl y) =
+    inr (inl (tick_withheld from' to' st tick said later y))
+step_once tick from to from' to' st route method caller body text said after later (inr x) (inr y) =
+    met_once from to from' to' (ticked st tick) route method caller body text said after later x y
 
-pub steps_once : (offered : Bool) (tick : Option ℕ) (from to from' to' : ℕ) (st : State) (request : Request) (body text said : List ℕ) (after later : State) →
-    Step offered tick from to st request body text after → Step offered tick from' to' st request body said later → IsOnce text said after later
-steps_once offered tick from to from' to' st request body text said after later x y = step_once tick from to from' to' st (among_offered offered request.route) request.method request.caller body text said after later x.met y.met
+pub steps_once : (offered : Bool) (tick : Option ℕ) (from to from' to' : ℕ) (st : State)
+    (request : Request) (body text said : List ℕ) (after later : State) →
+    Step offered tick from to st request body text after
+    → Step offered tick from' to' st request body said later → IsOnce text said after later
+steps_once offered tick from to from' to' st request body text said after later x y =
+    step_once tick from to from' to' st (among_offered offered request.route) request.method
+    request.caller body text said after later x.met y.met

@@ -52,10 +52,12 @@ pub next_asks : (st : State) (caller : ℕ) (q : Question) → next st (Asks cal
 unfolding next
 next_asks st caller q = unless_same (refusal st (Asks caller q)) st
 
-pub stays : (new : Content) (st : State) (caller : ℕ) (q : Question) → Stands new (next st (Asks caller q)) → Stands new st
+pub stays : (new : Content) (st : State) (caller : ℕ) (q : Question)
+    → Stands new (next st (Asks caller q)) → Stands new st
 stays new st caller q s = subst (λ (t : State). Stands new t) (next_asks st caller q) s
 
-pub kept : (old new : Content) (caller : ℕ) (q : Question) (o : Option Reply) → AnswersAs old new (Asks caller q) o → (st : State) → Stands old st → Stands new st
+pub kept : (old new : Content) (caller : ℕ) (q : Question) (o : Option Reply)
+    → AnswersAs old new (Asks caller q) o → (st : State) → Stands old st → Stands new st
 kept old new caller q None h st s = h st s
 kept old new caller q (Some reply) h st s = stays new st caller q (h st s).1
 
@@ -65,11 +67,14 @@ same_rows : (r : Option ℕ) (xs ys : List InForce) → Rows xs ≡ refused_or r
 same_rows None xs ys e = cc
 same_rows (Some k) xs ys e = cc
 
-pub rows_of : (st : State) (rows : List InForce) → Rows rows ≡ out st (Asks 0 AllInForce) → rows ≡ all_in_force st
+pub rows_of : (st : State) (rows : List InForce) → Rows rows ≡ out st (Asks 0 AllInForce)
+    → rows ≡ all_in_force st
 unfolding out
 rows_of st rows e = same_rows (refusal st (Asks 0 AllInForce)) rows (all_in_force st) e
 
-pub rows_counted : (old new : Content) (rows : List InForce) → AnswersAs old new (Asks 0 AllInForce) (Some (Rows rows)) → (st : State) → Stands old st → length (all_in_force st) ≡ length rows
+pub rows_counted : (old new : Content) (rows : List InForce)
+    → AnswersAs old new (Asks 0 AllInForce) (Some (Rows rows)) → (st : State) → Stands old st
+    → length (all_in_force st) ≡ length rows
 rows_counted old new rows h st s = ap length (sym (rows_of st rows (h st s).0))
 
 pub never_refused : (st : State) (k : ℕ) → ¬ (MachineRefused k ≡ out st (Asks 0 AllInForce))
@@ -80,13 +85,25 @@ never_refused st k e = cc
 abbrev pub BlamesRightly : (from to : ℕ) → (old : Content) → Refusal → Type 0
 BlamesRightly from to old r = (st : State) → Stands old st → r ≡ Storage → HasRisen from to
 
-pub blamed : {S Answers Says : Type 0} {IsUsable IsHonest : S → Type 0} {failed : S → ℕ} {before after : S} {old : Content} → Owes IsUsable IsHonest failed before after Answers (SaysStorage (IsUsable after) old Says) → IsUsable after
+pub blamed : {S Answers Says : Type 0} {IsUsable IsHonest : S → Type 0} {failed : S
+    → ℕ} {before after : S} {old : Content}
+    → Owes IsUsable IsHonest failed before after Answers (SaysStorage (IsUsable after) old Says)
+    → IsUsable after
     → (st : State) → Stands old st → Says → HasRisen (failed before) (failed after)
 blamed owed usable st stands says =
-    owed.storage (record { usable = usable; st = st; represents = stands.represents; written = stands.written; says = says })
+    owed.storage (record {
+      usable = usable;
+      st = st;
+      represents = stands.represents;
+      written = stands.written;
+      says = says;
+    })
 
-pub blames_since : (from between to : ℕ) (old mid : Content) (r : Refusal) → from ≤ between → between ≤ to → ((st : State) → Stands old st → Stands mid st) → BlamesRightly between to mid r → BlamesRightly from to old r
-blames_since from between to old mid r before behind same blames = λ st s e. risen-since from between to before behind (blames st (same st s) e)
+pub blames_since : (from between to : ℕ) (old mid : Content) (r : Refusal) → from ≤ between
+    → between ≤ to → ((st : State) → Stands old st → Stands mid st) → BlamesRightly between to mid r
+    → BlamesRightly from to old r
+blames_since from between to old mid r before behind same blames =
+    λ st s e. risen-since from between to before behind (blames st (same st s) e)
 
 -- ---- what a refusal means
 
@@ -125,68 +142,111 @@ kind NoMemory = inr (inl refl)
 
 -- the device or memory failed and nothing happened, or the machine refuses too
 abbrev Judged : (from to : ℕ) → Refusal → State → Input → Content → Type 0
-Judged from to r st input new = (IsShort from to r × Stands new st) ⊎ ((out st input ≡ MachineRefused (number_of r)) × Stands new (next st input))
+Judged from to r st input new = (IsShort from to r × Stands new st)
+    ⊎ ((out st input ≡ MachineRefused (number_of r)) × Stands new (next st input))
 
 abbrev OfMachine : (old new : Content) → Input → ℕ → Bool → Type 0
 OfMachine old new input k b = AnswersAs old new input (if b then Some (MachineRefused k) else None)
 
-judged : (r : Refusal) (from to : ℕ) (old new : Content) (input : Input) → AnswersAs old new input (refused_with (number_of r)) → BlamesRightly from to old r → (st : State) → Stands old st → Judged from to r st input new
+judged : (r : Refusal) (from to : ℕ) (old new : Content) (input : Input)
+    → AnswersAs old new input (refused_with (number_of r)) → BlamesRightly from to old r
+    → (st : State) → Stands old st → Judged from to r st input new
 judged r from to old new input h blames st s = go (kind r)
   where
-    go : (r ≡ Storage) ⊎ ((r ≡ NoMemory) ⊎ (nat_lt (number_of r) 29 ≡ true)) → Judged from to r st input new
-    go (inl e) = inl (inl (e, blames st s e), subst (λ (t : Refusal). AnswersAs old new input (refused_with (number_of t))) e h st s)
-    go (inr (inl e)) = inl (inr e, subst (λ (t : Refusal). AnswersAs old new input (refused_with (number_of t))) e h st s)
-    go (inr (inr less)) = let x = subst (OfMachine old new input (number_of r)) less h st s in inr (sym x.0, x.1)
+    go : (r ≡ Storage) ⊎ ((r ≡ NoMemory) ⊎ (nat_lt (number_of r) 29 ≡ true))
+        → Judged from to r st input new
+    go (inl e) = inl (
+      inl (e, blames st s e),
+      subst (λ (t : Refusal). AnswersAs old new input (refused_with (number_of t))) e h st s,
+    )
+    go (inr (inl e)) = inl (
+      inr e,
+      subst (λ (t : Refusal). AnswersAs old new input (refused_with (number_of t))) e h st s,
+    )
+    go (inr (inr less)) = let x = subst (OfMachine old new input (number_of r)) less h st s in
+        inr (sym x.0, x.1)
 
-pub short_text : (r : Refusal) (from to : ℕ) → IsShort from to r → ((failure_text (Refused r) ≡ refusal_text 29) × HasRisen from to) ⊎ (failure_text (Refused r) ≡ refusal_text 30)
-short_text r from to (inl x) = inl (ap (λ (t : Refusal). failure_text (Refused t)) x.0 ∙ text_by_number Storage, x.1)
-short_text r from to (inr e) = inr (ap (λ (t : Refusal). failure_text (Refused t)) e ∙ text_by_number NoMemory)
+pub short_text : (r : Refusal) (from to : ℕ) → IsShort from to r
+    → ((failure_text (Refused r) ≡ refusal_text 29) × HasRisen from to)
+    ⊎ (failure_text (Refused r) ≡ refusal_text 30)
+short_text r from to (inl x) = inl (
+  ap (λ (t : Refusal). failure_text (Refused t)) x.0 ∙ text_by_number Storage,
+  x.1,
+)
+short_text r from to (inr e) =
+    inr (ap (λ (t : Refusal). failure_text (Refused t)) e ∙ text_by_number NoMemory)
 
 -- the same of the text that tells it
 abbrev Outcome : (from to : ℕ) → Refusal → State → Input → Content → Type 0
 Outcome from to r st input new =
-    ((((failure_text (Refused r) ≡ refusal_text 29) × HasRisen from to) ⊎ (failure_text (Refused r) ≡ refusal_text 30)) × Stands new st)
-    ⊎ ((k : ℕ) × (out st input ≡ MachineRefused k) × (failure_text (Refused r) ≡ refusal_text k) × Stands new (next st input))
+    ((((failure_text (Refused r) ≡ refusal_text 29) × HasRisen from to)
+    ⊎ (failure_text (Refused r) ≡ refusal_text 30)) × Stands new st)
+    ⊎ ((k : ℕ) × (out st input ≡ MachineRefused k) × (failure_text (Refused r) ≡ refusal_text k)
+    × Stands new (next st input))
 
-told_by : (r : Refusal) (from to : ℕ) (st : State) (input : Input) (new : Content) → Judged from to r st input new → Outcome from to r st input new
+told_by : (r : Refusal) (from to : ℕ) (st : State) (input : Input) (new : Content)
+    → Judged from to r st input new → Outcome from to r st input new
 told_by r from to st input new (inl x) = inl (short_text r from to x.0, x.1)
 told_by r from to st input new (inr x) = inr (number_of r, x.0, text_by_number r, x.1)
 
-outcome : (r : Refusal) (from to : ℕ) (old new : Content) (input : Input) → AnswersAs old new input (refused_with (number_of r)) → BlamesRightly from to old r → (st : State) → Stands old st → Outcome from to r st input new
-outcome r from to old new input h blames st s = told_by r from to st input new (judged r from to old new input h blames st s)
+outcome : (r : Refusal) (from to : ℕ) (old new : Content) (input : Input)
+    → AnswersAs old new input (refused_with (number_of r)) → BlamesRightly from to old r
+    → (st : State) → Stands old st → Outcome from to r st input new
+outcome r from to old new input h blames st s =
+    told_by r from to st input new (judged r from to old new input h blames st s)
 
 -- ---- the rows in force
 
-rows_fail : (r : Refusal) (from to : ℕ) (st : State) (new : Content) → Judged from to r st (Asks 0 AllInForce) new → IsShort from to r
+rows_fail : (r : Refusal) (from to : ℕ) (st : State) (new : Content)
+    → Judged from to r st (Asks 0 AllInForce) new → IsShort from to r
 rows_fail r from to st new (inl x) = x.0
 rows_fail r from to st new (inr x) = absurd (never_refused st (number_of r) (sym x.0))
 
-pub rows_short : (r : Refusal) (from to : ℕ) (old new : Content) → AnswersAs old new (Asks 0 AllInForce) (refused_with (number_of r)) → BlamesRightly from to old r → (st : State) → Stands old st → IsShort from to r
-rows_short r from to old new h blames st s = rows_fail r from to st new (judged r from to old new (Asks 0 AllInForce) h blames st s)
+pub rows_short : (r : Refusal) (from to : ℕ) (old new : Content)
+    → AnswersAs old new (Asks 0 AllInForce) (refused_with (number_of r))
+    → BlamesRightly from to old r → (st : State) → Stands old st → IsShort from to r
+rows_short r from to old new h blames st s =
+    rows_fail r from to st new (judged r from to old new (Asks 0 AllInForce) h blames st s)
 
 -- ---- a registration
 
-same_registration : (st : State) (r : Option ℕ) (new : State) (caller : ℕ) (c : Command) (spid : ℕ) (rows : List InForce) → Registered spid rows ≡ refused_or r (reply_of st new caller c) → (c ≡ RegisterCarrier spid) × (rows ≡ all_in_force st)
+same_registration : (st : State) (r : Option ℕ) (new : State) (caller : ℕ) (c : Command) (spid : ℕ)
+    (rows : List InForce) → Registered spid rows ≡ refused_or r (reply_of st new caller c)
+    → (c ≡ RegisterCarrier spid) × (rows ≡ all_in_force st)
 same_registration st (Some k) new caller c holder rows e = let x : ⊥ = cc in absurd x
 same_registration st None new caller (RegisterCarrier spid) provider rows e = (cc, cc)
-same_registration st None new caller (RegisterRoutingNumber lrn) provider rows e = let x : ⊥ = cc in absurd x
-same_registration st None new caller (OpenCode code holder) provider rows e = let x : ⊥ = cc in absurd x
-same_registration st None new caller (SetWindows windows) provider rows e = let x : ⊥ = cc in absurd x
-same_registration st None new caller (OldProviderCreate tn old_provider new_provider due authorized) provider rows e = let x : ⊥ = cc in absurd x
-same_registration st None new caller (NewProviderCreate tn old_provider new_provider due lrn cic) provider rows e = let x : ⊥ = cc in absurd x
-same_registration st None new caller (OnVersion id command) provider rows e = let x : ⊥ = cc in absurd x
-same_registration st None new caller (Donate block used lrn cic) provider rows e = let x : ⊥ = cc in absurd x
-same_registration st None new caller (Assign block holder lrn cic) provider rows e = let x : ⊥ = cc in absurd x
+same_registration st None new caller (RegisterRoutingNumber lrn) provider rows e = let x : ⊥ = cc in
+    absurd x
+same_registration st None new caller (OpenCode code holder) provider rows e = let x : ⊥ = cc in
+    absurd x
+same_registration st None new caller (SetWindows windows) provider rows e = let x : ⊥ = cc in
+    absurd x
+same_registration st None new caller (OldProviderCreate tn old_provider new_provider due authorized)
+    provider rows e = let x : ⊥ = cc in absurd x
+same_registration st None new caller (NewProviderCreate tn old_provider new_provider due lrn cic)
+    provider rows e = let x : ⊥ = cc in absurd x
+same_registration st None new caller (OnVersion id command) provider rows e = let x : ⊥ = cc in
+    absurd x
+same_registration st None new caller (Donate block used lrn cic) provider rows e = let x : ⊥ = cc in
+    absurd x
+same_registration st None new caller (Assign block holder lrn cic) provider rows e = let x : ⊥ =
+    cc in absurd x
 same_registration st None new caller (Release block) provider rows e = let x : ⊥ = cc in absurd x
 
 abbrev IsRegistration : State → Called → (spid : ℕ) → List InForce → Type 0
-IsRegistration st called spid rows = (called ≡ Wants (Commands (RegisterCarrier spid))) × (rows ≡ all_in_force st)
+IsRegistration st called spid rows = (called ≡ Wants (Commands (RegisterCarrier spid)))
+    × (rows ≡ all_in_force st)
 
-registered_by : (st : State) (r : Option ℕ) (new : State) (caller : ℕ) (called : Called) (spid : ℕ) (rows : List InForce) → Registered spid rows ≡ refused_or r (answer_of st new (input_of caller called)) → IsRegistration st called spid rows
+registered_by : (st : State) (r : Option ℕ) (new : State) (caller : ℕ) (called : Called) (spid : ℕ)
+    (rows : List InForce)
+    → Registered spid rows ≡ refused_or r (answer_of st new (input_of caller called))
+    → IsRegistration st called spid rows
 registered_by st (Some k) new caller called spid rows e = let x : ⊥ = cc in absurd x
 registered_by st None new caller (Wants (Commands c)) spid rows e =
-    let found = same_registration st None new caller c spid rows e in (ap (λ (command : Command). Wants (Commands command)) found.0, found.1)
-registered_by st None new caller (Wants (Acknowledges id attempt)) spid rows e = let x : ⊥ = cc in absurd x
+    let found = same_registration st None new caller c spid rows e in
+    (ap (λ (command : Command). Wants (Commands command)) found.0, found.1)
+registered_by st None new caller (Wants (Acknowledges id attempt)) spid rows e = let x : ⊥ = cc in
+    absurd x
 registered_by st None new caller (Wonders Knows) spid rows e = let x : ⊥ = cc in absurd x
 registered_by st None new caller (Wonders (Fetch n)) spid rows e = let x : ⊥ = cc in absurd x
 registered_by st None new caller (Wonders (ShowVersion id)) spid rows e = let x : ⊥ = cc in absurd x
@@ -196,20 +256,26 @@ registered_by st None new caller (Wonders Waiting) spid rows e = let x : ⊥ = c
 registered_by st None new caller (Wonders (Ids tn)) spid rows e = let x : ⊥ = cc in absurd x
 registered_by st None new caller (Moves minute) spid rows e = let x : ⊥ = cc in absurd x
 
-registered_of : (st : State) (caller : ℕ) (called : Called) (spid : ℕ) (rows : List InForce) → Registered spid rows ≡ out st (input_of caller called) → IsRegistration st called spid rows
+registered_of : (st : State) (caller : ℕ) (called : Called) (spid : ℕ) (rows : List InForce)
+    → Registered spid rows ≡ out st (input_of caller called) → IsRegistration st called spid rows
 unfolding out
-registered_of st caller called spid rows e = registered_by st (refusal st (input_of caller called)) (accepted st (input_of caller called)) caller called spid rows e
+registered_of st caller called spid rows e =
+    registered_by st (refusal st (input_of caller called)) (accepted st (input_of caller called))
+    caller called spid rows e
 
 -- ---- a carrier's first downloads
 
-no_download : (st : State) (r : Option ℕ) (new : State) (caller : ℕ) (c : Command) (downloads : List Download) → ¬ (Fetched downloads ≡ refused_or r (reply_of st new caller c))
+no_download : (st : State) (r : Option ℕ) (new : State) (caller : ℕ) (c : Command)
+    (downloads : List Download) → ¬ (Fetched downloads ≡ refused_or r (reply_of st new caller c))
 no_download st (Some k) new caller c downloads e = cc
 no_download st None new caller (RegisterCarrier spid) downloads e = cc
 no_download st None new caller (RegisterRoutingNumber lrn) downloads e = cc
 no_download st None new caller (OpenCode code holder) downloads e = cc
 no_download st None new caller (SetWindows windows) downloads e = cc
-no_download st None new caller (OldProviderCreate tn old_provider new_provider due authorized) downloads e = cc
-no_download st None new caller (NewProviderCreate tn old_provider new_provider due lrn cic) downloads e = cc
+no_download st None new caller (OldProviderCreate tn old_provider new_provider due authorized)
+    downloads e = cc
+no_download st None new caller (NewProviderCreate tn old_provider new_provider due lrn cic)
+    downloads e = cc
 no_download st None new caller (OnVersion id command) downloads e = cc
 no_download st None new caller (Donate block used lrn cic) downloads e = cc
 no_download st None new caller (Assign block holder lrn cic) downloads e = cc
@@ -219,18 +285,25 @@ no_download st None new caller (Release block) downloads e = cc
 abbrev IsFetch : Called → List Download → Type 0
 IsFetch called downloads = (n : ℕ) × (called ≡ Wonders (Fetch n)) × (length downloads ≤ n)
 
-taken_at_most : (n : ℕ) (queued downloads : List Download) → Fetched downloads ≡ Fetched (take n queued) → length downloads ≤ n
+taken_at_most : (n : ℕ) (queued downloads : List Download)
+    → Fetched downloads ≡ Fetched (take n queued) → length downloads ≤ n
 taken_at_most n queued downloads e =
     let same : downloads ≡ take n queued = cc in
     let long : length downloads ≡ min n (length queued) = ap length same ∙ length-take n queued in
     omega (arith, long)
 
-fetched_by : (st : State) (r : Option ℕ) (new : State) (caller : ℕ) (called : Called) (downloads : List Download) → Fetched downloads ≡ refused_or r (answer_of st new (input_of caller called)) → IsFetch called downloads
+fetched_by : (st : State) (r : Option ℕ) (new : State) (caller : ℕ) (called : Called)
+    (downloads : List Download)
+    → Fetched downloads ≡ refused_or r (answer_of st new (input_of caller called))
+    → IsFetch called downloads
 fetched_by st (Some k) new caller called downloads e = let x : ⊥ = cc in absurd x
-fetched_by st None new caller (Wants (Commands c)) downloads e = absurd (no_download st None new caller c downloads e)
-fetched_by st None new caller (Wants (Acknowledges id attempt)) downloads e = let x : ⊥ = cc in absurd x
+fetched_by st None new caller (Wants (Commands c)) downloads e =
+    absurd (no_download st None new caller c downloads e)
+fetched_by st None new caller (Wants (Acknowledges id attempt)) downloads e = let x : ⊥ = cc in
+    absurd x
 fetched_by st None new caller (Wonders Knows) downloads e = let x : ⊥ = cc in absurd x
-fetched_by st None new caller (Wonders (Fetch n)) downloads e = (n, refl, taken_at_most n (queue st caller) downloads e)
+fetched_by st None new caller (Wonders (Fetch n)) downloads e =
+    (n, refl, taken_at_most n (queue st caller) downloads e)
 fetched_by st None new caller (Wonders (ShowVersion id)) downloads e = let x : ⊥ = cc in absurd x
 fetched_by st None new caller (Wonders (Query tn)) downloads e = let x : ⊥ = cc in absurd x
 fetched_by st None new caller (Wonders AllInForce) downloads e = let x : ⊥ = cc in absurd x
@@ -238,32 +311,43 @@ fetched_by st None new caller (Wonders Waiting) downloads e = let x : ⊥ = cc i
 fetched_by st None new caller (Wonders (Ids tn)) downloads e = let x : ⊥ = cc in absurd x
 fetched_by st None new caller (Moves minute) downloads e = let x : ⊥ = cc in absurd x
 
-fetched_of : (st : State) (caller : ℕ) (called : Called) (downloads : List Download) → Fetched downloads ≡ out st (input_of caller called) → IsFetch called downloads
+fetched_of : (st : State) (caller : ℕ) (called : Called) (downloads : List Download)
+    → Fetched downloads ≡ out st (input_of caller called) → IsFetch called downloads
 unfolding out
-fetched_of st caller called downloads e = fetched_by st (refusal st (input_of caller called)) (accepted st (input_of caller called)) caller called downloads e
+fetched_of st caller called downloads e =
+    fetched_by st (refusal st (input_of caller called)) (accepted st (input_of caller called))
+    caller called downloads e
 
 -- ---- a donation
 
 -- a donation was asked for
 abbrev IsDonation : Called → Type 0
-IsDonation called = (block : ℕ) × (used : List ℕ) × (lrn : ℕ) × (cic : Option ℕ) × (called ≡ Wants (Commands (Donate block used lrn cic)))
+IsDonation called = (block : ℕ) × (used : List ℕ) × (lrn : ℕ) × (cic : Option ℕ)
+    × (called ≡ Wants (Commands (Donate block used lrn cic)))
 
-same_donation : (st : State) (r : Option ℕ) (new : State) (caller : ℕ) (c : Command) (b : ℕ) (ids : List ℕ) → Donated b ids ≡ refused_or r (reply_of st new caller c) → IsDonation (Wants (Commands c))
+same_donation : (st : State) (r : Option ℕ) (new : State) (caller : ℕ) (c : Command) (b : ℕ)
+    (ids : List ℕ) → Donated b ids ≡ refused_or r (reply_of st new caller c)
+    → IsDonation (Wants (Commands c))
 same_donation st (Some k) new caller c b ids e = let x : ⊥ = cc in absurd x
 same_donation st None new caller (RegisterCarrier spid) b ids e = let x : ⊥ = cc in absurd x
 same_donation st None new caller (RegisterRoutingNumber lrn) b ids e = let x : ⊥ = cc in absurd x
 same_donation st None new caller (OpenCode code holder) b ids e = let x : ⊥ = cc in absurd x
 same_donation st None new caller (SetWindows windows) b ids e = let x : ⊥ = cc in absurd x
-same_donation st None new caller (OldProviderCreate tn old_provider new_provider due authorized) b ids e = let x : ⊥ = cc in absurd x
-same_donation st None new caller (NewProviderCreate tn old_provider new_provider due lrn cic) b ids e = let x : ⊥ = cc in absurd x
+same_donation st None new caller (OldProviderCreate tn old_provider new_provider due authorized) b
+    ids e = let x : ⊥ = cc in absurd x
+same_donation st None new caller (NewProviderCreate tn old_provider new_provider due lrn cic) b ids
+    e = let x : ⊥ = cc in absurd x
 same_donation st None new caller (OnVersion id command) b ids e = let x : ⊥ = cc in absurd x
 same_donation st None new caller (Donate block used lrn cic) b ids e = (block, used, lrn, cic, refl)
 same_donation st None new caller (Assign block holder lrn cic) b ids e = let x : ⊥ = cc in absurd x
 same_donation st None new caller (Release block) b ids e = let x : ⊥ = cc in absurd x
 
-donated_by : (st : State) (r : Option ℕ) (new : State) (caller : ℕ) (called : Called) (b : ℕ) (ids : List ℕ) → Donated b ids ≡ refused_or r (answer_of st new (input_of caller called)) → IsDonation called
+donated_by : (st : State) (r : Option ℕ) (new : State) (caller : ℕ) (called : Called) (b : ℕ)
+    (ids : List ℕ) → Donated b ids ≡ refused_or r (answer_of st new (input_of caller called))
+    → IsDonation called
 donated_by st (Some k) new caller called b ids e = let x : ⊥ = cc in absurd x
-donated_by st None new caller (Wants (Commands c)) b ids e = same_donation st None new caller c b ids e
+donated_by st None new caller (Wants (Commands c)) b ids e =
+    same_donation st None new caller c b ids e
 donated_by st None new caller (Wants (Acknowledges id attempt)) b ids e = let x : ⊥ = cc in absurd x
 donated_by st None new caller (Wonders Knows) b ids e = let x : ⊥ = cc in absurd x
 donated_by st None new caller (Wonders (Fetch n)) b ids e = let x : ⊥ = cc in absurd x
@@ -274,18 +358,24 @@ donated_by st None new caller (Wonders Waiting) b ids e = let x : ⊥ = cc in ab
 donated_by st None new caller (Wonders (Ids tn)) b ids e = let x : ⊥ = cc in absurd x
 donated_by st None new caller (Moves minute) b ids e = let x : ⊥ = cc in absurd x
 
-donated_of : (st : State) (caller : ℕ) (called : Called) (b : ℕ) (ids : List ℕ) → Donated b ids ≡ out st (input_of caller called) → IsDonation called
+donated_of : (st : State) (caller : ℕ) (called : Called) (b : ℕ) (ids : List ℕ)
+    → Donated b ids ≡ out st (input_of caller called) → IsDonation called
 unfolding out
-donated_of st caller called b ids e = donated_by st (refusal st (input_of caller called)) (accepted st (input_of caller called)) caller called b ids e
+donated_of st caller called b ids e =
+    donated_by st (refusal st (input_of caller called)) (accepted st (input_of caller called))
+    caller called b ids e
 
 -- it has so many ids at most
-few_donated : (st : State) (caller : ℕ) (called : Called) (b : ℕ) (ids : List ℕ) → Donated b ids ≡ out st (input_of caller called) → IsDonation called → length ids ≤ 100
+few_donated : (st : State) (caller : ℕ) (called : Called) (b : ℕ) (ids : List ℕ)
+    → Donated b ids ≡ out st (input_of caller called) → IsDonation called → length ids ≤ 100
 few_donated st caller called b ids e is =
-    donated_few st caller is.0 is.1 is.2 is.3 b ids (e ∙ ap (λ (k : Called). out st (input_of caller k)) is.4)
+    donated_few st caller is.0 is.1 is.2 is.3 b ids
+    (e ∙ ap (λ (k : Called). out st (input_of caller k)) is.4)
 
 -- ---- what was counted
 
-not_outgrown : (st : State) (caller : ℕ) (c : Called) (reply : Reply) (counted : Counted) → reply ≡ out st (input_of caller c) → IsCounted st c counted → ¬ (Outgrows counted reply)
+not_outgrown : (st : State) (caller : ℕ) (c : Called) (reply : Reply) (counted : Counted)
+    → reply ≡ out st (input_of caller c) → IsCounted st c counted → ¬ (Outgrows counted reply)
 not_outgrown st caller c (Registered spid rows) counted e is x =
     let found = registered_of st caller c spid rows e in
     let long : length rows ≡ length (all_in_force st) = ap length found.1 in
@@ -319,41 +409,70 @@ not_outgrown st caller c (WindowsSet now number) counted e is x = x
 -- ---- calls
 
 -- a caller that may not make the call
-pub away_carried : (r : Refusal) (from to : ℕ) (new : Content) (st : State) (caller : ℕ) (called : Called) → Stands new st → TurnsAway from to st caller called r →
+pub away_carried : (r : Refusal) (from to : ℕ) (new : Content) (st : State) (caller : ℕ)
+    (called : Called) → Stands new st → TurnsAway from to st caller called r →
     Carried from to new st caller (Calling called) (failure_text (Refused r))
-away_carried r from to new st caller called s (inl short) = (st, inl (short_text r from to short, refl), s)
-away_carried r from to new st caller called s (inr e) =
-    (st, inr (subst (λ (o : Option ℕ). AnswersAdmitted st o (input_of caller called) (failure_text (Refused r)) st) (sym e) (text_by_number r, refl)), s)
+away_carried r from to new st caller called s (inl short) =
+    (st, inl (short_text r from to short, refl), s)
+away_carried r from to new st caller called s (inr e) = (
+  st,
+  inr (subst (λ (o : Option ℕ). AnswersAdmitted st o (input_of caller called)
+      (failure_text (Refused r)) st) (sym e) (text_by_number r, refl)),
+  s,
+)
 
 -- what is told of a refusal
-pub refused_as : {A : Type 0} (from to : ℕ) (new : Content) (st : State) (caller : ℕ) (asked : Asked) (result : Result A Failure) (body : List ℕ) (r : Refusal) → result ≡ Err (Refused r) →
-    Carried from to new st caller asked (failure_text (Refused r)) → Carried from to new st caller asked (told result body)
-refused_as from to new st caller asked result body r e x = subst (λ (o : Result _ Failure). Carried from to new st caller asked (told o body)) (sym e) x
+pub refused_as : {A : Type 0} (from to : ℕ) (new : Content) (st : State) (caller : ℕ)
+    (asked : Asked) (result : Result A Failure) (body : List ℕ) (r : Refusal)
+    → result ≡ Err (Refused r) →
+    Carried from to new st caller asked (failure_text (Refused r))
+    → Carried from to new st caller asked (told result body)
+refused_as from to new st caller asked result body r e x =
+    subst (λ (o : Result _ Failure). Carried from to new st caller asked (told o body)) (sym e) x
 
 module _ (from to : ℕ) (new : Content) (st : State) (caller : ℕ) (called : Called) where
   -- no room for what it answers
-  pub short_carried : (r : Refusal) → Stands new st → IsShort from to r → Carried from to new st caller (Calling called) (failure_text (Refused r))
+  pub short_carried : (r : Refusal) → Stands new st → IsShort from to r
+      → Carried from to new st caller (Calling called) (failure_text (Refused r))
   short_carried r s short = (st, inl (short_text r from to short, refl), s)
 
   module _ (admits : Admits st caller called) where
-    taken : (text : List ℕ) → text ≡ reply_text (out st (input_of caller called)) → AnswersCall st caller called text (next st (input_of caller called))
-    taken text e = subst (λ (o : Option ℕ). AnswersAdmitted st o (input_of caller called) text (next st (input_of caller called))) (sym admits) (e, refl)
+    taken : (text : List ℕ) → text ≡ reply_text (out st (input_of caller called))
+        → AnswersCall st caller called text (next st (input_of caller called))
+    taken text e =
+        subst (λ (o : Option ℕ). AnswersAdmitted st o (input_of caller called) text
+        (next st (input_of caller called))) (sym admits) (e, refl)
 
-    refused_by : (r : Refusal) → Outcome from to r st (input_of caller called) new → Carried from to new st caller (Calling called) (failure_text (Refused r))
+    refused_by : (r : Refusal) → Outcome from to r st (input_of caller called) new
+        → Carried from to new st caller (Calling called) (failure_text (Refused r))
     refused_by r (inl x) = (st, inl (x.0, refl), x.1)
-    refused_by r (inr x) = (next st (input_of caller called), inr (taken (failure_text (Refused r)) (x.2 ∙ ap reply_text (sym x.1))), x.3)
+    refused_by r (inr x) = (
+      next st (input_of caller called),
+      inr (taken (failure_text (Refused r)) (x.2 ∙ ap reply_text (sym x.1))),
+      x.3,
+    )
 
     -- what the register refuses
-    pub refused_carried : (r : Refusal) (mid : Content) → AnswersAs mid new (input_of caller called) (refused_with (number_of r)) → BlamesRightly from to mid r → Stands mid st →
+    pub refused_carried : (r : Refusal) (mid : Content)
+        → AnswersAs mid new (input_of caller called) (refused_with (number_of r))
+        → BlamesRightly from to mid r → Stands mid st →
         Carried from to new st caller (Calling called) (failure_text (Refused r))
-    refused_carried r mid h blames s = refused_by r (outcome r from to mid new (input_of caller called) h blames st s)
+    refused_carried r mid h blames s =
+        refused_by r (outcome r from to mid new (input_of caller called) h blames st s)
 
     -- and what it answers
-    pub reply_carried : {A : Type 0} (mid : Content) (reply : Reply) (counted : Counted) (result : Result A Failure) (body : List ℕ) → Stands mid st → IsCounted st called counted →
-        AnswersAs mid new (input_of caller called) (Some reply) → OnOk result (success body ≡ reply_text reply) → OnErr result (Outgrows counted reply) →
+    pub reply_carried : {A : Type 0} (mid : Content) (reply : Reply) (counted : Counted)
+        (result : Result A Failure) (body : List ℕ) → Stands mid st → IsCounted st called counted →
+        AnswersAs mid new (input_of caller called) (Some reply)
+        → OnOk result (success body ≡ reply_text reply) → OnErr result (Outgrows counted reply) →
         Carried from to new st caller (Calling called) (told result body)
-    reply_carried mid reply counted (Ok done) body s is h text more = (next st (input_of caller called), inr (taken (success body) (text ∙ ap reply_text (h st s).0)), (h st s).1)
-    reply_carried mid reply counted (Err failure) body s is h text more = absurd (not_outgrown st caller called reply counted (h st s).0 is more)
+    reply_carried mid reply counted (Ok done) body s is h text more = (
+      next st (input_of caller called),
+      inr (taken (success body) (text ∙ ap reply_text (h st s).0)),
+      (h st s).1,
+    )
+    reply_carried mid reply counted (Err failure) body s is h text more =
+        absurd (not_outgrown st caller called reply counted (h st s).0 is more)
 
 -- ---- who may ask for the ids of a number
 
@@ -365,32 +484,45 @@ refused_for : (o : Option ℕ) (k : ℕ) → refused_or o Known ≡ MachineRefus
 refused_for None k e = let x : ⊥ = cc in absurd x
 refused_for (Some n) k e = cc
 
-pub known_admitted : (st : State) (caller : ℕ) → Known ≡ out st (Asks caller Knows) → refusal st (Asks caller Knows) ≡ None
+pub known_admitted : (st : State) (caller : ℕ) → Known ≡ out st (Asks caller Knows)
+    → refusal st (Asks caller Knows) ≡ None
 unfolding out
 known_admitted st caller e = known_by (refusal st (Asks caller Knows)) e
 
-unknown_refused : (st : State) (caller k : ℕ) → out st (Asks caller Knows) ≡ MachineRefused k → refusal st (Asks caller Knows) ≡ Some k
+unknown_refused : (st : State) (caller k : ℕ) → out st (Asks caller Knows) ≡ MachineRefused k
+    → refusal st (Asks caller Knows) ≡ Some k
 unfolding out
 unknown_refused st caller k e = refused_for (refusal st (Asks caller Knows)) k e
 
-unknown_by : (r : Refusal) (from to : ℕ) (st : State) (caller tn : ℕ) (new : Content) → Judged from to r st (Asks caller Knows) new → TurnsAway from to st caller (Wonders (Ids tn)) r
+unknown_by : (r : Refusal) (from to : ℕ) (st : State) (caller tn : ℕ) (new : Content)
+    → Judged from to r st (Asks caller Knows) new → TurnsAway from to st caller (Wonders (Ids tn)) r
 unknown_by r from to st caller tn new (inl x) = inl x.0
 unknown_by r from to st caller tn new (inr x) = inr (unknown_refused st caller (number_of r) x.0)
 
-pub unknown_turned_away : (r : Refusal) (from to : ℕ) (old new : Content) (caller tn : ℕ) → AnswersAs old new (Asks caller Knows) (refused_with (number_of r)) → BlamesRightly from to old r →
+pub unknown_turned_away : (r : Refusal) (from to : ℕ) (old new : Content) (caller tn : ℕ)
+    → AnswersAs old new (Asks caller Knows) (refused_with (number_of r))
+    → BlamesRightly from to old r →
     (st : State) → Stands old st → TurnsAway from to st caller (Wonders (Ids tn)) r
-unknown_turned_away r from to old new caller tn h blames st s = unknown_by r from to st caller tn new (judged r from to old new (Asks caller Knows) h blames st s)
+unknown_turned_away r from to old new caller tn h blames st s =
+    unknown_by r from to st caller tn new (judged r from to old new (Asks caller Knows) h blames st
+    s)
 
 -- by what the register answers
-pub known_or_not : (U : Type 0) (result : Result Unit Refusal) (old new : Content) (caller tn : ℕ) → (U → AnswersAs old new (Asks caller Knows) (replied (λ done. Known) result)) →
+pub known_or_not : (U : Type 0) (result : Result Unit Refusal) (old new : Content) (caller tn : ℕ)
+    → (U → AnswersAs old new (Asks caller Knows) (replied (λ done. Known) result)) →
     OnOk result (U → (st : State) → Stands old st → Admits st caller (Wonders (Ids tn)))
 known_or_not U (Ok done) old new caller tn h = λ u st s. known_admitted st caller (h u st s).0
 known_or_not U (Err r) old new caller tn h = tt
 
-pub away_or_not : (U : Type 0) (result : Result Unit Refusal) (from to : ℕ) (old new : Content) (caller tn : ℕ) → (U → AnswersAs old new (Asks caller Knows) (replied (λ done. Known) result)) →
-    (U → (st : State) → Stands old st → result ≡ Err Storage → HasRisen from to) → IfErr result (λ r. U → (st : State) → Stands old st → TurnsAway from to st caller (Wonders (Ids tn)) r)
+pub away_or_not : (U : Type 0) (result : Result Unit Refusal) (from to : ℕ) (old new : Content)
+    (caller tn : ℕ) → (U → AnswersAs old new (Asks caller Knows) (replied (λ done. Known) result)) →
+    (U → (st : State) → Stands old st → result ≡ Err Storage → HasRisen from to)
+    → IfErr result (λ r. U → (st : State) → Stands old st
+    → TurnsAway from to st caller (Wonders (Ids tn)) r)
 away_or_not U (Ok done) from to old new caller tn h blames = tt
-away_or_not U (Err r) from to old new caller tn h blames = λ u st s. unknown_turned_away r from to old new caller tn (h u) (λ st s e. blames u st s (ap Err e)) st s
+away_or_not U (Err r) from to old new caller tn h blames =
+    λ u st s. unknown_turned_away r from to old new caller tn (h u)
+    (λ st s e. blames u st s (ap Err e)) st s
 
 -- ---- who may move the clock
 
@@ -405,71 +537,129 @@ admitted_by : (b : Bool) → not b ≡ false → only_if b ≡ None
 admitted_by true e = refl
 admitted_by false e = let x : ⊥ = cc in absurd x
 
-pub stranger_turned_away : (st : State) (caller minute : ℕ) → not (caller == npac) ≡ true → turned_away st caller (Moves minute) ≡ Some 2
+pub stranger_turned_away : (st : State) (caller minute : ℕ) → not (caller == npac) ≡ true
+    → turned_away st caller (Moves minute) ≡ Some 2
 stranger_turned_away st caller minute other = by_test (caller == npac) other
 
-pub administrator_admitted : (st : State) (caller minute : ℕ) → not (caller == npac) ≡ false → Admits st caller (Moves minute)
+pub administrator_admitted : (st : State) (caller minute : ℕ) → not (caller == npac) ≡ false
+    → Admits st caller (Moves minute)
 administrator_admitted st caller minute is = admitted_by (caller == npac) is
 
 -- ---- queries
 
-query_known : (r : Refusal) (from to : ℕ) (st : State) (caller : ℕ) (uri : List ℕ) (new : Content) → Outcome from to r st (Asks caller Knows) new →
-    (after : State) × (Withholds from to st (failure_text (Refused r)) after ⊎ (AnswersQuery st caller uri (failure_text (Refused r)) × (after ≡ st))) × Stands new after
+query_known : (r : Refusal) (from to : ℕ) (st : State) (caller : ℕ) (uri : List ℕ) (new : Content)
+    → Outcome from to r st (Asks caller Knows) new →
+    (after : State) × (Withholds from to st (failure_text (Refused r)) after
+    ⊎ (AnswersQuery st caller uri (failure_text (Refused r)) × (after ≡ st))) × Stands new after
 query_known r from to st caller uri new (inl x) = (st, inl (x.0, refl), x.1)
-query_known r from to st caller uri new (inr x) = (st, inr (inl (x.0, x.1, x.2), refl), stays new st caller Knows x.3)
+query_known r from to st caller uri new (inr x) =
+    (st, inr (inl (x.0, x.1, x.2), refl), stays new st caller Knows x.3)
 
-pub unknown_carried : (r : Refusal) (from to : ℕ) (old new : Content) (caller : ℕ) (uri : List ℕ) → AnswersAs old new (Asks caller Knows) (refused_with (number_of r)) → BlamesRightly from to old r → Carries from to old new caller (Seeking uri) (failure_text (Refused r))
-unknown_carried r from to old new caller uri h blames = λ st s. query_known r from to st caller uri new (outcome r from to old new (Asks caller Knows) h blames st s)
+pub unknown_carried : (r : Refusal) (from to : ℕ) (old new : Content) (caller : ℕ) (uri : List ℕ)
+    → AnswersAs old new (Asks caller Knows) (refused_with (number_of r))
+    → BlamesRightly from to old r
+    → Carries from to old new caller (Seeking uri) (failure_text (Refused r))
+unknown_carried r from to old new caller uri h blames =
+    λ st s. query_known r from to st caller uri new (outcome r from to old new (Asks caller Knows) h
+    blames st s)
 
-pub faulty_carried : (fault : TelFault) (from to : ℕ) (old new : Content) (caller : ℕ) (uri : List ℕ) → AnswersAs old new (Asks caller Knows) (Some Known) → fault_of uri ≡ Some fault → Carries from to old new caller (Seeking uri) (failure_text (Uri fault))
-faulty_carried fault from to old new caller uri h e = λ st s.
-    (st, inr (inr (inl (sym (h st s).0, (fault, e, refl))), refl), stays new st caller Knows (h st s).1)
+pub faulty_carried : (fault : TelFault) (from to : ℕ) (old new : Content) (caller : ℕ)
+    (uri : List ℕ) → AnswersAs old new (Asks caller Knows) (Some Known) → fault_of uri ≡ Some fault
+    → Carries from to old new caller (Seeking uri) (failure_text (Uri fault))
+faulty_carried fault from to old new caller uri h e = λ st s. (
+  st,
+  inr (inr (inl (sym (h st s).0, (fault, e, refl))), refl),
+  stays new st caller Knows (h st s).1,
+)
 
-query_asked : (r : Refusal) (from to : ℕ) (st : State) (caller : ℕ) (uri : List ℕ) (read : TelUri) (tn : ℕ) (new : Content) → IsUri uri read → AsksFor read tn → out st (Asks caller Knows) ≡ Known → Outcome from to r st (Asks caller (Query tn)) new →
-    (after : State) × (Withholds from to st (failure_text (Refused r)) after ⊎ (AnswersQuery st caller uri (failure_text (Refused r)) × (after ≡ st))) × Stands new after
-query_asked r from to st caller uri read tn new parts asks known (inl x) = (st, inl (x.0, refl), x.1)
-query_asked r from to st caller uri read tn new parts asks known (inr x) =
-    (st, inr (inr (inr (known, (read, parts, inr (tn, asks, x.2 ∙ ap (routed_text read) (sym x.1))))), refl), stays new st caller (Query tn) x.3)
+query_asked : (r : Refusal) (from to : ℕ) (st : State) (caller : ℕ) (uri : List ℕ) (read : TelUri)
+    (tn : ℕ) (new : Content) → IsUri uri read → AsksFor read tn → out st (Asks caller Knows) ≡ Known
+    → Outcome from to r st (Asks caller (Query tn)) new →
+    (after : State) × (Withholds from to st (failure_text (Refused r)) after
+    ⊎ (AnswersQuery st caller uri (failure_text (Refused r)) × (after ≡ st))) × Stands new after
+query_asked r from to st caller uri read tn new parts asks known (inl x) =
+    (st, inl (x.0, refl), x.1)
+query_asked r from to st caller uri read tn new parts asks known (inr x) = (
+  st,
+  inr (
+    inr (inr (known, (read, parts, inr (tn, asks, x.2 ∙ ap (routed_text read) (sym x.1))))),
+    refl,
+  ),
+  stays new st caller (Query tn) x.3,
+)
 
-pub refused_query_carried : (r : Refusal) (from between to : ℕ) (old mid new : Content) (caller : ℕ) (uri : List ℕ) (read : TelUri) (tn : ℕ) → from ≤ between → between ≤ to → IsUri uri read → AsksFor read tn → AnswersAs old mid (Asks caller Knows) (Some Known) →
-    AnswersAs mid new (Asks caller (Query tn)) (refused_with (number_of r)) → BlamesRightly between to mid r → Carries from to old new caller (Seeking uri) (failure_text (Refused r))
-refused_query_carried r from between to old mid new caller uri read tn before behind parts asks h k blames = λ st s.
+pub refused_query_carried : (r : Refusal) (from between to : ℕ) (old mid new : Content) (caller : ℕ)
+    (uri : List ℕ) (read : TelUri) (tn : ℕ) → from ≤ between → between ≤ to → IsUri uri read
+    → AsksFor read tn → AnswersAs old mid (Asks caller Knows) (Some Known) →
+    AnswersAs mid new (Asks caller (Query tn)) (refused_with (number_of r))
+    → BlamesRightly between to mid r
+    → Carries from to old new caller (Seeking uri) (failure_text (Refused r))
+refused_query_carried r from between to old mid new caller uri read tn before behind parts asks h k
+    blames = λ st s.
     query_asked r from to st caller uri read tn new parts asks (sym (h st s).0)
-    (outcome r from to mid new (Asks caller (Query tn)) k (blames_since from between to mid mid r before behind (λ x y. y) blames) st (stays mid st caller Knows (h st s).1))
+    (outcome r from to mid new (Asks caller (Query tn)) k (blames_since from between to mid mid r
+    before behind (λ x y. y) blames) st (stays mid st caller Knows (h st s).1))
 
 -- the body was written, or memory was wanting
-told_or_short : {A : Type 0} (result : Result A Failure) (body wanted : List ℕ) → OnOk result (body ≡ wanted) → IfErr result (λ failure. failure ≡ Refused NoMemory) → (told result body ≡ success wanted) ⊎ (told result body ≡ refusal_text 30)
+told_or_short : {A : Type 0} (result : Result A Failure) (body wanted : List ℕ)
+    → OnOk result (body ≡ wanted) → IfErr result (λ failure. failure ≡ Refused NoMemory)
+    → (told result body ≡ success wanted) ⊎ (told result body ≡ refusal_text 30)
 told_or_short (Ok done) body wanted same short = inl (ap success same)
-told_or_short (Err failure) body wanted same short = inr (ap failure_text short ∙ text_by_number NoMemory)
+told_or_short (Err failure) body wanted same short =
+    inr (ap failure_text short ∙ text_by_number NoMemory)
 
-answered_or_short : (from to : ℕ) (st : State) (caller : ℕ) (uri text said : List ℕ) (new : Content) → AnswersQuery st caller uri said → Stands new st → (text ≡ said) ⊎ (text ≡ refusal_text 30) →
-    (after : State) × (Withholds from to st text after ⊎ (AnswersQuery st caller uri text × (after ≡ st))) × Stands new after
-answered_or_short from to st caller uri text said new h s (inl e) = (st, inr (subst (λ (t : List ℕ). AnswersQuery st caller uri t) (sym e) h, refl), s)
+answered_or_short : (from to : ℕ) (st : State) (caller : ℕ) (uri text said : List ℕ) (new : Content)
+    → AnswersQuery st caller uri said → Stands new st → (text ≡ said) ⊎ (text ≡ refusal_text 30) →
+    (after : State) × (Withholds from to st text after ⊎ (AnswersQuery st caller uri text
+    × (after ≡ st))) × Stands new after
+answered_or_short from to st caller uri text said new h s (inl e) = (
+  st,
+  inr (subst (λ (t : List ℕ). AnswersQuery st caller uri t) (sym e) h, refl),
+  s,
+)
 answered_or_short from to st caller uri text said new h s (inr e) = (st, inl (inr e, refl), s)
 
-pub unasked_carried : {A : Type 0} (from to : ℕ) (old new : Content) (caller : ℕ) (uri : List ℕ) (read : TelUri) (result : Result A Failure) (body : List ℕ) → IsUri uri read → ComesBack read → AnswersAs old new (Asks caller Knows) (Some Known) →
-    OnOk result (body ≡ uri_text uri) → IfErr result (λ failure. failure ≡ Refused NoMemory) → Carries from to old new caller (Seeking uri) (told result body)
+pub unasked_carried : {A : Type 0} (from to : ℕ) (old new : Content) (caller : ℕ) (uri : List ℕ)
+    (read : TelUri) (result : Result A Failure) (body : List ℕ) → IsUri uri read → ComesBack read
+    → AnswersAs old new (Asks caller Knows) (Some Known) →
+    OnOk result (body ≡ uri_text uri) → IfErr result (λ failure. failure ≡ Refused NoMemory)
+    → Carries from to old new caller (Seeking uri) (told result body)
 unasked_carried from to old new caller uri read result body parts back h same short = λ st s.
     answered_or_short from to st caller uri (told result body) (success (uri_text uri)) new
-    (inr (inr (sym (h st s).0, (read, parts, inl (back, ap (λ (t : List ℕ). success (uri_text t)) (sym parts.same))))))
+    (inr (inr (
+      sym (h st s).0,
+      (read, parts, inl (back, ap (λ (t : List ℕ). success (uri_text t)) (sym parts.same))),
+    )))
     (stays new st caller Knows (h st s).1) (told_or_short result body (uri_text uri) same short)
 
-pub query_carried : {A : Type 0} (from to : ℕ) (old mid new : Content) (caller : ℕ) (uri : List ℕ) (read : TelUri) (tn : ℕ) (a : Answer) (result : Result A Failure) (body : List ℕ) → IsUri uri read → AsksFor read tn →
-    AnswersAs old mid (Asks caller Knows) (Some Known) → AnswersAs mid new (Asks caller (Query tn)) (Some (Answered a)) →
-    OnOk result (body ≡ uri_text (looked_up read a)) → IfErr result (λ failure. failure ≡ Refused NoMemory) → Carries from to old new caller (Seeking uri) (told result body)
-query_carried from to old mid new caller uri read tn a result body parts asks h k same short = λ st s.
+pub query_carried : {A : Type 0} (from to : ℕ) (old mid new : Content) (caller : ℕ) (uri : List ℕ)
+    (read : TelUri) (tn : ℕ) (a : Answer) (result : Result A Failure) (body : List ℕ)
+    → IsUri uri read → AsksFor read tn →
+    AnswersAs old mid (Asks caller Knows) (Some Known)
+    → AnswersAs mid new (Asks caller (Query tn)) (Some (Answered a)) →
+    OnOk result (body ≡ uri_text (looked_up read a))
+    → IfErr result (λ failure. failure ≡ Refused NoMemory)
+    → Carries from to old new caller (Seeking uri) (told result body)
+query_carried from to old mid new caller uri read tn a result body parts asks h k same short =
+    λ st s.
     let s1 : Stands mid st = stays mid st caller Knows (h st s).1 in
     let k1 = k st s1 in
-    answered_or_short from to st caller uri (told result body) (success (uri_text (looked_up read a))) new
+    answered_or_short from to st caller uri (told result body)
+    (success (uri_text (looked_up read a))) new
     (inr (inr (sym (h st s).0, (read, parts, inr (tn, asks, ap (routed_text read) k1.0)))))
-    (stays new st caller (Query tn) k1.1) (told_or_short result body (uri_text (looked_up read a)) same short)
+    (stays new st caller (Query tn) k1.1) (told_or_short result body (uri_text (looked_up read a))
+    same short)
 
 -- ---- messages
 
-pub calls_carried : (from to : ℕ) (new : Content) (st : State) (route : Route) (caller : ℕ) (body : List ℕ) (d : Data) (asked : Asked) (text : List ℕ) → Some d ≡ json_of body → HasForm route d asked →
-    Carried from to new st caller asked text → (after : State) × Calls from to st (BodyAsks route body) caller text after × Stands new after
+pub calls_carried : (from to : ℕ) (new : Content) (st : State) (route : Route) (caller : ℕ)
+    (body : List ℕ) (d : Data) (asked : Asked) (text : List ℕ) → Some d ≡ json_of body
+    → HasForm route d asked →
+    Carried from to new st caller asked text → (after : State)
+    × Calls from to st (BodyAsks route body) caller text after × Stands new after
 calls_carried from to new st route caller body d asked text e form x =
-    let asks : BodyAsks route body asked = subst (λ (o : Option Data). IsSomeAnd o (λ (given : Data). HasForm route given asked)) e form in
+    let asks : BodyAsks route body asked =
+    subst (λ (o : Option Data). IsSomeAnd o (λ (given : Data). HasForm route given asked)) e form in
     (x.0, inr (inr (asked, asks, x.1)), x.2)
 
 pub no_body : (body : List ℕ) → (length body == 0) ≡ true → body ≡ []
@@ -477,20 +667,32 @@ no_body [] h = refl
 no_body (b ∷ bs) h = let x : ⊥ = grind (arith, nat_tests, h) in absurd x
 
 -- what the path asks is carried
-pub asked_carried : (from to : ℕ) (new : Content) (st : State) (IsAsked : Asked → Type 0) (asked : Asked) (caller : ℕ) (text : List ℕ) → IsAsked asked → Carried from to new st caller asked text →
+pub asked_carried : (from to : ℕ) (new : Content) (st : State) (IsAsked : Asked
+    → Type 0) (asked : Asked) (caller : ℕ) (text : List ℕ) → IsAsked asked
+    → Carried from to new st caller asked text →
     (after : State) × Calls from to st IsAsked caller text after × Stands new after
-asked_carried from to new st IsAsked asked caller text asks x = (x.0, inr (inr (asked, asks, x.1)), x.2)
+asked_carried from to new st IsAsked asked caller text asks x =
+    (x.0, inr (inr (asked, asks, x.1)), x.2)
 
 -- or it asks nothing
-pub unasked_refused : {A : Type 0} (from to : ℕ) (new : Content) (st : State) (IsAsked : Asked → Type 0) (caller : ℕ) (result : Result A Failure) (body : List ℕ) (fault : MessageFault) → result ≡ Err (Message fault) → fault ≡ BadRequest →
-    ((asked : Asked) → ¬ (IsAsked asked)) → Stands new st → (after : State) × Calls from to st IsAsked caller (told result body) after × Stands new after
+pub unasked_refused : {A : Type 0} (from to : ℕ) (new : Content) (st : State) (IsAsked : Asked
+    → Type 0) (caller : ℕ) (result : Result A Failure) (body : List ℕ) (fault : MessageFault)
+    → result ≡ Err (Message fault) → fault ≡ BadRequest →
+    ((asked : Asked) → ¬ (IsAsked asked)) → Stands new st → (after : State)
+    × Calls from to st IsAsked caller (told result body) after × Stands new after
 unasked_refused from to new st IsAsked caller result body fault e bad none s =
-    let text : told result body ≡ failure_text (Message BadRequest) = ap (λ (o : Result _ Failure). told o body) e ∙ ap (λ (f : MessageFault). failure_text (Message f)) bad in
+    let text : told result body ≡ failure_text (Message BadRequest) =
+    ap (λ (o : Result _ Failure). told o body) e
+    ∙ ap (λ (f : MessageFault). failure_text (Message f)) bad in
     (st, inr (inl (none, (text, refl))), s)
 
 -- on a path that ends in no id, no telephone number and no count, the body asks
-pub path_carried : (from to : ℕ) (new : Content) (st : State) (route : Route) (caller : ℕ) (body text : List ℕ) → ((number : Option ℕ) → route ≢ Version number) → ((number : Option ℕ) → route ≢ Number number) → ((count : Option ℕ) → route ≢ Downloads count) →
-    (after : State) × Calls from to st (BodyAsks route body) caller text after × Stands new after → (after : State) × Calls from to st (PathAsks route body) caller text after × Stands new after
+pub path_carried : (from to : ℕ) (new : Content) (st : State) (route : Route) (caller : ℕ)
+    (body text : List ℕ) → ((number : Option ℕ) → route ≢ Version number)
+    → ((number : Option ℕ) → route ≢ Number number) → ((count : Option ℕ) → route ≢ Downloads count)
+    →
+    (after : State) × Calls from to st (BodyAsks route body) caller text after × Stands new after
+    → (after : State) × Calls from to st (PathAsks route body) caller text after × Stands new after
 path_carried from to new st Carriers caller body text other another third x = x
 path_carried from to new st Clock caller body text other another third x = x
 path_carried from to new st RoutingNumbers caller body text other another third x = x
@@ -502,84 +704,146 @@ path_carried from to new st (BlockPaths path) caller body text other another thi
 path_carried from to new st Acknowledge caller body text other another third x = x
 path_carried from to new st QueryPath caller body text other another third x = x
 path_carried from to new st WindowsPath caller body text other another third x = x
-path_carried from to new st (Version number) caller body text other another third x = absurd (other number refl)
-path_carried from to new st (Number number) caller body text other another third x = absurd (another number refl)
-path_carried from to new st (Downloads count) caller body text other another third x = absurd (third count refl)
+path_carried from to new st (Version number) caller body text other another third x =
+    absurd (other number refl)
+path_carried from to new st (Number number) caller body text other another third x =
+    absurd (another number refl)
+path_carried from to new st (Downloads count) caller body text other another third x =
+    absurd (third count refl)
 
-pub calls_met : (offered : Bool) (from to : ℕ) (new : Content) (st : State) (request : Request) (route : Route) (caller : Spid) (body text : List ℕ) → from ≤ to → among_offered offered request.route ≡ Some route → takes route request.method ≡ true → request.caller ≡ Some caller →
-    (after : State) × Calls from to st (PathAsks route body) caller.number text after × Stands new after → (after : State) × Step offered None from to st request body text after × Stands new after
+pub calls_met : (offered : Bool) (from to : ℕ) (new : Content) (st : State) (request : Request)
+    (route : Route) (caller : Spid) (body text : List ℕ) → from ≤ to
+    → among_offered offered request.route ≡ Some route → takes route request.method ≡ true
+    → request.caller ≡ Some caller →
+    (after : State) × Calls from to st (PathAsks route body) caller.number text after
+    × Stands new after → (after : State) × Step offered None from to st request body text after
+    × Stands new after
 calls_met offered from to new st request route caller body text rises e f g x =
     (x.0, record { rises = rises; met = inr (rw (e, f, g) x.1) }, x.2)
 
-pub step_told : (offered : Bool) (from to : ℕ) (new : Content) (st : State) (request : Request) (body text said : List ℕ) → said ≡ text →
-    (after : State) × Step offered None from to st request body text after × Stands new after → (after : State) × Step offered None from to st request body said after × Stands new after
-step_told offered from to new st request body text said e x = (x.0, subst (λ (t : List ℕ). Step offered None from to st request body t x.0) (sym e) x.1, x.2)
+pub step_told : (offered : Bool) (from to : ℕ) (new : Content) (st : State) (request : Request)
+    (body text said : List ℕ) → said ≡ text →
+    (after : State) × Step offered None from to st request body text after × Stands new after
+    → (after : State) × Step offered None from to st request body said after × Stands new after
+step_told offered from to new st request body text said e x = (
+  x.0,
+  subst (λ (t : List ℕ). Step offered None from to st request body t x.0) (sym e) x.1,
+  x.2,
+)
 
 -- ---- the minute that is handed in
 
 -- what is withheld since the message began, and not since the clock moved
-withheld_since : (from between to : ℕ) (st : State) (text : List ℕ) (after : State) → from ≤ between → between ≤ to → Withholds between to st text after → Withholds from to st text after
-withheld_since from between to st text after before behind (inl x, e) = (inl (x.0, risen-since from between to before behind x.1), e)
+withheld_since : (from between to : ℕ) (st : State) (text : List ℕ) (after : State) → from ≤ between
+    → between ≤ to → Withholds between to st text after → Withholds from to st text after
+withheld_since from between to st text after before behind (inl x, e) =
+    (inl (x.0, risen-since from between to before behind x.1), e)
 withheld_since from between to st text after before behind (inr x, e) = (inr x, e)
 
-or_since : {P : Type 0} (from between to : ℕ) (st : State) (text : List ℕ) (after : State) → from ≤ between → between ≤ to → Withholds between to st text after ⊎ P → Withholds from to st text after ⊎ P
-or_since from between to st text after before behind (inl x) = inl (withheld_since from between to st text after before behind x)
+or_since : {P : Type 0} (from between to : ℕ) (st : State) (text : List ℕ) (after : State)
+    → from ≤ between → between ≤ to → Withholds between to st text after ⊎ P
+    → Withholds from to st text after ⊎ P
+or_since from between to st text after before behind (inl x) =
+    inl (withheld_since from between to st text after before behind x)
 or_since from between to st text after before behind (inr x) = inr x
 
-answers_since : (from between to : ℕ) (st : State) (caller : ℕ) (asked : Asked) (text : List ℕ) (after : State) → from ≤ between → between ≤ to → Answers between to st caller asked text after → Answers from to st caller asked text after
-answers_since from between to st caller (Calling called) text after before behind x = or_since from between to st text after before behind x
-answers_since from between to st caller (Seeking uri) text after before behind x = or_since from between to st text after before behind x
+answers_since : (from between to : ℕ) (st : State) (caller : ℕ) (asked : Asked) (text : List ℕ)
+    (after : State) → from ≤ between → between ≤ to → Answers between to st caller asked text after
+    → Answers from to st caller asked text after
+answers_since from between to st caller (Calling called) text after before behind x =
+    or_since from between to st text after before behind x
+answers_since from between to st caller (Seeking uri) text after before behind x =
+    or_since from between to st text after before behind x
 
-pub carried_since : (from between to : ℕ) (new : Content) (st : State) (caller : ℕ) (asked : Asked) (text : List ℕ) → from ≤ between → between ≤ to → Carried between to new st caller asked text → Carried from to new st caller asked text
-carried_since from between to new st caller asked text before behind x = (x.0, answers_since from between to st caller asked text x.0 before behind x.1, x.2)
+pub carried_since : (from between to : ℕ) (new : Content) (st : State) (caller : ℕ) (asked : Asked)
+    (text : List ℕ) → from ≤ between → between ≤ to → Carried between to new st caller asked text
+    → Carried from to new st caller asked text
+carried_since from between to new st caller asked text before behind x = (
+  x.0,
+  answers_since from between to st caller asked text x.0 before behind x.1,
+  x.2,
+)
 
-calls_since : (from between to : ℕ) (st : State) (IsAsked : Asked → Type 0) (caller : ℕ) (text : List ℕ) (after : State) → from ≤ between → between ≤ to → Calls between to st IsAsked caller text after → Calls from to st IsAsked caller text after
-calls_since from between to st IsAsked caller text after before behind (inl x) = inl (withheld_since from between to st text after before behind x)
+calls_since : (from between to : ℕ) (st : State) (IsAsked : Asked → Type 0) (caller : ℕ)
+    (text : List ℕ) (after : State) → from ≤ between → between ≤ to
+    → Calls between to st IsAsked caller text after → Calls from to st IsAsked caller text after
+calls_since from between to st IsAsked caller text after before behind (inl x) =
+    inl (withheld_since from between to st text after before behind x)
 calls_since from between to st IsAsked caller text after before behind (inr (inl x)) = inr (inl x)
-calls_since from between to st IsAsked caller text after before behind (inr (inr x)) = inr (inr (x.0, x.1, answers_since from between to st caller x.0 text after before behind x.2))
+calls_since from between to st IsAsked caller text after before behind (inr (inr x)) = inr (inr (
+  x.0,
+  x.1,
+  answers_since from between to st caller x.0 text after before behind x.2,
+))
 
-path_since : (from between to : ℕ) (st : State) (route : Route) (has_method : Bool) (caller : Option Spid) (body text : List ℕ) (after : State) → from ≤ between → between ≤ to →
-    MeetsPath between to st route has_method caller body text after → MeetsPath from to st route has_method caller body text after
+path_since : (from between to : ℕ) (st : State) (route : Route) (has_method : Bool)
+    (caller : Option Spid) (body text : List ℕ) (after : State) → from ≤ between → between ≤ to →
+    MeetsPath between to st route has_method caller body text after
+    → MeetsPath from to st route has_method caller body text after
 path_since from between to st route false caller body text after before behind x = x
 path_since from between to st route true None body text after before behind x = x
-path_since from between to st route true (Some caller) body text after before behind x = calls_since from between to st (PathAsks route body) caller.number text after before behind x
+path_since from between to st route true (Some caller) body text after before behind x =
+    calls_since from between to st (PathAsks route body) caller.number text after before behind x
 
-meets_since : (from between to : ℕ) (st : State) (route : Option Route) (method : Method) (caller : Option Spid) (body text : List ℕ) (after : State) → from ≤ between → between ≤ to →
-    Meets between to st route method caller body text after → Meets from to st route method caller body text after
+meets_since : (from between to : ℕ) (st : State) (route : Option Route) (method : Method)
+    (caller : Option Spid) (body text : List ℕ) (after : State) → from ≤ between → between ≤ to →
+    Meets between to st route method caller body text after
+    → Meets from to st route method caller body text after
 meets_since from between to st None method caller body text after before behind x = x
-meets_since from between to st (Some route) method caller body text after before behind x = path_since from between to st route (takes route method) caller body text after before behind x
+meets_since from between to st (Some route) method caller body text after before behind x =
+    path_since from between to st route (takes route method) caller body text after before behind x
 
-met_since : (from between to : ℕ) (st : State) (tick : Option ℕ) (route : Option Route) (method : Method) (caller : Option Spid) (body text : List ℕ) (after : State) → from ≤ between → between ≤ to →
-    ⊥ ⊎ Meets between to (ticked st tick) route method caller body text after → WithholdsTick from to st tick text after ⊎ Meets from to (ticked st tick) route method caller body text after
-met_since from between to st tick route method caller body text after before behind (inl x) = absurd x
-met_since from between to st tick route method caller body text after before behind (inr x) = inr (meets_since from between to (ticked st tick) route method caller body text after before behind x)
+met_since : (from between to : ℕ) (st : State) (tick : Option ℕ) (route : Option Route)
+    (method : Method) (caller : Option Spid) (body text : List ℕ) (after : State) → from ≤ between
+    → between ≤ to →
+    ⊥ ⊎ Meets between to (ticked st tick) route method caller body text after
+    → WithholdsTick from to st tick text after ⊎ Meets from to (ticked st tick) route method caller
+    body text after
+met_since from between to st tick route method caller body text after before behind (inl x) =
+    absurd x
+met_since from between to st tick route method caller body text after before behind (inr x) =
+    inr (meets_since from between to (ticked st tick) route method caller body text after before
+    behind x)
 
 -- the clock moved, and then the message was carried out
-pub tick_then : (offered : Bool) (tick : Option ℕ) (from between to : ℕ) (old mid new : Content) (request : Request) (body text : List ℕ) → from ≤ between →
+pub tick_then : (offered : Bool) (tick : Option ℕ) (from between to : ℕ) (old mid new : Content)
+    (request : Request) (body text : List ℕ) → from ≤ between →
     ((st : State) → Stands old st → Stands mid (ticked st tick)) →
-    ((st : State) → Stands mid st → (after : State) × Step offered None between to st request body text after × Stands new after) →
-    (st : State) → Stands old st → (after : State) × Step offered tick from to st request body text after × Stands new after
+    ((st : State) → Stands mid st → (after : State) × Step offered None between to st request body
+    text after × Stands new after) →
+    (st : State) → Stands old st → (after : State) × Step offered tick from to st request body text
+    after × Stands new after
 tick_then offered tick from between to old mid new request body text before moved stepped st s =
     let x = stepped (ticked st tick) (moved st s) in (
       x.0,
       record {
         rises = le_trans before x.1.rises;
-        met = met_since from between to st tick (among_offered offered request.route) request.method request.caller body text x.0 before x.1.rises x.1.met;
+        met = met_since from between to st tick (among_offered offered request.route) request.method
+            request.caller body text x.0 before x.1.rises x.1.met;
       },
       x.2,
     )
 
 -- the clock's move was withheld
-pub tick_withheld : (offered : Bool) (tick : Option ℕ) (from to : ℕ) (old new : Content) (request : Request) (body text said : List ℕ) → from ≤ to → said ≡ text →
+pub tick_withheld : (offered : Bool) (tick : Option ℕ) (from to : ℕ) (old new : Content)
+    (request : Request) (body text said : List ℕ) → from ≤ to → said ≡ text →
     ((st : State) → Stands old st → WithholdsTick from to st tick text st × Stands new st) →
-    (st : State) → Stands old st → (after : State) × Step offered tick from to st request body said after × Stands new after
+    (st : State) → Stands old st → (after : State) × Step offered tick from to st request body said
+    after × Stands new after
 tick_withheld offered tick from to old new request body text said rises e short st s =
-    let x = short st s in
-    (st, record { rises = rises; met = inl (subst (λ (t : List ℕ). WithholdsTick from to st tick t st) (sym e) x.0) }, x.1)
+    let x = short st s in (
+      st,
+      record {
+        rises = rises;
+        met = inl (subst (λ (t : List ℕ). WithholdsTick from to st tick t st) (sym e) x.0);
+      },
+      x.1,
+    )
 
 -- ---- the moves of the clock
 
-only_back : (back : Bool) (m k : ℕ) → MachineRefused k ≡ refused_or (if back then Some 27 else None) (Moved m) → k ≡ 27
+only_back : (back : Bool) (m k : ℕ) → MachineRefused k ≡ refused_or (if back then Some 27
+    else None) (Moved m) → k ≡ 27
 only_back true m k e = cc
 only_back false m k e = let x : ⊥ = cc in absurd x
 
@@ -591,34 +855,65 @@ move_refused st m k e = only_back (nat_lt m st.now) m k e
 abbrev WithholdsMove : (from to : ℕ) → Refusal → State → Content → Type 0
 WithholdsMove from to r st new = Withholds from to st (failure_text (Refused r)) st × Stands new st
 
-pub move_withheld : (r : Refusal) (from to : ℕ) (old new : Content) (minute : ℕ) → r ≢ ClockBack → AnswersAs old new (Moment minute) (refused_with (number_of r)) → BlamesRightly from to old r → (st : State) → Stands old st → WithholdsMove from to r st new
-move_withheld UnknownCarrier from to old new minute other h blames st s = let e : 1 ≡ 27 = move_refused st minute 1 (h st s).0 in absurd (omega (arith, e))
-move_withheld NotAdmin from to old new minute other h blames st s = let e : 2 ≡ 27 = move_refused st minute 2 (h st s).0 in absurd (omega (arith, e))
-move_withheld UnknownCode from to old new minute other h blames st s = let e : 3 ≡ 27 = move_refused st minute 3 (h st s).0 in absurd (omega (arith, e))
-move_withheld CarrierTaken from to old new minute other h blames st s = let e : 4 ≡ 27 = move_refused st minute 4 (h st s).0 in absurd (omega (arith, e))
-move_withheld CodeTaken from to old new minute other h blames st s = let e : 5 ≡ 27 = move_refused st minute 5 (h st s).0 in absurd (omega (arith, e))
-move_withheld LrnTaken from to old new minute other h blames st s = let e : 6 ≡ 27 = move_refused st minute 6 (h st s).0 in absurd (omega (arith, e))
-move_withheld BadLrn from to old new minute other h blames st s = let e : 7 ≡ 27 = move_refused st minute 7 (h st s).0 in absurd (omega (arith, e))
-move_withheld InPool from to old new minute other h blames st s = let e : 8 ≡ 27 = move_refused st minute 8 (h st s).0 in absurd (omega (arith, e))
-move_withheld WrongOld from to old new minute other h blames st s = let e : 9 ≡ 27 = move_refused st minute 9 (h st s).0 in absurd (omega (arith, e))
-move_withheld NotFound from to old new minute other h blames st s = let e : 10 ≡ 27 = move_refused st minute 10 (h st s).0 in absurd (omega (arith, e))
-move_withheld NotYours from to old new minute other h blames st s = let e : 11 ≡ 27 = move_refused st minute 11 (h st s).0 in absurd (omega (arith, e))
-move_withheld Busy from to old new minute other h blames st s = let e : 12 ≡ 27 = move_refused st minute 12 (h st s).0 in absurd (omega (arith, e))
-move_withheld WrongStatus from to old new minute other h blames st s = let e : 13 ≡ 27 = move_refused st minute 13 (h st s).0 in absurd (omega (arith, e))
-move_withheld DuePast from to old new minute other h blames st s = let e : 14 ≡ 27 = move_refused st minute 14 (h st s).0 in absurd (omega (arith, e))
-move_withheld DueMismatch from to old new minute other h blames st s = let e : 15 ≡ 27 = move_refused st minute 15 (h st s).0 in absurd (omega (arith, e))
-move_withheld NotConcurred from to old new minute other h blames st s = let e : 16 ≡ 27 = move_refused st minute 16 (h st s).0 in absurd (omega (arith, e))
-move_withheld BeforeDue from to old new minute other h blames st s = let e : 17 ≡ 27 = move_refused st minute 17 (h st s).0 in absurd (omega (arith, e))
-move_withheld ConflictSpent from to old new minute other h blames st s = let e : 18 ≡ 27 = move_refused st minute 18 (h st s).0 in absurd (omega (arith, e))
-move_withheld TooLate from to old new minute other h blames st s = let e : 19 ≡ 27 = move_refused st minute 19 (h st s).0 in absurd (omega (arith, e))
-move_withheld TooEarly from to old new minute other h blames st s = let e : 20 ≡ 27 = move_refused st minute 20 (h st s).0 in absurd (omega (arith, e))
-move_withheld Protected from to old new minute other h blames st s = let e : 21 ≡ 27 = move_refused st minute 21 (h st s).0 in absurd (omega (arith, e))
-move_withheld Contaminated from to old new minute other h blames st s = let e : 22 ≡ 27 = move_refused st minute 22 (h st s).0 in absurd (omega (arith, e))
-move_withheld OpenPorts from to old new minute other h blames st s = let e : 23 ≡ 27 = move_refused st minute 23 (h st s).0 in absurd (omega (arith, e))
-move_withheld BlockTaken from to old new minute other h blames st s = let e : 24 ≡ 27 = move_refused st minute 24 (h st s).0 in absurd (omega (arith, e))
-move_withheld NotQueued from to old new minute other h blames st s = let e : 25 ≡ 27 = move_refused st minute 25 (h st s).0 in absurd (omega (arith, e))
-move_withheld OutOfOrder from to old new minute other h blames st s = let e : 26 ≡ 27 = move_refused st minute 26 (h st s).0 in absurd (omega (arith, e))
+pub move_withheld : (r : Refusal) (from to : ℕ) (old new : Content) (minute : ℕ) → r ≢ ClockBack
+    → AnswersAs old new (Moment minute) (refused_with (number_of r)) → BlamesRightly from to old r
+    → (st : State) → Stands old st → WithholdsMove from to r st new
+move_withheld UnknownCarrier from to old new minute other h blames st s = let e : 1 ≡ 27 =
+    move_refused st minute 1 (h st s).0 in absurd (omega (arith, e))
+move_withheld NotAdmin from to old new minute other h blames st s = let e : 2 ≡ 27 =
+    move_refused st minute 2 (h st s).0 in absurd (omega (arith, e))
+move_withheld UnknownCode from to old new minute other h blames st s = let e : 3 ≡ 27 =
+    move_refused st minute 3 (h st s).0 in absurd (omega (arith, e))
+move_withheld CarrierTaken from to old new minute other h blames st s = let e : 4 ≡ 27 =
+    move_refused st minute 4 (h st s).0 in absurd (omega (arith, e))
+move_withheld CodeTaken from to old new minute other h blames st s = let e : 5 ≡ 27 =
+    move_refused st minute 5 (h st s).0 in absurd (omega (arith, e))
+move_withheld LrnTaken from to old new minute other h blames st s = let e : 6 ≡ 27 =
+    move_refused st minute 6 (h st s).0 in absurd (omega (arith, e))
+move_withheld BadLrn from to old new minute other h blames st s = let e : 7 ≡ 27 =
+    move_refused st minute 7 (h st s).0 in absurd (omega (arith, e))
+move_withheld InPool from to old new minute other h blames st s = let e : 8 ≡ 27 =
+    move_refused st minute 8 (h st s).0 in absurd (omega (arith, e))
+move_withheld WrongOld from to old new minute other h blames st s = let e : 9 ≡ 27 =
+    move_refused st minute 9 (h st s).0 in absurd (omega (arith, e))
+move_withheld NotFound from to old new minute other h blames st s = let e : 10 ≡ 27 =
+    move_refused st minute 10 (h st s).0 in absurd (omega (arith, e))
+move_withheld NotYours from to old new minute other h blames st s = let e : 11 ≡ 27 =
+    move_refused st minute 11 (h st s).0 in absurd (omega (arith, e))
+move_withheld Busy from to old new minute other h blames st s = let e : 12 ≡ 27 =
+    move_refused st minute 12 (h st s).0 in absurd (omega (arith, e))
+move_withheld WrongStatus from to old new minute other h blames st s = let e : 13 ≡ 27 =
+    move_refused st minute 13 (h st s).0 in absurd (omega (arith, e))
+move_withheld DuePast from to old new minute other h blames st s = let e : 14 ≡ 27 =
+    move_refused st minute 14 (h st s).0 in absurd (omega (arith, e))
+move_withheld DueMismatch from to old new minute other h blames st s = let e : 15 ≡ 27 =
+    move_refused st minute 15 (h st s).0 in absurd (omega (arith, e))
+move_withheld NotConcurred from to old new minute other h blames st s = let e : 16 ≡ 27 =
+    move_refused st minute 16 (h st s).0 in absurd (omega (arith, e))
+move_withheld BeforeDue from to old new minute other h blames st s = let e : 17 ≡ 27 =
+    move_refused st minute 17 (h st s).0 in absurd (omega (arith, e))
+move_withheld ConflictSpent from to old new minute other h blames st s = let e : 18 ≡ 27 =
+    move_refused st minute 18 (h st s).0 in absurd (omega (arith, e))
+move_withheld TooLate from to old new minute other h blames st s = let e : 19 ≡ 27 =
+    move_refused st minute 19 (h st s).0 in absurd (omega (arith, e))
+move_withheld TooEarly from to old new minute other h blames st s = let e : 20 ≡ 27 =
+    move_refused st minute 20 (h st s).0 in absurd (omega (arith, e))
+move_withheld Protected from to old new minute other h blames st s = let e : 21 ≡ 27 =
+    move_refused st minute 21 (h st s).0 in absurd (omega (arith, e))
+move_withheld Contaminated from to old new minute other h blames st s = let e : 22 ≡ 27 =
+    move_refused st minute 22 (h st s).0 in absurd (omega (arith, e))
+move_withheld OpenPorts from to old new minute other h blames st s = let e : 23 ≡ 27 =
+    move_refused st minute 23 (h st s).0 in absurd (omega (arith, e))
+move_withheld BlockTaken from to old new minute other h blames st s = let e : 24 ≡ 27 =
+    move_refused st minute 24 (h st s).0 in absurd (omega (arith, e))
+move_withheld NotQueued from to old new minute other h blames st s = let e : 25 ≡ 27 =
+    move_refused st minute 25 (h st s).0 in absurd (omega (arith, e))
+move_withheld OutOfOrder from to old new minute other h blames st s = let e : 26 ≡ 27 =
+    move_refused st minute 26 (h st s).0 in absurd (omega (arith, e))
 move_withheld ClockBack from to old new minute other h blames st s = absurd (other refl)
-move_withheld Full from to old new minute other h blames st s = let e : 28 ≡ 27 = move_refused st minute 28 (h st s).0 in absurd (omega (arith, e))
-move_withheld Storage from to old new minute other h blames st s = ((inl (text_by_number Storage, blames st s refl), refl), h st s)
-move_withheld NoMemory from to old new minute other h blames st s = ((inr (text_by_number NoMemory), refl), h st s)
+move_withheld Full from to old new minute other h blames st s = let e : 28 ≡ 27 =
+    move_refused st minute 28 (h st s).0 in absurd (omega (arith, e))
+move_withheld Storage from to old new minute other h blames st s =
+    ((inl (text_by_number Storage, blames st s refl), refl), h st s)
+move_withheld NoMemory from to old new minute other h blames st s =
+    ((inr (text_by_number NoMemory), refl), h st s)

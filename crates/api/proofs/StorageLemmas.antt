@@ -73,29 +73,40 @@ digit_of text = get_or text 83 0
 
 -- a refusal's body, with its number in digits
 abbrev with_digits : (name digits : List ℕ) → List ℕ
-with_digits name digits = codes "{\"error\":\"" ++ name ++ codes "\",\"number\":" ++ digits ++ codes "}"
+with_digits name digits = codes "{\"error\":\"" ++ name ++ codes "\",\"number\":" ++ digits ++ codes
+    "}"
 
-body_is : (name : List ℕ) (n : ℕ) → 10 ≤ n → n < 100 → refusal_body name n ≡ with_digits name (pair n)
+body_is : (name : List ℕ) (n : ℕ) → 10 ≤ n → n < 100
+    → refusal_body name n ≡ with_digits name (pair n)
 body_is name n low high = ap (with_digits name) (decimal_two n low high)
 
-digit_is : (body : List ℕ) (n : ℕ) → length body ≡ n → 10 ≤ n → n < 100 → digit_of (answer 503 body) ≡ get_or (pair n) 1 0
+digit_is : (body : List ℕ) (n : ℕ) → length body ≡ n → 10 ≤ n → n < 100
+    → digit_of (answer 503 body) ≡ get_or (pair n) 1 0
 unfolding phrase
-digit_is body n is low high = ap (λ (digits : List ℕ). get_or ((digits ++ codes "\r\n\r\n") ++ body) 1 0) (ap decimal is ∙ decimal_two n low high)
+digit_is body n is low high =
+    ap (λ (digits : List ℕ). get_or ((digits ++ codes "\r\n\r\n") ++ body) 1 0) (ap decimal is
+    ∙ decimal_two n low high)
 
-digit_told : (name : List ℕ) (number n : ℕ) → 10 ≤ number → number < 100 → length (with_digits name (pair number)) ≡ n → 10 ≤ n → n < 100 → digit_of (answer 503 (refusal_body name number)) ≡ get_or (pair n) 1 0
-digit_told name number n low high is from to = digit_is (refusal_body name number) n (ap length (body_is name number low high) ∙ is) from to
+digit_told : (name : List ℕ) (number n : ℕ) → 10 ≤ number → number < 100
+    → length (with_digits name (pair number)) ≡ n → 10 ≤ n → n < 100
+    → digit_of (answer 503 (refusal_body name number)) ≡ get_or (pair n) 1 0
+digit_told name number n low high is from to =
+    digit_is (refusal_body name number) n (ap length (body_is name number low high) ∙ is) from to
 
 full_digit : digit_of (refusal_text 28) ≡ 56
 unfolding refusal_text failure_text
-full_digit = digit_told (codes "full") 28 28 (omega arith) (omega arith) refl (omega arith) (omega arith)
+full_digit = digit_told (codes "full") 28 28 (omega arith) (omega arith) refl (omega arith)
+    (omega arith)
 
 storage_digit : digit_of (refusal_text 29) ≡ 49
 unfolding refusal_text failure_text
-storage_digit = digit_told (codes "storage") 29 31 (omega arith) (omega arith) refl (omega arith) (omega arith)
+storage_digit = digit_told (codes "storage") 29 31 (omega arith) (omega arith) refl (omega arith)
+    (omega arith)
 
 memory_digit : digit_of (refusal_text 30) ≡ 51
 unfolding refusal_text failure_text
-memory_digit = digit_told (codes "no_memory") 30 33 (omega arith) (omega arith) refl (omega arith) (omega arith)
+memory_digit = digit_told (codes "no_memory") 30 33 (omega arith) (omega arith) refl (omega arith)
+    (omega arith)
 
 by_digit : (text : List ℕ) (digit : ℕ) → digit_of text ≡ digit → 49 < digit → Differs text
 by_digit text digit is above e =
@@ -121,25 +132,75 @@ same_number n k e = cc
 none_is : (k : ℕ) → ¬ (None ≡ Some k)
 none_is k e = cc
 
-pick : (n k : ℕ) (holds : Bool) (rest : Option ℕ) → Differs (refusal_text n) → (rest ≡ Some k → Differs (refusal_text k)) → (if holds then Some n else rest) ≡ Some k → Differs (refusal_text k)
-pick n k true rest differs later e = subst (λ (m : ℕ). Differs (refusal_text m)) (same_number n k e) differs
+pick : (n k : ℕ) (holds : Bool) (rest : Option ℕ) → Differs (refusal_text n)
+    → (rest ≡ Some k → Differs (refusal_text k)) → (if holds then Some n else rest) ≡ Some k
+    → Differs (refusal_text k)
+pick n k true rest differs later e =
+    subst (λ (m : ℕ). Differs (refusal_text m)) (same_number n k e) differs
 pick n k false rest differs later e = later e
 
-first_differs : (ts : List (ℕ × Bool)) → AllDiffer ts → (k : ℕ) → first_that_holds ts ≡ Some k → Differs (refusal_text k)
+first_differs : (ts : List (ℕ × Bool)) → AllDiffer ts → (k : ℕ) → first_that_holds ts ≡ Some k
+    → Differs (refusal_text k)
 first_differs [] all k e = absurd (none_is k e)
-first_differs (t ∷ ts) all k e = pick t.0 k t.1 (first_that_holds ts) all.0 (first_differs ts all.1 k) e
+first_differs (t ∷ ts) all k e =
+    pick t.0 k t.1 (first_that_holds ts) all.0 (first_differs ts all.1 k) e
 
 by_number : (k : ℕ) → class_of (refusal_text k) ≡ 52 → Differs (refusal_text k)
 by_number k is = by_class (refusal_text k) 52 is (omega arith)
 
 commands_differ : (st : State) (caller : ℕ) (c : Command) → AllDiffer (command_tests st caller c)
 unfolding refusal_text failure_text
-commands_differ st caller c =
-    (by_number 1 refl, (by_number 2 refl, (by_number 3 refl, (by_number 4 refl, (by_number 5 refl, (by_number 6 refl, (by_number 7 refl, (by_number 8 refl, (by_number 9 refl, (by_number 10 refl, (by_number 11 refl, (by_number 12 refl, (by_number 13 refl, (by_number 14 refl, (by_number 15 refl, (by_number 16 refl, (by_number 17 refl, (by_number 18 refl, (by_number 19 refl, (by_number 20 refl, (by_number 21 refl, (by_number 22 refl, (by_number 23 refl, (by_number 24 refl, (full, tt)))))))))))))))))))))))))
+commands_differ st caller c = (
+  by_number 1 refl,
+  (
+    by_number 2 refl,
+    (
+      by_number 3 refl,
+      (
+        by_number 4 refl,
+        (
+          by_number 5 refl,
+          (
+            by_number 6 refl,
+            (
+              by_number 7 refl,
+              (
+                by_number 8 refl,
+                (
+                  by_number 9 refl,
+                  (
+                    by_number 10 refl,
+                    (
+                      by_number 11 refl,
+                      (
+                        by_number 12 refl,
+                        (
+                          by_number 13 refl,
+                          (
+                            by_number 14 refl,
+                            (by_number 15 refl, (by_number 16 refl, (by_number 17 refl, (by_number 18 refl, (by_number 19 refl, (by_number 20 refl, (by_number 21 refl, (by_number 22 refl, (by_number 23 refl, (by_number 24 refl, (full, tt))))))))))),
+                          ),
+                        ),
+                      ),
+                    ),
+                  ),
+                ),
+              ),
+            ),
+          ),
+        ),
+      ),
+    ),
+  ),
+)
 
-acknowledgements_differ : (st : State) (caller id attempt : ℕ) → AllDiffer (tests st (Requests caller (Acknowledges id attempt)))
+acknowledgements_differ : (st : State) (caller id attempt : ℕ)
+    → AllDiffer (tests st (Requests caller (Acknowledges id attempt)))
 unfolding tests refusal_text failure_text
-acknowledgements_differ st caller id attempt = (by_number 1 refl, (by_number 10 refl, (by_number 25 refl, (by_number 26 refl, tt))))
+acknowledgements_differ st caller id attempt = (
+  by_number 1 refl,
+  (by_number 10 refl, (by_number 25 refl, (by_number 26 refl, tt))),
+)
 
 moments_differ : (st : State) (minute : ℕ) → AllDiffer (tests st (Moment minute))
 unfolding tests refusal_text failure_text
@@ -155,7 +216,8 @@ questions_differ st caller AllInForce = (by_number 1 refl, tt)
 questions_differ st caller Waiting = (by_number 1 refl, tt)
 questions_differ st caller (Ids tn) = (by_number 1 refl, tt)
 
-all_differ : (st : State) (caller : ℕ) (c : Command) → AllDiffer (tests st (Requests caller (Commands c)))
+all_differ : (st : State) (caller : ℕ) (c : Command)
+    → AllDiffer (tests st (Requests caller (Commands c)))
 unfolding tests
 all_differ st caller c = commands_differ st caller c
 
@@ -165,7 +227,8 @@ all_differ st caller c = commands_differ st caller c
 abbrev Accepts : Reply → Type 0
 Accepts reply = (k : ℕ) → ¬ (reply ≡ Refused k)
 
-refused_by : (o : Option ℕ) (reply : Reply) (k : ℕ) → Accepts reply → refused_or o reply ≡ Refused k → o ≡ Some k
+refused_by : (o : Option ℕ) (reply : Reply) (k : ℕ) → Accepts reply → refused_or o reply ≡ Refused k
+    → o ≡ Some k
 refused_by None reply k accepts e = absurd (accepts k e)
 refused_by (Some n) reply k accepts e = cc
 
@@ -181,11 +244,16 @@ reply_accepts st new caller (Donate block used lrn cic) k e = cc
 reply_accepts st new caller (Assign block holder lrn cic) k e = cc
 reply_accepts st new caller (Release block) k e = cc
 
-machine_differs : (st : State) (input : Input) (k : ℕ) → Accepts (answer_of st (accepted st input) input) → AllDiffer (tests st input) → out st input ≡ Refused k → Differs (refusal_text k)
+machine_differs : (st : State) (input : Input) (k : ℕ)
+    → Accepts (answer_of st (accepted st input) input) → AllDiffer (tests st input)
+    → out st input ≡ Refused k → Differs (refusal_text k)
 unfolding out
-machine_differs st input k accepts all e = first_differs (tests st input) all k (refused_by (refusal st input) (answer_of st (accepted st input) input) k accepts e)
+machine_differs st input k accepts all e =
+    first_differs (tests st input) all k
+    (refused_by (refusal st input) (answer_of st (accepted st input) input) k accepts e)
 
-reply_differs : (reply : Reply) → ((k : ℕ) → reply ≡ Refused k → Differs (refusal_text k)) → Differs (reply_text reply)
+reply_differs : (reply : Reply) → ((k : ℕ) → reply ≡ Refused k → Differs (refusal_text k))
+    → Differs (reply_text reply)
 reply_differs (Refused number) machine = machine number refl
 reply_differs (Shown (Some view)) machine = succeeds (view_text view)
 reply_differs (Shown None) machine = nothing
@@ -202,7 +270,8 @@ reply_differs (Awaited subjects) machine = nothing
 reply_differs (Found in_force opened) machine = succeeds (ids_text in_force opened)
 reply_differs (WindowsSet now number) machine = succeeds (windows_set_text now number)
 
-routed_differs : (uri : TelUri) (reply : Reply) → ((k : ℕ) → reply ≡ Refused k → Differs (refusal_text k)) → Differs (routed_text uri reply)
+routed_differs : (uri : TelUri) (reply : Reply)
+    → ((k : ℕ) → reply ≡ Refused k → Differs (refusal_text k)) → Differs (routed_text uri reply)
 routed_differs uri (Refused number) machine = machine number refl
 routed_differs uri (Answered answered) machine = succeeds (uri_text (looked_up uri answered))
 routed_differs uri (Shown view) machine = nothing
@@ -218,10 +287,12 @@ routed_differs uri (Awaited subjects) machine = nothing
 routed_differs uri (Found in_force opened) machine = nothing
 routed_differs uri (WindowsSet now number) machine = nothing
 
-takes_differs : (st : State) (input : Input) (after : State) → ((k : ℕ) → out st input ≡ Refused k → Differs (refusal_text k)) → ¬ (Takes st input (refusal_text 29) after)
+takes_differs : (st : State) (input : Input) (after : State) → ((k : ℕ) → out st input ≡ Refused k
+    → Differs (refusal_text k)) → ¬ (Takes st input (refusal_text 29) after)
 takes_differs st input after machine x = reply_differs (out st input) machine (sym x.0)
 
-question_accepts : (st new : State) (caller : ℕ) (q : Question) → Accepts (answer_of st new (Asks caller q))
+question_accepts : (st new : State) (caller : ℕ) (q : Question)
+    → Accepts (answer_of st new (Asks caller q))
 question_accepts st new caller Knows k e = cc
 question_accepts st new caller (Fetch n) k e = cc
 question_accepts st new caller (ShowVersion id) k e = cc
@@ -230,32 +301,43 @@ question_accepts st new caller AllInForce k e = cc
 question_accepts st new caller Waiting k e = cc
 question_accepts st new caller (Ids tn) k e = cc
 
-call_accepts : (st new : State) (caller : ℕ) (called : Called) → Accepts (answer_of st new (input_of caller called))
+call_accepts : (st new : State) (caller : ℕ) (called : Called)
+    → Accepts (answer_of st new (input_of caller called))
 call_accepts st new caller (Wants (Commands c)) k e = reply_accepts st new caller c k e
 call_accepts st new caller (Wants (Acknowledges id attempt)) k e = cc
 call_accepts st new caller (Wonders q) k e = question_accepts st new caller q k e
 call_accepts st new caller (Moves minute) k e = cc
 
-calls_differ : (st : State) (caller : ℕ) (called : Called) → AllDiffer (tests st (input_of caller called))
+calls_differ : (st : State) (caller : ℕ) (called : Called)
+    → AllDiffer (tests st (input_of caller called))
 calls_differ st caller (Wants (Commands c)) = all_differ st caller c
-calls_differ st caller (Wants (Acknowledges id attempt)) = acknowledgements_differ st caller id attempt
+calls_differ st caller (Wants (Acknowledges id attempt)) =
+    acknowledgements_differ st caller id attempt
 calls_differ st caller (Wonders q) = questions_differ st caller q
 calls_differ st caller (Moves minute) = moments_differ st minute
 
-call_differs : (st : State) (caller : ℕ) (called : Called) (k : ℕ) → out st (input_of caller called) ≡ Refused k → Differs (refusal_text k)
-call_differs st caller called k = machine_differs st (input_of caller called) k (call_accepts st (accepted st (input_of caller called)) caller called) (calls_differ st caller called)
+call_differs : (st : State) (caller : ℕ) (called : Called) (k : ℕ)
+    → out st (input_of caller called) ≡ Refused k → Differs (refusal_text k)
+call_differs st caller called k =
+    machine_differs st (input_of caller called) k
+    (call_accepts st (accepted st (input_of caller called)) caller called)
+    (calls_differ st caller called)
 
 not_admin : Differs (refusal_text 2)
 unfolding refusal_text failure_text
 not_admin = by_number 2 refl
 
-stranger_differs : (b : Bool) (k : ℕ) → (if b then None else Some 2) ≡ Some k → Differs (refusal_text k)
+stranger_differs : (b : Bool) (k : ℕ) → (if b then None else Some 2) ≡ Some k
+    → Differs (refusal_text k)
 stranger_differs true k e = absurd (none_is k e)
-stranger_differs false k e = subst (λ (m : ℕ). Differs (refusal_text m)) (same_number 2 k e) not_admin
+stranger_differs false k e =
+    subst (λ (m : ℕ). Differs (refusal_text m)) (same_number 2 k e) not_admin
 
-away_differs : (st : State) (caller : ℕ) (called : Called) (k : ℕ) → turned_away st caller called ≡ Some k → Differs (refusal_text k)
+away_differs : (st : State) (caller : ℕ) (called : Called) (k : ℕ)
+    → turned_away st caller called ≡ Some k → Differs (refusal_text k)
 away_differs st caller (Moves minute) k e = stranger_differs (caller == npac) k e
-away_differs st caller (Wonders (Ids tn)) k e = first_differs (tests st (Asks caller Knows)) (questions_differ st caller Knows) k e
+away_differs st caller (Wonders (Ids tn)) k e =
+    first_differs (tests st (Asks caller Knows)) (questions_differ st caller Knows) k e
 away_differs st caller (Wonders Knows) k e = absurd (none_is k e)
 away_differs st caller (Wonders (Fetch n)) k e = absurd (none_is k e)
 away_differs st caller (Wonders (ShowVersion id)) k e = absurd (none_is k e)
@@ -264,18 +346,22 @@ away_differs st caller (Wonders AllInForce) k e = absurd (none_is k e)
 away_differs st caller (Wonders Waiting) k e = absurd (none_is k e)
 away_differs st caller (Wants request) k e = absurd (none_is k e)
 
-admitted_differs : (st : State) (away : Option ℕ) (input : Input) (after : State) → ((k : ℕ) → away ≡ Some k → Differs (refusal_text k)) → ((k : ℕ) → out st input ≡ Refused k → Differs (refusal_text k)) →
+admitted_differs : (st : State) (away : Option ℕ) (input : Input) (after : State)
+    → ((k : ℕ) → away ≡ Some k → Differs (refusal_text k)) → ((k : ℕ) → out st input ≡ Refused k
+    → Differs (refusal_text k)) →
     ¬ (AnswersAdmitted st away input (refusal_text 29) after)
 admitted_differs st (Some number) input after turned machine x = turned number refl (sym x.0)
 admitted_differs st None input after turned machine x = takes_differs st input after machine x
 
-uri_differs : (st : State) (caller : ℕ) (uri : TelUri) → ¬ (AnswersUri st caller uri (refusal_text 29))
+uri_differs : (st : State) (caller : ℕ) (uri : TelUri)
+    → ¬ (AnswersUri st caller uri (refusal_text 29))
 uri_differs st caller uri (inl x) = succeeds (uri_text uri.text) (sym x.1)
 uri_differs st caller uri (inr x) =
     routed_differs uri (out st (Asks caller (Query x.0)))
     (λ k. call_differs st caller (Wonders (Query x.0)) k) (sym x.2)
 
-query_differs : (st : State) (caller : ℕ) (uri : List ℕ) → ¬ (AnswersQuery st caller uri (refusal_text 29))
+query_differs : (st : State) (caller : ℕ) (uri : List ℕ)
+    → ¬ (AnswersQuery st caller uri (refusal_text 29))
 query_differs st caller uri (inl x) = call_differs st caller (Wonders Knows) x.0 x.1 (sym x.2)
 query_differs st caller uri (inr (inl x)) = bad_uri x.1.0 (sym x.1.2)
 query_differs st caller uri (inr (inr x)) = uri_differs st caller x.1.0 x.1.2
@@ -286,40 +372,60 @@ query_differs st caller uri (inr (inr x)) = uri_differs st caller x.1.0 x.1.2
 abbrev Tells : (from to : ℕ) → (st after : State) → Type 0
 Tells from to st after = HasRisen from to × (after ≡ st)
 
-withheld_tells : (from to : ℕ) (st after : State) → Withholds from to st (refusal_text 29) after → Tells from to st after
+withheld_tells : (from to : ℕ) (st after : State) → Withholds from to st (refusal_text 29) after
+    → Tells from to st after
 withheld_tells from to st after (inl x, e) = (x.1, e)
 withheld_tells from to st after (inr x, e) = absurd (memory (sym x))
 
-answers_tell : (from to : ℕ) (st : State) (caller : ℕ) (asked : Asked) (after : State) → Answers from to st caller asked (refusal_text 29) after → Tells from to st after
+answers_tell : (from to : ℕ) (st : State) (caller : ℕ) (asked : Asked) (after : State)
+    → Answers from to st caller asked (refusal_text 29) after → Tells from to st after
 answers_tell from to st caller (Calling called) after (inl x) = withheld_tells from to st after x
 answers_tell from to st caller (Calling called) after (inr x) =
-    absurd (admitted_differs st (turned_away st caller called) (input_of caller called) after (away_differs st caller called) (call_differs st caller called) x)
+    absurd (admitted_differs st (turned_away st caller called) (input_of caller called) after
+    (away_differs st caller called) (call_differs st caller called) x)
 answers_tell from to st caller (Seeking uri) after (inl x) = withheld_tells from to st after x
-answers_tell from to st caller (Seeking uri) after (inr x) = absurd (query_differs st caller uri x.0)
+answers_tell from to st caller (Seeking uri) after (inr x) =
+    absurd (query_differs st caller uri x.0)
 
-calls_tell : (from to : ℕ) (st : State) (IsAsked : Asked → Type 0) (caller : ℕ) (after : State) → Calls from to st IsAsked caller (refusal_text 29) after → Tells from to st after
+calls_tell : (from to : ℕ) (st : State) (IsAsked : Asked → Type 0) (caller : ℕ) (after : State)
+    → Calls from to st IsAsked caller (refusal_text 29) after → Tells from to st after
 calls_tell from to st IsAsked caller after (inl x) = withheld_tells from to st after x
 calls_tell from to st IsAsked caller after (inr (inl x)) = absurd (bad_request (sym x.1.0))
-calls_tell from to st IsAsked caller after (inr (inr x)) = answers_tell from to st caller x.0 after x.2
+calls_tell from to st IsAsked caller after (inr (inr x)) =
+    answers_tell from to st caller x.0 after x.2
 
-path_tells : (from to : ℕ) (st : State) (route : Route) (has_method : Bool) (caller : Option Spid) (body : List ℕ) (after : State) →
-    MeetsPath from to st route has_method caller body (refusal_text 29) after → Tells from to st after
+path_tells : (from to : ℕ) (st : State) (route : Route) (has_method : Bool) (caller : Option Spid)
+    (body : List ℕ) (after : State) →
+    MeetsPath from to st route has_method caller body (refusal_text 29) after
+    → Tells from to st after
 path_tells from to st route false caller body after x = absurd (bad_method (sym x.0))
 path_tells from to st route true None body after x = absurd (bad_request (sym x.0))
-path_tells from to st route true (Some caller) body after x = calls_tell from to st _ caller.number after x
+path_tells from to st route true (Some caller) body after x =
+    calls_tell from to st _ caller.number after x
 
-meets_tell : (from to : ℕ) (st : State) (route : Option Route) (method : Method) (caller : Option Spid) (body : List ℕ) (after : State) →
+meets_tell : (from to : ℕ) (st : State) (route : Option Route) (method : Method)
+    (caller : Option Spid) (body : List ℕ) (after : State) →
     Meets from to st route method caller body (refusal_text 29) after → Tells from to st after
 meets_tell from to st None method caller body after x = absurd (no_path (sym x.0))
-meets_tell from to st (Some route) method caller body after x = path_tells from to st route (takes route method) caller body after x
+meets_tell from to st (Some route) method caller body after x =
+    path_tells from to st route (takes route method) caller body after x
 
 -- at the minute that is handed in, or after it
-step_tells : (tick : Option ℕ) (from to : ℕ) (st : State) (route : Option Route) (method : Method) (caller : Option Spid) (body : List ℕ) (after : State) →
-    WithholdsTick from to st tick (refusal_text 29) after ⊎ Meets from to (ticked st tick) route method caller body (refusal_text 29) after → HasRisen from to × ((after ≡ st) ⊎ (after ≡ ticked st tick))
+step_tells : (tick : Option ℕ) (from to : ℕ) (st : State) (route : Option Route) (method : Method)
+    (caller : Option Spid) (body : List ℕ) (after : State) →
+    WithholdsTick from to st tick (refusal_text 29) after
+    ⊎ Meets from to (ticked st tick) route method caller body (refusal_text 29) after
+    → HasRisen from to × ((after ≡ st) ⊎ (after ≡ ticked st tick))
 step_tells None from to st route method caller body after (inl x) = absurd x
-step_tells (Some minute) from to st route method caller body after (inl x) = let told = withheld_tells from to st after x in (told.0, inl told.1)
-step_tells tick from to st route method caller body after (inr x) = let told = meets_tell from to (ticked st tick) route method caller body after x in (told.0, inr told.1)
+step_tells (Some minute) from to st route method caller body after (inl x) = let told =
+    withheld_tells from to st after x in (told.0, inl told.1)
+step_tells tick from to st route method caller body after (inr x) = let told =
+    meets_tell from to (ticked st tick) route method caller body after x in (told.0, inr told.1)
 
-pub storage_tells : (offered : Bool) (tick : Option ℕ) (from to : ℕ) (st : State) (request : Request) (body : List ℕ) (after : State) →
-    Step offered tick from to st request body (refusal_text 29) after → HasRisen from to × ((after ≡ st) ⊎ (after ≡ ticked st tick))
-storage_tells offered tick from to st request body after x = step_tells tick from to st (among_offered offered request.route) request.method request.caller body after x.met
+pub storage_tells : (offered : Bool) (tick : Option ℕ) (from to : ℕ) (st : State)
+    (request : Request) (body : List ℕ) (after : State) →
+    Step offered tick from to st request body (refusal_text 29) after → HasRisen from to
+    × ((after ≡ st) ⊎ (after ≡ ticked st tick))
+storage_tells offered tick from to st request body after x =
+    step_tells tick from to st (among_offered offered request.route) request.method request.caller
+    body after x.met

@@ -23,37 +23,52 @@ use Rattle.api.specs.Serving.{IsWithheldFrom, UntilWithheld, WritesUntil}
 use Rattle.api.specs.Step.{IsReplied, IsWithheld}
 use Rattle.api.proofs.Going.{Going, Progress, at_rest, known}
 
-module _ (offered : Bool) (from : ℕ) (old : Content) (all had : Option (List ℕ)) (before : Option (List (Option ℕ))) where
+module _ (offered : Bool) (from : ℕ) (old : Content) (all had : Option (List ℕ))
+    (before : Option (List (Option ℕ))) where
   -- the answer of the message was written whole
   abbrev pub Past : (has : Option (List ℕ)) → Type 0
   Past has = (st : State) → Stands old st
-      → IfSome all (λ input. (until : UntilWithheld offered from st input before) × (more : List ℕ) × Appends had has ((answers until.exchanges ++ until.answer) ++ more))
+      → IfSome all (λ input. (until : UntilWithheld offered from st input before) × (more : List ℕ)
+      × Appends had has ((answers until.exchanges ++ until.answer) ++ more))
 
   abbrev pub Stops : (has : Option (List ℕ)) → Type 0
-  Stops has = (st : State) → Stands old st → IfSome all (λ input. WritesUntil offered from st input before had has)
+  Stops has = (st : State) → Stands old st
+      → IfSome all (λ input. WritesUntil offered from st input before had has)
 
   pub stops : (has : Option (List ℕ)) → Past has → Stops has
-  stops has past st s = known all _ (λ input. WritesUntil offered from st input before had has) (λ input p. (p.0, inr (p.1, p.2))) (past st s)
+  stops has past st s = known all _ (λ input. WritesUntil offered from st input before had has)
+      (λ input p. (p.0, inr (p.1, p.2))) (past st s)
 
-  pub further : (has has' : Option (List ℕ)) (text : List ℕ) → Appends has has' text → Past has → Past has'
+  pub further : (has has' : Option (List ℕ)) (text : List ℕ) → Appends has has' text → Past has
+      → Past has'
   further has has' text sent past st s =
-      known all _ (λ input. (until : UntilWithheld offered from st input before) × (more : List ℕ) × Appends had has' ((answers until.exchanges ++ until.answer) ++ more))
+      known all _ (λ input. (until : UntilWithheld offered from st input before) × (more : List ℕ)
+      × Appends had has' ((answers until.exchanges ++ until.answer) ++ more))
       (λ input p. (
         p.0,
         p.1 ++ text,
-        subst (Appends had has') (append_assoc (answers p.0.exchanges ++ p.0.answer) p.1 text) (Appends-trans had has has' ((answers p.0.exchanges ++ p.0.answer) ++ p.1) text p.2 sent),
+        subst (Appends had has') (append_assoc (answers p.0.exchanges ++ p.0.answer) p.1 text)
+            (Appends-trans had has has' ((answers p.0.exchanges ++ p.0.answer) ++ p.1) text p.2
+            sent),
       )) (past st s)
 
-  pub further_partly : (has has' : Option (List ℕ)) (text : List ℕ) → AppendsFront has has' text → Past has → Stops has'
-  further_partly has has' text sent past = stops has' (further has has' (take sent.0 text) sent.2 past)
+  pub further_partly : (has has' : Option (List ℕ)) (text : List ℕ) → AppendsFront has has' text
+      → Past has → Stops has'
+  further_partly has has' text sent past =
+      stops has' (further has has' (take sent.0 text) sent.2 past)
 
   -- the messages so far, and then one that was answered so
-  module _ (between : ℕ) (mid : Content) (left has : Option (List ℕ)) (untold : Option (List (Option ℕ))) (k : ℕ) (progress : Progress offered from between old mid all left had has before untold k)
+  module _ (between : ℕ) (mid : Content) (left has : Option (List ℕ))
+      (untold : Option (List (Option ℕ))) (k : ℕ) (progress : Progress offered from between old mid
+      all left had has before untold k)
       (left' : Option (List ℕ)) (body text : List ℕ) where
-    until_of : (next : Next) → IfSome left (λ rest. Comes rest next body left') → IsWithheldFrom next text
-        → (st : State) (input : List ℕ) → Going offered from between st mid input left had has before untold k → UntilWithheld offered from st input before
+    until_of : (next : Next) → IfSome left (λ rest. Comes rest next body left')
+        → IsWithheldFrom next text
+        → (st : State) (input : List ℕ) → Going offered from between st mid input left had has
+        before untold k → UntilWithheld offered from st input before
     until_of (Next.Message request) comes withheld st input g =
-        let c = at_rest left g.rest (λ i. Comes i (Next.Message request) body left') g.left_is comes in
+        let c = at_rest left g.rest (λ i. Comes i (Next.Message request) body left') g.left_is
+        comes in
         record {
           exchanges = g.exchanges;
           between = between;
@@ -71,39 +86,59 @@ module _ (offered : Bool) (from : ℕ) (old : Content) (all had : Option (List �
         }
     until_of (Next.Refused fault) comes withheld st input g = absurd withheld
 
-    pub stopped : (has' : Option (List ℕ)) (next : Next) → IfSome left (λ rest. Comes rest next body left') → Appends has has' text → IsWithheldFrom next text → Past has'
+    pub stopped : (has' : Option (List ℕ)) (next : Next)
+        → IfSome left (λ rest. Comes rest next body left') → Appends has has' text
+        → IsWithheldFrom next text → Past has'
     unfolding until_of
     stopped has' next comes sent withheld st s =
-        known all _ (λ input. (until : UntilWithheld offered from st input before) × (more : List ℕ) × Appends had has' ((answers until.exchanges ++ until.answer) ++ more))
+        known all _ (λ input. (until : UntilWithheld offered from st input before) × (more : List ℕ)
+        × Appends had has' ((answers until.exchanges ++ until.answer) ++ more))
         (more_of has' next comes sent withheld st) (progress st s).1
       where
-        more_of : (has' : Option (List ℕ)) (next : Next) → IfSome left (λ rest. Comes rest next body left') → Appends has has' text → IsWithheldFrom next text → (st : State) (input : List ℕ)
-            → Going offered from between st mid input left had has before untold k → (until : UntilWithheld offered from st input before) × (more : List ℕ) × Appends had has' ((answers until.exchanges ++ until.answer) ++ more)
+        more_of : (has' : Option (List ℕ)) (next : Next)
+            → IfSome left (λ rest. Comes rest next body left') → Appends has has' text
+            → IsWithheldFrom next text → (st : State) (input : List ℕ)
+            → Going offered from between st mid input left had has before untold k
+            → (until : UntilWithheld offered from st input before) × (more : List ℕ)
+            × Appends had has' ((answers until.exchanges ++ until.answer) ++ more)
         more_of has' (Next.Message request) comes sent withheld st input g = (
           until_of (Next.Message request) comes withheld st input g,
           [],
-          subst (Appends had has') (sym (append-nil (answers g.exchanges ++ text))) (Appends-trans had has has' (answers g.exchanges) text g.written sent),
+          subst (Appends had has') (sym (append-nil (answers g.exchanges ++ text)))
+              (Appends-trans had has has' (answers g.exchanges) text g.written sent),
         )
         more_of has' (Next.Refused fault) comes sent withheld st input g = absurd withheld
 
-    pub stopped_partly : (has' : Option (List ℕ)) (next : Next) → IfSome left (λ rest. Comes rest next body left') → AppendsFront has has' text → IsWithheldFrom next text → Stops has'
+    pub stopped_partly : (has' : Option (List ℕ)) (next : Next)
+        → IfSome left (λ rest. Comes rest next body left') → AppendsFront has has' text
+        → IsWithheldFrom next text → Stops has'
     unfolding until_of
-    stopped_partly has' next comes sent withheld st s = known all _ (λ input. WritesUntil offered from st input before had has') (part_of has' next comes sent withheld st) (progress st s).1
+    stopped_partly has' next comes sent withheld st s =
+        known all _ (λ input. WritesUntil offered from st input before had has')
+        (part_of has' next comes sent withheld st) (progress st s).1
       where
-        part_of : (has' : Option (List ℕ)) (next : Next) → IfSome left (λ rest. Comes rest next body left') → AppendsFront has has' text → IsWithheldFrom next text → (st : State) (input : List ℕ)
-            → Going offered from between st mid input left had has before untold k → WritesUntil offered from st input before had has'
+        part_of : (has' : Option (List ℕ)) (next : Next)
+            → IfSome left (λ rest. Comes rest next body left') → AppendsFront has has' text
+            → IsWithheldFrom next text → (st : State) (input : List ℕ)
+            → Going offered from between st mid input left had has before untold k
+            → WritesUntil offered from st input before had has'
         part_of has' (Next.Message request) comes sent withheld st input g = (
           until_of (Next.Message request) comes withheld st input g,
-          inl (sent.0, Appends-trans had has has' (answers g.exchanges) (take sent.0 text) g.written sent.2),
+          inl (
+            sent.0,
+            Appends-trans had has has' (answers g.exchanges) (take sent.0 text) g.written sent.2,
+          ),
         )
         part_of has' (Next.Refused fault) comes sent withheld st input g = absurd withheld
 
--- a store that was usable is so still, or what is said of one that is not holds already, or from this message on
+-- a store that was usable is so still, or what is said of one that is not holds already, or from
+-- this message on
 judged : {Was Is Now Stopped : Type 0} → Was → Stopped ⊎ Is → (Was → Stopped → Now) → Is ⊎ Now
 judged was (inl stopped) starts = inr (starts was stopped)
 judged was (inr is) starts = inl is
 
-pub still : {Was Is Then Now Stopped : Type 0} → Was ⊎ Then → (Was → Stopped ⊎ Is) → (Was → Stopped → Now) → (Then → Now) → Is ⊎ Now
+pub still : {Was Is Then Now Stopped : Type 0} → Was ⊎ Then → (Was → Stopped ⊎ Is)
+    → (Was → Stopped → Now) → (Then → Now) → Is ⊎ Now
 still (inl was) stays starts goes = judged was (stays was) starts
 still (inr then) stays starts goes = inr (goes then)
 
@@ -113,19 +148,27 @@ already (inr then) goes = inr (goes then)
 
 -- ---- an answer, or a reply
 
-by_number : {Is : Type 0} (r : Refusal) (storage memory : Bool) → (number_of r == 29) ≡ storage → (number_of r == 30) ≡ memory → ((r ≢ Storage) × (r ≢ NoMemory) → Is) → IsWithheld (failure_text (Refused r)) ⊎ Is
-by_number r true memory x y stays = inl (inl (text_by_number r ∙ ap refusal_text ((Decides-eqb (number_of r) 29).0 x)))
-by_number r false true x y stays = inl (inr (text_by_number r ∙ ap refusal_text ((Decides-eqb (number_of r) 30).0 y)))
+by_number : {Is : Type 0} (r : Refusal) (storage memory : Bool) → (number_of r == 29) ≡ storage
+    → (number_of r == 30) ≡ memory → ((r ≢ Storage) × (r ≢ NoMemory) → Is)
+    → IsWithheld (failure_text (Refused r)) ⊎ Is
+by_number r true memory x y stays =
+    inl (inl (text_by_number r ∙ ap refusal_text ((Decides-eqb (number_of r) 29).0 x)))
+by_number r false true x y stays =
+    inl (inr (text_by_number r ∙ ap refusal_text ((Decides-eqb (number_of r) 30).0 y)))
 by_number r false false x y stays = inr (stays (
-  (λ e. let t : (number_of r == 29) ≡ true = ap (λ q. number_of q == 29) e in true≢false (sym t ∙ x)),
-  (λ e. let t : (number_of r == 30) ≡ true = ap (λ q. number_of q == 30) e in true≢false (sym t ∙ y)),
+  (λ e. let t : (number_of r == 29) ≡ true = ap (λ q. number_of q == 29) e in
+      true≢false (sym t ∙ x)),
+  (λ e. let t : (number_of r == 30) ≡ true = ap (λ q. number_of q == 30) e in
+      true≢false (sym t ∙ y)),
 ))
 
-pub refused_or : {Is : Type 0} (r : Refusal) → ((r ≢ Storage) × (r ≢ NoMemory) → Is) → IsWithheld (failure_text (Refused r)) ⊎ Is
+pub refused_or : {Is : Type 0} (r : Refusal) → ((r ≢ Storage) × (r ≢ NoMemory) → Is)
+    → IsWithheld (failure_text (Refused r)) ⊎ Is
 refused_or r stays = by_number r (number_of r == 29) (number_of r == 30) refl refl stays
 
 -- a message that got no reply was answered that storage or memory fails
-pub failed_or : {Is : Type 0} (failure : Failure) → (IsReplied {A = ⊤} (Err failure) → Is) → IsWithheld (failure_text failure) ⊎ Is
+pub failed_or : {Is : Type 0} (failure : Failure) → (IsReplied {A = ⊤} (Err failure) → Is)
+    → IsWithheld (failure_text failure) ⊎ Is
 failed_or (Refused r) stays = refused_or r stays
 failed_or (Uri fault) stays = inr (stays tt)
 failed_or (Message fault) stays = inr (stays tt)

@@ -9,11 +9,14 @@ use Rattle.bodies.specs.declared.answer.Room.{Room}
 use Rattle.bodies.specs.Rooms.{HasRoom}
 use Rattle.api.specs.declared.reply.Counted.{Counted}
 
--- the rows that a registration shows, the downloads that are asked for, and the hundred ids that a donation may make
+-- the rows that a registration shows, the downloads that are asked for, and the hundred ids that a
+-- donation may make
 pub record IsCounted (st : State) (called : Called) (counted : Counted) : Type 0 where
-  pub rows : (spid : ℕ) → called ≡ Wants (Commands (RegisterCarrier spid)) → length (all_in_force st) ≡ counted.rows
+  pub rows : (spid : ℕ) → called ≡ Wants (Commands (RegisterCarrier spid))
+      → length (all_in_force st) ≡ counted.rows
   pub downloads : (n : ℕ) → called ≡ Wonders (Fetch n) → n ≡ counted.downloads
-  pub ids : (block : ℕ) (used : List ℕ) (lrn : ℕ) (cic : Option ℕ) → called ≡ Wants (Commands (Donate block used lrn cic)) → 100 ≤ counted.ids
+  pub ids : (block : ℕ) (used : List ℕ) (lrn : ℕ) (cic : Option ℕ)
+      → called ≡ Wants (Commands (Donate block used lrn cic)) → 100 ≤ counted.ids
 
 -- a body with so many rows fits, one with so many downloads, and one with so many ids
 pub record HasRoomFor (counted : Counted) (r : Room) : Type 0 where

@@ -15,4 +15,5 @@ IsPlain text = list_all is_plain text ≡ true
 
 -- whatever a query is answered, no byte of the URI has to be escaped
 abbrev pub AnswersArePlain : Type 0
-AnswersArePlain = (text : List ℕ) (uri : Uri) (answer : Answer) → IsUri text uri → IsPlain (looked_up uri answer)
+AnswersArePlain = (text : List ℕ) (uri : Uri) (answer : Answer) → IsUri text uri
+    → IsPlain (looked_up uri answer)

@@ -1,4 +1,5 @@
--- What `serve` makes of the input, from the state st on. From and to are the counts of the device's failures before and after, offered says
+-- What `serve` makes of the input, from the state st on. From and to are the counts of the device's
+-- failures before and after, offered says
 -- whether the clock's path is there, and new is the content afterwards.
 use Rattle.std.specs.Prelude.{◌≡◌, ℕ, ◌+◌, ◌⊎◌, List, [], ◌∷◌, ◌++◌, length, take, Option, Some, None, Result, Ok, Err, Bool, true, if◌then◌else◌}
 use Rattle.std.specs.Io.KnownBytes.{Appends, IsAtEnd}
@@ -39,8 +40,10 @@ pub record Told : Type 0 where
   pub had : Option (List ℕ)
   pub has : Option (List ℕ)
 
--- k messages were carried out and answered whole, each beside a minute that was handed in, and nothing else was written
-pub record AfterWhole (offered : Bool) (from to : ℕ) (st : State) (new : Content) (told : Told) (k : ℕ) : Type 0 where
+-- k messages were carried out and answered whole, each beside a minute that was handed in, and
+-- nothing else was written
+pub record AfterWhole (offered : Bool) (from to : ℕ) (st : State) (new : Content) (told : Told)
+    (k : ℕ) : Type 0 where
   pub exchanges : List Exchange
   pub end : State
   pub rest : List ℕ
@@ -51,7 +54,8 @@ pub record AfterWhole (offered : Bool) (from to : ℕ) (st : State) (new : Conte
   pub written : Appends told.had told.has (answers exchanges)
 
 -- the last of k messages closes, and nothing behind it was answered
-pub record AfterClose (offered : Bool) (from to : ℕ) (st : State) (new : Content) (told : Told) (k : ℕ) : Type 0 where
+pub record AfterClose (offered : Bool) (from to : ℕ) (st : State) (new : Content) (told : Told)
+    (k : ℕ) : Type 0 where
   pub exchanges : List Exchange
   pub between : ℕ
   pub mid : State
@@ -69,8 +73,10 @@ pub record AfterClose (offered : Bool) (from to : ℕ) (st : State) (new : Conte
   pub read : IsReadAhead left told.unread
   pub written : Appends told.had told.has (answers exchanges ++ last.answer)
 
--- what comes after the messages is refused; its answer is written, and it is counted. No minute is handed in beside it
-pub record AfterRefusal (fault : MessageFault) (offered : Bool) (from to : ℕ) (st : State) (new : Content) (told : Told) (k : ℕ) : Type 0 where
+-- what comes after the messages is refused; its answer is written, and it is counted. No minute is
+-- handed in beside it
+pub record AfterRefusal (fault : MessageFault) (offered : Bool) (from to : ℕ) (st : State)
+    (new : Content) (told : Told) (k : ℕ) : Type 0 where
   pub exchanges : List Exchange
   pub end : State
   pub rest : List ℕ
@@ -82,14 +88,21 @@ pub record AfterRefusal (fault : MessageFault) (offered : Bool) (from to : ℕ) 
   pub read : IsReadTo fault rest told.unread
   pub written : Appends told.had told.has (answers exchanges ++ refusal fault)
 
--- the answer to what stands at the front of the rest: a message, which was carried out beside the next minute, or what is refused
-abbrev pub IsNextAnswer : (offered : Bool) → (from to : ℕ) → State → List ℕ → (unread : Option (List ℕ)) → (before behind : Option (List (Option ℕ))) → List ℕ → State → Type 0
+-- the answer to what stands at the front of the rest: a message, which was carried out beside the
+-- next minute, or what is refused
+abbrev pub IsNextAnswer : (offered : Bool) → (from to : ℕ) → State → List ℕ
+    → (unread : Option (List ℕ)) → (before behind : Option (List (Option ℕ))) → List ℕ → State
+    → Type 0
 IsNextAnswer offered from to mid rest unread before behind answer end =
-    ((x : Exchange) × (left : List ℕ) × Cuts rest (Whole x.request x.body left) × IsReadAhead left unread × HandsIn before x.tick behind × Step offered x.tick from to mid x.request x.body x.answer end × (answer ≡ x.answer))
-    ⊎ ((fault : MessageFault) × Cuts rest (Refuses fault) × IsReadTo fault rest unread × (behind ≡ before) × (answer ≡ refusal fault) × (end ≡ mid) × (to ≡ from))
+    ((x : Exchange) × (left : List ℕ) × Cuts rest (Whole x.request x.body left)
+    × IsReadAhead left unread × HandsIn before x.tick behind
+    × Step offered x.tick from to mid x.request x.body x.answer end × (answer ≡ x.answer))
+    ⊎ ((fault : MessageFault) × Cuts rest (Refuses fault) × IsReadTo fault rest unread
+    × (behind ≡ before) × (answer ≡ refusal fault) × (end ≡ mid) × (to ≡ from))
 
 -- k messages were carried out and answered whole, and of the next answer a front was written
-pub record AfterPart (offered : Bool) (from to : ℕ) (st : State) (new : Content) (told : Told) (k : ℕ) : Type 0 where
+pub record AfterPart (offered : Bool) (from to : ℕ) (st : State) (new : Content) (told : Told)
+    (k : ℕ) : Type 0 where
   pub exchanges : List Exchange
   pub between : ℕ
   pub mid : State
@@ -107,25 +120,34 @@ pub record AfterPart (offered : Bool) (from to : ℕ) (st : State) (new : Conten
 
 -- at the end of the input nothing is left of it
 abbrev pub EndsAt : End → (offered : Bool) → (from to : ℕ) → State → Content → Told → ℕ → Type 0
-EndsAt Input offered from to st new told k = (whole : AfterWhole offered from to st new told k) × Cuts whole.rest Done × IsAtEnd told.unread
+EndsAt Input offered from to st new told k = (whole : AfterWhole offered from to st new told k)
+    × Cuts whole.rest Done × IsAtEnd told.unread
 EndsAt Closed offered from to st new told k = AfterClose offered from to st new told k
-EndsAt (Refused fault) offered from to st new told k = AfterRefusal fault offered from to st new told k
+EndsAt (Refused fault) offered from to st new told k =
+    AfterRefusal fault offered from to st new told k
 
--- a reader that fails was asked for bytes of a message that was not there whole; where a buffer finds no memory, no more is read; and there
+-- a reader that fails was asked for bytes of a message that was not there whole; where a buffer
+-- finds no memory, no more is read; and there
 -- may be more messages than can be counted
 abbrev pub FailsAt : Fault → (offered : Bool) → (from to : ℕ) → State → Content → Told → Type 0
-FailsAt (Read k) offered from to st new told = (whole : AfterWhole offered from to st new told k) × HasNoWhole whole.rest told.unread
-FailsAt (Memory k) offered from to st new told = (whole : AfterWhole offered from to st new told k) × (IsReadAhead whole.rest told.unread ⊎ (k ≡ 18446744073709551615))
+FailsAt (Read k) offered from to st new told = (whole : AfterWhole offered from to st new told k)
+    × HasNoWhole whole.rest told.unread
+FailsAt (Memory k) offered from to st new told = (whole : AfterWhole offered from to st new told k)
+    × (IsReadAhead whole.rest told.unread ⊎ (k ≡ 18446744073709551615))
 FailsAt (Write k) offered from to st new told = AfterPart offered from to st new told k
 
 -- serving ended or failed so
-abbrev pub Serves : Result Served Fault → (offered : Bool) → (from to : ℕ) → State → Content → Told → Type 0
-Serves (Ok served) offered from to st new told = EndsAt served.end offered from to st new told served.count
+abbrev pub Serves : Result Served Fault → (offered : Bool) → (from to : ℕ) → State → Content → Told
+    → Type 0
+Serves (Ok served) offered from to st new told =
+    EndsAt served.end offered from to st new told served.count
 Serves (Err fault) offered from to st new told = FailsAt fault offered from to st new told
 
--- from the state st on the messages at the front of the input were carried out and answered so, each beside a minute that was handed in, and the next
+-- from the state st on the messages at the front of the input were carried out and answered so,
+-- each beside a minute that was handed in, and the next
 -- one was answered that storage or memory fails
-pub record UntilWithheld (offered : Bool) (from : ℕ) (st : State) (input : List ℕ) (before : Option (List (Option ℕ))) : Type 0 where
+pub record UntilWithheld (offered : Bool) (from : ℕ) (st : State) (input : List ℕ)
+    (before : Option (List (Option ℕ))) : Type 0 where
   pub exchanges : List Exchange
   pub between : ℕ
   pub mid : State
@@ -140,8 +162,10 @@ pub record UntilWithheld (offered : Bool) (from : ℕ) (st : State) (input : Lis
   pub answer : List ℕ
   pub withheld : IsWithheld answer
 
--- that was written, or of its last answer a front; and behind the whole of it something of which nothing is said
-abbrev pub WritesUntil : (offered : Bool) → (from : ℕ) → State → (input : List ℕ) → (before : Option (List (Option ℕ))) → (had has : Option (List ℕ)) → Type 0
+-- that was written, or of its last answer a front; and behind the whole of it something of which
+-- nothing is said
+abbrev pub WritesUntil : (offered : Bool) → (from : ℕ) → State → (input : List ℕ)
+    → (before : Option (List (Option ℕ))) → (had has : Option (List ℕ)) → Type 0
 WritesUntil offered from st input before had has =
     (until : UntilWithheld offered from st input before)
     × (((part : ℕ) × Appends had has (answers until.exchanges ++ take part until.answer))
@@ -156,13 +180,17 @@ IsWithheldFrom (Next.Refused fault) text = ⊥
 abbrev pub Follows : State → Content → Type 0
 Follows st new = (inputs : List MachineInput) × Stands new (state_after st inputs)
 
--- a message was carried out, beside the minute that was handed in, and the text answers it; or the text is that of a refusal,
+-- a message was carried out, beside the minute that was handed in, and the text answers it; or the
+-- text is that of a refusal,
 -- and nothing was carried out or handed in. Before and behind are the ticks as they are told
-abbrev pub Responds : (offered : Bool) → (before behind : Option (List (Option ℕ))) → (from to : ℕ) → Next → List ℕ → List ℕ → Content → Content → Type 0
+abbrev pub Responds : (offered : Bool) → (before behind : Option (List (Option ℕ))) → (from to : ℕ)
+    → Next → List ℕ → List ℕ → Content → Content → Type 0
 Responds offered before behind from to (Next.Message request) body text old new =
     (tick : Option ℕ) × HandsIn before tick behind
-    × ((st : State) → Stands old st → (after : State) × Step offered tick from to st request body text after × Stands new after)
-Responds offered before behind from to (Next.Refused fault) body text old new = (text ≡ refusal fault) × (new ≡ old) × (to ≡ from) × (behind ≡ before)
+    × ((st : State) → Stands old st → (after : State) × Step offered tick from to st request body
+    text after × Stands new after)
+Responds offered before behind from to (Next.Refused fault) body text old new =
+    (text ≡ refusal fault) × (new ≡ old) × (to ≡ from) × (behind ≡ before)
 
 -- whether what comes is the last
 abbrev pub end_of : Next → Option End

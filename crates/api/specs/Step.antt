@@ -40,7 +40,8 @@ use Rattle.bodies.specs.Texts.{registered_text, donated_text, routing_number_tex
 unfoldable pub success : List ℕ → List ℕ
 success body = answer 200 body
 
--- the machine's reply to a call. The other replies are of inputs that no path asks for, or a query's
+-- the machine's reply to a call. The other replies are of inputs that no path asks for, or a
+-- query's
 abbrev pub reply_text : Reply → List ℕ
 reply_text (Refused number) = refusal_text number
 reply_text (Registered spid rows) = success (registered_text spid rows)
@@ -87,18 +88,21 @@ IsReplied (Err (Turned refusal)) = (refusal ≢ Storage) × (refusal ≢ NoMemor
 IsReplied (Err (Uri fault)) = ⊤
 IsReplied (Err (Message fault)) = ⊤
 
--- a call is refused for want of memory; or for want of the device, where the count of its failures rose
+-- a call is refused for want of memory; or for want of the device, where the count of its failures
+-- rose
 abbrev pub IsShort : (from to : ℕ) → Refusal → Type 0
 IsShort from to refusal = ((refusal ≡ Storage) × HasRisen from to) ⊎ (refusal ≡ NoMemory)
 
--- a registration shows more rows, a carrier's queue more downloads, or a donation more ids, than were counted
+-- a registration shows more rows, a carrier's queue more downloads, or a donation more ids, than
+-- were counted
 abbrev pub Outgrows : Counted → Reply → Type 0
 Outgrows counted (Registered spid rows) = counted.rows < length rows
 Outgrows counted (Fetched downloads) = counted.downloads < length downloads
 Outgrows counted (Donated block ids) = counted.ids < length ids
 Outgrows counted _ = ⊥
 
--- ---- what happens to a state. From and to are the counts of the device's failures before a message and after it
+-- ---- what happens to a state. From and to are the counts of the device's failures before a
+-- message and after it
 
 -- the answer of storage (29) or memory (30) that fails
 abbrev pub IsWithheld : List ℕ → Type 0
@@ -106,7 +110,8 @@ IsWithheld text = (text ≡ refusal_text 29) ⊎ (text ≡ refusal_text 30)
 
 -- storage fails, and the device failed meanwhile, or memory fails; and nothing has happened
 abbrev pub Withholds : (from to : ℕ) → State → (text : List ℕ) → (after : State) → Type 0
-Withholds from to st text after = (((text ≡ refusal_text 29) × HasRisen from to) ⊎ (text ≡ refusal_text 30)) × (after ≡ st)
+Withholds from to st text after =
+    (((text ≡ refusal_text 29) × HasRisen from to) ⊎ (text ≡ refusal_text 30)) × (after ≡ st)
 
 -- the message is refused, and nothing has happened
 abbrev pub Refuses : State → MessageFault → (text : List ℕ) → (after : State) → Type 0
@@ -123,11 +128,14 @@ pub record IsUri (text : List ℕ) (uri : TelUri) : Type 0 where
   pub same : uri.text ≡ text
   pub parts : IsTelUri text uri.number uri.parameters
 
--- the register is not asked: the URI was looked up already, or its digits are not 1 and a telephone number
+-- the register is not asked: the URI was looked up already, or its digits are not 1 and a telephone
+-- number
 abbrev pub ComesBack : TelUri → Type 0
-ComesBack uri = (has_name (codes "npdi") uri.parameters ≡ true) ⊎ ((tn : ℕ) → IsTn tn → ¬ (HasTn uri.number tn))
+ComesBack uri = (has_name (codes "npdi") uri.parameters ≡ true) ⊎ ((tn : ℕ) → IsTn tn
+    → ¬ (HasTn uri.number tn))
 
--- the register is asked for this telephone number: the URI was not looked up yet, and its digits are 1 and the number's
+-- the register is asked for this telephone number: the URI was not looked up yet, and its digits
+-- are 1 and the number's
 pub record AsksFor (uri : TelUri) (tn : ℕ) : Type 0 where
   pub valid : IsTn tn
   pub new : has_name (codes "npdi") uri.parameters ≡ false
@@ -143,12 +151,15 @@ AnswersUri st caller uri text =
 abbrev pub AnswersQuery : State → (caller : ℕ) → (uri : List ℕ) → (text : List ℕ) → Type 0
 AnswersQuery st caller uri text =
     ((number : ℕ) × (out st (Asks caller Knows) ≡ Refused number) × (text ≡ refusal_text number))
-    ⊎ ((out st (Asks caller Knows) ≡ Known) × ((fault : TelFault) × (fault_of uri ≡ Some fault) × (text ≡ failure_text (Uri fault))))
-    ⊎ ((out st (Asks caller Knows) ≡ Known) × ((read : TelUri) × IsUri uri read × AnswersUri st caller read text))
+    ⊎ ((out st (Asks caller Knows) ≡ Known) × ((fault : TelFault) × (fault_of uri ≡ Some fault)
+    × (text ≡ failure_text (Uri fault))))
+    ⊎ ((out st (Asks caller Knows) ≡ Known) × ((read : TelUri) × IsUri uri read
+    × AnswersUri st caller read text))
 
 -- ---- calls
 
--- what a call is refused with for its caller, where the machine does not judge the caller itself: the clock is the
+-- what a call is refused with for its caller, where the machine does not judge the caller itself:
+-- the clock is the
 -- administrator's alone, and the ids of a number are told to whom the register knows
 abbrev pub turned_away : State → (caller : ℕ) → Called → Option ℕ
 turned_away st caller (Moves minute) = if caller == npac then None else Some 2
@@ -167,22 +178,28 @@ Admits st caller called = turned_away st caller called ≡ None
 
 -- the caller may not, or that could not be told
 abbrev pub TurnsAway : (from to : ℕ) → State → (caller : ℕ) → Called → Refusal → Type 0
-TurnsAway from to st caller called reason = IsShort from to reason ⊎ (turned_away st caller called ≡ Some (number_of reason))
+TurnsAway from to st caller called reason =
+    IsShort from to reason ⊎ (turned_away st caller called ≡ Some (number_of reason))
 
 -- a call that is refused for its caller changes nothing; else the machine takes it
-abbrev pub AnswersAdmitted : State → (away : Option ℕ) → Input → (text : List ℕ) → (after : State) → Type 0
+abbrev pub AnswersAdmitted : State → (away : Option ℕ) → Input → (text : List ℕ) → (after : State)
+    → Type 0
 AnswersAdmitted st (Some number) input text after = (text ≡ refusal_text number) × (after ≡ st)
 AnswersAdmitted st None input text after = Takes st input text after
 
 abbrev pub AnswersCall : State → (caller : ℕ) → Called → (text : List ℕ) → (after : State) → Type 0
-AnswersCall st caller called text after = AnswersAdmitted st (turned_away st caller called) (input_of caller called) text after
+AnswersCall st caller called text after =
+    AnswersAdmitted st (turned_away st caller called) (input_of caller called) text after
 
 -- ---- what is asked
 
 -- what a caller asks is answered, or withheld
-abbrev pub Answers : (from to : ℕ) → State → (caller : ℕ) → Asked → (text : List ℕ) → (after : State) → Type 0
-Answers from to st caller (Calling called) text after = Withholds from to st text after ⊎ AnswersCall st caller called text after
-Answers from to st caller (Seeking uri) text after = Withholds from to st text after ⊎ (AnswersQuery st caller uri text × (after ≡ st))
+abbrev pub Answers : (from to : ℕ) → State → (caller : ℕ) → Asked → (text : List ℕ)
+    → (after : State) → Type 0
+Answers from to st caller (Calling called) text after = Withholds from to st text after
+    ⊎ AnswersCall st caller called text after
+Answers from to st caller (Seeking uri) text after = Withholds from to st text after
+    ⊎ (AnswersQuery st caller uri text × (after ≡ st))
 
 -- ---- messages
 
@@ -192,15 +209,20 @@ BodyAsks route body asked = IsSomeAnd (json_of body) (λ d. HasForm route d aske
 
 -- the path ends in an id, no body comes with it, and that version is asked for
 abbrev pub IdAsks : Option ℕ → (body : List ℕ) → Asked → Type 0
-IdAsks number body asked = (id : ℕ) × (number ≡ Some id) × (body ≡ []) × (asked ≡ Calling (Wonders (ShowVersion id)))
+IdAsks number body asked = (id : ℕ) × (number ≡ Some id) × (body ≡ [])
+    × (asked ≡ Calling (Wonders (ShowVersion id)))
 
--- the path ends in a telephone number, no body comes with it, and the ids of that number are asked for
+-- the path ends in a telephone number, no body comes with it, and the ids of that number are asked
+-- for
 abbrev pub NumberAsks : Option ℕ → (body : List ℕ) → Asked → Type 0
-NumberAsks number body asked = (tn : ℕ) × (number ≡ Some tn) × IsTn tn × (body ≡ []) × (asked ≡ Calling (Wonders (Ids tn)))
+NumberAsks number body asked = (tn : ℕ) × (number ≡ Some tn) × IsTn tn × (body ≡ [])
+    × (asked ≡ Calling (Wonders (Ids tn)))
 
--- the path ends in a number from 1 to 100, no body comes with it, and so many of the caller's downloads are asked for
+-- the path ends in a number from 1 to 100, no body comes with it, and so many of the caller's
+-- downloads are asked for
 abbrev pub CountAsks : Option ℕ → (body : List ℕ) → Asked → Type 0
-CountAsks count body asked = (n : ℕ) × (count ≡ Some n) × (1 ≤ n) × (n ≤ 100) × (body ≡ []) × (asked ≡ Calling (Wonders (Fetch n)))
+CountAsks count body asked = (n : ℕ) × (count ≡ Some n) × (1 ≤ n) × (n ≤ 100) × (body ≡ [])
+    × (asked ≡ Calling (Wonders (Fetch n)))
 
 -- a message on the path asks this
 abbrev pub PathAsks : Route → (body : List ℕ) → Asked → Type 0
@@ -210,65 +232,87 @@ PathAsks (Downloads count) body asked = CountAsks count body asked
 PathAsks route body asked = BodyAsks route body asked
 
 -- a message that asks nothing is refused; else what it asks is answered
-abbrev pub Calls : (from to : ℕ) → State → (IsAsked : Asked → Type 0) → (caller : ℕ) → (text : List ℕ) → (after : State) → Type 0
+abbrev pub Calls : (from to : ℕ) → State → (IsAsked : Asked → Type 0) → (caller : ℕ)
+    → (text : List ℕ) → (after : State) → Type 0
 Calls from to st IsAsked caller text after =
     Withholds from to st text after
     ⊎ (((asked : Asked) → ¬ (IsAsked asked)) × Refuses st BadRequest text after)
     ⊎ ((asked : Asked) × IsAsked asked × Answers from to st caller asked text after)
 
 -- on a path, first the method is judged, then the caller, then what is asked
-abbrev pub MeetsPath : (from to : ℕ) → State → Route → (has_method : Bool) → (caller : Option Spid) → (body text : List ℕ) → (after : State) → Type 0
+abbrev pub MeetsPath : (from to : ℕ) → State → Route → (has_method : Bool) → (caller : Option Spid)
+    → (body text : List ℕ) → (after : State) → Type 0
 MeetsPath from to st route false caller body text after = Refuses st BadMethod text after
 MeetsPath from to st route true None body text after = Refuses st BadRequest text after
-MeetsPath from to st route true (Some caller) body text after = Calls from to st (PathAsks route body) caller.number text after
+MeetsPath from to st route true (Some caller) body text after =
+    Calls from to st (PathAsks route body) caller.number text after
 
 -- before all that the path is judged
-abbrev pub Meets : (from to : ℕ) → State → Option Route → Method → (caller : Option Spid) → (body text : List ℕ) → (after : State) → Type 0
+abbrev pub Meets : (from to : ℕ) → State → Option Route → Method → (caller : Option Spid)
+    → (body text : List ℕ) → (after : State) → Type 0
 Meets from to st None method caller body text after = Refuses st NoPath text after
-Meets from to st (Some route) method caller body text after = MeetsPath from to st route (takes route method) caller body text after
+Meets from to st (Some route) method caller body text after =
+    MeetsPath from to st route (takes route method) caller body text after
 
--- a minute that is handed in is a moment of the clock; one that is below the present minute changes nothing
+-- a minute that is handed in is a moment of the clock; one that is below the present minute changes
+-- nothing
 abbrev pub ticked : State → (tick : Option ℕ) → State
 ticked st None = st
 ticked st (Some minute) = next st (Moment minute)
 
--- the clock's move to the minute that is handed in is withheld: the message is not carried out, and is answered with that
-abbrev pub WithholdsTick : (from to : ℕ) → State → (tick : Option ℕ) → (text : List ℕ) → (after : State) → Type 0
+-- the clock's move to the minute that is handed in is withheld: the message is not carried out, and
+-- is answered with that
+abbrev pub WithholdsTick : (from to : ℕ) → State → (tick : Option ℕ) → (text : List ℕ)
+    → (after : State) → Type 0
 WithholdsTick from to st None text after = ⊥
 WithholdsTick from to st (Some minute) text after = Withholds from to st text after
 
--- the message, whose head says the request, is answered by the text, and st becomes after: first the clock moves to the minute
--- that is handed in beside it, and then it is carried out. Offered says whether the clock's path is there. The count of the
+-- the message, whose head says the request, is answered by the text, and st becomes after: first
+-- the clock moves to the minute
+-- that is handed in beside it, and then it is carried out. Offered says whether the clock's path is
+-- there. The count of the
 -- device's failures never falls
-pub record Step (offered : Bool) (tick : Option ℕ) (from to : ℕ) (st : State) (request : Request) (body text : List ℕ) (after : State) : Type 0 where
+pub record Step (offered : Bool) (tick : Option ℕ) (from to : ℕ) (st : State) (request : Request)
+    (body text : List ℕ) (after : State) : Type 0 where
   pub rises : from ≤ to
   pub met :
       WithholdsTick from to st tick text after
-      ⊎ Meets from to (ticked st tick) (among_offered offered request.route) request.method request.caller body text after
+      ⊎ Meets from to (ticked st tick) (among_offered offered request.route) request.method
+      request.caller body text after
 
 -- one answer and one state after it, unless either is withheld
 abbrev pub IsOnce : (text said : List ℕ) → (after later : State) → Type 0
 IsOnce text said after later = IsWithheld text ⊎ IsWithheld said ⊎ ((text ≡ said) × (after ≡ later))
 
--- but for want of the device or of memory, a message has one answer and one state after it, by the minute handed in
+-- but for want of the device or of memory, a message has one answer and one state after it, by the
+-- minute handed in
 abbrev pub StepsOnce : Type 0
 StepsOnce =
-    (offered : Bool) (tick : Option ℕ) (from to from' to' : ℕ) (st : State) (request : Request) (body text said : List ℕ) (after later : State) →
-    Step offered tick from to st request body text after → Step offered tick from' to' st request body said later → IsOnce text said after later
+    (offered : Bool) (tick : Option ℕ) (from to from' to' : ℕ) (st : State) (request : Request)
+    (body text said : List ℕ) (after later : State) →
+    Step offered tick from to st request body text after
+    → Step offered tick from' to' st request body said later → IsOnce text said after later
 
--- the answer that storage fails (29) says that the device failed while its message was served, and that nothing has happened but
+-- the answer that storage fails (29) says that the device failed while its message was served, and
+-- that nothing has happened but
 -- that the clock may have moved to the minute handed in
 abbrev pub StorageTells : Type 0
 StorageTells =
-    (offered : Bool) (tick : Option ℕ) (from to : ℕ) (st : State) (request : Request) (body : List ℕ) (after : State) →
-    Step offered tick from to st request body (refusal_text 29) after → HasRisen from to × ((after ≡ st) ⊎ (after ≡ ticked st tick))
+    (offered : Bool) (tick : Option ℕ) (from to : ℕ) (st : State) (request : Request)
+    (body : List ℕ) (after : State) →
+    Step offered tick from to st request body (refusal_text 29) after → HasRisen from to
+    × ((after ≡ st) ⊎ (after ≡ ticked st tick))
 
 -- ---- contents that stand for states
 
 -- what a caller asks is answered by the text, and the content stands for the state afterwards
-abbrev pub Carried : (from to : ℕ) → (new : Content) → State → (caller : ℕ) → Asked → (text : List ℕ) → Type 0
-Carried from to new st caller asked text = (after : State) × Answers from to st caller asked text after × Stands new after
+abbrev pub Carried : (from to : ℕ) → (new : Content) → State → (caller : ℕ) → Asked
+    → (text : List ℕ) → Type 0
+Carried from to new st caller asked text =
+    (after : State) × Answers from to st caller asked text after × Stands new after
 
 -- and so it is whatever state the content stands for
-abbrev pub Carries : (from to : ℕ) → (old new : Content) → (caller : ℕ) → Asked → (text : List ℕ) → Type 0
-Carries from to old new caller asked text = (st : State) → Stands old st → Carried from to new st caller asked text
+abbrev pub Carries : (from to : ℕ) → (old new : Content) → (caller : ℕ) → Asked → (text : List ℕ)
+    → Type 0
+Carries from to old new caller asked text = (st : State) → Stands old st
+    → Carried from to new st caller asked text

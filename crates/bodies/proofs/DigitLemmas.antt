@@ -13,31 +13,54 @@ use Rattle.serde_json.specs.Read.{number_of, number_from}
 use Rattle.messages.specs.Fields.{number_of as said}
 
 abbrev digits : List ℕ → Parts
-digits ds = record { whole = ds; point = false; fraction = []; exponent_negative = false; exponent = []; len = length (ds ++ []) }
+digits ds = record {
+  whole = ds;
+  point = false;
+  fraction = [];
+  exponent_negative = false;
+  exponent = [];
+  len = length (ds ++ []);
+}
 
 no_minus : (ds : List ℕ) → AllDigits 10 ds → 0 < length ds → get_or ds 0 0 ≡ 45 → ⊥
 no_minus [] h some e = omega arith
-no_minus (d ∷ ds) h some e = let digit : digit_value d < 10 = h.0 in let is : d ≡ 45 = e in grind arith
+no_minus (d ∷ ds) h some e = let digit : digit_value d < 10 = h.0 in let is : d ≡ 45 = e in
+    grind arith
 
-scanned : (ds : List ℕ) → AllDigits 10 ds → 0 < length ds → number_of ds ≡ number_from false (digits ds)
+scanned : (ds : List ℕ) → AllDigits 10 ds → 0 < length ds
+    → number_of ds ≡ number_from false (digits ds)
 unfolding number_of
 scanned ds h some =
-    let formed : IsWellFormed (digits ds) = record { whole_digits = h; fraction_digits = tt; exponent_digits = tt; no_point = λ _. refl; no_exponent = λ _. refl; len_is = refl } in
-    rw (ne_eqb (get_or ds 0 0) 45 (no_minus ds h some)) (ap (λ s. number_from false (scan_numeral s)) (sym (append-nil ds)) ∙ ap (number_from false) (scan_numeral-text_of (digits ds) formed))
+    let formed : IsWellFormed (digits ds) = record {
+      whole_digits = h;
+      fraction_digits = tt;
+      exponent_digits = tt;
+      no_point = λ _. refl;
+      no_exponent = λ _. refl;
+      len_is = refl;
+    } in
+    rw (ne_eqb (get_or ds 0 0) 45 (no_minus ds h some))
+    (ap (λ s. number_from false (scan_numeral s)) (sym (append-nil ds))
+    ∙ ap (number_from false) (scan_numeral-text_of (digits ds) formed))
 
 pub plain_number : (s : List ℕ) (n : ℕ) → Some n ≡ said s → number_of s ≡ Some (unsigned n)
-plain_number s n is = go (nat_lt 0 (length s)) refl (nat_le (length s) 19) refl (all_ascii_digits s) refl is
+plain_number s n is = go (nat_lt 0 (length s)) refl (nat_le (length s) 19) refl (all_ascii_digits s)
+    refl is
   where
-    go : (x : Bool) → nat_lt 0 (length s) ≡ x → (y : Bool) → nat_le (length s) 19 ≡ y → (z : Bool) → all_ascii_digits s ≡ z
-        → Some n ≡ (if x && (y && z) then Some (digits_value 10 s) else None) → number_of s ≡ Some (unsigned n)
+    go : (x : Bool) → nat_lt 0 (length s) ≡ x → (y : Bool) → nat_le (length s) 19 ≡ y → (z : Bool)
+        → all_ascii_digits s ≡ z
+        → Some n ≡ (if x && (y && z) then Some (digits_value 10 s) else None)
+        → number_of s ≡ Some (unsigned n)
     go true e true f true g k =
         let model = numerals_by_value (λ ds. all_ascii_digits ds ≡ true) tells_all_ascii_digits in
         let ds : AllDigits 10 s = model.to s g in
         let some : 0 < length s = grind (arith, nat_tests) in
         let short : length s ≤ 19 = grind (arith, nat_tests) in
-        let small : digits_value 10 s < 2 ^ 64 = omega (arith, digits_value_short model s 19 g short) in
+        let small : digits_value 10 s < 2 ^ 64 =
+        omega (arith, digits_value_short model s 19 g short) in
         let same : digits_value 10 s ≡ n = cc in
-        scanned s ds some ∙ rw (lt-ltb 0 (length s) some, append-nil s, lt-ltb _ _ small) (ap (λ k. Some (unsigned k)) same)
+        scanned s ds some ∙ rw (lt-ltb 0 (length s) some, append-nil s, lt-ltb _ _ small)
+        (ap (λ k. Some (unsigned k)) same)
     go false e y f z g k = cc
     go true e false f z g k = cc
     go true e true f false g k = cc

@@ -10,17 +10,22 @@ use Rattle.meaning.specs.History.{Commands}
 use Rattle.calls.specs.Calls.{Wants}
 use Rattle.bodies.specs.Forms.{HasVersionCommand, Writes, Asked, Calling, HasPort, HasLrn, HasCic, HasBlockCommand, HasCommand, HasValues}
 
-pub no_text : (IsOne : ℕ → Type 0) (text_of : ℕ → List ℕ) (given : Option (List ℕ)) → None ≡ given → (n : ℕ) → ¬ (Writes IsOne text_of given n)
+pub no_text : (IsOne : ℕ → Type 0) (text_of : ℕ → List ℕ) (given : Option (List ℕ)) → None ≡ given
+    → (n : ℕ) → ¬ (Writes IsOne text_of given n)
 no_text IsOne text_of given e n w = let h : None ≡ Some (text_of n) = e ∙ w.said in cc
 
-pub other_text : (IsOne : ℕ → Type 0) (text_of : ℕ → List ℕ) (given : Option (List ℕ)) (t : List ℕ) → Some t ≡ given → ((n : ℕ) → IsOne n → t ≢ text_of n) → (n : ℕ) → ¬ (Writes IsOne text_of given n)
-other_text IsOne text_of given t e h n w = h n w.valid (let k : Some t ≡ Some (text_of n) = e ∙ w.said in cc)
+pub other_text : (IsOne : ℕ → Type 0) (text_of : ℕ → List ℕ) (given : Option (List ℕ)) (t : List ℕ)
+    → Some t ≡ given → ((n : ℕ) → IsOne n → t ≢ text_of n) → (n : ℕ)
+    → ¬ (Writes IsOne text_of given n)
+other_text IsOne text_of given t e h n w = h n w.valid (let k : Some t ≡ Some (text_of n) =
+    e ∙ w.said in cc)
 
 pub on_none : {X P : Type 0} (o : Option X) → P → IfNone o P
 on_none None p = p
 on_none (Some x) p = tt
 
-pub no_values : (route : Route) (d : Data) → route ≢ Acknowledge → route ≢ Query → route ≢ Clock → ((c : Command) → ¬ (HasCommand route d c)) → (asked : Asked) → ¬ (HasValues route d asked)
+pub no_values : (route : Route) (d : Data) → route ≢ Acknowledge → route ≢ Query → route ≢ Clock
+    → ((c : Command) → ¬ (HasCommand route d c)) → (asked : Asked) → ¬ (HasValues route d asked)
 no_values Carriers d a q k h asked x = h x.0 x.1
 no_values RoutingNumbers d a q k h asked x = h x.0 x.1
 no_values Codes d a q k h asked x = h x.0 x.1
@@ -36,7 +41,9 @@ no_values (Version id) d a q k h asked x = x
 no_values (Number tn) d a q k h asked x = x
 no_values (Downloads count) d a q k h asked x = x
 
-pub values_of_command : (route : Route) (d : Data) (c : Command) → route ≢ Acknowledge → route ≢ Query → route ≢ Clock → HasCommand route d c → HasValues route d (Calling (Wants (Commands c)))
+pub values_of_command : (route : Route) (d : Data) (c : Command) → route ≢ Acknowledge
+    → route ≢ Query → route ≢ Clock → HasCommand route d c
+    → HasValues route d (Calling (Wants (Commands c)))
 values_of_command Carriers d c a q k x = (c, x, refl)
 values_of_command RoutingNumbers d c a q k x = (c, x, refl)
 values_of_command Codes d c a q k x = (c, x, refl)
@@ -52,22 +59,30 @@ values_of_command (Version id) d c a q k x = absurd x
 values_of_command (Number tn) d c a q k x = absurd x
 values_of_command (Downloads count) d c a q k x = absurd x
 
-pub no_old_create : (d : Data) → ((tn old_provider new_provider due : ℕ) → ¬ (HasPort d tn old_provider new_provider due)) → (c : Command) → ¬ (HasCommand OldProviderPath d c)
+pub no_old_create : (d : Data) → ((tn old_provider new_provider due : ℕ)
+    → ¬ (HasPort d tn old_provider new_provider due)) → (c : Command)
+    → ¬ (HasCommand OldProviderPath d c)
 no_old_create d h c x = h x.0 x.1 x.2 x.3 x.5
 
-pub no_new_create : (d : Data) → ((tn old_provider new_provider due : ℕ) → ¬ (HasPort d tn old_provider new_provider due)) → (c : Command) → ¬ (HasCommand NewProviderPath d c)
+pub no_new_create : (d : Data) → ((tn old_provider new_provider due : ℕ)
+    → ¬ (HasPort d tn old_provider new_provider due)) → (c : Command)
+    → ¬ (HasCommand NewProviderPath d c)
 no_new_create d h c x = h x.0 x.1 x.2 x.3 x.6
 
-pub no_routing : (d : Data) → ((lrn : ℕ) (cic : Option ℕ) → HasLrn d lrn → ¬ (HasCic d cic)) → (c : Command) → ¬ (HasCommand NewProviderPath d c)
+pub no_routing : (d : Data) → ((lrn : ℕ) (cic : Option ℕ) → HasLrn d lrn → ¬ (HasCic d cic))
+    → (c : Command) → ¬ (HasCommand NewProviderPath d c)
 no_routing d h c x = h x.4 x.5 x.7 x.8
 
-pub no_assignment : (d : Data) → ((lrn : ℕ) (cic : Option ℕ) → HasLrn d lrn → ¬ (HasCic d cic)) → (c : Command) → ¬ (HasBlockCommand AssignPath d c)
+pub no_assignment : (d : Data) → ((lrn : ℕ) (cic : Option ℕ) → HasLrn d lrn → ¬ (HasCic d cic))
+    → (c : Command) → ¬ (HasBlockCommand AssignPath d c)
 no_assignment d h c x = h x.2 x.3 x.6 x.7
 
-pub no_donation : (d : Data) → ((lrn : ℕ) (cic : Option ℕ) → HasLrn d lrn → ¬ (HasCic d cic)) → (c : Command) → ¬ (HasBlockCommand DonatePath d c)
+pub no_donation : (d : Data) → ((lrn : ℕ) (cic : Option ℕ) → HasLrn d lrn → ¬ (HasCic d cic))
+    → (c : Command) → ¬ (HasBlockCommand DonatePath d c)
 no_donation d h c x = h x.2 x.3 x.6 x.7
 
-pub no_modify : (d : Data) → ((lrn : ℕ) (cic : Option ℕ) → HasLrn d lrn → ¬ (HasCic d cic)) → (c : VersionCommand) → ¬ (HasVersionCommand ModifyPath d c)
+pub no_modify : (d : Data) → ((lrn : ℕ) (cic : Option ℕ) → HasLrn d lrn → ¬ (HasCic d cic))
+    → (c : VersionCommand) → ¬ (HasVersionCommand ModifyPath d c)
 no_modify d h c x = h x.0 x.1 x.2 x.3
 
 -- no window is there, whatever its minutes were

@@ -24,23 +24,30 @@ turned false true c = refl
 turned false false c = refl
 
 -- a member that is put is one of those keys, and so are all others
-only_put_at : (ks : List (List ℕ)) (o : Ordering) (k l : List ℕ) (d e : Data) (ms : Members) → slice_cmp nat_cmp k l ≡ o
+only_put_at : (ks : List (List ℕ)) (o : Ordering) (k l : List ℕ) (d e : Data) (ms : Members)
+    → slice_cmp nat_cmp k l ≡ o
     → only_members ks (put k d ms) ≡ (list_any (bytes_eq k) ks && only_members ks ms)
-    → only_members ks (match_ordering o (member k d (member l e ms)) (member l d ms) (member l e (put k d ms))) ≡ (list_any (bytes_eq k) ks && only_members ks (member l e ms))
+    → only_members ks (match_ordering o (member k d (member l e ms)) (member l d ms)
+    (member l e (put k d ms))) ≡ (list_any (bytes_eq k) ks && only_members ks (member l e ms))
 only_put_at ks Less k l d e ms is later = refl
 only_put_at ks Equal k l d e ms is later =
     let same : k ≡ l = (bytes_eq-Decides k l).0 (sym (is_eq-slice_cmp k l) ∙ ap is_eq is) in
-    once (list_any (bytes_eq l) ks) (only_members ks ms) ∙ ap (λ x. list_any (bytes_eq x) ks && (list_any (bytes_eq l) ks && only_members ks ms)) (sym same)
-only_put_at ks Greater k l d e ms is later = ap (λ b. list_any (bytes_eq l) ks && b) later ∙ turned (list_any (bytes_eq l) ks) (list_any (bytes_eq k) ks) (only_members ks ms)
+    once (list_any (bytes_eq l) ks) (only_members ks ms)
+    ∙ ap (λ x. list_any (bytes_eq x) ks && (list_any (bytes_eq l) ks && only_members ks ms))
+    (sym same)
+only_put_at ks Greater k l d e ms is later = ap (λ b. list_any (bytes_eq l) ks && b) later
+    ∙ turned (list_any (bytes_eq l) ks) (list_any (bytes_eq k) ks) (only_members ks ms)
 
-only_put : (ks : List (List ℕ)) (k : List ℕ) (d : Data) (ms : Members) → only_members ks (put k d ms) ≡ (list_any (bytes_eq k) ks && only_members ks ms)
+only_put : (ks : List (List ℕ)) (k : List ℕ) (d : Data) (ms : Members)
+    → only_members ks (put k d ms) ≡ (list_any (bytes_eq k) ks && only_members ks ms)
 only_put ks k d no_members = refl
 only_put ks k d (member l e ms) = only_put_at ks _ k l d e ms refl (only_put ks k d ms)
 
 abbrev is_one : List (List ℕ) → Member → Bool
 is_one ks m = list_any (bytes_eq m.key.now) ks
 
-only_upon : (ks : List (List ℕ)) (found : Members) (ms : List Member) → only_members ks (members_upon found ms) ≡ (list_all (is_one ks) ms && only_members ks found)
+only_upon : (ks : List (List ℕ)) (found : Members) (ms : List Member)
+    → only_members ks (members_upon found ms) ≡ (list_all (is_one ks) ms && only_members ks found)
 only_upon ks found [] = refl
 only_upon ks found (m ∷ ms) =
     only_upon ks (put m.key.now (scalar_data m.value) found) ms
@@ -53,16 +60,22 @@ only_upon ks found (m ∷ ms) =
     moved false true c = refl
     moved false false c = refl
 
-any_seen : (k : List ℕ) (allowed : List (Bor (List ℕ))) → list_any (λ (s : Bor (List ℕ)). bytes_eq k s.now) allowed ≡ list_any (bytes_eq k) (map (λ (s : Bor (List ℕ)). s.now) allowed)
+any_seen : (k : List ℕ) (allowed : List (Bor (List ℕ)))
+    → list_any (λ (s : Bor (List ℕ)). bytes_eq k s.now) allowed ≡ list_any (bytes_eq k)
+    (map (λ (s : Bor (List ℕ)). s.now) allowed)
 any_seen k [] = refl
 any_seen k (s ∷ ss) = rw (any_seen k ss) refl
 
-all_seen : (allowed : List (Bor (List ℕ))) (ms : List Member) → list_all (λ (m : Member). list_any (λ (s : Bor (List ℕ)). bytes_eq m.key.now s.now) allowed) ms ≡ list_all (is_one (map (λ (s : Bor (List ℕ)). s.now) allowed)) ms
+all_seen : (allowed : List (Bor (List ℕ))) (ms : List Member)
+    → list_all (λ (m : Member). list_any (λ (s : Bor (List ℕ)). bytes_eq m.key.now s.now) allowed)
+    ms ≡ list_all (is_one (map (λ (s : Bor (List ℕ)). s.now) allowed)) ms
 all_seen allowed [] = refl
 all_seen allowed (m ∷ ms) = rw (all_seen allowed ms, any_seen m.key.now allowed) refl
 
 pub only_flat : (allowed : List (Bor (List ℕ))) (ms : List Member) →
-    list_all (λ (m : Member). list_any (λ (s : Bor (List ℕ)). bytes_eq m.key.now s.now) allowed) ms ≡ only_members (map (λ (s : Bor (List ℕ)). s.now) allowed) (members_upon no_members ms)
+    list_all (λ (m : Member). list_any (λ (s : Bor (List ℕ)). bytes_eq m.key.now s.now) allowed) ms
+    ≡ only_members (map (λ (s : Bor (List ℕ)). s.now) allowed) (members_upon no_members ms)
 only_flat allowed ms =
-    all_seen allowed ms ∙ sym (and_true (list_all (is_one (map (λ (s : Bor (List ℕ)). s.now) allowed)) ms))
+    all_seen allowed ms
+    ∙ sym (and_true (list_all (is_one (map (λ (s : Bor (List ℕ)). s.now) allowed)) ms))
     ∙ sym (only_upon (map (λ (s : Bor (List ℕ)). s.now) allowed) no_members ms)

@@ -8,17 +8,21 @@ use Rattle.serde_json.specs.Find.{as_object}
 use Rattle.serde_json.specs.View.{members_view}
 use Rattle.bodies.specs.Forms.{only_members, only_keys}
 
-pub any-map : (k : List ℕ) (allowed : List (Bor (List ℕ))) → list_any (bytes_eq k) (map (λ (s : Bor (List ℕ)). s.now) allowed) ≡ list_any (λ (s : Bor (List ℕ)). bytes_eq k s.now) allowed
+pub any-map : (k : List ℕ) (allowed : List (Bor (List ℕ)))
+    → list_any (bytes_eq k) (map (λ (s : Bor (List ℕ)). s.now) allowed)
+    ≡ list_any (λ (s : Bor (List ℕ)). bytes_eq k s.now) allowed
 any-map k [] = refl
 any-map k (s ∷ ss) = rw (any-map k ss) refl
 
 pub known : (allowed : List (Bor (List ℕ))) (es : List (String Global × Value)) →
-    list_all (λ (k : String Global). list_any (λ (s : Bor (List ℕ)). bytes_eq (string_bytes k) s.now) allowed) (keys_of es)
+    list_all (λ (k : String Global). list_any (λ (s : Bor (List ℕ)). bytes_eq (string_bytes k)
+    s.now) allowed) (keys_of es)
     ≡ only_members (map (λ (s : Bor (List ℕ)). s.now) allowed) (members_view es)
 known allowed [] = refl
 known allowed (e ∷ es) = rw (known allowed es, any-map (string_bytes e.0) allowed) refl
 
-pub of_object : (ks : List (List ℕ)) (d : Data) (ms : Members) → Some ms ≡ as_object d → only_members ks ms ≡ only_keys ks d
+pub of_object : (ks : List (List ℕ)) (d : Data) (ms : Members) → Some ms ≡ as_object d
+    → only_members ks ms ≡ only_keys ks d
 of_object ks null ms e = cc
 of_object ks (boolean b) ms e = cc
 of_object ks (number n) ms e = cc

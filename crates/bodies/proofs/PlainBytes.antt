@@ -23,8 +23,11 @@ below : (n p : ℕ) → T (are_right n) → p < n → (get_or PLAIN p 0 == 49) �
 below zero p t h = absurd (omega arith)
 below (suc n) p t h =
     elim (eq-zero-or-pos (n - p)) [
-      | inl z ↦ let e : p ≡ n = omega arith in rw e (same-is (get_or PLAIN n 0 == 49) (is_plain n) (and_l (same (get_or PLAIN n 0 == 49) (is_plain n)) (are_right n) t))
-      | inr g ↦ below n p (and_r (same (get_or PLAIN n 0 == 49) (is_plain n)) (are_right n) t) (omega arith)
+      | inl z ↦ let e : p ≡ n = omega arith in
+          rw e (same-is (get_or PLAIN n 0 == 49) (is_plain n)
+          (and_l (same (get_or PLAIN n 0 == 49) (is_plain n)) (are_right n) t))
+      | inr g ↦ below n p (and_r (same (get_or PLAIN n 0 == 49) (is_plain n)) (are_right n) t)
+          (omega arith)
     ]
 
 pub plain_at : (p : ℕ) → p < 256 → (get_or PLAIN p 0 == 49) ≡ is_plain p

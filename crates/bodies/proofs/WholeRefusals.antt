@@ -12,9 +12,13 @@ nil_of (x ∷ xs) e = cc
 pub no_bytes : {Z : Type 0} (s : String Z) → string_len s ≡ 0 → string_bytes s ≡ []
 no_bytes s e = nil_of (string_bytes s) (omega (arith, e, s.bytes.ok.0))
 
-pub refusal_is : (failure : Failure) (body text empty empty_body : List ℕ) (status : ℕ) → empty ≡ [] → empty_body ≡ [] → status ≡ failure_status failure
-    → body ≡ empty_body ++ failure_body failure → text ≡ empty ++ answer status body → text ≡ failure_text failure
+pub refusal_is : (failure : Failure) (body text empty empty_body : List ℕ) (status : ℕ) → empty ≡ []
+    → empty_body ≡ [] → status ≡ failure_status failure
+    → body ≡ empty_body ++ failure_body failure → text ≡ empty ++ answer status body
+    → text ≡ failure_text failure
 unfolding failure_text
 refusal_is failure body text empty empty_body status e f s b t =
-    let whole : body ≡ failure_body failure = b ∙ ap (λ (x : List ℕ). x ++ failure_body failure) f in
-    t ∙ ap (λ (x : List ℕ). x ++ answer status body) e ∙ ap (λ (x : List ℕ). answer status x) whole ∙ ap (λ (n : ℕ). answer n (failure_body failure)) s
+    let whole : body ≡ failure_body failure =
+    b ∙ ap (λ (x : List ℕ). x ++ failure_body failure) f in
+    t ∙ ap (λ (x : List ℕ). x ++ answer status body) e ∙ ap (λ (x : List ℕ). answer status x) whole
+    ∙ ap (λ (n : ℕ). answer n (failure_body failure)) s

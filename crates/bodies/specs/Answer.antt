@@ -22,11 +22,13 @@ answer code body = head code (length body) ++ body
 
 -- the body of a refusal
 abbrev pub refusal_body : List ℕ → ℕ → List ℕ
-refusal_body name number = codes "{\"error\":\"" ++ name ++ codes "\",\"number\":" ++ decimal number ++ codes "}"
+refusal_body name number = codes "{\"error\":\"" ++ name ++ codes "\",\"number\":" ++ decimal number
+    ++ codes "}"
 
 -- the statuses that are answered
 abbrev pub IsAnswered : ℕ → Type 0
-IsAnswered code = (code ≡ 200) ⊎ (code ≡ 400) ⊎ (code ≡ 403) ⊎ (code ≡ 404) ⊎ (code ≡ 405) ⊎ (code ≡ 409) ⊎ (code ≡ 413) ⊎ (code ≡ 503)
+IsAnswered code = (code ≡ 200) ⊎ (code ≡ 400) ⊎ (code ≡ 403) ⊎ (code ≡ 404) ⊎ (code ≡ 405)
+    ⊎ (code ≡ 409) ⊎ (code ≡ 413) ⊎ (code ≡ 503)
 
 -- at most so many bytes are appended to what is there, in room that was taken before
 pub record Grows (most old_len new_len old_capacity new_capacity : ℕ) : Type 0 where

@@ -1,4 +1,5 @@
--- What stands in place of a reply: a name, a number and a status for each failure, and the bytes that say them.
+-- What stands in place of a reply: a name, a number and a status for each failure, and the bytes
+-- that say them.
 use Rattle.std.specs.Prelude.{ℕ, List, codes}
 use Rattle.meaning.specs.RefusalNumbers.{number_of}
 use Rattle.meaning.specs.declared.refusal.Refusal.{Refusal}

@@ -27,7 +27,8 @@ flat_data ms = object (members_upon no_members ms)
 
 -- the token alone is the scalar, whatever follows
 abbrev pub IsScalar : Token → Scalar → Type 0
-IsScalar token s = (depth : ℕ) (rest : List Token) → converted of_json (value depth (token ∷ rest)) ≡ Some (scalar_data s, rest)
+IsScalar token s = (depth : ℕ) (rest : List Token) → converted of_json (value depth (token ∷ rest))
+    ≡ Some (scalar_data s, rest)
 
 -- behind its brace, an object of a body
 abbrev pub read_object : List Token → Option (Members × List Token)

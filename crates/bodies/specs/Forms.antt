@@ -73,8 +73,10 @@ abbrev pub keys : Route → List (List ℕ)
 keys Carriers = codes "spid" ∷ []
 keys RoutingNumbers = codes "lrn" ∷ []
 keys Codes = codes "code" ∷ codes "spid" ∷ []
-keys OldProviderPath = codes "authorized" ∷ codes "due" ∷ codes "new" ∷ codes "old" ∷ codes "tn" ∷ []
-keys NewProviderPath = codes "cic" ∷ codes "due" ∷ codes "lrn" ∷ codes "new" ∷ codes "old" ∷ codes "tn" ∷ []
+keys OldProviderPath = codes "authorized" ∷ codes "due" ∷ codes "new" ∷ codes "old" ∷ codes "tn"
+    ∷ []
+keys NewProviderPath = codes "cic" ∷ codes "due" ∷ codes "lrn" ∷ codes "new" ∷ codes "old" ∷ codes
+    "tn" ∷ []
 keys (VersionPaths path) = version_keys path
 keys (BlockPaths path) = block_keys path
 keys Acknowledge = codes "attempt" ∷ codes "id" ∷ []
@@ -92,7 +94,8 @@ keys (Downloads count) = []
 
 -- a whole number below 2^40
 unfoldable pub whole : List ℕ → Data → Option ℕ
-whole key d = option_and_then below_limit (option_and_then as_u64 (option_and_then as_number (get key d)))
+whole key d =
+    option_and_then below_limit (option_and_then as_u64 (option_and_then as_number (get key d)))
 
 -- a text
 unfoldable pub text : List ℕ → Data → Option (List ℕ)
@@ -114,7 +117,8 @@ unfoldable pub window : List ℕ → Data → Option ℕ
 window key d = option_and_then in_range (whole key d)
 
 -- the text of a number of its kind
-pub record Writes (IsOne : ℕ → Type 0) (text_of : ℕ → List ℕ) (given : Option (List ℕ)) (n : ℕ) : Type 0 where
+pub record Writes (IsOne : ℕ → Type 0) (text_of : ℕ → List ℕ) (given : Option (List ℕ))
+    (n : ℕ) : Type 0 where
   pub valid : IsOne n
   pub said : given ≡ Some (text_of n)
 
@@ -197,30 +201,40 @@ HasVersionCommand RemoveFromConflictPath d command = command ≡ RemoveFromConfl
 HasVersionCommand CancelPath d command = command ≡ Cancel
 HasVersionCommand OldAcknowledgePath d command = command ≡ OldProviderCancellationAcknowledge
 HasVersionCommand NewAcknowledgePath d command = command ≡ NewProviderCancellationAcknowledge
-HasVersionCommand DisconnectPath d command = (release : Option ℕ) × HasRelease d release × (command ≡ Disconnect release)
-HasVersionCommand ModifyPath d command = (lrn : ℕ) × (cic : Option ℕ) × HasLrn d lrn × HasCic d cic × (command ≡ ModifyRouting lrn cic)
+HasVersionCommand DisconnectPath d command = (release : Option ℕ) × HasRelease d release
+    × (command ≡ Disconnect release)
+HasVersionCommand ModifyPath d command = (lrn : ℕ) × (cic : Option ℕ) × HasLrn d lrn × HasCic d cic
+    × (command ≡ ModifyRouting lrn cic)
 
 -- a path's command on a block
 abbrev pub HasBlockCommand : BlockPath → Data → Command → Type 0
 HasBlockCommand AssignPath d c =
-    (block : ℕ) × (holder : ℕ) × (lrn : ℕ) × (cic : Option ℕ) × HasBlock d block × HasSpid (codes "holder") d holder × HasLrn d lrn × HasCic d cic × (c ≡ Assign block holder lrn cic)
+    (block : ℕ) × (holder : ℕ) × (lrn : ℕ) × (cic : Option ℕ) × HasBlock d block
+    × HasSpid (codes "holder") d holder × HasLrn d lrn × HasCic d cic
+    × (c ≡ Assign block holder lrn cic)
 HasBlockCommand DonatePath d c =
-    (block : ℕ) × (used : List ℕ) × (lrn : ℕ) × (cic : Option ℕ) × HasBlock d block × HasUsed d used × HasLrn d lrn × HasCic d cic × (c ≡ Donate block used lrn cic)
+    (block : ℕ) × (used : List ℕ) × (lrn : ℕ) × (cic : Option ℕ) × HasBlock d block × HasUsed d used
+    × HasLrn d lrn × HasCic d cic × (c ≡ Donate block used lrn cic)
 HasBlockCommand ReleasePath d c = (block : ℕ) × HasBlock d block × (c ≡ Release block)
 
 -- a path's command
 abbrev pub HasCommand : Route → Data → Command → Type 0
 HasCommand Carriers d c = (spid : ℕ) × HasSpid (codes "spid") d spid × (c ≡ RegisterCarrier spid)
 HasCommand RoutingNumbers d c = (lrn : ℕ) × HasLrn d lrn × (c ≡ RegisterRoutingNumber lrn)
-HasCommand Codes d c = (code : ℕ) × (spid : ℕ) × HasCode d code × HasSpid (codes "spid") d spid × (c ≡ OpenCode code spid)
+HasCommand Codes d c = (code : ℕ) × (spid : ℕ) × HasCode d code × HasSpid (codes "spid") d spid
+    × (c ≡ OpenCode code spid)
 HasCommand OldProviderPath d c =
-    (tn : ℕ) × (old_provider : ℕ) × (new_provider : ℕ) × (due : ℕ) × (authorized : Bool) × HasPort d tn old_provider new_provider due
-    × (flag (codes "authorized") d ≡ Some authorized) × (c ≡ OldProviderCreate tn old_provider new_provider due authorized)
+    (tn : ℕ) × (old_provider : ℕ) × (new_provider : ℕ) × (due : ℕ) × (authorized : Bool)
+    × HasPort d tn old_provider new_provider due
+    × (flag (codes "authorized") d ≡ Some authorized)
+    × (c ≡ OldProviderCreate tn old_provider new_provider due authorized)
 HasCommand NewProviderPath d c =
-    (tn : ℕ) × (old_provider : ℕ) × (new_provider : ℕ) × (due : ℕ) × (lrn : ℕ) × (cic : Option ℕ) × HasPort d tn old_provider new_provider due
+    (tn : ℕ) × (old_provider : ℕ) × (new_provider : ℕ) × (due : ℕ) × (lrn : ℕ) × (cic : Option ℕ)
+    × HasPort d tn old_provider new_provider due
     × HasLrn d lrn × HasCic d cic × (c ≡ NewProviderCreate tn old_provider new_provider due lrn cic)
 HasCommand (VersionPaths path) d c =
-    (id : ℕ) × (command : VersionCommand) × (whole (codes "id") d ≡ Some id) × HasVersionCommand path d command × (c ≡ OnVersion id command)
+    (id : ℕ) × (command : VersionCommand) × (whole (codes "id") d ≡ Some id)
+    × HasVersionCommand path d command × (c ≡ OnVersion id command)
 HasCommand (BlockPaths path) d c = HasBlockCommand path d c
 HasCommand WindowsPath d c = (w : Windows) × HasWindows d w × (c ≡ SetWindows w)
 HasCommand Acknowledge d c = ⊥
@@ -231,13 +245,17 @@ HasCommand (Number tn) d c = ⊥
 HasCommand (Downloads count) d c = ⊥
 
 abbrev pub HasOrder : Route → Data → Asked → Type 0
-HasOrder route d asked = (c : Command) × HasCommand route d c × (asked ≡ Calling (Wants (Commands c)))
+HasOrder route d asked = (c : Command) × HasCommand route d c
+    × (asked ≡ Calling (Wants (Commands c)))
 
 -- a path's values. A version's, a telephone number's and that of the downloads have no body
 abbrev pub HasValues : Route → Data → Asked → Type 0
-HasValues Acknowledge d asked = (id : ℕ) × (attempt : ℕ) × (whole (codes "id") d ≡ Some id) × (whole (codes "attempt") d ≡ Some attempt) × (asked ≡ Calling (Wants (Acknowledges id attempt)))
+HasValues Acknowledge d asked = (id : ℕ) × (attempt : ℕ) × (whole (codes "id") d ≡ Some id)
+    × (whole (codes "attempt") d ≡ Some attempt)
+    × (asked ≡ Calling (Wants (Acknowledges id attempt)))
 HasValues Query d asked = (uri : List ℕ) × (text (codes "uri") d ≡ Some uri) × (asked ≡ Seeking uri)
-HasValues Clock d asked = (minute : ℕ) × (whole (codes "minute") d ≡ Some minute) × (asked ≡ Calling (Moves minute))
+HasValues Clock d asked = (minute : ℕ) × (whole (codes "minute") d ≡ Some minute)
+    × (asked ≡ Calling (Moves minute))
 HasValues (Version id) d asked = ⊥
 HasValues (Number tn) d asked = ⊥
 HasValues (Downloads count) d asked = ⊥

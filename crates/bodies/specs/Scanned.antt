@@ -8,7 +8,8 @@ use Rattle.bodies.specs.Flat.{IsScalar}
 use Rattle.bodies.specs.declared.flat.Scalar.{Scalar}
 use Rattle.bodies.specs.declared.flat.Member.{Member}
 
--- a byte that stands for itself in a text: a printable character of ASCII that is no quote and no backslash
+-- a byte that stands for itself in a text: a printable character of ASCII that is no quote and no
+-- backslash
 abbrev pub is_plain : ℕ → Bool
 is_plain x = nat_le 32 x && (nat_lt x 127 && (not (x == 34) && not (x == 92)))
 
@@ -35,4 +36,5 @@ pub record IsMemberThen (bytes : List ℕ) (m : Member) (rest : List ℕ) : Type
   pub gaps : IsGap before × IsGap between
   pub named : IsUtf8 m.key.now
   pub valued : IsTokenOf token m.value
-  pub bytes_are : bytes ≡ before ++ (token_text (key m.key.now) ++ (between ++ (token_text token ++ rest)))
+  pub bytes_are : bytes
+      ≡ before ++ (token_text (key m.key.now) ++ (between ++ (token_text token ++ rest)))

@@ -63,7 +63,8 @@ counts_text v =
 -- the members `lrn` to `old`
 abbrev pub parties_text : View → List ℕ
 parties_text v =
-    codes ",\"lrn\":" ++ lrn_value (lrn_in v.routing) ++ codes ",\"new\":\"" ++ spid_text v.new_provider
+    codes ",\"lrn\":" ++ lrn_value (lrn_in v.routing) ++ codes ",\"new\":\"" ++ spid_text
+    v.new_provider
     ++ codes "\",\"old\":\"" ++ spid_text v.old_provider ++ codes "\""
 
 -- the members `phase` to `since`
@@ -74,7 +75,8 @@ times_text v =
 
 -- the members `status` and `subject`
 abbrev pub standing_text : View → List ℕ
-standing_text v = codes ",\"status\":\"" ++ status_word v.status ++ codes "\",\"subject\":\"" ++ subject_text v.subject ++ codes "\"}"
+standing_text v = codes ",\"status\":\"" ++ status_word v.status ++ codes "\",\"subject\":\""
+    ++ subject_text v.subject ++ codes "\"}"
 
 unfoldable pub view_text : View → List ℕ
 view_text v = counts_text v ++ parties_text v ++ times_text v ++ standing_text v
@@ -90,12 +92,14 @@ listed text (x ∷ xs) = text x ++ flat_map (λ y. codes "," ++ text y) xs
 
 abbrev pub row_text : InForce → List ℕ
 row_text r =
-    codes "{\"cic\":" ++ cic_value (cic_in r.routing) ++ codes ",\"lrn\":" ++ lrn_value (lrn_in r.routing)
+    codes "{\"cic\":" ++ cic_value (cic_in r.routing) ++ codes ",\"lrn\":" ++ lrn_value
+    (lrn_in r.routing)
     ++ codes ",\"subject\":\"" ++ subject_text r.subject ++ codes "\"}"
 
 -- a registered carrier, and its starting rows
 unfoldable pub registered_text : ℕ → List InForce → List ℕ
-registered_text spid rows = codes "{\"rows\":[" ++ listed row_text rows ++ codes "],\"spid\":\"" ++ spid_text spid ++ codes "\"}"
+registered_text spid rows = codes "{\"rows\":[" ++ listed row_text rows ++ codes "],\"spid\":\""
+    ++ spid_text spid ++ codes "\"}"
 
 -- ---- downloads, whose members stand in the order of their names
 
@@ -127,22 +131,27 @@ downloads_text downloads = codes "{\"downloads\":[" ++ listed download_text down
 
 -- a routing number, and whose it is
 unfoldable pub routing_number_text : (lrn spid : ℕ) → List ℕ
-routing_number_text lrn spid = codes "{\"lrn\":\"" ++ lrn_text lrn ++ codes "\",\"spid\":\"" ++ spid_text spid ++ codes "\"}"
+routing_number_text lrn spid =
+    codes "{\"lrn\":\"" ++ lrn_text lrn ++ codes "\",\"spid\":\"" ++ spid_text spid ++ codes "\"}"
 
 -- a code, and its holder
 unfoldable pub opened_code_text : (code spid : ℕ) → List ℕ
-opened_code_text code spid = codes "{\"code\":\"" ++ code_text code ++ codes "\",\"spid\":\"" ++ spid_text spid ++ codes "\"}"
+opened_code_text code spid =
+    codes "{\"code\":\"" ++ code_text code ++ codes "\",\"spid\":\"" ++ spid_text spid ++ codes
+    "\"}"
 
 -- ---- a donation
 
 -- the donated block, and the ids of the versions that were made
 unfoldable pub donated_text : (block : ℕ) → (ids : List ℕ) → List ℕ
-donated_text block ids = codes "{\"block\":\"" ++ block_text block ++ codes "\",\"ids\":[" ++ listed decimal ids ++ codes "]}"
+donated_text block ids = codes "{\"block\":\"" ++ block_text block ++ codes "\",\"ids\":[" ++ listed
+    decimal ids ++ codes "]}"
 
 -- ---- the ids of a number's versions
 
 unfoldable pub ids_text : (in_force opened : Option ℕ) → List ℕ
-ids_text in_force opened = codes "{\"in_force\":" ++ number_value in_force ++ codes ",\"open\":" ++ number_value opened ++ codes "}"
+ids_text in_force opened = codes "{\"in_force\":" ++ number_value in_force ++ codes ",\"open\":"
+    ++ number_value opened ++ codes "}"
 
 -- ---- the clock
 
@@ -157,7 +166,8 @@ windows_set_text now number =
 
 -- ---- a query
 
--- the text that answers a query for a URI, by the register's answer of its number: the text itself where the number's code
+-- the text that answers a query for a URI, by the register's answer of its number: the text itself
+-- where the number's code
 -- is not opened
 abbrev pub looked_up : Uri → Answer → List ℕ
 looked_up uri Closed = uri.text

@@ -19,10 +19,12 @@ next_asks : (st : State) (caller : ℕ) (q : Question) → next st (Asks caller 
 unfolding next
 next_asks st caller q = unless_same (refusal st (Asks caller q)) st
 
-stays : (new : Content) (st : State) (caller : ℕ) (q : Question) → Stands new (next st (Asks caller q)) → Stands new st
+stays : (new : Content) (st : State) (caller : ℕ) (q : Question)
+    → Stands new (next st (Asks caller q)) → Stands new st
 stays new st caller q s = subst (λ (t : State). Stands new t) (next_asks st caller q) s
 
-pub kept : (old new : Content) (caller : ℕ) (q : Question) (o : Option Reply) → AnswersAs old new (Asks caller q) o → (st : State) → Stands old st → Stands new st
+pub kept : (old new : Content) (caller : ℕ) (q : Question) (o : Option Reply)
+    → AnswersAs old new (Asks caller q) o → (st : State) → Stands old st → Stands new st
 kept old new caller q None h st s = h st s
 kept old new caller q (Some reply) h st s = stays new st caller q (h st s).1
 
@@ -31,50 +33,79 @@ same_rows : (r : Option ℕ) (xs ys : List InForce) → Rows xs ≡ refused_or r
 same_rows None xs ys e = cc
 same_rows (Some k) xs ys e = cc
 
-pub rows_of : (st : State) (rows : List InForce) → Rows rows ≡ out st (Asks 0 AllInForce) → rows ≡ all_in_force st
+pub rows_of : (st : State) (rows : List InForce) → Rows rows ≡ out st (Asks 0 AllInForce)
+    → rows ≡ all_in_force st
 unfolding out
 rows_of st rows e = same_rows (refusal st (Asks 0 AllInForce)) rows (all_in_force st) e
 
 -- who says storage further up says what was said below
-pub owes_as : {S Answers Says Told : Type 0} {IsUsable IsHonest : S → Type 0} {failed : S → ℕ} {before after : S} {old : Content} → (Told → Says)
-    → Owes IsUsable IsHonest failed before after Answers (SaysStorage (IsUsable after) old Says) → Owes IsUsable IsHonest failed before after ⊥ (SaysStorage (IsUsable after) old Told)
+pub owes_as : {S Answers Says Told : Type 0} {IsUsable IsHonest : S → Type 0} {failed : S
+    → ℕ} {before after : S} {old : Content} → (Told → Says)
+    → Owes IsUsable IsHonest failed before after Answers (SaysStorage (IsUsable after) old Says)
+    → Owes IsUsable IsHonest failed before after ⊥ (SaysStorage (IsUsable after) old Told)
 owes_as told owed = record {
   usable = owed.usable;
   honest = owed.honest;
   stays = λ never. absurd never;
   rises = owed.rises;
-  storage = λ s. owed.storage (record { usable = s.usable; st = s.st; represents = s.represents; written = s.written; says = told s.says });
+  storage = λ s. owed.storage (record {
+    usable = s.usable;
+    st = s.st;
+    represents = s.represents;
+    written = s.written;
+    says = told s.says;
+  });
 }
 
 -- the ids of a number's versions
-same_ids : (r : Option ℕ) (a b c d : Option ℕ) → Found a b ≡ refused_or r (Found c d) → (a ≡ c) × (b ≡ d)
+same_ids : (r : Option ℕ) (a b c d : Option ℕ) → Found a b ≡ refused_or r (Found c d)
+    → (a ≡ c) × (b ≡ d)
 same_ids None a b c d e = (cc, cc)
 same_ids (Some k) a b c d e = let x : ⊥ = cc in absurd x
 
-pub ids_are : (st : State) (tn : ℕ) (a b : Option ℕ) → Found a b ≡ out st (Asks 0 (Ids tn)) → (a ≡ in_force_id st tn) × (b ≡ open_id st tn)
+pub ids_are : (st : State) (tn : ℕ) (a b : Option ℕ) → Found a b ≡ out st (Asks 0 (Ids tn))
+    → (a ≡ in_force_id st tn) × (b ≡ open_id st tn)
 unfolding out
-ids_are st tn a b e = same_ids (refusal st (Asks 0 (Ids tn))) a b (in_force_id st tn) (open_id st tn) e
+ids_are st tn a b e =
+    same_ids (refusal st (Asks 0 (Ids tn))) a b (in_force_id st tn) (open_id st tn) e
 
 -- what two calls owe, one after the other
 pub owes_then :
-    {S First Settles Answers Says : Type 0} {IsUsable IsHonest : S → Type 0} {failed : S → ℕ} {before mid after : S} {old between : Content} →
-    Owes IsUsable IsHonest failed before mid Settles First → Owes IsUsable IsHonest failed mid after Answers (SaysStorage (IsUsable after) between Says) → (IsUsable mid → (st : State) → Stands old st → Stands between st) →
+    {S First Settles Answers Says : Type 0} {IsUsable IsHonest : S → Type 0} {failed : S
+    → ℕ} {before mid after : S} {old between : Content} →
+    Owes IsUsable IsHonest failed before mid Settles First
+    → Owes IsUsable IsHonest failed mid after Answers (SaysStorage (IsUsable after) between Says)
+    → (IsUsable mid → (st : State) → Stands old st → Stands between st) →
     Owes IsUsable IsHonest failed before after ⊥ (SaysStorage (IsUsable after) old Says)
-owes_then {failed = failed} {before = before} {mid = mid} {after = after} first second kept = record {
-  usable = λ u. first.usable (second.usable u);
-  honest = λ h. first.honest (second.honest h);
-  stays = λ never. absurd never;
-  rises = le_trans first.rises second.rises;
-  storage = λ s.
-      let at = kept (second.usable s.usable) s.st (record { represents = s.represents; written = s.written }) in
-      risen-since (failed before) (failed mid) (failed after) first.rises second.rises
-      (second.storage (record { usable = s.usable; st = s.st; represents = at.represents; written = at.written; says = s.says }));
-}
+owes_then {failed = failed} {before = before} {mid = mid} {after = after} first second kept =
+    record {
+      usable = λ u. first.usable (second.usable u);
+      honest = λ h. first.honest (second.honest h);
+      stays = λ never. absurd never;
+      rises = le_trans first.rises second.rises;
+      storage = λ s.
+          let at = kept (second.usable s.usable) s.st (record {
+            represents = s.represents;
+            written =
+                s.written;
+          }) in
+          risen-since (failed before) (failed mid) (failed after) first.rises second.rises
+          (second.storage (record {
+            usable = s.usable;
+            st = s.st;
+            represents = at.represents;
+            written = at.written;
+            says = s.says;
+          }));
+    }
 
 -- the same where the content stands for a later state between them
 pub owes_on :
-    {S First Settles Answers Says : Type 0} {IsUsable IsHonest : S → Type 0} {failed : S → ℕ} {before mid after : S} {old between : Content} →
-    Owes IsUsable IsHonest failed before mid Settles First → Owes IsUsable IsHonest failed mid after Answers (SaysStorage (IsUsable after) between Says) → (IsUsable mid → (st : State) → Stands old st → (later : State) × Stands between later) →
+    {S First Settles Answers Says : Type 0} {IsUsable IsHonest : S → Type 0} {failed : S
+    → ℕ} {before mid after : S} {old between : Content} →
+    Owes IsUsable IsHonest failed before mid Settles First
+    → Owes IsUsable IsHonest failed mid after Answers (SaysStorage (IsUsable after) between Says)
+    → (IsUsable mid → (st : State) → Stands old st → (later : State) × Stands between later) →
     Owes IsUsable IsHonest failed before after ⊥ (SaysStorage (IsUsable after) old Says)
 owes_on {failed = failed} {before = before} {mid = mid} {after = after} first second on = record {
   usable = λ u. first.usable (second.usable u);
@@ -82,16 +113,41 @@ owes_on {failed = failed} {before = before} {mid = mid} {after = after} first se
   stays = λ never. absurd never;
   rises = le_trans first.rises second.rises;
   storage = λ s.
-      let at = on (second.usable s.usable) s.st (record { represents = s.represents; written = s.written }) in
+      let at = on (second.usable s.usable) s.st (record {
+        represents = s.represents;
+        written =
+            s.written;
+      }) in
       risen-since (failed before) (failed mid) (failed after) first.rises second.rises
-      (second.storage (record { usable = s.usable; st = at.0; represents = at.1.represents; written = at.1.written; says = s.says }));
+      (second.storage (record {
+        usable = s.usable;
+        st = at.0;
+        represents = at.1.represents;
+        written = at.1.written;
+        says = s.says;
+      }));
 }
 
 -- nothing happened
-pub owes_none : {S : Type 0} (IsUsable IsHonest : S → Type 0) (failed : S → ℕ) (s : S) → Owes IsUsable IsHonest failed s s ⊥ ⊥
-owes_none IsUsable IsHonest failed s = record { usable = λ u. u; honest = λ h. h; stays = λ never. absurd never; rises = le_refl (failed s); storage = λ x. absurd x }
+pub owes_none : {S : Type 0} (IsUsable IsHonest : S → Type 0) (failed : S → ℕ) (s : S)
+    → Owes IsUsable IsHonest failed s s ⊥ ⊥
+owes_none IsUsable IsHonest failed s = record {
+  usable = λ u. u;
+  honest = λ h. h;
+  stays = λ never. absurd never;
+  rises = le_refl (failed s);
+  storage = λ x. absurd x;
+}
 
 -- and nothing is said
-pub owes_quiet : {S Answers First Says : Type 0} {IsUsable IsHonest : S → Type 0} {failed : S → ℕ} {before after : S}
-    → Owes IsUsable IsHonest failed before after Answers First → ¬ Says → Owes IsUsable IsHonest failed before after ⊥ Says
-owes_quiet owed quiet = record { usable = owed.usable; honest = owed.honest; stays = λ never. absurd never; rises = owed.rises; storage = λ x. absurd (quiet x) }
+pub owes_quiet : {S Answers First Says : Type 0} {IsUsable IsHonest : S → Type 0} {failed : S
+    → ℕ} {before after : S}
+    → Owes IsUsable IsHonest failed before after Answers First → ¬ Says
+    → Owes IsUsable IsHonest failed before after ⊥ Says
+owes_quiet owed quiet = record {
+  usable = owed.usable;
+  honest = owed.honest;
+  stays = λ never. absurd never;
+  rises = owed.rises;
+  storage = λ x. absurd (quiet x);
+}

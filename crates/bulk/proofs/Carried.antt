@@ -57,20 +57,25 @@ found_again r.Storage = refl
 found_again r.NoMemory = refl
 
 -- what a machine's refusal tells
-pub refused_tells : (x : Refusal) (reply : Reply) → Refused (number_of x) ≡ reply → Tells (told.Refused x) reply
+pub refused_tells : (x : Refusal) (reply : Reply) → Refused (number_of x) ≡ reply
+    → Tells (told.Refused x) reply
 refused_tells x reply e = λ row tn.
-    let named : report_line row (tn_text tn) (name_of (Some x)) [] ≡ report_line row (tn_text tn) (name_of (refusal_of (number_of x))) [] =
-    ap (λ (o : Option Refusal). report_line row (tn_text tn) (name_of o) []) (sym (found_again x)) in
+    let named : report_line row (tn_text tn) (name_of (Some x)) [] ≡ report_line row (tn_text tn)
+    (name_of (refusal_of (number_of x))) [] =
+    ap (λ (o : Option Refusal). report_line row (tn_text tn) (name_of o) [])
+    (sym (found_again x)) in
     named ∙ ap (reply_line row tn) e
 
-pub shown_tells : (view : View) (reply : Reply) → Shown (Some view) ≡ reply → Tells (told.Version view.id) reply
+pub shown_tells : (view : View) (reply : Reply) → Shown (Some view) ≡ reply
+    → Tells (told.Version view.id) reply
 shown_tells view reply e = λ row tn. ap (reply_line row tn) e
 
 said_or : (o : Option ℕ) (reply : Reply) → IsSaid reply → IsSaid (refused_or o reply)
 said_or None reply h = h
 said_or (Some k) reply h = tt
 
-replied_of : (st new : State) (caller : ℕ) (c : Command) → is_of_number c ≡ true → IsSaid (reply_of st new caller c)
+replied_of : (st new : State) (caller : ℕ) (c : Command) → is_of_number c ≡ true
+    → IsSaid (reply_of st new caller c)
 replied_of st new caller (OldProviderCreate tn old_provider new_provider due authorized) e = tt
 replied_of st new caller (NewProviderCreate tn old_provider new_provider due lrn cic) e = tt
 replied_of st new caller (OnVersion id command) e = tt
@@ -82,45 +87,64 @@ replied_of st new caller (Donate block used lrn cic) e = cc
 replied_of st new caller (Assign block holder lrn cic) e = cc
 replied_of st new caller (Release block) e = cc
 
-pub is_said : (st : State) (caller : ℕ) (c : Command) (reply : Reply) → is_of_number c ≡ true → reply ≡ out st (Requests caller (Commands c)) → IsSaid reply
+pub is_said : (st : State) (caller : ℕ) (c : Command) (reply : Reply) → is_of_number c ≡ true
+    → reply ≡ out st (Requests caller (Commands c)) → IsSaid reply
 unfolding out
 is_said st caller c reply e same =
-    subst IsSaid (sym same) (said_or (refusal st (Requests caller (Commands c))) (reply_of st (accepted st (Requests caller (Commands c))) caller c) (replied_of st (accepted st (Requests caller (Commands c))) caller c e))
+    subst IsSaid (sym same) (said_or (refusal st (Requests caller (Commands c)))
+    (reply_of st (accepted st (Requests caller (Commands c))) caller c)
+    (replied_of st (accepted st (Requests caller (Commands c))) caller c e))
 
 -- what the machine answered, and what it did not
-pub by_machine : (old new : Content) (input : Input) (k : ℕ) → nat_lt k 29 ≡ true → AnswersAs old new input (refused_with k) → AnswersAs old new input (Some (Refused k))
-by_machine old new input k e h = let P : Bool → Type 0 = λ b. AnswersAs old new input (if b then Some (Refused k) else None) in subst P e h
+pub by_machine : (old new : Content) (input : Input) (k : ℕ) → nat_lt k 29 ≡ true
+    → AnswersAs old new input (refused_with k) → AnswersAs old new input (Some (Refused k))
+by_machine old new input k e h = let P : Bool → Type 0 =
+    λ b. AnswersAs old new input (if b then Some (Refused k) else None) in subst P e h
 
-pub by_none : (old new : Content) (input : Input) (k : ℕ) → nat_lt k 29 ≡ false → AnswersAs old new input (refused_with k) → AnswersAs old new input None
-by_none old new input k e h = let P : Bool → Type 0 = λ b. AnswersAs old new input (if b then Some (Refused k) else None) in subst P e h
+pub by_none : (old new : Content) (input : Input) (k : ℕ) → nat_lt k 29 ≡ false
+    → AnswersAs old new input (refused_with k) → AnswersAs old new input None
+by_none old new input k e h = let P : Bool → Type 0 =
+    λ b. AnswersAs old new input (if b then Some (Refused k) else None) in subst P e h
 
 -- what is told of a command, where the store is usable
 abbrev TellsOf : Type 0 → Content → Content → Input → Told → Type 0
-TellsOf U old new input t = U → (st : State) → Stands old st → Tells t (out st input) × Stands new (next st input)
+TellsOf U old new input t = U → (st : State) → Stands old st → Tells t (out st input)
+    × Stands new (next st input)
 
 pub told_by_reply :
-    (U : Type 0) (old new : Content) (input : Input) (o : Result Told FaultKind) (reply : Reply) → (U → AnswersAs old new input (Some reply)) →
+    (U : Type 0) (old new : Content) (input : Input) (o : Result Told FaultKind) (reply : Reply)
+    → (U → AnswersAs old new input (Some reply)) →
     IfOk o (λ t. Tells t reply) → IfOk o (TellsOf U old new input)
 told_by_reply U old new input (Err kind) reply h t = tt
-told_by_reply U old new input (Ok told) reply h t = λ u st s. let x = h u st s in (λ row tn. t row tn ∙ ap (reply_line row tn) x.0, x.1)
+told_by_reply U old new input (Ok told) reply h t = λ u st s. let x = h u st s in
+    (λ row tn. t row tn ∙ ap (reply_line row tn) x.0, x.1)
 
 pub told_by_refusal :
-    (U : Type 0) (old new : Content) (input : Input) (o : Result Told FaultKind) (k : ℕ) → (U → AnswersAs old new input (refused_with k)) →
+    (U : Type 0) (old new : Content) (input : Input) (o : Result Told FaultKind) (k : ℕ)
+    → (U → AnswersAs old new input (refused_with k)) →
     IfOk o (λ t. (nat_lt k 29 ≡ true) × Tells t (Refused k)) → IfOk o (TellsOf U old new input)
 told_by_refusal U old new input (Err kind) k h t = tt
-told_by_refusal U old new input (Ok told) k h t = told_by_reply U old new input (Ok told) (Refused k) (λ u. by_machine old new input k t.0 (h u)) t.1
+told_by_refusal U old new input (Ok told) k h t =
+    told_by_reply U old new input (Ok told) (Refused k) (λ u. by_machine old new input k t.0 (h u))
+    t.1
 
 pub kept_by_refusal :
-    (U : Type 0) (old new : Content) (caller : ℕ) (c : Command) (o : Result Told FaultKind) (k : ℕ) → (U → AnswersAs old new (Requests caller (Commands c)) (refused_with k)) →
-    OnErr o (nat_lt k 29 ≡ false) → OnErr o (U → (st : State) → Stands old st → is_of_number c ≡ true → Stands new st)
+    (U : Type 0) (old new : Content) (caller : ℕ) (c : Command) (o : Result Told FaultKind) (k : ℕ)
+    → (U → AnswersAs old new (Requests caller (Commands c)) (refused_with k)) →
+    OnErr o (nat_lt k 29 ≡ false) → OnErr o (U → (st : State) → Stands old st
+    → is_of_number c ≡ true → Stands new st)
 kept_by_refusal U old new caller c (Ok told) k h e = tt
-kept_by_refusal U old new caller c (Err kind) k h e = λ u st s of. by_none old new (Requests caller (Commands c)) k e (h u) st s
+kept_by_refusal U old new caller c (Err kind) k h e =
+    λ u st s of. by_none old new (Requests caller (Commands c)) k e (h u) st s
 
 pub kept_by_reply :
-    (U : Type 0) (old new : Content) (caller : ℕ) (c : Command) (o : Result Told FaultKind) (reply : Reply) → (U → AnswersAs old new (Requests caller (Commands c)) (Some reply)) →
-    OnErr o (¬ (IsSaid reply)) → OnErr o (U → (st : State) → Stands old st → is_of_number c ≡ true → Stands new st)
+    (U : Type 0) (old new : Content) (caller : ℕ) (c : Command) (o : Result Told FaultKind)
+    (reply : Reply) → (U → AnswersAs old new (Requests caller (Commands c)) (Some reply)) →
+    OnErr o (¬ (IsSaid reply)) → OnErr o (U → (st : State) → Stands old st → is_of_number c ≡ true
+    → Stands new st)
 kept_by_reply U old new caller c (Ok told) reply h other = tt
-kept_by_reply U old new caller c (Err kind) reply h other = λ u st s of. absurd (other (is_said st caller c reply of (h u st s).0))
+kept_by_reply U old new caller c (Err kind) reply h other =
+    λ u st s of. absurd (other (is_said st caller c reply of (h u st s).0))
 
 -- what is wanted of a number is a create or a command on a version
 of_number : (st : State) (tn : ℕ) (w : Wish) → is_of_number (command_for st tn w) ≡ true
@@ -130,19 +154,26 @@ of_number st tn (wish.OnVersion command) = refl
 
 -- told of the command that was made of it
 pub told_for :
-    (U V : Type 0) (old mid new : Content) (caller tn : ℕ) (w : Wish) (c : Command) (o : Result Told FaultKind) → (U → V) →
-    (V → (st : State) → Stands old st → c ≡ command_for st tn w) → (V → (st : State) → Stands old st → Stands mid st) →
+    (U V : Type 0) (old mid new : Content) (caller tn : ℕ) (w : Wish) (c : Command)
+    (o : Result Told FaultKind) → (U → V) →
+    (V → (st : State) → Stands old st → c ≡ command_for st tn w) → (V → (st : State) → Stands old st
+    → Stands mid st) →
     IfOk o (TellsOf U mid new (Requests caller (Commands c))) →
-    IfOk o (λ t. U → (st : State) → Stands old st → Tells t (out st (input_for st caller tn w)) × Stands new (next st (input_for st caller tn w)))
+    IfOk o (λ t. U → (st : State) → Stands old st → Tells t (out st (input_for st caller tn w))
+    × Stands new (next st (input_for st caller tn w)))
 told_for U V old mid new caller tn w c (Err kind) before is kept h = tt
 told_for U V old mid new caller tn w c (Ok told) before is kept h = λ u st s.
     let v = before u in
-    subst (λ (d : Command). Tells told (out st (Requests caller (Commands d))) × Stands new (next st (Requests caller (Commands d)))) (is v st s) (h u st (kept v st s))
+    subst (λ (d : Command). Tells told (out st (Requests caller (Commands d)))
+    × Stands new (next st (Requests caller (Commands d)))) (is v st s) (h u st (kept v st s))
 
 pub kept_for :
-    (U V : Type 0) (old mid new : Content) (tn : ℕ) (w : Wish) (c : Command) (o : Result Told FaultKind) → (U → V) →
-    (V → (st : State) → Stands old st → c ≡ command_for st tn w) → (V → (st : State) → Stands old st → Stands mid st) →
-    OnErr o (U → (st : State) → Stands mid st → is_of_number c ≡ true → Stands new st) → OnErr o (U → (st : State) → Stands old st → Stands new st)
+    (U V : Type 0) (old mid new : Content) (tn : ℕ) (w : Wish) (c : Command)
+    (o : Result Told FaultKind) → (U → V) →
+    (V → (st : State) → Stands old st → c ≡ command_for st tn w) → (V → (st : State) → Stands old st
+    → Stands mid st) →
+    OnErr o (U → (st : State) → Stands mid st → is_of_number c ≡ true → Stands new st)
+    → OnErr o (U → (st : State) → Stands old st → Stands new st)
 kept_for U V old mid new tn w c (Ok told) before is kept h = tt
 kept_for U V old mid new tn w c (Err kind) before is kept h = λ u st s.
     let v = before u in h u st (kept v st s) (ap is_of_number (is v st s) ∙ of_number st tn w)

@@ -35,79 +35,119 @@ of_level a b e = grind (arith, nat_tests)
 
 -- ---- findings rise as their map does
 
-rise_above : (s : Subject) (es : List Entry) → AreAbove key_of (key_of s) (keys_of es) → AllAbove (subject_of s) (map (λ (f : Found). subject_of f.subject) (found_in es))
+rise_above : (s : Subject) (es : List Entry) → AreAbove key_of (key_of s) (keys_of es)
+    → AllAbove (subject_of s) (map (λ (f : Found). subject_of f.subject) (found_in es))
 rise_above s [] above = tt
 rise_above s (e ∷ es) above = go (found_of e.1) (rise_above s es above.1)
   where
-    go : (o : Option Finding) → AllAbove (subject_of s) (map (λ (f : Found). subject_of f.subject) (found_in es)) →
-        AllAbove (subject_of s) (map (λ (f : Found). subject_of f.subject) (with_found e.0 o (found_in es)))
+    go : (o : Option Finding)
+        → AllAbove (subject_of s) (map (λ (f : Found). subject_of f.subject) (found_in es)) →
+        AllAbove (subject_of s) (map (λ (f : Found). subject_of f.subject)
+        (with_found e.0 o (found_in es)))
     go None rest = rest
     go (Some finding) rest = (is_less (key_of s) (key_of e.0) above.0, rest)
 
-found_rise : (es : List Entry) → Rise key_of (keys_of es) → SubjectsRise (map (λ (f : Found). subject_of f.subject) (found_in es))
+found_rise : (es : List Entry) → Rise key_of (keys_of es)
+    → SubjectsRise (map (λ (f : Found). subject_of f.subject) (found_in es))
 found_rise [] rise = tt
 found_rise (e ∷ es) rise = go (found_of e.1) (found_rise es rise.1)
   where
-    go : (o : Option Finding) → SubjectsRise (map (λ (f : Found). subject_of f.subject) (found_in es)) → SubjectsRise (map (λ (f : Found). subject_of f.subject) (with_found e.0 o (found_in es)))
+    go : (o : Option Finding)
+        → SubjectsRise (map (λ (f : Found). subject_of f.subject) (found_in es))
+        → SubjectsRise (map (λ (f : Found). subject_of f.subject) (with_found e.0 o (found_in es)))
     go None rest = rest
     go (Some finding) rest = (rise_above e.0 es rise.0, rest)
 
 -- ---- they tell of each subject what its sides say
 
 -- nothing is told of a subject below all of them
-none_below : (s : Subject) (es : List Entry) → AreAbove key_of (key_of s) (keys_of es) → told_of (found_in es) (subject_of s) ≡ None
+none_below : (s : Subject) (es : List Entry) → AreAbove key_of (key_of s) (keys_of es)
+    → told_of (found_in es) (subject_of s) ≡ None
 none_below s [] above = refl
-none_below s (e ∷ es) above = go (found_of e.1) (none_below s es above.1) (subject_eq (subject_of e.0) (subject_of s)) refl
+none_below s (e ∷ es) above =
+    go (found_of e.1) (none_below s es above.1) (subject_eq (subject_of e.0) (subject_of s)) refl
   where
-    go : (o : Option Finding) → told_of (found_in es) (subject_of s) ≡ None → (b : Bool) → subject_eq (subject_of e.0) (subject_of s) ≡ b → told_of (with_found e.0 o (found_in es)) (subject_of s) ≡ None
+    go : (o : Option Finding) → told_of (found_in es) (subject_of s) ≡ None → (b : Bool)
+        → subject_eq (subject_of e.0) (subject_of s) ≡ b
+        → told_of (with_found e.0 o (found_in es)) (subject_of s) ≡ None
     go None rest b is = rest
-    go (Some finding) rest false is = ap (λ (t : Bool). if t then Some finding else told_of (found_in es) (subject_of s)) is ∙ rest
+    go (Some finding) rest false is =
+        ap (λ (t : Bool). if t then Some finding else told_of (found_in es) (subject_of s)) is
+        ∙ rest
     go (Some finding) rest true is =
-        let same : key_of s ≡ key_of e.0 = ap subject_key (same_subject (subject_of e.0) (subject_of s) is) in
+        let same : key_of s ≡ key_of e.0 =
+        ap subject_key (same_subject (subject_of e.0) (subject_of s) is) in
         let less : key_of s < key_of e.0 = above.0 in
         absurd (omega (arith, same, less))
 
 -- the map's test of a key is that of subjects
-same_test : (s t : Subject) → is_eq (nat_cmp (key_of s) (key_of t)) ≡ subject_eq (subject_of t) (subject_of s)
+same_test : (s t : Subject) → is_eq (nat_cmp (key_of s) (key_of t)) ≡ subject_eq (subject_of t)
+    (subject_of s)
 same_test s t = go (subject_eq (subject_of t) (subject_of s)) refl
   where
-    go : (b : Bool) → subject_eq (subject_of t) (subject_of s) ≡ b → is_eq (nat_cmp (key_of s) (key_of t)) ≡ b
-    go true is = ap (λ (k : ℕ). is_eq (nat_cmp (key_of s) k)) (sym (ap subject_key (same_subject (subject_of t) (subject_of s) is))) ∙ level (key_of s)
+    go : (b : Bool) → subject_eq (subject_of t) (subject_of s) ≡ b
+        → is_eq (nat_cmp (key_of s) (key_of t)) ≡ b
+    go true is =
+        ap (λ (k : ℕ). is_eq (nat_cmp (key_of s) k))
+        (sym (ap subject_key (same_subject (subject_of t) (subject_of s) is))) ∙ level (key_of s)
     go false is = other (is_eq (nat_cmp (key_of s) (key_of t))) refl
       where
         other : (b : Bool) → is_eq (nat_cmp (key_of s) (key_of t)) ≡ b → b ≡ false
         other false e = refl
         other true e =
-            let same : subject_of t ≡ subject_of s = subject_key-exact (subject_of t) (subject_of s) (sym (of_level (key_of s) (key_of t) e)) in
-            let x : true ≡ false = sym (subject_eq-refl (subject_of s)) ∙ ap (λ (r : SubjectMeant). subject_eq r (subject_of s)) (sym same) ∙ is in cc
+            let same : subject_of t ≡ subject_of s =
+            subject_key-exact (subject_of t) (subject_of s)
+            (sym (of_level (key_of s) (key_of t) e)) in
+            let x : true ≡ false =
+            sym (subject_eq-refl (subject_of s))
+            ∙ ap (λ (r : SubjectMeant). subject_eq r (subject_of s)) (sym same) ∙ is in cc
 
 abbrev at : Subject → List Entry → Option Sides
 at s es = lookup (is_at (on key_of nat_cmp s)) es
 
-found_at : (s : Subject) (es : List Entry) → Rise key_of (keys_of es) → told_of (found_in es) (subject_of s) ≡ found_of (unwrap_or (at s es) no_sides)
+found_at : (s : Subject) (es : List Entry) → Rise key_of (keys_of es)
+    → told_of (found_in es) (subject_of s) ≡ found_of (unwrap_or (at s es) no_sides)
 found_at s [] rise = refl
-found_at s (e ∷ es) rise = go (subject_eq (subject_of e.0) (subject_of s)) refl (found_at s es rise.1)
+found_at s (e ∷ es) rise =
+    go (subject_eq (subject_of e.0) (subject_of s)) refl (found_at s es rise.1)
   where
     -- of this subject
-    here : subject_eq (subject_of e.0) (subject_of s) ≡ true → (o : Option Finding) → told_of (with_found e.0 o (found_in es)) (subject_of s) ≡ o
-    here is (Some finding) = ap (λ (t : Bool). if t then Some finding else told_of (found_in es) (subject_of s)) is
+    here : subject_eq (subject_of e.0) (subject_of s) ≡ true → (o : Option Finding)
+        → told_of (with_found e.0 o (found_in es)) (subject_of s) ≡ o
+    here is (Some finding) =
+        ap (λ (t : Bool). if t then Some finding else told_of (found_in es) (subject_of s)) is
     here is None =
-        let same : subject_of s ≡ subject_of e.0 = same_subject (subject_of e.0) (subject_of s) is in
-        none_below s es (subst (λ (k : ℕ). AreAbove key_of k (keys_of es)) (sym (ap subject_key same)) rise.0)
+        let same : subject_of s ≡ subject_of e.0 =
+        same_subject (subject_of e.0) (subject_of s) is in
+        none_below s es (subst (λ (k : ℕ). AreAbove key_of k (keys_of es))
+        (sym (ap subject_key same)) rise.0)
 
     -- of another
-    there : subject_eq (subject_of e.0) (subject_of s) ≡ false → (o : Option Finding) → told_of (with_found e.0 o (found_in es)) (subject_of s) ≡ told_of (found_in es) (subject_of s)
-    there is (Some finding) = ap (λ (t : Bool). if t then Some finding else told_of (found_in es) (subject_of s)) is
+    there : subject_eq (subject_of e.0) (subject_of s) ≡ false → (o : Option Finding)
+        → told_of (with_found e.0 o (found_in es)) (subject_of s) ≡ told_of (found_in es)
+        (subject_of s)
+    there is (Some finding) =
+        ap (λ (t : Bool). if t then Some finding else told_of (found_in es) (subject_of s)) is
     there is None = refl
 
-    go : (b : Bool) → subject_eq (subject_of e.0) (subject_of s) ≡ b → told_of (found_in es) (subject_of s) ≡ found_of (unwrap_or (at s es) no_sides) →
-        told_of (with_found e.0 (found_of e.1) (found_in es)) (subject_of s) ≡ found_of (unwrap_or (at s (e ∷ es)) no_sides)
-    go true is rest = here is (found_of e.1) ∙ sym (ap (λ (t : Bool). found_of (unwrap_or (if t then Some e.1 else at s es) no_sides)) (same_test s e.0 ∙ is))
-    go false is rest = there is (found_of e.1) ∙ rest ∙ sym (ap (λ (t : Bool). found_of (unwrap_or (if t then Some e.1 else at s es) no_sides)) (same_test s e.0 ∙ is))
+    go : (b : Bool) → subject_eq (subject_of e.0) (subject_of s) ≡ b
+        → told_of (found_in es) (subject_of s) ≡ found_of (unwrap_or (at s es) no_sides) →
+        told_of (with_found e.0 (found_of e.1) (found_in es)) (subject_of s)
+        ≡ found_of (unwrap_or (at s (e ∷ es)) no_sides)
+    go true is rest =
+        here is (found_of e.1)
+        ∙ sym (ap (λ (t : Bool). found_of (unwrap_or (if t then Some e.1 else at s es) no_sides))
+        (same_test s e.0 ∙ is))
+    go false is rest =
+        there is (found_of e.1) ∙ rest
+        ∙ sym (ap (λ (t : Bool). found_of (unwrap_or (if t then Some e.1 else at s es) no_sides))
+        (same_test s e.0 ∙ is))
 
 -- of an ordered map
-pub findings_rise : (es : List Entry) → IsStrictlySortedBy (on key_of nat_cmp) (keys_of es) → SubjectsRise (map (λ (f : Found). subject_of f.subject) (found_in es))
+pub findings_rise : (es : List Entry) → IsStrictlySortedBy (on key_of nat_cmp) (keys_of es)
+    → SubjectsRise (map (λ (f : Found). subject_of f.subject) (found_in es))
 findings_rise es ordered = found_rise es (sorted-rise key_of (keys_of es) ordered)
 
-pub findings_tell : (es : List Entry) → IsStrictlySortedBy (on key_of nat_cmp) (keys_of es) → (s : Subject) → told_of (found_in es) (subject_of s) ≡ found_of (unwrap_or (at s es) no_sides)
+pub findings_tell : (es : List Entry) → IsStrictlySortedBy (on key_of nat_cmp) (keys_of es)
+    → (s : Subject) → told_of (found_in es) (subject_of s) ≡ found_of (unwrap_or (at s es) no_sides)
 findings_tell es ordered s = found_at s es (sorted-rise key_of (keys_of es) ordered)

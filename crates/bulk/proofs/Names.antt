@@ -7,7 +7,8 @@ use Rattle.bulk.specs.Fields.{is_action, actions}
 use Rattle.bulk.specs.declared.order.ActionName.{ActionName}
 use Rattle.bulk.specs.declared.order.ActionName.TheVariants.{OldProviderCreate, NewProviderCreate, Activate, PutInConflict, RemoveFromConflict, Cancel, OldProviderCancellationAcknowledge, NewProviderCancellationAcknowledge, Disconnect, ModifyRouting}
 
-passed_at : {A : Type 0} (p : A → Bool) (x a : A) (b : Bool) (more : Option A) → p x ≡ b → (more ≡ Some a → p a ≡ true) → cond b (Some x) more ≡ Some a → p a ≡ true
+passed_at : {A : Type 0} (p : A → Bool) (x a : A) (b : Bool) (more : Option A) → p x ≡ b
+    → (more ≡ Some a → p a ≡ true) → cond b (Some x) more ≡ Some a → p a ≡ true
 passed_at p x a true more e go h = let same : x ≡ a = cc in ap p (sym same) ∙ e
 passed_at p x a false more e go h = go h
 
@@ -19,7 +20,9 @@ Fails : {A : Type 0} → (A → Bool) → List A → Type 0
 Fails p [] = ⊤
 Fails p (x ∷ xs) = (p x ≡ false) × Fails p xs
 
-fails_at : {A : Type 0} (p : A → Bool) (x : A) (xs : List A) (b : Bool) → p x ≡ b → (find p xs ≡ None → Fails p xs) → cond b (Some x) (find p xs) ≡ None → (p x ≡ false) × Fails p xs
+fails_at : {A : Type 0} (p : A → Bool) (x : A) (xs : List A) (b : Bool) → p x ≡ b
+    → (find p xs ≡ None → Fails p xs) → cond b (Some x) (find p xs) ≡ None → (p x ≡ false)
+    × Fails p xs
 fails_at p x xs true e go h = cc
 fails_at p x xs false e go h = (e, go h)
 
@@ -41,12 +44,17 @@ each p h NewProviderCancellationAcknowledge = h.1.1.1.1.1.1.1.0
 each p h Disconnect = h.1.1.1.1.1.1.1.1.0
 each p h ModifyRouting = h.1.1.1.1.1.1.1.1.1.0
 
-pub found_name : (field : List ℕ) (o : Option ActionName) → o ≡ find (is_action field) actions → IfSome o (λ a. field ≡ action_name a)
+pub found_name : (field : List ℕ) (o : Option ActionName) → o ≡ find (is_action field) actions
+    → IfSome o (λ a. field ≡ action_name a)
 found_name field None e = tt
-found_name field (Some a) e = same_text field (action_name a) (sym (passed (is_action field) actions a (sym e)))
+found_name field (Some a) e =
+    same_text field (action_name a) (sym (passed (is_action field) actions a (sym e)))
 
-pub no_name : (field : List ℕ) (o : Option ActionName) → o ≡ find (is_action field) actions → IfNone o ((a : ActionName) → field ≢ action_name a)
-no_name field None e = λ a. other_text field (action_name a) (sym (each (is_action field) (fails (is_action field) actions (sym e)) a))
+pub no_name : (field : List ℕ) (o : Option ActionName) → o ≡ find (is_action field) actions
+    → IfNone o ((a : ActionName) → field ≢ action_name a)
+no_name field None e =
+    λ a. other_text field (action_name a)
+    (sym (each (is_action field) (fails (is_action field) actions (sym e)) a))
 no_name field (Some a) e = tt
 
 -- the action that a name is read as

@@ -15,7 +15,8 @@ use Rattle.bulk.specs.declared.order.Order.{Order}
 use Rattle.bulk.proofs.Runs.{nothing, runs_then, stops_here}
 
 -- of these rows so many were run, and the reader has the others
-pub record Passes {R : Type 0} (rem : R → Option (List ℕ)) (st : State) (rows : List Row) (reader : Reader R) (new : Content) (had has : Option (List ℕ)) (row k : ℕ) : Type 0 where
+pub record Passes {R : Type 0} (rem : R → Option (List ℕ)) (st : State) (rows : List Row)
+    (reader : Reader R) (new : Content) (had has : Option (List ℕ)) (row k : ℕ) : Type 0 where
   pub first : List Row
   pub others : List Row
   pub all : rows ≡ first ++ others
@@ -25,47 +26,79 @@ pub record Passes {R : Type 0} (rem : R → Option (List ℕ)) (st : State) (row
   pub next : row ≡ 1 + length orders
   pub done : DoesAll st (tasks_from 1 orders) new had has 0 k
 
-tasks_from-then : (row : ℕ) (os : List (Option Order)) (o : Option Order) → tasks_from row (os ++ o ∷ []) ≡ tasks_from row os ++ tasks_of (row + length os) o
-tasks_from-then row [] o = append-nil (tasks_of row o) ∙ ap (λ (n : ℕ). tasks_of n o) (sym (add-zero row))
+tasks_from-then : (row : ℕ) (os : List (Option Order)) (o : Option Order)
+    → tasks_from row (os ++ o ∷ []) ≡ tasks_from row os ++ tasks_of (row + length os) o
+tasks_from-then row [] o =
+    append-nil (tasks_of row o) ∙ ap (λ (n : ℕ). tasks_of n o) (sym (add-zero row))
 tasks_from-then row (p ∷ os) o =
     let at : row + 1 + length os ≡ row + length (p ∷ os) = omega arith in
-    ap (λ (ts : List Task). tasks_of row p ++ ts) (tasks_from-then (row + 1) os o ∙ ap (λ (n : ℕ). tasks_from (row + 1) os ++ tasks_of n o) at)
-    ∙ sym (append_assoc (tasks_of row p) (tasks_from (row + 1) os) (tasks_of (row + length (p ∷ os)) o))
+    ap (λ (ts : List Task). tasks_of row p ++ ts) (tasks_from-then (row + 1) os o
+    ∙ ap (λ (n : ℕ). tasks_from (row + 1) os ++ tasks_of n o) at)
+    ∙ sym (append_assoc (tasks_of row p) (tasks_from (row + 1) os) (tasks_of (row + length (p ∷ os))
+    o))
 
-read_then : (rows : List Row) (os : List (Option Order)) (row : Row) (o : Option Order) → AreRead rows os → Reads row o → AreRead (rows ++ row ∷ []) (os ++ o ∷ [])
+read_then : (rows : List Row) (os : List (Option Order)) (row : Row) (o : Option Order)
+    → AreRead rows os → Reads row o → AreRead (rows ++ row ∷ []) (os ++ o ∷ [])
 read_then [] [] row o h r = (r, tt)
 read_then (x ∷ rows) (p ∷ os) row o h r = (h.0, read_then rows os row o h.1 r)
 read_then [] (p ∷ os) row o h r = absurd h
 read_then (x ∷ rows) [] row o h r = absurd h
 
-pub begins : {R : Type 0} (rem : R → Option (List ℕ)) (st : State) (rows : List Row) (reader : Reader R) (c : Content) (had : Option (List ℕ)) → Stands c st → HasRows rem reader rows → Passes rem st rows reader c had had 1 0
-begins rem st rows reader c had s h = record { first = []; others = rows; all = refl; left = h; orders = []; read = tt; next = refl; done = nothing st c had 0 s }
+pub begins : {R : Type 0} (rem : R → Option (List ℕ)) (st : State) (rows : List Row)
+    (reader : Reader R) (c : Content) (had : Option (List ℕ)) → Stands c st
+    → HasRows rem reader rows → Passes rem st rows reader c had had 1 0
+begins rem st rows reader c had s h = record {
+  first = [];
+  others = rows;
+  all = refl;
+  left = h;
+  orders = [];
+  read = tt;
+  next = refl;
+  done = nothing st c had 0 s;
+}
 
-module _ {R : Type 0} (rem : R → Option (List ℕ)) (st : State) (rows : List Row) (at reader : Reader R) (mid : Content) (had has : Option (List ℕ)) (row k : ℕ) (p : Passes rem st rows at mid had has row k) where
+module _ {R : Type 0} (rem : R → Option (List ℕ)) (st : State) (rows : List Row)
+    (at reader : Reader R) (mid : Content) (had has : Option (List ℕ)) (row k : ℕ)
+    (p : Passes rem st rows at mid had has row k) where
   -- behind the last row
-  pub ends : (raw : Row) → ((rest : List Row) → HasRows rem at rest → Takes rem reader false raw rest) → RunsAll st rows mid had has k
+  pub ends : (raw : Row) → ((rest : List Row) → HasRows rem at rest
+      → Takes rem reader false raw rest) → RunsAll st rows mid had has k
   ends raw takes =
       let none : p.others ≡ [] = takes p.others p.left in
-      let whole : rows ≡ p.first = p.all ∙ ap (λ (rs : List Row). p.first ++ rs) none ∙ append-nil p.first in
+      let whole : rows ≡ p.first = p.all ∙ ap (λ (rs : List Row). p.first ++ rs) none
+      ∙ append-nil p.first in
       let P : List Row → Type 0 = λ rs. AreRead rs p.orders in
       record { orders = p.orders; read = subst P (sym whole) p.read; done = p.done }
 
   -- the reader failed, or no more rows are counted
   pub unread : (kind : FaultKind) → IsUnread kind → RunsFirst kind st rows mid had has k
-  unread kind is = record { first = p.first; others = p.others; all = p.all; orders = p.orders; read = p.read; failed = stops_here kind st (tasks_from 1 p.orders) mid had has 0 k is p.done }
+  unread kind is = record {
+    first = p.first;
+    others = p.others;
+    all = p.all;
+    orders = p.orders;
+    read = p.read;
+    failed = stops_here kind st (tasks_from 1 p.orders) mid had has 0 k is p.done;
+  }
 
   -- a row more
-  module _ (raw : Row) (o : Option Order) (new : Content) (then : Option (List ℕ)) (reads : Reads raw o) (takes : (rest : List Row) → HasRows rem at rest → Takes rem reader true raw rest) where
+  module _ (raw : Row) (o : Option Order) (new : Content) (then : Option (List ℕ))
+      (reads : Reads raw o) (takes : (rest : List Row) → HasRows rem at rest
+      → Takes rem reader true raw rest) where
     taken : (more : List Row) × (p.others ≡ raw ∷ more) × HasRows rem reader more
     taken = takes p.others p.left
 
     rows_are : rows ≡ (p.first ++ raw ∷ []) ++ taken.0
-    rows_are = p.all ∙ ap (λ (rs : List Row). p.first ++ rs) taken.1 ∙ sym (append_assoc p.first (raw ∷ []) taken.0)
+    rows_are = p.all ∙ ap (λ (rs : List Row). p.first ++ rs) taken.1
+        ∙ sym (append_assoc p.first (raw ∷ []) taken.0)
 
     tasks_are : tasks_from 1 p.orders ++ tasks_of row o ≡ tasks_from 1 (p.orders ++ o ∷ [])
-    tasks_are = ap (λ (n : ℕ). tasks_from 1 p.orders ++ tasks_of n o) p.next ∙ sym (tasks_from-then 1 p.orders o)
+    tasks_are = ap (λ (n : ℕ). tasks_from 1 p.orders ++ tasks_of n o) p.next
+        ∙ sym (tasks_from-then 1 p.orders o)
 
-    pub passes_row : (j : ℕ) → RunsTo (state_after st (tasks_from 1 p.orders)) (tasks_of row o) new has then k (Ok j) → Passes rem st rows reader new had then (row + 1) j
+    pub passes_row : (j : ℕ) → RunsTo (state_after st (tasks_from 1 p.orders)) (tasks_of row o) new
+        has then k (Ok j) → Passes rem st rows reader new had then (row + 1) j
     passes_row j run =
         let P : List Task → Type 0 = λ ts. DoesAll st ts new had then 0 j in
         record {
@@ -76,10 +109,13 @@ module _ {R : Type 0} (rem : R → Option (List ℕ)) (st : State) (rows : List 
           orders = p.orders ++ o ∷ [];
           read = read_then p.first p.orders raw o p.read reads;
           next = omega (arith, p.next, length-append p.orders (o ∷ []));
-          done = subst P tasks_are (runs_then st (tasks_from 1 p.orders) (tasks_of row o) mid new had has then 0 k (Ok j) p.done run);
+          done = subst P tasks_are (runs_then st (tasks_from 1 p.orders) (tasks_of row o) mid new
+              had has then 0 k (Ok j) p.done run);
         }
 
-    pub fails_row : (fault : BulkFault) → RunsTo (state_after st (tasks_from 1 p.orders)) (tasks_of row o) new has then k (Err fault) → RunsFirst fault.kind st rows new had then fault.rows
+    pub fails_row : (fault : BulkFault)
+        → RunsTo (state_after st (tasks_from 1 p.orders)) (tasks_of row o) new has
+        then k (Err fault) → RunsFirst fault.kind st rows new had then fault.rows
     fails_row fault run =
         let P : List Task → Type 0 = λ ts. FailsIn fault.kind st ts new had then 0 fault.rows in
         record {
@@ -88,5 +124,6 @@ module _ {R : Type 0} (rem : R → Option (List ℕ)) (st : State) (rows : List 
           all = rows_are;
           orders = p.orders ++ o ∷ [];
           read = read_then p.first p.orders raw o p.read reads;
-          failed = subst P tasks_are (runs_then st (tasks_from 1 p.orders) (tasks_of row o) mid new had has then 0 k (Err fault) p.done run);
+          failed = subst P tasks_are (runs_then st (tasks_from 1 p.orders) (tasks_of row o) mid new
+              had has then 0 k (Err fault) p.done run);
         }

@@ -10,16 +10,19 @@ use Rattle.bulk.specs.declared.fault.BulkFault.{BulkFault}
 use Rattle.bulk.specs.declared.fault.FaultKind.{FaultKind}
 use Rattle.bulk.proofs.Runs.{fails_more, runs_then}
 
-pub rising-more : (first many : ℕ) → rising first (many + 1) ≡ rising first many ++ (first + many) ∷ []
+pub rising-more : (first many : ℕ) → rising first (many + 1) ≡ rising first many ++ (first + many)
+    ∷ []
 rising-more first zero = ap (λ (n : ℕ). n ∷ []) (omega arith)
 rising-more first (suc many) =
     let same : first + 1 + many ≡ first + suc many = omega arith in
     ap (λ (n : ℕ). rising first n) (add-one (suc many))
-    ∙ ap (λ (ns : List ℕ). first ∷ ns) (ap (rising (first + 1)) (sym (add-one many)) ∙ rising-more (first + 1) many)
+    ∙ ap (λ (ns : List ℕ). first ∷ ns) (ap (rising (first + 1)) (sym (add-one many))
+    ∙ rising-more (first + 1) many)
     ∙ ap (λ (n : ℕ). first ∷ (rising (first + 1) many ++ n ∷ [])) same
 
 -- one number more
-pub tasks-more : (f : ℕ → Task) (first many n : ℕ) → first + many ≡ n → map f (rising first (n + 1 - first)) ≡ map f (rising first (n - first)) ++ f n ∷ []
+pub tasks-more : (f : ℕ → Task) (first many n : ℕ) → first + many ≡ n
+    → map f (rising first (n + 1 - first)) ≡ map f (rising first (n - first)) ++ f n ∷ []
 tasks-more f first many n e =
     let more : n + 1 - first ≡ many + 1 = omega (arith, e) in
     let all : many ≡ n - first = omega (arith, e) in
@@ -36,7 +39,8 @@ is_between a b n valid code low high =
     (omega (arith, one, valid.0), omega (arith, one, valid.1), omega (arith, one, valid.2))
 
 rising-split : (first a b : ℕ) → rising first (a + b) ≡ rising first a ++ rising (first + a) b
-rising-split first zero b = ap (λ (k : ℕ). rising first k) (zero-add b) ∙ ap (λ (n : ℕ). rising n b) (sym (add-zero first))
+rising-split first zero b = ap (λ (k : ℕ). rising first k) (zero-add b) ∙ ap (λ (n : ℕ). rising n b)
+    (sym (add-zero first))
 rising-split first (suc a) b =
     let more : suc a + b ≡ suc (a + b) = omega arith in
     let at : first + 1 + a ≡ first + suc a = omega arith in
@@ -46,29 +50,40 @@ rising-split first (suc a) b =
 
 -- a run over the numbers before n, and then over n
 pub runs_number :
-    (f : ℕ → Task) (first n : ℕ) (st : State) (mid new : Content) (had at has : Option (List ℕ)) (from j : ℕ) (r : Result ℕ BulkFault) → first ≤ n →
+    (f : ℕ → Task) (first n : ℕ) (st : State) (mid new : Content) (had at has : Option (List ℕ))
+    (from j : ℕ) (r : Result ℕ BulkFault) → first ≤ n →
     DoesAll st (map f (rising first (n - first))) mid had at from j →
-    RunsTo (state_after st (map f (rising first (n - first)))) (f n ∷ []) new at has j r → RunsTo st (map f (rising first (n + 1 - first))) new had has from r
+    RunsTo (state_after st (map f (rising first (n - first)))) (f n ∷ []) new at has j r
+    → RunsTo st (map f (rising first (n + 1 - first))) new had has from r
 runs_number f first n st mid new had at has from j r low before now =
     let P : List Task → Type 0 = λ tasks. RunsTo st tasks new had has from r in
-    subst P (sym (tasks-more f first (n - first) n (omega (arith, low)))) (runs_then st (map f (rising first (n - first))) (f n ∷ []) mid new had at has from j r before now)
+    subst P (sym (tasks-more f first (n - first) n (omega (arith, low))))
+    (runs_then st (map f (rising first (n - first))) (f n ∷ []) mid new had at has from j r before
+    now)
 
 -- one that ended early among the first numbers ended so among all
 pub fails_among :
-    (kind : FaultKind) (f : ℕ → Task) (first last n : ℕ) (st : State) (new : Content) (had has : Option (List ℕ)) (from k : ℕ) → first ≤ n → n < last + 1 →
-    FailsIn kind st (map f (rising first (n + 1 - first))) new had has from k → FailsIn kind st (map f (rising first (last + 1 - first))) new had has from k
+    (kind : FaultKind) (f : ℕ → Task) (first last n : ℕ) (st : State) (new : Content)
+    (had has : Option (List ℕ)) (from k : ℕ) → first ≤ n → n < last + 1 →
+    FailsIn kind st (map f (rising first (n + 1 - first))) new had has from k
+    → FailsIn kind st (map f (rising first (last + 1 - first))) new had has from k
 fails_among kind f first last n st new had has from k low high h =
     let all : n + 1 - first + (last - n) ≡ last + 1 - first = omega (arith, low, high) in
-    let split : map f (rising first (n + 1 - first)) ++ map f (rising (first + (n + 1 - first)) (last - n)) ≡ map f (rising first (last + 1 - first)) =
+    let split : map f (rising first (n + 1 - first)) ++ map f (rising (first + (n + 1 - first))
+    (last - n)) ≡ map f (rising first (last + 1 - first)) =
     sym (map-append f (rising first (n + 1 - first)) (rising (first + (n + 1 - first)) (last - n)))
     ∙ ap (map f) (sym (rising-split first (n + 1 - first) (last - n)))
     ∙ ap (λ (m : ℕ). map f (rising first m)) all in
     let P : List Task → Type 0 = λ tasks. FailsIn kind st tasks new had has from k in
-    subst P split (fails_more kind st (map f (rising first (n + 1 - first))) (map f (rising (first + (n + 1 - first)) (last - n))) new had has from k h)
+    subst P split (fails_more kind st (map f (rising first (n + 1 - first)))
+    (map f (rising (first + (n + 1 - first)) (last - n))) new had has from k h)
 
 -- behind the last number all are done
 pub does_numbers :
-    (f : ℕ → Task) (first last n : ℕ) (st : State) (new : Content) (had has : Option (List ℕ)) (from k : ℕ) → n ≡ last + 1 →
-    DoesAll st (map f (rising first (n - first))) new had has from k → DoesAll st (map f (rising first (last + 1 - first))) new had has from k
+    (f : ℕ → Task) (first last n : ℕ) (st : State) (new : Content) (had has : Option (List ℕ))
+    (from k : ℕ) → n ≡ last + 1 →
+    DoesAll st (map f (rising first (n - first))) new had has from k
+    → DoesAll st (map f (rising first (last + 1 - first))) new had has from k
 does_numbers f first last n st new had has from k e h =
-    let P : ℕ → Type 0 = λ m. DoesAll st (map f (rising first (m - first))) new had has from k in subst P e h
+    let P : ℕ → Type 0 = λ m. DoesAll st (map f (rising first (m - first))) new had has from k in
+    subst P e h

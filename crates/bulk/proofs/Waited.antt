@@ -16,32 +16,43 @@ use Rattle.register.proofs.Fetched.{may_fetch}
 use Rattle.bulk.specs.Findings.{awaited}
 
 -- who may ask
-waiting_by : (st : State) (carrier : ℕ) → refusal st (Asks carrier Waiting) ≡ may_fetch (is_carrier st carrier) (carrier == npac)
+waiting_by : (st : State) (carrier : ℕ)
+    → refusal st (Asks carrier Waiting) ≡ may_fetch (is_carrier st carrier) (carrier == npac)
 unfolding tests
 waiting_by st carrier = refl
 
-told : (r : Option ℕ) (xs ys : List Subject) → Awaited xs ≡ refused_or r (Awaited ys) → (r ≡ None) × (xs ≡ ys)
+told : (r : Option ℕ) (xs ys : List Subject) → Awaited xs ≡ refused_or r (Awaited ys)
+    → (r ≡ None) × (xs ≡ ys)
 told None xs ys e = (refl, cc)
 told (Some k) xs ys e = let f : Awaited xs ≡ Refused k = e in let x : ⊥ = cc in absurd x
 
-pub waits_are : (st : State) (carrier : ℕ) (subjects : List Subject) → Awaited subjects ≡ out st (Asks carrier Waiting) → (subjects ≡ awaited st carrier) × (is_carrier st carrier ≡ true)
+pub waits_are : (st : State) (carrier : ℕ) (subjects : List Subject)
+    → Awaited subjects ≡ out st (Asks carrier Waiting) → (subjects ≡ awaited st carrier)
+    × (is_carrier st carrier ≡ true)
 unfolding out
 waits_are st carrier subjects e =
-    let answer = told (refusal st (Asks carrier Waiting)) subjects (awaited st carrier) e in
-    (answer.1, known_by (is_carrier st carrier) (carrier == npac) (sym (waiting_by st carrier) ∙ answer.0))
+    let answer = told (refusal st (Asks carrier Waiting)) subjects (awaited st carrier) e in (
+      answer.1,
+      known_by (is_carrier st carrier) (carrier == npac) (sym (waiting_by st carrier) ∙ answer.0),
+    )
 
-stranger : (known is_admin : Bool) (k : ℕ) (ys : List Subject) → Refused k ≡ refused_or (may_fetch known is_admin) (Awaited ys) → known ≡ false
+stranger : (known is_admin : Bool) (k : ℕ) (ys : List Subject)
+    → Refused k ≡ refused_or (may_fetch known is_admin) (Awaited ys) → known ≡ false
 stranger false is_admin k ys e = refl
 stranger true is_admin k ys e = let f : Refused k ≡ Awaited ys = e in let x : ⊥ = cc in absurd x
 
-is_stranger : (st : State) (carrier k : ℕ) → Refused k ≡ out st (Asks carrier Waiting) → is_carrier st carrier ≡ false
+is_stranger : (st : State) (carrier k : ℕ) → Refused k ≡ out st (Asks carrier Waiting)
+    → is_carrier st carrier ≡ false
 unfolding out
 is_stranger st carrier k e =
-    stranger (is_carrier st carrier) (carrier == npac) k (awaited st carrier) (e ∙ ap (λ (r : Option ℕ). refused_or r (Awaited (awaited st carrier))) (waiting_by st carrier))
+    stranger (is_carrier st carrier) (carrier == npac) k (awaited st carrier)
+    (e ∙ ap (λ (r : Option ℕ). refused_or r (Awaited (awaited st carrier))) (waiting_by st carrier))
 
 -- it answered that it knows no such carrier
-pub stranger_told : (old new : Content) (carrier : ℕ) (refusal : Refusal) → refusal ≡ UnknownCarrier → AnswersAs old new (Asks carrier Waiting) (refused_with (number_of refusal)) →
+pub stranger_told : (old new : Content) (carrier : ℕ) (refusal : Refusal) → refusal ≡ UnknownCarrier
+    → AnswersAs old new (Asks carrier Waiting) (refused_with (number_of refusal)) →
     (st : State) → Stands old st → is_carrier st carrier ≡ false
 stranger_told old new carrier refusal is answers st stands =
-    let told_so = subst (λ r. AnswersAs old new (Asks carrier Waiting) (refused_with (number_of r))) is answers in
+    let told_so = subst (λ r. AnswersAs old new (Asks carrier Waiting) (refused_with (number_of r)))
+    is answers in
     is_stranger st carrier 1 (told_so st stands).0

@@ -37,12 +37,14 @@ no_command (command.ModifyRouting routing) (creator.NewProvider r) = λ e. cc
 pub no_new_provider :
     (old new due : List ℕ) (last : Row) (by : Creator) → ((n : ℕ) → IsSpid n → new ≢ spid_text n) →
     (w : Wish) → action_of w ≡ create_action by → old ∷ new ∷ due ∷ last ≢ wish_fields w
-no_new_provider old new due last by none (wish.Create o n d creator) e = λ same. none n.number n.valid cc
+no_new_provider old new due last by none (wish.Create o n d creator) e =
+    λ same. none n.number n.valid cc
 no_new_provider old new due last by none (wish.OnVersion c) e = λ same. no_command c by e
 
 -- no wish of this action has these fields, so no order has the row
 pub no_order :
-    (row : Row) (caller name subject : List ℕ) (six : Row) (a : ActionName) → row ≡ caller ∷ name ∷ subject ∷ six → name ≡ action_name a →
+    (row : Row) (caller name subject : List ℕ) (six : Row) (a : ActionName)
+    → row ≡ caller ∷ name ∷ subject ∷ six → name ≡ action_name a →
     ((w : Wish) → action_of w ≡ a → six ≢ wish_fields w) → (o : Order) → ¬ (Says row o)
 no_order row caller name subject six a e named none o says =
     let same : action_name (action_of o.wish) ≡ action_name a = cc in

@@ -50,15 +50,21 @@ abbrev other_number : Tn
 other_number = record { number = other; valid = (lit< tt, lit≤ tt, lit≤ tt) }
 
 abbrev findings : List Found
-findings = record { subject = code.Number number; finding = Different } ∷ record { subject = code.Number other_number; finding = Extra } ∷ []
+findings = record {
+  subject = code.Number number;
+  finding = Different;
+} ∷ record { subject = code.Number other_number; finding = Extra } ∷ []
 
 -- by the rows in force, the copy and no download
-by_rows : (s : SubjectCode) → told_of findings (subject_of s) ≡ finding_of false (started force (subject_of s)) (started copy (subject_of s))
+by_rows : (s : SubjectCode)
+    → told_of findings (subject_of s) ≡ finding_of false (started force (subject_of s))
+    (started copy (subject_of s))
 by_rows (code.Block block) = refl
 by_rows (code.Number tn) = go (n == tn.number) (other == tn.number)
   where
     go : (x y : Bool) → (if x then Some Different else (if y then Some Extra else None))
-        ≡ finding_of false (if x then to 2025440000 else None) (if y then to 2025330000 else (if x then to 2025550000 else None))
+        ≡ finding_of false (if x then to 2025440000 else None) (if y then to 2025330000
+        else (if x then to 2025550000 else None))
     go true true = refl
     go true false = refl
     go false true = refl
@@ -70,11 +76,15 @@ different_and_extra = record {
   rise = ((refl, tt), (tt, tt));
   each = λ s.
       by_rows s
-      ∙ ap (λ (rows : List InForce). finding_of false (started rows (subject_of s)) (started copy (subject_of s))) (sym force_is)
-      ∙ ap (λ (ts : List Subject). finding_of (list_any (λ t. subject_eq t (subject_of s)) ts) (started (all_in_force active_at_201) (subject_of s)) (started copy (subject_of s))) (sym none_waits);
+      ∙ ap (λ (rows : List InForce). finding_of false (started rows (subject_of s))
+      (started copy (subject_of s))) (sym force_is)
+      ∙ ap (λ (ts : List Subject). finding_of (list_any (λ t. subject_eq t (subject_of s)) ts)
+      (started (all_in_force active_at_201) (subject_of s)) (started copy (subject_of s)))
+      (sym none_waits);
 }
 
--- what waits is told before what differs: of a partial failure, to a carrier that has not acknowledged it
+-- what waits is told before what differs: of a partial failure, to a carrier that has not
+-- acknowledged it
 waiting_first : finding_at part_at_215 a copy (Number n) ≡ Some Waiting
 unfolding next meaning after effect judge judged_for judged_version queue tests out
 waiting_first = refl

@@ -25,7 +25,9 @@ copy_header = codes "subject" ∷ codes "lrn" ∷ codes "cic" ∷ []
 
 -- the row says where a subject is routed
 abbrev pub IsEntry : Row → RoutedRow → Type 0
-IsEntry row entry = row ≡ subject_text (subject_of entry.subject) ∷ lrn_text entry.routing.lrn.number ∷ optional_cic entry.routing.cic ∷ []
+IsEntry row entry =
+    row ≡ subject_text (subject_of entry.subject) ∷ lrn_text entry.routing.lrn.number ∷ optional_cic
+    entry.routing.cic ∷ []
 
 -- it says that of none
 abbrev pub IsNoEntry : Row → Type 0
@@ -62,7 +64,8 @@ pub record IsCopy (rows : List Row) (entries : List RoutedRow) : Type 0 where
 
 -- some row is none of a copy's, or a subject stands twice
 abbrev pub IsBadCopy : List Row → Type 0
-IsBadCopy rows = HasNoEntry rows ⊎ ((entries : List RoutedRow) × AreEntries rows entries × (¬ (EachOnce (subjects_in entries))))
+IsBadCopy rows = HasNoEntry rows ⊎ ((entries : List RoutedRow) × AreEntries rows entries
+    × (¬ (EachOnce (subjects_in entries))))
 
 -- why the rows of a file were not read as entries of a copy
 abbrev pub IsNotRead : FaultKind → List Row → Type 0
@@ -86,18 +89,23 @@ pub record Finds (st : State) (carrier : ℕ) (bytes : List ℕ) (findings : Lis
   pub found : AreFindings st carrier (map in_force_of entries) findings
 
 -- all of them were written
-abbrev pub AuditsAll : State → (carrier : ℕ) → (bytes : List ℕ) → (had has : Option (List ℕ)) → (rows : ℕ) → Type 0
+abbrev pub AuditsAll : State → (carrier : ℕ) → (bytes : List ℕ) → (had has : Option (List ℕ))
+    → (rows : ℕ) → Type 0
 AuditsAll st carrier bytes had has rows =
-    (findings : List Found) × Finds st carrier bytes findings × (rows ≡ length findings) × Appends had has (file_text audit_header (map finding_line findings))
+    (findings : List Found) × Finds st carrier bytes findings × (rows ≡ length findings)
+    × Appends had has (file_text audit_header (map finding_line findings))
 
 -- so many of them were written whole, and no more than a front of the next
-abbrev pub AuditsPart : State → (carrier : ℕ) → (bytes : List ℕ) → (had has : Option (List ℕ)) → (rows : ℕ) → Type 0
+abbrev pub AuditsPart : State → (carrier : ℕ) → (bytes : List ℕ) → (had has : Option (List ℕ))
+    → (rows : ℕ) → Type 0
 AuditsPart st carrier bytes had has rows =
-    (findings : List Found) × Finds st carrier bytes findings × EndsWithin had has audit_header (map finding_line findings) rows
+    (findings : List Found) × Finds st carrier bytes findings
+    × EndsWithin had has audit_header (map finding_line findings) rows
 
 -- why nothing was written
 abbrev pub HasBadHeader : (bytes : List ℕ) → Type 0
-HasBadHeader bytes = (rows : List Row) × AreRowsOf bytes rows × ((others : List Row) → rows ≢ copy_header ∷ others)
+HasBadHeader bytes = (rows : List Row) × AreRowsOf bytes rows × ((others : List Row)
+    → rows ≢ copy_header ∷ others)
 
 abbrev pub HasBadRows : (bytes : List ℕ) → Type 0
 HasBadRows bytes = (rows : List Row) × AreRowsOf bytes (copy_header ∷ rows) × IsBadCopy rows
@@ -111,11 +119,15 @@ WritesNothing NoMemory st carrier bytes = Unit {0}
 WritesNothing Read st carrier bytes = is_carrier st carrier ≡ true
 WritesNothing Write st carrier bytes = ⊥
 
-abbrev pub StopsBefore : FaultKind → State → (carrier : ℕ) → (bytes : List ℕ) → (had has : Option (List ℕ)) → (rows : ℕ) → Type 0
-StopsBefore kind st carrier bytes had has rows = WritesNothing kind st carrier bytes × (rows ≡ 0) × Appends had has []
+abbrev pub StopsBefore : FaultKind → State → (carrier : ℕ) → (bytes : List ℕ)
+    → (had has : Option (List ℕ)) → (rows : ℕ) → Type 0
+StopsBefore kind st carrier bytes had has rows = WritesNothing kind st carrier bytes × (rows ≡ 0)
+    × Appends had has []
 
 -- the audit of the file of these bytes came to this result
-abbrev pub Audits : State → (carrier : ℕ) → (bytes : List ℕ) → (had has : Option (List ℕ)) → Result ℕ BulkFault → Type 0
+abbrev pub Audits : State → (carrier : ℕ) → (bytes : List ℕ) → (had has : Option (List ℕ))
+    → Result ℕ BulkFault → Type 0
 Audits st carrier bytes had has (Ok rows) = AuditsAll st carrier bytes had has rows
 Audits st carrier bytes had has (Err fault) =
-    StopsBefore fault.kind st carrier bytes had has fault.rows ⊎ ((fault.kind ≡ Write) × AuditsPart st carrier bytes had has fault.rows)
+    StopsBefore fault.kind st carrier bytes had has fault.rows
+    ⊎ ((fault.kind ≡ Write) × AuditsPart st carrier bytes had has fault.rows)

@@ -33,13 +33,21 @@ abbrev tn : Tn
 tn = record { number = n; valid = (lit< tt, lit≤ tt, lit≤ tt) }
 
 abbrev alone : Numbers
-alone = record { first = tn; last = tn; valid = record { one_code = refl; rise = lit≤ tt; few = lit< tt } }
+alone = record {
+  first = tn;
+  last = tn;
+  valid = record { one_code = refl; rise = lit≤ tt; few = lit< tt };
+}
 
 abbrev due : Minute
 due = record { number = 100; valid = lit< tt }
 
 abbrev new_create : Spid → Lrn → Order
-new_create spid lrn = record { caller = spid; numbers = alone; wish = wish.Create bbbb spid due (creator.NewProvider (record { lrn = lrn; cic = None })) }
+new_create spid lrn = record {
+  caller = spid;
+  numbers = alone;
+  wish = wish.Create bbbb spid due (creator.NewProvider (record { lrn = lrn; cic = None }));
+}
 
 abbrev first : Order
 first = new_create aaaa (record { number = 2025440000; valid = lit< tt })
@@ -48,23 +56,30 @@ abbrev second : Order
 second = new_create cccc (record { number = 2025550000; valid = lit< tt })
 
 abbrev third : Order
-third = record { caller = bbbb; numbers = alone; wish = wish.Create bbbb aaaa due (creator.OldProvider true) }
+third = record {
+  caller = bbbb;
+  numbers = alone;
+  wish = wish.Create bbbb aaaa due (creator.OldProvider true);
+}
 
 -- the row of a new provider's create says it
 first_is_said :
-    Says (codes "AAAA" ∷ codes "subscriptionVersionNewSP-Create" ∷ codes "2025331234" ∷ codes "BBBB" ∷ codes "AAAA" ∷ decimal 100 ∷ codes "2025440000" ∷ [] ∷ [] ∷ []) first
+    Says (codes "AAAA" ∷ codes "subscriptionVersionNewSP-Create" ∷ codes "2025331234" ∷ codes "BBBB"
+    ∷ codes "AAAA" ∷ decimal 100 ∷ codes "2025440000" ∷ [] ∷ [] ∷ []) first
 unfolding digits_of action_name
 first_is_said = record { subject = codes "2025331234"; names = inl (refl, refl); fields = refl }
 
 -- a create, another for the same number, and the old provider's: the second is refused
 file_is_reported :
     lines_of start (tasks_from 1 (Some first ∷ Some second ∷ Some third ∷ [])) ≡
-    report_line 1 (codes "2025331234") (codes "ok") (decimal 1) ∷ report_line 2 (codes "2025331234") (codes "busy") [] ∷ report_line 3 (codes "2025331234") (codes "ok") (decimal 1) ∷ []
+    report_line 1 (codes "2025331234") (codes "ok") (decimal 1) ∷ report_line 2 (codes "2025331234")
+    (codes "busy") [] ∷ report_line 3 (codes "2025331234") (codes "ok") (decimal 1) ∷ []
 unfolding next meaning after effect judge judged_for judged_version queue tests out digits_of
 file_is_reported = refl
 
 -- a bad row is told, and the rows behind it are run
 bad_row_is_told :
-    lines_of start (tasks_from 1 (None ∷ Some third ∷ [])) ≡ report_line 1 [] (codes "bad_row") [] ∷ report_line 2 (codes "2025331234") (codes "ok") (decimal 1) ∷ []
+    lines_of start (tasks_from 1 (None ∷ Some third ∷ [])) ≡ report_line 1 [] (codes "bad_row") []
+    ∷ report_line 2 (codes "2025331234") (codes "ok") (decimal 1) ∷ []
 unfolding next meaning after effect judge judged_for judged_version queue tests out digits_of
 bad_row_is_told = refl

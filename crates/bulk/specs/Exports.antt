@@ -29,7 +29,8 @@ in_force_line row = subject_text row.subject ++ 44 ∷ (routing_fields row.routi
 abbrev pub export_lines : State → List (List ℕ)
 export_lines st = map in_force_line (all_in_force st)
 
--- what a writer that had this then has of an export whose rows were flushed whole, or that ended early. Nothing is written where the
+-- what a writer that had this then has of an export whose rows were flushed whole, or that ended
+-- early. Nothing is written where the
 -- device or memory failed
 abbrev pub FailsTo : FaultKind → (rows : ℕ) → State → (had has : Option (List ℕ)) → Type 0
 FailsTo Write rows st had has = EndsWithin had has export_header (export_lines st) rows
@@ -41,5 +42,6 @@ FailsTo UnknownCarrier rows st had has = ⊥
 FailsTo Read rows st had has = ⊥
 
 abbrev pub Exports : Result ℕ BulkFault → State → (had has : Option (List ℕ)) → Type 0
-Exports (Ok rows) st had has = (rows ≡ length (all_in_force st)) × Appends had has (file_text export_header (export_lines st))
+Exports (Ok rows) st had has = (rows ≡ length (all_in_force st))
+    × Appends had has (file_text export_header (export_lines st))
 Exports (Err fault) st had has = FailsTo fault.kind fault.rows st had has

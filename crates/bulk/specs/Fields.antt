@@ -9,7 +9,9 @@ use Rattle.bulk.specs.declared.order.ActionName.TheVariants.{OldProviderCreate, 
 
 -- all actions
 abbrev pub actions : List ActionName
-actions = OldProviderCreate ∷ NewProviderCreate ∷ Activate ∷ PutInConflict ∷ RemoveFromConflict ∷ Cancel ∷ OldProviderCancellationAcknowledge ∷ NewProviderCancellationAcknowledge ∷ Disconnect ∷ ModifyRouting ∷ []
+actions = OldProviderCreate ∷ NewProviderCreate ∷ Activate ∷ PutInConflict ∷ RemoveFromConflict
+    ∷ Cancel ∷ OldProviderCancellationAcknowledge ∷ NewProviderCancellationAcknowledge ∷ Disconnect
+    ∷ ModifyRouting ∷ []
 
 -- whether a field is the name of the action
 abbrev pub is_action : List ℕ → ActionName → Bool

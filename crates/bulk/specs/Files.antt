@@ -22,7 +22,8 @@ pub record IsSentPart (had has : Option (List ℕ)) (lines : List (List ℕ)) (k
   pub written : Appends had has (concat before ++ take part line)
 
 -- and a front of the first line; or the first line, k of these lines whole, and a front of the next
-abbrev pub EndsWithin : (had has : Option (List ℕ)) → (first : List ℕ) → (lines : List (List ℕ)) → (k : ℕ) → Type 0
+abbrev pub EndsWithin : (had has : Option (List ℕ)) → (first : List ℕ) → (lines : List (List ℕ))
+    → (k : ℕ) → Type 0
 EndsWithin had has first lines k =
     ((k ≡ 0) × ((part : ℕ) × Appends had has (take part first)))
     ⊎ ((mid : Option (List ℕ)) × Appends had mid first × IsSentPart mid has lines k)

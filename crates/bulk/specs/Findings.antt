@@ -1,4 +1,5 @@
--- What an audit tells: a carrier's own copy beside the register, by three sets of subjects: those of the copy, those in force, and those of
+-- What an audit tells: a carrier's own copy beside the register, by three sets of subjects: those
+-- of the copy, those in force, and those of
 -- which a download waits for the carrier.
 use Rattle.std.specs.Prelude.{◌≡◌, ℕ, ◌==◌, ◌&&◌, Bool, true, false, List, [], ◌∷◌, ◌++◌, map, codes, Option, Some, None, if◌then◌else◌}
 use Rattle.std.specs.List.{list_any}
@@ -32,20 +33,24 @@ same_cic (Some a) None = false
 abbrev pub same_routing : Routing → Routing → Bool
 same_routing r q = (r.lrn == q.lrn) && same_cic r.cic q.cic
 
--- by whether a download of it waits, and by where it is routed in force and in the copy: nothing where these agree
+-- by whether a download of it waits, and by where it is routed in force and in the copy: nothing
+-- where these agree
 abbrev pub finding_of : (waits : Bool) → (in_force copied : Option Routing) → Option Finding
 finding_of true in_force copied = Some Waiting
 finding_of false None None = None
 finding_of false None (Some copy) = Some Extra
 finding_of false (Some routing) None = Some Missing
-finding_of false (Some routing) (Some copy) = if same_routing routing copy then None else Some Different
+finding_of false (Some routing) (Some copy) = if same_routing routing copy then None
+    else Some Different
 
 -- the subjects of the downloads that wait for a carrier
 abbrev pub awaited : State → (carrier : ℕ) → List Subject
 awaited st carrier = each_once (map (λ (d : Download). d.subject) (queue st carrier))
 
 abbrev pub finding_at : State → (carrier : ℕ) → (copy : List InForce) → Subject → Option Finding
-finding_at st carrier copy s = finding_of (list_any (λ t. subject_eq t s) (awaited st carrier)) (started (all_in_force st) s) (started copy s)
+finding_at st carrier copy s =
+    finding_of (list_any (λ t. subject_eq t s) (awaited st carrier)) (started (all_in_force st) s)
+    (started copy s)
 
 -- ---- all findings
 
@@ -55,9 +60,11 @@ told_of [] s = None
 told_of (f ∷ fs) s = if subject_eq (subject_of f.subject) s then Some f.finding else told_of fs s
 
 -- by subject, each once: what is found of each subject, and nothing else
-pub record AreFindings (st : State) (carrier : ℕ) (copy : List InForce) (findings : List Found) : Type 0 where
+pub record AreFindings (st : State) (carrier : ℕ) (copy : List InForce)
+    (findings : List Found) : Type 0 where
   pub rise : SubjectsRise (map (λ (f : Found). subject_of f.subject) findings)
-  pub each : (s : SubjectCode) → told_of findings (subject_of s) ≡ finding_at st carrier copy (subject_of s)
+  pub each : (s : SubjectCode) → told_of findings (subject_of s) ≡ finding_at st carrier copy
+      (subject_of s)
 
 -- ---- their file
 

@@ -17,7 +17,8 @@ use Rattle.bulk.specs.declared.order.Wish.TheVariants as wish
 
 -- the row that a bulk file begins with
 unfoldable pub header : Row
-header = codes "caller" ∷ codes "action" ∷ codes "subject" ∷ codes "old" ∷ codes "new" ∷ codes "due" ∷ codes "lrn" ∷ codes "cic" ∷ codes "flag" ∷ []
+header = codes "caller" ∷ codes "action" ∷ codes "subject" ∷ codes "old" ∷ codes "new" ∷ codes "due"
+    ∷ codes "lrn" ∷ codes "cic" ∷ codes "flag" ∷ []
 
 -- ---- actions
 
@@ -29,8 +30,10 @@ action_name Activate = codes "subscriptionVersionActivate"
 action_name PutInConflict = codes "subscriptionVersionConflict"
 action_name RemoveFromConflict = codes "subscriptionVersionRemoveFromConflict"
 action_name Cancel = codes "subscriptionVersionCancel"
-action_name OldProviderCancellationAcknowledge = codes "subscriptionVersionOldSP-CancellationAcknowledge"
-action_name NewProviderCancellationAcknowledge = codes "subscriptionVersionNewSP-CancellationAcknowledge"
+action_name OldProviderCancellationAcknowledge =
+    codes "subscriptionVersionOldSP-CancellationAcknowledge"
+action_name NewProviderCancellationAcknowledge =
+    codes "subscriptionVersionNewSP-CancellationAcknowledge"
 action_name Disconnect = codes "subscriptionVersionDisconnect"
 action_name ModifyRouting = codes "subscriptionVersionModify"
 
@@ -77,7 +80,8 @@ optional_minute (Some minute) = minute_text minute.number
 -- lrn, cic and flag of a create
 abbrev pub create_fields : Creator → Row
 create_fields (creator.OldProvider authorized) = [] ∷ [] ∷ flag_text authorized ∷ []
-create_fields (creator.NewProvider routing) = lrn_text routing.lrn.number ∷ optional_cic routing.cic ∷ [] ∷ []
+create_fields (creator.NewProvider routing) =
+    lrn_text routing.lrn.number ∷ optional_cic routing.cic ∷ [] ∷ []
 
 -- due, lrn and cic of a command on a version
 abbrev pub release_field : VersionCommand → List ℕ
@@ -112,8 +116,10 @@ cic_field (command.Disconnect release) = []
 
 abbrev pub wish_fields : Wish → Row
 wish_fields (wish.Create old_provider new_provider due by) =
-    spid_text old_provider.number ∷ spid_text new_provider.number ∷ minute_text due.number ∷ create_fields by
-wish_fields (wish.OnVersion command) = [] ∷ [] ∷ release_field command ∷ lrn_field command ∷ cic_field command ∷ [] ∷ []
+    spid_text old_provider.number ∷ spid_text new_provider.number ∷ minute_text due.number
+    ∷ create_fields by
+wish_fields (wish.OnVersion command) =
+    [] ∷ [] ∷ release_field command ∷ lrn_field command ∷ cic_field command ∷ [] ∷ []
 
 -- ---- rows
 
@@ -121,7 +127,8 @@ wish_fields (wish.OnVersion command) = [] ∷ [] ∷ release_field command ∷ l
 pub record Says (row : Row) (order : Order) : Type 0 where
   pub subject : List ℕ
   pub names : Names subject order.numbers
-  pub fields : row ≡ spid_text order.caller.number ∷ action_name (action_of order.wish) ∷ subject ∷ wish_fields order.wish
+  pub fields : row ≡ spid_text order.caller.number ∷ action_name (action_of order.wish) ∷ subject
+      ∷ wish_fields order.wish
 
 -- the row says an order, or it is a bad one: it says none
 abbrev pub Reads : Row → Option Order → Type 0

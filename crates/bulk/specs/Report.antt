@@ -33,7 +33,8 @@ abbrev pub first_id : Option ℕ → Option ℕ → ℕ
 first_id (Some id) other = id
 first_id None other = id_or_none other
 
--- a command takes a number's open version, else its version in force, else none; a disconnect and a modify take the one in force, else none
+-- a command takes a number's open version, else its version in force, else none; a disconnect and a
+-- modify take the one in force, else none
 abbrev pub id_taken : VersionCommand → (in_force opened : Option ℕ) → ℕ
 id_taken (command.Disconnect release) in_force opened = id_or_none in_force
 id_taken (command.ModifyRouting routing) in_force opened = id_or_none in_force
@@ -45,15 +46,19 @@ id_taken command.OldProviderCancellationAcknowledge in_force opened = first_id o
 id_taken command.NewProviderCancellationAcknowledge in_force opened = first_id opened in_force
 
 abbrev pub in_force_id : State → (tn : ℕ) → Option ℕ
-in_force_id st tn = option_map (λ (v : Version). v.id) (version_in_force (record_now st (Number tn)))
+in_force_id st tn =
+    option_map (λ (v : Version). v.id) (version_in_force (record_now st (Number tn)))
 
 abbrev pub open_id : State → (tn : ℕ) → Option ℕ
-open_id st tn = option_map (λ (v : Version). v.id) (open_version (Number tn) (record_now st (Number tn)))
+open_id st tn =
+    option_map (λ (v : Version). v.id) (open_version (Number tn) (record_now st (Number tn)))
 
 -- what is wanted of a number, as a command
 abbrev pub command_for : State → (tn : ℕ) → Wish → Command
-command_for st tn (wish.Create old_provider new_provider due by) = command_by by tn old_provider.number new_provider.number due.number
-command_for st tn (wish.OnVersion command) = OnVersion (id_taken command (in_force_id st tn) (open_id st tn)) (asked_of command)
+command_for st tn (wish.Create old_provider new_provider due by) =
+    command_by by tn old_provider.number new_provider.number due.number
+command_for st tn (wish.OnVersion command) =
+    OnVersion (id_taken command (in_force_id st tn) (open_id st tn)) (asked_of command)
 
 -- ---- what stands in a file
 
@@ -73,7 +78,8 @@ numbers_of numbers = rising numbers.first.number (numbers.last.number + 1 - numb
 -- the row of this number: one command for each number, by rising number
 abbrev pub tasks_of : (row : ℕ) → Option Order → List Task
 tasks_of row None = Bad row ∷ []
-tasks_of row (Some order) = map (λ tn. Wants row order.caller.number tn order.wish) (numbers_of order.numbers)
+tasks_of row (Some order) =
+    map (λ tn. Wants row order.caller.number tn order.wish) (numbers_of order.numbers)
 
 -- the rows from this number on
 abbrev pub tasks_from : (row : ℕ) → List (Option Order) → List Task
@@ -94,7 +100,8 @@ report_header = codes "row,subject,result,id\n"
 
 -- row, subject, result and id
 abbrev pub report_line : (row : ℕ) → (subject result id : List ℕ) → List ℕ
-report_line row subject result id = decimal row ++ 44 ∷ (subject ++ 44 ∷ (result ++ 44 ∷ (id ++ 10 ∷ [])))
+report_line row subject result id =
+    decimal row ++ 44 ∷ (subject ++ 44 ∷ (result ++ 44 ∷ (id ++ 10 ∷ [])))
 
 abbrev pub name_of : Option Refusal → List ℕ
 name_of None = []

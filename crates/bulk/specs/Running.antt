@@ -19,35 +19,42 @@ use Rattle.bulk.specs.declared.fault.FaultKind.{FaultKind}
 use Rattle.bulk.specs.declared.fault.FaultKind.TheVariants.{BadHeader, BadFile, UnknownCarrier, Storage, NoMemory, Read, Write}
 
 -- a line was sent behind as many as count, or the writer failed in it
-abbrev pub SendsOne : (had has : Option (List ℕ)) → (text : List ℕ) → (count : ℕ) → Result ℕ BulkFault → Type 0
+abbrev pub SendsOne : (had has : Option (List ℕ)) → (text : List ℕ) → (count : ℕ)
+    → Result ℕ BulkFault → Type 0
 SendsOne had has text count (Ok k) = Appends had has text × (k ≡ count + 1)
-SendsOne had has text count (Err fault) = AppendsFront had has text × (fault.kind ≡ Write) × (fault.rows ≡ count)
+SendsOne had has text count (Err fault) = AppendsFront had has text × (fault.kind ≡ Write)
+    × (fault.rows ≡ count)
 
 -- all the tasks were done, behind as many lines as from
-pub record DoesAll (st : State) (tasks : List Task) (new : Content) (had has : Option (List ℕ)) (from k : ℕ) : Type 0 where
+pub record DoesAll (st : State) (tasks : List Task) (new : Content) (had has : Option (List ℕ))
+    (from k : ℕ) : Type 0 where
   pub stands : Stands new (state_after st tasks)
   pub sent : AreSent had has (lines_of st tasks)
   pub count : k ≡ from + length tasks
 
 -- the first of them were done, and no more
-pub record DoesFirst (st : State) (tasks : List Task) (new : Content) (had has : Option (List ℕ)) (from k : ℕ) : Type 0 where
+pub record DoesFirst (st : State) (tasks : List Task) (new : Content) (had has : Option (List ℕ))
+    (from k : ℕ) : Type 0 where
   pub first : List Task
   pub others : List Task
   pub all : tasks ≡ first ++ others
   pub done : DoesAll st first new had has from k
 
 -- the first of them were done, and one more, of whose line a front was written
-pub record BreaksAt (st : State) (tasks : List Task) (new : Content) (had has : Option (List ℕ)) (from k : ℕ) : Type 0 where
+pub record BreaksAt (st : State) (tasks : List Task) (new : Content) (had has : Option (List ℕ))
+    (from k : ℕ) : Type 0 where
   pub first : List Task
   pub task : Task
   pub others : List Task
   pub all : tasks ≡ first ++ task ∷ others
   pub stands : Stands new (state_behind (state_after st first) task)
   pub part : ℕ
-  pub sent : Appends had has (concat (lines_of st first) ++ take part (line_of (state_after st first) task))
+  pub sent : Appends had has (concat (lines_of st first) ++ take part
+      (line_of (state_after st first) task))
   pub count : k ≡ from + length first
 
-abbrev pub FailsIn : FaultKind → State → List Task → Content → (had has : Option (List ℕ)) → (from k : ℕ) → Type 0
+abbrev pub FailsIn : FaultKind → State → List Task → Content → (had has : Option (List ℕ))
+    → (from k : ℕ) → Type 0
 FailsIn Write st tasks new had has from k = BreaksAt st tasks new had has from k
 FailsIn Storage st tasks new had has from k = DoesFirst st tasks new had has from k
 FailsIn NoMemory st tasks new had has from k = DoesFirst st tasks new had has from k
@@ -57,20 +64,24 @@ FailsIn BadFile st tasks new had has from k = ⊥
 FailsIn UnknownCarrier st tasks new had has from k = ⊥
 
 -- a run from the state st on, behind as many lines as from, came to this result
-abbrev pub RunsTo : State → List Task → Content → (had has : Option (List ℕ)) → (from : ℕ) → Result ℕ BulkFault → Type 0
+abbrev pub RunsTo : State → List Task → Content → (had has : Option (List ℕ)) → (from : ℕ)
+    → Result ℕ BulkFault → Type 0
 RunsTo st tasks new had has from (Ok k) = DoesAll st tasks new had has from k
-RunsTo st tasks new had has from (Err fault) = FailsIn fault.kind st tasks new had has from fault.rows
+RunsTo st tasks new had has from (Err fault) =
+    FailsIn fault.kind st tasks new had has from fault.rows
 
 -- ---- the rows of a file
 
 -- all rows were run, from the state st on
-pub record RunsAll (st : State) (rows : List Row) (new : Content) (had has : Option (List ℕ)) (k : ℕ) : Type 0 where
+pub record RunsAll (st : State) (rows : List Row) (new : Content) (had has : Option (List ℕ))
+    (k : ℕ) : Type 0 where
   pub orders : List (Option Order)
   pub read : AreRead rows orders
   pub done : DoesAll st (tasks_from 1 orders) new had has 0 k
 
 -- the first of the rows were run, the last of these not to its end, and no more of the file
-pub record RunsFirst (kind : FaultKind) (st : State) (rows : List Row) (new : Content) (had has : Option (List ℕ)) (k : ℕ) : Type 0 where
+pub record RunsFirst (kind : FaultKind) (st : State) (rows : List Row) (new : Content)
+    (had has : Option (List ℕ)) (k : ℕ) : Type 0 where
   pub first : List Row
   pub others : List Row
   pub all : rows ≡ first ++ others
@@ -78,7 +89,8 @@ pub record RunsFirst (kind : FaultKind) (st : State) (rows : List Row) (new : Co
   pub read : AreRead first orders
   pub failed : FailsIn kind st (tasks_from 1 orders) new had has 0 k
 
-abbrev pub RunsRows : State → List Row → Content → (had has : Option (List ℕ)) → Result ℕ BulkFault → Type 0
+abbrev pub RunsRows : State → List Row → Content → (had has : Option (List ℕ)) → Result ℕ BulkFault
+    → Type 0
 RunsRows st rows new had has (Ok k) = RunsAll st rows new had has k
 RunsRows st rows new had has (Err fault) = RunsFirst fault.kind st rows new had has fault.rows
 
@@ -88,40 +100,50 @@ Follows st new = (inputs : List Input) × Stands new (machine_after st inputs)
 
 -- ---- a file
 
--- the report of a file's rows behind its header: the report's own header, and then the lines; or the writer failed in that header
-pub record IsHeaderBroken (st : State) (new : Content) (had has : Option (List ℕ)) (fault : BulkFault) : Type 0 where
+-- the report of a file's rows behind its header: the report's own header, and then the lines; or
+-- the writer failed in that header
+pub record IsHeaderBroken (st : State) (new : Content) (had has : Option (List ℕ))
+    (fault : BulkFault) : Type 0 where
   pub kind : fault.kind ≡ Write
   pub rows : fault.rows ≡ 0
   pub stands : Stands new st
   pub part : ℕ
   pub sent : Appends had has (take part report_header)
 
-abbrev pub BreaksHeader : State → Content → (had has : Option (List ℕ)) → Result ℕ BulkFault → Type 0
+abbrev pub BreaksHeader : State → Content → (had has : Option (List ℕ)) → Result ℕ BulkFault
+    → Type 0
 BreaksHeader st new had has (Ok k) = ⊥
 BreaksHeader st new had has (Err fault) = IsHeaderBroken st new had has fault
 
-abbrev pub Reports : State → List Row → Content → (had has : Option (List ℕ)) → Result ℕ BulkFault → Type 0
+abbrev pub Reports : State → List Row → Content → (had has : Option (List ℕ)) → Result ℕ BulkFault
+    → Type 0
 Reports st rows new had has result =
-    ((behind : Option (List ℕ)) × Appends had behind report_header × RunsRows st rows new behind has result)
+    ((behind : Option (List ℕ)) × Appends had behind report_header
+    × RunsRows st rows new behind has result)
     ⊎ BreaksHeader st new had has result
 
 -- these are no rows of a bulk file: there is none, or the first is not the header
 abbrev pub LacksHeader : List Row → Type 0
 LacksHeader rows = (others : List Row) → rows ≢ header ∷ others
 
--- nothing was run and nothing written: the file has no such header, or its first row could not be read
-pub record RunsNothing (st : State) (bytes : List ℕ) (new : Content) (had has : Option (List ℕ)) (fault : BulkFault) : Type 0 where
+-- nothing was run and nothing written: the file has no such header, or its first row could not be
+-- read
+pub record RunsNothing (st : State) (bytes : List ℕ) (new : Content) (had has : Option (List ℕ))
+    (fault : BulkFault) : Type 0 where
   pub rows : fault.rows ≡ 0
   pub stands : Stands new st
   pub sent : Appends had has []
-  pub why : ((fault.kind ≡ BadHeader) × ((rows : List Row) × AreRowsOf bytes rows × LacksHeader rows)) ⊎ IsUnread fault.kind
+  pub why : ((fault.kind ≡ BadHeader) × ((rows : List Row) × AreRowsOf bytes rows
+      × LacksHeader rows)) ⊎ IsUnread fault.kind
 
-abbrev pub StopsFirst : State → (bytes : List ℕ) → Content → (had has : Option (List ℕ)) → Result ℕ BulkFault → Type 0
+abbrev pub StopsFirst : State → (bytes : List ℕ) → Content → (had has : Option (List ℕ))
+    → Result ℕ BulkFault → Type 0
 StopsFirst st bytes new had has (Ok k) = ⊥
 StopsFirst st bytes new had has (Err fault) = RunsNothing st bytes new had has fault
 
 -- the file of these bytes, from the state st on
-abbrev pub RunsFile : State → (bytes : List ℕ) → Content → (had has : Option (List ℕ)) → Result ℕ BulkFault → Type 0
+abbrev pub RunsFile : State → (bytes : List ℕ) → Content → (had has : Option (List ℕ))
+    → Result ℕ BulkFault → Type 0
 RunsFile st bytes new had has result =
     ((rows : List Row) × AreRowsOf bytes (header ∷ rows) × Reports st rows new had has result)
     ⊎ StopsFirst st bytes new had has result

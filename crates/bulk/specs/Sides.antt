@@ -21,16 +21,21 @@ sides_at all s = unwrap_or (get (on key_of nat_cmp) all s) no_sides
 -- where these rows route a subject, or what was before: a later row counts
 abbrev pub routed_after : List RoutedRow → Subject → Option Routing → Option Routing
 routed_after [] s before = before
-routed_after (r ∷ rs) s before = routed_after rs s (if subject_eq (subject_of r.subject) (subject_of s) then Some r.routing else before)
+routed_after (r ∷ rs) s before =
+    routed_after rs s (if subject_eq (subject_of r.subject) (subject_of s) then Some r.routing
+    else before)
 
 -- whether a subject is among these, or waited before
 abbrev pub waits_after : List Subject → Subject → Bool → Bool
 waits_after [] s before = before
-waits_after (t ∷ ts) s before = waits_after ts s (if subject_eq (subject_of t) (subject_of s) then true else before)
+waits_after (t ∷ ts) s before = waits_after ts s (if subject_eq (subject_of t) (subject_of s)
+    then true else before)
 
 -- what is found of a subject by its sides
 abbrev pub found_of : Sides → Option Finding
-found_of sides = finding_of sides.waits (option_map routing_of sides.in_force) (option_map routing_of sides.copied)
+found_of sides =
+    finding_of sides.waits (option_map routing_of sides.in_force)
+    (option_map routing_of sides.copied)
 
 abbrev pub with_found : Subject → Option Finding → List Found → List Found
 with_found s None findings = findings

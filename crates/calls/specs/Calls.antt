@@ -34,7 +34,9 @@ command_of (RegisterRoutingNumberCode lrn) = RegisterRoutingNumber lrn.number
 command_of (OpenCodeCode code spid) = OpenCode code.number spid.number
 command_of (CreateCode create) = create_of create
 command_of (OnVersionCode id command) = OnVersion id (asked_of command)
-command_of (DonateCode block used routing) = Donate block.number (lines_of used.items) routing.lrn.number (option_map (λ (c : Cic). c.number) routing.cic)
+command_of (DonateCode block used routing) =
+    Donate block.number (lines_of used.items) routing.lrn.number (option_map (λ (c : Cic). c.number)
+    routing.cic)
 command_of (AssignCode assignment) = assignment_of assignment
 command_of (ReleaseCode block) = Release block.number
 command_of (SetWindowsCode windows) = SetWindows (windows_of windows)
@@ -95,7 +97,8 @@ reply_of (FetchedCode downloads) = Fetched (map download_of downloads.items)
 reply_of (MovedCode minute) = Moved minute.number
 reply_of (WindowsSetCode now number) = WindowsSet now.number number
 
--- the machine's refusals are those below 29: the device's (29) and want of memory (30) are no answers of its
+-- the machine's refusals are those below 29: the device's (29) and want of memory (30) are no
+-- answers of its
 abbrev pub refused_with : ℕ → Option Reply
 refused_with k = if nat_lt k 29 then Some (Refused k) else None
 

@@ -23,7 +23,14 @@ row_of b = record {
 
 -- the row of a broadcast of the subject
 abbrev pub broadcast_row : Subject → Broadcast → BroadcastRow
-broadcast_row s b = record { minute = b.minute; subject = s; action = b.action; routing = b.routing; is_open = is_open_broadcast b; any = is_nonempty b.acknowledged }
+broadcast_row s b = record {
+  minute = b.minute;
+  subject = s;
+  action = b.action;
+  routing = b.routing;
+  is_open = is_open_broadcast b;
+  any = is_nonempty b.acknowledged;
+}
 
 -- a broadcast as it begins: to every carrier that there is
 abbrev pub begun : (attempt minute : ℕ) → Action → Option Routing → (everyone : List ℕ) → Broadcast
@@ -47,9 +54,13 @@ outcome_after is_last NoneAcknowledged = NoneAcknowledged
 
 -- a broadcast after the acknowledgement of the carrier c
 abbrev pub answered : (c : ℕ) → (is_last : Bool) → Broadcast → Broadcast
-answered c is_last b = record b { acknowledged = with_number c b.acknowledged; outcome = outcome_after is_last b.outcome }
+answered c is_last b = record b {
+  acknowledged = with_number c b.acknowledged;
+  outcome = outcome_after is_last b.outcome;
+}
 
--- how a broadcast for which some carrier waits stands: once its window ended it is partly acknowledged
+-- how a broadcast for which some carrier waits stands: once its window ended it is partly
+-- acknowledged
 abbrev pub outcome_while_waited : (is_open : Bool) → Outcome
 outcome_while_waited true = Open
 outcome_while_waited false = SomeAcknowledged

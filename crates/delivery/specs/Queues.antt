@@ -14,7 +14,8 @@ is_key id attempt k = (k.id == id) && (k.attempt == attempt)
 abbrev pub is_earlier : DownloadKey → DownloadKey → Bool
 is_earlier a b =
     nat_lt a.minute.number b.minute.number
-    || ((a.minute.number == b.minute.number) && (nat_lt a.id b.id || ((a.id == b.id) && nat_lt a.attempt b.attempt)))
+    || ((a.minute.number == b.minute.number)
+    && (nat_lt a.id b.id || ((a.id == b.id) && nat_lt a.attempt b.attempt)))
 
 -- an earlier key is among them
 abbrev pub has_earlier : List DownloadKey → DownloadKey → Bool
@@ -30,7 +31,8 @@ is_behind keys id attempt = list_any (λ k. is_key id attempt k && has_earlier k
 
 -- why an attempt of a version may not be acknowledged yet
 abbrev pub key_refusal : List DownloadKey → (id attempt : ℕ) → Option ℕ
-key_refusal keys id attempt = first_that_holds ((25, is_missing keys id attempt) ∷ (26, is_behind keys id attempt) ∷ [])
+key_refusal keys id attempt =
+    first_that_holds ((25, is_missing keys id attempt) ∷ (26, is_behind keys id attempt) ∷ [])
 
 -- the key is that of a download of the subject
 pub record IsKeyOf (s : Subject) (k : DownloadKey) (d : Download) : Type 0 where
@@ -48,4 +50,9 @@ AreKeysOf s (k ∷ ks) [] = ⊥
 
 -- why an acknowledgement of waiting downloads is refused
 abbrev pub queue_refusal : List Download → (id attempt : ℕ) → Option ℕ
-queue_refusal downloads id attempt = first_that_holds ((25, is_not_among downloads id attempt) ∷ (26, is_preceded downloads id attempt) ∷ [])
+queue_refusal downloads id attempt =
+    first_that_holds ((25, is_not_among downloads id attempt) ∷ (
+      26,
+      is_preceded downloads id
+          attempt,
+    ) ∷ [])

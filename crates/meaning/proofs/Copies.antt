@@ -28,7 +28,8 @@ use Rattle.meaning.specs.Reading.{Download, is_before}
 
 -- ---- how broadcasts are looked at
 
--- those that were sent to a carrier, and marked what it acknowledged; or all, and marked none of them, or what was not sent to a carrier, or what is closed
+-- those that were sent to a carrier, and marked what it acknowledged; or all, and marked none of
+-- them, or what was not sent to a carrier, or what is closed
 pub data Look : Type 0 where
   Carrier : (c : ℕ) → Look
   Nobody : Look
@@ -61,7 +62,14 @@ pub record Placed : Type 0 where
   pub marked : Bool
 
 abbrev pub place : Look → ℕ → Broadcast → Placed
-place o id b = record { id = id; attempt = b.attempt; minute = b.minute; action = b.action; routing = b.routing; marked = is_marked o b }
+place o id b = record {
+  id = id;
+  attempt = b.attempt;
+  minute = b.minute;
+  action = b.action;
+  routing = b.routing;
+  marked = is_marked o b;
+}
 
 -- those of one version, newest first
 abbrev pub own_of : Look → ℕ → List Broadcast → List Placed
@@ -75,14 +83,23 @@ abbrev pub placed : Look → List Version → List Placed
 placed o vs = flat_map (own o) vs
 
 abbrev pub download_of : Subject → Placed → Download
-download_of s p = record { id = p.id; attempt = p.attempt; minute = p.minute; subject = s; action = p.action; routing = p.routing }
+download_of s p = record {
+  id = p.id;
+  attempt = p.attempt;
+  minute = p.minute;
+  subject = s;
+  action = p.action;
+  routing = p.routing;
+}
 
 -- ---- what is said of them
 
 -- the order of the list is that of the downloads, the last of them first
 abbrev pub AreInOrder : Subject → List Placed → Type 0
 AreInOrder s [] = ⊤
-AreInOrder s (p ∷ ps) = AllByRecursion (λ (q : Placed). is_before (download_of s q) (download_of s p) ≡ true) ps × AreInOrder s ps
+AreInOrder s (p ∷ ps) =
+    AllByRecursion (λ (q : Placed). is_before (download_of s q) (download_of s p) ≡ true) ps
+    × AreInOrder s ps
 
 abbrev pub AllMarked : List Placed → Type 0
 AllMarked ps = AllByRecursion (λ (p : Placed). p.marked ≡ true) ps
@@ -102,20 +119,29 @@ held row (p ∷ ps) = if p.marked then p.routing else held row ps
 
 -- ---- of each that stands
 
-pub all_append : {A : Type 0} (P : A → Type 0) (xs ys : List A) → AllByRecursion P xs → AllByRecursion P ys → AllByRecursion P (xs ++ ys)
+pub all_append : {A : Type 0} (P : A → Type 0) (xs ys : List A) → AllByRecursion P xs
+    → AllByRecursion P ys → AllByRecursion P (xs ++ ys)
 all_append P [] ys all more = more
 all_append P (x ∷ xs) ys all more = (all.0, all_append P xs ys all.1 more)
 
 -- what holds of each broadcast that stands holds along the list
-pub each_own : (o : Look) (P : Placed → Type 0) (id : ℕ) (bs : List Broadcast) → AllByRecursion (λ b. stands_for o b ≡ true → P (place o id b)) bs → AllByRecursion P (own_of o id bs)
+pub each_own : (o : Look) (P : Placed → Type 0) (id : ℕ) (bs : List Broadcast)
+    → AllByRecursion (λ b. stands_for o b ≡ true → P (place o id b)) bs
+    → AllByRecursion P (own_of o id bs)
 each_own o P id [] each = tt
 each_own o P id (b ∷ bs) each = go (stands_for o b) each.0 (each_own o P id bs each.1)
   where
-    go : (t : Bool) → (t ≡ true → P (place o id b)) → AllByRecursion P (own_of o id bs) → AllByRecursion P (map (place o id) (cond t (b ∷ filter (stands_for o) bs) (filter (stands_for o) bs)))
+    go : (t : Bool) → (t ≡ true → P (place o id b)) → AllByRecursion P (own_of o id bs)
+        → AllByRecursion P
+        (map (place o id) (cond t (b ∷ filter (stands_for o) bs) (filter (stands_for o) bs)))
     go true here later = (here refl, later)
     go false here later = later
 
-pub each_placed : (o : Look) (P : Placed → Type 0) (vs : List Version) → AllByRecursion (λ (v : Version). AllByRecursion (λ b. stands_for o b ≡ true → P (place o v.id b)) v.broadcasts) vs →
+pub each_placed : (o : Look) (P : Placed → Type 0) (vs : List Version)
+    → AllByRecursion (λ (v : Version). AllByRecursion (λ b. stands_for o b ≡ true
+    → P (place o v.id b)) v.broadcasts) vs →
     AllByRecursion P (placed o vs)
 each_placed o P [] each = tt
-each_placed o P (v ∷ vs) each = all_append P (own o v) (placed o vs) (each_own o P v.id v.broadcasts each.0) (each_placed o P vs each.1)
+each_placed o P (v ∷ vs) each =
+    all_append P (own o v) (placed o vs) (each_own o P v.id v.broadcasts each.0)
+    (each_placed o P vs each.1)

@@ -15,7 +15,8 @@ fewer : {A : Type 0} (test : A → Bool) (xs : List A) → length (filter test x
 fewer test [] = omega arith
 fewer test (x ∷ xs) = go (fewer test xs) (test x)
   where
-    go : length (filter test xs) ≤ length xs → (b : Bool) → length (cond b (x ∷ filter test xs) (filter test xs)) ≤ suc (length xs)
+    go : length (filter test xs) ≤ length xs → (b : Bool)
+        → length (cond b (x ∷ filter test xs) (filter test xs)) ≤ suc (length xs)
     go less true = omega (arith, less)
     go less false = omega (arith, less)
 
@@ -27,30 +28,43 @@ front_few : {A : Type 0} (xs ys : List A) (n : ℕ) → length (xs ++ ys) ≤ n 
 front_few xs ys n few = let both = length-append xs ys in omega (arith, both, few)
 
 -- the used numbers are among those that are in use, of which there are at most a hundred
-used_few : (st : State) (caller block : ℕ) (used : List ℕ) (lrn : ℕ) (cic : Option ℕ) → refusal st (Requests caller (Commands (Donate block used lrn cic))) ≡ None
+used_few : (st : State) (caller block : ℕ) (used : List ℕ) (lrn : ℕ) (cic : Option ℕ)
+    → refusal st (Requests caller (Commands (Donate block used lrn cic))) ≡ None
     → length (used_numbers block used) ≤ 100
 used_few st caller block used lrn cic none =
-    let few : nat_lt 100 (length (contaminated_numbers st caller block used)) ≡ false = (accepted_command st caller (Donate block used lrn cic) none).contaminated in
-    let all : length (contaminated_numbers st caller block used) ≤ 100 = grind (arith, nat_tests, few) in
+    let few : nat_lt 100 (length (contaminated_numbers st caller block used)) ≡ false =
+    (accepted_command st caller (Donate block used lrn cic) none).contaminated in
+    let all : length (contaminated_numbers st caller block used) ≤ 100 =
+    grind (arith, nat_tests, few) in
     front_few (used_numbers block used) _ 100 all
 
-made_few : (st : State) (caller block : ℕ) (used : List ℕ) (lrn : ℕ) (cic : Option ℕ) → refusal st (Requests caller (Commands (Donate block used lrn cic))) ≡ None
-    → length (ids_from (next_id st.windows st.history) (length (makes (Commands (Donate block used lrn cic)) (record_now st)))) ≤ 100
+made_few : (st : State) (caller block : ℕ) (used : List ℕ) (lrn : ℕ) (cic : Option ℕ)
+    → refusal st (Requests caller (Commands (Donate block used lrn cic))) ≡ None
+    → length (ids_from (next_id st.windows st.history)
+    (length (makes (Commands (Donate block used lrn cic)) (record_now st)))) ≤ 100
 made_few st caller block used lrn cic none =
-    let many = so_many (next_id st.windows st.history) (length (makes (Commands (Donate block used lrn cic)) (record_now st))) in
-    let less = fewer (λ s. is_none (version_in_force (record_now st s))) (used_numbers block used) in
+    let many = so_many (next_id st.windows st.history)
+    (length (makes (Commands (Donate block used lrn cic)) (record_now st))) in
+    let less = fewer (λ s. is_none (version_in_force (record_now st s)))
+    (used_numbers block used) in
     omega (arith, many, less, used_few st caller block used lrn cic none)
 
 -- the answer to a donation has at most a hundred ids
-pub donated_few : (st : State) (caller block : ℕ) (used : List ℕ) (lrn : ℕ) (cic : Option ℕ) (b : ℕ) (ids : List ℕ)
-    → Donated b ids ≡ out st (Requests caller (Commands (Donate block used lrn cic))) → length ids ≤ 100
+pub donated_few : (st : State) (caller block : ℕ) (used : List ℕ) (lrn : ℕ) (cic : Option ℕ) (b : ℕ)
+    (ids : List ℕ)
+    → Donated b ids ≡ out st (Requests caller (Commands (Donate block used lrn cic)))
+    → length ids ≤ 100
 unfolding out
-donated_few st caller block used lrn cic b ids said = go (refusal st (Requests caller (Commands (Donate block used lrn cic)))) refl said
+donated_few st caller block used lrn cic b ids said =
+    go (refusal st (Requests caller (Commands (Donate block used lrn cic)))) refl said
   where
     go : (r : Option ℕ) → refusal st (Requests caller (Commands (Donate block used lrn cic))) ≡ r
-        → Donated b ids ≡ refused_or r (answer_of st (accepted st (Requests caller (Commands (Donate block used lrn cic)))) (Requests caller (Commands (Donate block used lrn cic)))) → length ids ≤ 100
+        → Donated b ids ≡ refused_or r
+        (answer_of st (accepted st (Requests caller (Commands (Donate block used lrn cic))))
+        (Requests caller (Commands (Donate block used lrn cic)))) → length ids ≤ 100
     go (Some k) none e = let x : ⊥ = cc in absurd x
     go None none e =
-        let same : ids ≡ ids_from (next_id st.windows st.history) (length (makes (Commands (Donate block used lrn cic)) (record_now st))) = cc in
+        let same : ids ≡ ids_from (next_id st.windows st.history)
+        (length (makes (Commands (Donate block used lrn cic)) (record_now st))) = cc in
         let few = made_few st caller block used lrn cic none in
         omega (arith, few, ap length same)

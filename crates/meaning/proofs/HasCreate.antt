@@ -12,20 +12,24 @@ use Rattle.meaning.proofs.Moves.{MovesKeep, is_before_sending}
 use Rattle.meaning.specs.Windows.{WindowSet}
 
 abbrev pub HasCreateAs : (old_at new_at : Option ℕ) → Status → Type 0
-HasCreateAs old_at new_at status = is_before_sending status ≡ true → (is_some old_at || is_some new_at) ≡ true
+HasCreateAs old_at new_at status = is_before_sending status ≡ true
+    → (is_some old_at || is_some new_at) ≡ true
 
 abbrev pub HasCreate : Version → Type 0
 HasCreate v = HasCreateAs v.old_at v.new_at v.status
 
 -- what was sent waits for creates no more
-closed_needs_none : (action : Send) (outcome : Outcome) → is_before_sending (status_after action outcome) ≡ false
+closed_needs_none : (action : Send) (outcome : Outcome)
+    → is_before_sending (status_after action outcome) ≡ false
 closed_needs_none action Open = refl
 closed_needs_none Create _ = refl
 closed_needs_none Delete _ = refl
 closed_needs_none (Modify routing) _ = refl
 
-needs_none : (old_at new_at : Option ℕ) (status : Status) → is_before_sending status ≡ false → HasCreateAs old_at new_at status
-needs_none old_at new_at status none = λ needs. absurd (let no : true ≡ false = sym needs ∙ none in cc)
+needs_none : (old_at new_at : Option ℕ) (status : Status) → is_before_sending status ≡ false
+    → HasCreateAs old_at new_at status
+needs_none old_at new_at status none = λ needs. absurd (let no : true ≡ false = sym needs ∙ none in
+    cc)
 
 -- every move keeps it
 pub create_kept : (w : WindowSet) → MovesKeep w (λ m cs v. HasCreate v)
@@ -48,8 +52,11 @@ create_kept w = record {
   disconnected = λ m cs v may is needs. cc;
   released = λ m cs v from is needs. cc;
   modified = λ routing m cs v may is needs. cc;
-  ended = λ action m cs v from is. needs_none v.old_at v.new_at (status_after action (outcome_at_end v.broadcasts)) (closed_needs_none action (outcome_at_end v.broadcasts));
+  ended = λ action m cs v from is. needs_none v.old_at v.new_at
+      (status_after action (outcome_at_end v.broadcasts))
+      (closed_needs_none action (outcome_at_end v.broadcasts));
   answered = λ c attempt m cs v may is. is;
-  closed = λ c attempt action m cs v may is. needs_none v.old_at v.new_at (status_after action AllAcknowledged) (closed_needs_none action AllAcknowledged);
+  closed = λ c attempt action m cs v may is. needs_none v.old_at v.new_at
+      (status_after action AllAcknowledged) (closed_needs_none action AllAcknowledged);
   whole = λ c attempt m cs v may is needs. cc;
 }

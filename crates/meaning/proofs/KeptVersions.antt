@@ -33,22 +33,32 @@ module _ {P : Property} {w : WindowSet} (keeps : MovesKeep w P) where
 
   -- a change that is right for each of them
   changed_kept : (m : ℕ) (cs : List ℕ) (change : Version → Version) (vs : List Version) →
-      AllByRecursion (λ v. P m cs (change v)) vs → AllByRecursion (P m cs) (changed_at w m change vs)
+      AllByRecursion (λ v. P m cs (change v)) vs
+      → AllByRecursion (P m cs) (changed_at w m change vs)
   changed_kept m cs change [] all = tt
-  changed_kept m cs change (v ∷ vs) all = (all.0, retired_kept (not (in_force v) && in_force (change v)) m cs (changed_at w m change vs) (changed_kept m cs change vs all.1))
+  changed_kept m cs change (v ∷ vs) all = (
+    all.0,
+    retired_kept (not (in_force v) && in_force (change v)) m cs (changed_at w m change vs)
+        (changed_kept m cs change vs all.1),
+  )
 
   -- a minute
   pub judge_kept : (m : ℕ) (r : Record) → AllByRecursion (P m r.carriers) r.versions →
       AllByRecursion (P m (judge w m r).carriers) (judge w m r).versions
   unfolding judge
-  judge_kept m r all = changed_kept m r.carriers (judged_version w r.carriers m) r.versions (each (λ v p. judged_kept keeps r.carriers m v p) r.versions all)
+  judge_kept m r all = changed_kept m r.carriers (judged_version w r.carriers m) r.versions
+      (each (λ v p. judged_kept keeps r.carriers m v p) r.versions all)
 
 -- ---- one step of a history: by the moves while its present set holds
 
-module _ {P : Property} (w : Windows) (s : Subject) (h : List Entry) (keeps : MovesKeep (present_set w h) P) where
+module _ {P : Property} (w : Windows) (s : Subject) (h : List Entry)
+    (keeps : MovesKeep (present_set w h) P) where
   pub minute_kept : (m : ℕ) → AllKept P m (replay w s h m) →
       AllKept P (suc m) (judge (present_set w h) (suc m) (replay w s h m))
-  minute_kept m all = judge_kept keeps (suc m) (replay w s h m) (each (λ v p. keeps.later m (suc m) (replay w s h m).carriers v (omega arith) p) (replay w s h m).versions all)
+  minute_kept m all =
+      judge_kept keeps (suc m) (replay w s h m)
+      (each (λ v p. keeps.later m (suc m) (replay w s h m).carriers v (omega arith) p)
+      (replay w s h m).versions all)
 
   pub entry_kept : (e : Entry) → IsHistory w (e ∷ h) e.minute →
       AllKept P e.minute (replay w s h e.minute) → AllKept P e.minute (record_after w s h e)
@@ -58,16 +68,22 @@ module _ {P : Property} (w : Windows) (s : Subject) (h : List Entry) (keeps : Mo
       let r : Record = replay w s h e.minute in
       let cs : List ℕ = carrier_added (carrier_named e.request) r.carriers in
       let donor : Option ℕ = donor_of (assigned_block e.request) h in
-      let change : Version → Version = done_to (present_set w h) s e.caller e.minute r.carriers e.request in
-      with_new cs (λ id. made_version (present_set w h) id e.caller e.minute r.carriers donor e.request) (changed_at (present_set w h) e.minute change r.versions)
+      let change : Version → Version =
+      done_to (present_set w h) s e.caller e.minute r.carriers e.request in
+      with_new cs (λ id. made_version (present_set w h) id e.caller e.minute r.carriers donor
+      e.request) (changed_at (present_set w h) e.minute change r.versions)
       (changed_kept keeps e.minute cs change r.versions
-      (each_two (λ v found p. done_kept st keeps is.3 s e.caller e.request is.2 v found p) r.versions (all_found r.versions (given_apart (made_by w h) s r.versions (given_now st is.3 s))) all))
+      (each_two (λ v found p. done_kept st keeps is.3 s e.caller e.request is.2 v found p)
+      r.versions (all_found r.versions (given_apart (made_by w h) s r.versions
+      (given_now st is.3 s))) all))
       (id_among s (next_after (made_by w h)) (makes e.request (record_now st)))
-      (λ id made. made_kept st keeps is.3 s e.caller donor (next_after (made_by w h)) id e.request is.2 made)
+      (λ id made. made_kept st keeps is.3 s e.caller donor (next_after (made_by w h)) id e.request
+      is.2 made)
     where
       with_new : (cs : List ℕ) (made : ℕ → Version) (vs : List Version) →
           AllByRecursion (P e.minute cs) vs →
-          (o : Option ℕ) → ((id : ℕ) → o ≡ Some id → P e.minute cs (made id)) → AllByRecursion (P e.minute cs) (with_made o made vs)
+          (o : Option ℕ) → ((id : ℕ) → o ≡ Some id → P e.minute cs (made id))
+          → AllByRecursion (P e.minute cs) (with_made o made vs)
       with_new cs made vs olds None new = olds
       with_new cs made vs olds (Some id) new = (new id refl, olds)
 
@@ -87,4 +103,6 @@ module _ {P : Property} (keeps : (w : WindowSet) → MovesKeep w P) where
   pub version_now : (st : State) → IsHistory st.windows st.history st.now →
       (s : Subject) (id : ℕ) (v : Version) → version_with id (record_now st s) ≡ Some v →
       P st.now (record_now st s).carriers v
-  version_now st is s id v found = found_has (P st.now (record_now st s).carriers) (λ (u : Version). u.id == id) (record_now st s).versions v (versions_kept st.windows s st.history st.now is) found
+  version_now st is s id v found =
+      found_has (P st.now (record_now st s).carriers) (λ (u : Version). u.id == id)
+      (record_now st s).versions v (versions_kept st.windows s st.history st.now is) found

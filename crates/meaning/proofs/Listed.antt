@@ -28,33 +28,45 @@ one_only (x ∷ []) a b most (inr is) there = absurd is
 one_only (x ∷ []) a b most (inl e) (inr there) = absurd there
 one_only (x ∷ y ∷ ys) a b most is there = absurd (omega (arith, most))
 
-subjects_above : (s : Subject) (rows : List InForce) → AreAbove (subject_key s) rows → AllAbove s (map (λ (r : InForce). r.subject) rows)
+subjects_above : (s : Subject) (rows : List InForce) → AreAbove (subject_key s) rows
+    → AllAbove s (map (λ (r : InForce). r.subject) rows)
 subjects_above s [] above = tt
-subjects_above s (r ∷ rs) above = (is_less (subject_key s) (subject_key r.subject) above.0, subjects_above s rs above.1)
+subjects_above s (r ∷ rs) above = (
+  is_less (subject_key s) (subject_key r.subject) above.0,
+  subjects_above s rs above.1,
+)
 
-subjects_rise : (rows : List InForce) → Rise rows → SubjectsRise (map (λ (r : InForce). r.subject) rows)
+subjects_rise : (rows : List InForce) → Rise rows
+    → SubjectsRise (map (λ (r : InForce). r.subject) rows)
 subjects_rise [] rise = tt
 subjects_rise (r ∷ rs) rise = (subjects_above r.subject rs rise.0, subjects_rise rs rise.1)
 
 module _ (st : State) (is : IsState st) where
-  one_in_force : (s : Subject) (v u : Version) → Among v (record_now st s).versions → Among u (record_now st s).versions → in_force v ≡ true → in_force u ≡ true → v ≡ u
+  one_in_force : (s : Subject) (v u : Version) → Among v (record_now st s).versions
+      → Among u (record_now st s).versions → in_force v ≡ true → in_force u ≡ true → v ≡ u
   one_in_force s v u there also force forces =
       one_only (filter in_force (record_now st s).versions) v u (no_two_active st is s).one_in_force
-      (filtered-to in_force (record_now st s).versions v there force) (filtered-to in_force (record_now st s).versions u also forces)
+      (filtered-to in_force (record_now st s).versions v there force)
+      (filtered-to in_force (record_now st s).versions u also forces)
 
   -- a version of a record that is in force is the one that is found
-  pub is_in_force : (s : Subject) (v : Version) → Among v (record_now st s).versions → in_force v ≡ true → version_in_force (record_now st s) ≡ Some v
+  pub is_in_force : (s : Subject) (v : Version) → Among v (record_now st s).versions
+      → in_force v ≡ true → version_in_force (record_now st s) ≡ Some v
   is_in_force s v there force =
       let found = found-there in_force (record_now st s).versions v there force in
       let other = found-among in_force (record_now st s).versions found.0 found.1 in
       found.1 ∙ ap (λ u. Some u) (one_in_force s found.0 v other.0 there other.1 force)
 
-  among_id : (s : Subject) (id : ℕ) (v : Version) → version_with id (record_now st s) ≡ Some v → Among v (record_now st s).versions
+  among_id : (s : Subject) (id : ℕ) (v : Version) → version_with id (record_now st s) ≡ Some v
+      → Among v (record_now st s).versions
   among_id s id v found = (found-among _ (record_now st s).versions v found).0
 
-  alone : (s : Subject) (id other : ℕ) (v u : Version) → version_with id (record_now st s) ≡ Some v → version_with other (record_now st s) ≡ Some u → in_force v ≡ true → in_force u ≡ true → id ≡ other
+  alone : (s : Subject) (id other : ℕ) (v u : Version) → version_with id (record_now st s) ≡ Some v
+      → version_with other (record_now st s) ≡ Some u → in_force v ≡ true → in_force u ≡ true
+      → id ≡ other
   alone s id other v u found also force forces =
-      sym (id_found id (record_now st s).versions v found) ∙ ap (λ (x : Version). x.id) (one_in_force s v u (among_id s id v found) (among_id s other u also) force forces)
+      sym (id_found id (record_now st s).versions v found) ∙ ap (λ (x : Version). x.id)
+      (one_in_force s v u (among_id s id v found) (among_id s other u also) force forces)
       ∙ id_found other (record_now st s).versions u also
 
   pub rows_rise : Rise (all_in_force st)
@@ -64,7 +76,9 @@ module _ (st : State) (is : IsState st) where
   pub row_is : (r : InForce) → Among r (all_in_force st) → IsOfForce st r
   row_is r there =
       let row = listed-row (record_now st) 1 (made_by st.windows st.history) r there in
-      let stands : version_in_force (record_now st row.e.subject) ≡ Some row.e.version = is_in_force row.e.subject row.e.version (among_id row.e.subject row.id row.e.version row.is.found) row.force in
+      let stands : version_in_force (record_now st row.e.subject) ≡ Some row.e.version =
+      is_in_force row.e.subject row.e.version (among_id row.e.subject row.id row.e.version
+      row.is.found) row.force in
       record {
         version = row.e.version;
         stands = ap (λ (x : InForce). version_in_force (record_now st x.subject)) row.row ∙ stands;
@@ -72,18 +86,26 @@ module _ (st : State) (is : IsState st) where
       }
 
   -- and each version in force has its row
-  pub row_there : (s : Subject) (v : Version) → version_in_force (record_now st s) ≡ Some v → Among (let r : InForce = record { subject = s; routing = v.routing } in r) (all_in_force st)
+  pub row_there : (s : Subject) (v : Version) → version_in_force (record_now st s) ≡ Some v
+      → Among (let r : InForce = record { subject = s; routing = v.routing } in r) (all_in_force st)
   row_there s v stands =
       let among = found-among in_force (record_now st s).versions v stands in
-      let found : version_with v.id (record_now st s) ≡ Some v = found_by_id st is.history s v among.0 in
-      row-listed (record_now st) 1 (made_by st.windows st.history) (record { subject = s; version = v }) v.id
-      (found_given (made_by st.windows st.history) s v.id (record_now st s).versions v (given_now st is.history s) found) found among.1
+      let found : version_with v.id (record_now st s) ≡ Some v =
+      found_by_id st is.history s v among.0 in
+      row-listed (record_now st) 1 (made_by st.windows st.history) (record {
+        subject = s;
+        version =
+            v;
+      }) v.id
+      (found_given (made_by st.windows st.history) s v.id (record_now st s).versions v
+      (given_now st is.history s) found) found among.1
 
 pub force_is_listed : ForceIsListed
 force_is_listed st is = (
   subjects_rise (all_in_force st) (rows_rise st is),
   all_of (IsOfForce st) (all_in_force st) (row_is st is),
-  (λ s v stands. contained (all_in_force st) (record { subject = s; routing = v.routing }) (row_there st is s v stands)),
+  (λ s v stands. contained (all_in_force st) (record { subject = s; routing = v.routing })
+      (row_there st is s v stands)),
 )
 
 -- ---- subjects, each once
@@ -98,15 +120,22 @@ lt_or a b p differs = go (nat_lt b a) refl
     go true e = refl
     go false e = let same : a ≡ b = grind (arith, nat_tests) in absurd (differs same)
 
-above_more : (s t : Subject) (ts : List Subject) → subject_lt s t ≡ true → AllAbove t ts → AllAbove s ts
+above_more : (s t : Subject) (ts : List Subject) → subject_lt s t ≡ true → AllAbove t ts
+    → AllAbove s ts
 above_more s t [] less all = tt
-above_more s t (u ∷ us) less all = (lt_trans (subject_key s) (subject_key t) (subject_key u) less all.0, above_more s t us less all.1)
+above_more s t (u ∷ us) less all = (
+  lt_trans (subject_key s) (subject_key t) (subject_key u) less all.0,
+  above_more s t us less all.1,
+)
 
-above_with : (a s : Subject) (ts : List Subject) → subject_lt a s ≡ true → AllAbove a ts → AllAbove a (with_subject s ts)
+above_with : (a s : Subject) (ts : List Subject) → subject_lt a s ≡ true → AllAbove a ts
+    → AllAbove a (with_subject s ts)
 above_with a s [] less all = (less, tt)
-above_with a s (t ∷ ts) less all = go (above_with a s ts less all.1) (subject_lt s t) (subject_eq s t)
+above_with a s (t ∷ ts) less all =
+    go (above_with a s ts less all.1) (subject_lt s t) (subject_eq s t)
   where
-    go : AllAbove a (with_subject s ts) → (b c : Bool) → AllAbove a (if b then s ∷ t ∷ ts else (if c then t ∷ ts else t ∷ with_subject s ts))
+    go : AllAbove a (with_subject s ts) → (b c : Bool) → AllAbove a (if b then s ∷ t ∷ ts
+        else (if c then t ∷ ts else t ∷ with_subject s ts))
     go later true c = (less, all)
     go later false true = all
     go later false false = (all.0, later)
@@ -116,32 +145,46 @@ with-rises s [] rise = (tt, tt)
 with-rises s (t ∷ ts) rise = go (with-rises s ts rise.1) (subject_lt s t) refl (subject_eq s t) refl
   where
     apart : subject_eq s t ≡ false → subject_key s ≡ subject_key t → ⊥
-    apart e same = true-false (subject_eq s t) (ap (subject_eq s) (sym (subject_key-exact s t same)) ∙ subject_eq-refl s) e
+    apart e same = true-false (subject_eq s t) (ap (subject_eq s) (sym (subject_key-exact s t same))
+        ∙ subject_eq-refl s) e
 
-    go : SubjectsRise (with_subject s ts) → (b : Bool) → subject_lt s t ≡ b → (c : Bool) → subject_eq s t ≡ c → SubjectsRise (if b then s ∷ t ∷ ts else (if c then t ∷ ts else t ∷ with_subject s ts))
+    go : SubjectsRise (with_subject s ts) → (b : Bool) → subject_lt s t ≡ b → (c : Bool)
+        → subject_eq s t ≡ c → SubjectsRise (if b then s ∷ t ∷ ts
+        else (if c then t ∷ ts else t ∷ with_subject s ts))
     go later true less c e = ((less, above_more s t ts less rise.0), rise)
     go later false less true e = rise
-    go later false less false e = (above_with t s ts (lt_or (subject_key s) (subject_key t) less (apart e)) rise.0, later)
+    go later false less false e = (
+      above_with t s ts (lt_or (subject_key s) (subject_key t) less (apart e)) rise.0,
+      later,
+    )
 
-with-from : (s : Subject) (ts : List Subject) (x : Subject) → Among x (with_subject s ts) → Among x (s ∷ ts)
+with-from : (s : Subject) (ts : List Subject) (x : Subject) → Among x (with_subject s ts)
+    → Among x (s ∷ ts)
 with-from s [] x is = is
-with-from s (t ∷ ts) x is = go (λ there. with-from s ts x there) (subject_lt s t) (subject_eq s t) is
+with-from s (t ∷ ts) x is = go (λ there. with-from s ts x there) (subject_lt s t) (subject_eq s t)
+    is
   where
     past : Among x (s ∷ ts) → Among x (s ∷ t ∷ ts)
     past (inl e) = inl e
     past (inr there) = inr (inr there)
 
-    go : (Among x (with_subject s ts) → Among x (s ∷ ts)) → (b c : Bool) → Among x (if b then s ∷ t ∷ ts else (if c then t ∷ ts else t ∷ with_subject s ts)) → Among x (s ∷ t ∷ ts)
+    go : (Among x (with_subject s ts) → Among x (s ∷ ts)) → (b c : Bool)
+        → Among x (if b then s ∷ t ∷ ts else (if c then t ∷ ts else t ∷ with_subject s ts))
+        → Among x (s ∷ t ∷ ts)
     go later true c there = there
     go later false true there = inr there
     go later false false (inl e) = inr (inl e)
     go later false false (inr there) = past (later there)
 
-with-to : (s : Subject) (ts : List Subject) (x : Subject) → Among x (s ∷ ts) → Among x (with_subject s ts)
+with-to : (s : Subject) (ts : List Subject) (x : Subject) → Among x (s ∷ ts)
+    → Among x (with_subject s ts)
 with-to s [] x is = is
-with-to s (t ∷ ts) x is = go (λ there. with-to s ts x there) (subject_lt s t) (subject_eq s t) refl is
+with-to s (t ∷ ts) x is = go (λ there. with-to s ts x there) (subject_lt s t) (subject_eq s t) refl
+    is
   where
-    go : (Among x (s ∷ ts) → Among x (with_subject s ts)) → (b c : Bool) → subject_eq s t ≡ c → Among x (s ∷ t ∷ ts) → Among x (if b then s ∷ t ∷ ts else (if c then t ∷ ts else t ∷ with_subject s ts))
+    go : (Among x (s ∷ ts) → Among x (with_subject s ts)) → (b c : Bool) → subject_eq s t ≡ c
+        → Among x (s ∷ t ∷ ts) → Among x (if b then s ∷ t ∷ ts
+        else (if c then t ∷ ts else t ∷ with_subject s ts))
     go later true c e there = there
     go later false true e (inl f) = inl (f ∙ sym (same_subject s t e))
     go later false true e (inr there) = there

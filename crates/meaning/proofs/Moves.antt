@@ -1,4 +1,5 @@
--- What may become of a version, move by move. Whatever an accepted request or a minute makes of a version is one of the moves.
+-- What may become of a version, move by move. Whatever an accepted request or a minute makes of a
+-- version is one of the moves.
 use Rattle.std.proofs.Common.{◌≡◌, ℕ, ◌+◌, ◌<◌, ◌≤◌, ◌⊎◌, inl, inr, Bool, true, false, cond, not, ◌&&◌, ◌||◌, List, [], ◌∷◌, map, Option, Some, None, refl, ap, sym, ◌∙◌, subst, arith, is_some}
 use Rattle.std.specs.Prelude.{◌==◌, nat_lt, find, unwrap_or, if◌then◌else◌}
 use Rattle.std.specs.List.{AllByRecursion}
@@ -76,13 +77,16 @@ MayDisconnect cs v = (v.status ≡ Active) × (v.attempt + 1 < limit)
 
 -- one more carrier has acknowledged an attempt
 abbrev pub answered_by : ℕ → ℕ → Version → Version
-answered_by c attempt v = record v { broadcasts = map (acknowledged_broadcast c attempt) v.broadcasts }
+answered_by c attempt v = record v {
+  broadcasts = map (acknowledged_broadcast c attempt) v.broadcasts;
+}
 
 -- a carrier acknowledges, and somebody is still missing or nothing waits for the last one
 abbrev pub MayAnswer : (c attempt : ℕ) → List ℕ → Version → Type 0
 MayAnswer c attempt cs v =
     (is_among c cs ≡ true)
-    × (awaits_answers v.status ≡ true → nobody_is_missing (answered_by c attempt v).broadcasts ≡ false)
+    × (awaits_answers v.status ≡ true → nobody_is_missing (answered_by c attempt v).broadcasts
+    ≡ false)
 
 -- ---- the moves
 
@@ -105,13 +109,18 @@ Makes w P becomes =
 pub record MovesKeep (w : WindowSet) (P : Property) : Type 0 where
   -- time goes by, and a carrier registers
   pub later : (m n : ℕ) (cs : List ℕ) (v : Version) → m ≤ n → P m cs v → P n cs v
-  pub joined : (c m : ℕ) (cs : List ℕ) (v : Version) → P m cs v → P m (with_number c cs) (joined_by c v)
+  pub joined : (c m : ℕ) (cs : List ℕ) (v : Version) → P m cs v
+      → P m (with_number c cs) (joined_by c v)
   -- a version is made: by a create, and by a donation or an assignment, which send it
   pub made_old : Makes w P (λ m cs b. record b { old_at = Some m })
   pub made_new : (routing : Routing) →
       Makes w P (λ m cs b. record b { new_at = Some m; routing = Some routing })
   pub made_sent : (routing : Routing) (protective : Bool) →
-      Makes w P (λ m cs b. sent w Create cs m (record b { routing = Some routing; protective = protective }))
+      Makes w P (λ m cs b. sent w Create cs m (record b {
+        routing = Some routing;
+        protective =
+            protective;
+      }))
   -- a second create comes
   pub old_create : Move P (IsIn awaits_creates) (λ m cs v. record v { old_at = Some m })
   pub new_create : (routing : Routing) →
@@ -124,17 +133,21 @@ pub record MovesKeep (w : WindowSet) (P : Property) : Type 0 where
       Move P (IsIn is_before_sending) (λ m cs v. enters w (CancelPending by) m v)
   pub canceled : Move P (IsIn is_unserved) (λ m cs v. enters w Canceled m v)
   pub active : Move P (IsIn is_planned) (λ m cs v. enters w Active m v)
-  pub planned : (release : ℕ) → Move P MayDisconnect (λ m cs v. enters w (DisconnectPending release) m v)
+  pub planned : (release : ℕ)
+      → Move P MayDisconnect (λ m cs v. enters w (DisconnectPending release) m v)
   pub old : Move P (IsIn in_force_status) (λ m cs v. enters w Old m v)
-  -- it is sent: by an activation, by a disconnect or a block's release, when its release minute comes, and by a modify
+  -- it is sent: by an activation, by a disconnect or a block's release, when its release minute
+  -- comes, and by a modify
   pub activated : Move P MayActivate (λ m cs v. sent w Create cs m v)
   pub disconnected : Move P MayDisconnect (λ m cs v. sent w Delete cs m v)
   pub released : Move P (IsIn is_planned) (λ m cs v. sent w Delete cs m v)
-  pub modified : (routing : Routing) → Move P MayDisconnect (λ m cs v. sent w (Modify routing) cs m v)
+  pub modified : (routing : Routing)
+      → Move P MayDisconnect (λ m cs v. sent w (Modify routing) cs m v)
   -- its window ends
   pub ended : (action : Send) →
       Move P (Sends action) (λ m cs v. closed_with w action (outcome_at_end v.broadcasts) m v)
-  -- a carrier acknowledges, and then the last one, which closes the broadcast or makes a partial failure whole
+  -- a carrier acknowledges, and then the last one, which closes the broadcast or makes a partial
+  -- failure whole
   pub answered : (c attempt : ℕ) → Move P (MayAnswer c attempt) (λ m cs v. answered_by c attempt v)
   pub closed : (c attempt : ℕ) (action : Send) →
       Move P (λ cs v. (is_among c cs ≡ true) × Sends action cs v)
@@ -150,11 +163,13 @@ left_by : (attempt : ℕ) → has_no_attempt_left attempt ≡ false → attempt 
 left_by attempt e = grind (arith, nat_tests)
 
 -- a status that passed a command's test
-pending_before : (status : Status) → not (is_pending status) ≡ false → is_before_sending status ≡ true
+pending_before : (status : Status) → not (is_pending status) ≡ false
+    → is_before_sending status ≡ true
 pending_before Pending may = refl
 pending_before _ may = cc
 
-conflict_before : (status : Status) → not (is_conflict status) ≡ false → is_before_sending status ≡ true
+conflict_before : (status : Status) → not (is_conflict status) ≡ false
+    → is_before_sending status ≡ true
 conflict_before Conflict may = refl
 conflict_before _ may = cc
 
@@ -171,7 +186,8 @@ awaiting_before _ awaits = cc
 -- what is activated failed before, or is pending and has the new provider's create
 activated_from : (w : Windows) (now : ℕ) (new_at old_at : Option ℕ) (since : ℕ) (status : Status) →
     not (can_activate status) ≡ false →
-    lacks_concurrence w now status old_at new_at since ≡ false → (status ≡ Failed) ⊎ ((status ≡ Pending) × (is_some new_at ≡ true))
+    lacks_concurrence w now status old_at new_at since ≡ false → (status ≡ Failed)
+    ⊎ ((status ≡ Pending) × (is_some new_at ≡ true))
 activated_from w now new_at old_at since Failed may concurred = inl refl
 activated_from w now (Some m) old_at since Pending may concurred = inr (refl, refl)
 activated_from w now None old_at since Pending may concurred = cc
@@ -190,7 +206,9 @@ last_in_force s (u ∷ us) v sound block found force = go (u.id == v.id) found
 
     go : (b : Bool) → cond b (Some u) (find (λ x. x.id == v.id) us) ≡ Some v → Some u ≡ Some v
     go true e = e
-    go false e = true-false (in_force v) force (found_has (λ x. in_force x ≡ false) (λ x. x.id == v.id) us v (none us (sound.3 block).1) e)
+    go false e =
+        true-false (in_force v) force (found_has (λ x. in_force x ≡ false) (λ x. x.id == v.id) us v
+        (none us (sound.3 block).1) e)
 
 some_carrier : (c : ℕ) (cs : List ℕ) → is_among c cs ≡ true → is_nonempty cs ≡ true
 some_carrier c [] is = cc
@@ -203,18 +221,27 @@ itself_known false e = cc
 -- whoever makes a version names a carrier, or is one: somebody is a carrier
 made_by_carrier : (st : State) (caller : ℕ) (s : Subject) (from id : ℕ) (request : Request) →
     refusal st (Requests caller request) ≡ None →
-    id_among s from (makes request (record_now st)) ≡ Some id → is_nonempty (carriers st.history) ≡ true
-made_by_carrier st caller s from id (Commands (OldProviderCreate tn old_provider new_provider due authorized)) ok made =
+    id_among s from (makes request (record_now st)) ≡ Some id
+    → is_nonempty (carriers st.history) ≡ true
+made_by_carrier st caller s from id
+    (Commands (OldProviderCreate tn old_provider new_provider due authorized)) ok made =
     some_carrier old_provider (carriers st.history) (denied (is_carrier st old_provider)
-    (or_first (not (is_carrier st old_provider)) _ (or_first _ _ (accepted_command st caller (OldProviderCreate tn old_provider new_provider due authorized) ok).unknown_carrier)))
-made_by_carrier st caller s from id (Commands (NewProviderCreate tn old_provider new_provider due lrn cic)) ok made =
+    (or_first (not (is_carrier st old_provider)) _
+    (or_first _ _ (accepted_command st caller (OldProviderCreate tn old_provider new_provider due
+    authorized) ok).unknown_carrier)))
+made_by_carrier st caller s from id
+    (Commands (NewProviderCreate tn old_provider new_provider due lrn cic)) ok made =
     some_carrier old_provider (carriers st.history) (denied (is_carrier st old_provider)
-    (or_first (not (is_carrier st old_provider)) _ (or_first _ _ (accepted_command st caller (NewProviderCreate tn old_provider new_provider due lrn cic) ok).unknown_carrier)))
+    (or_first (not (is_carrier st old_provider)) _
+    (or_first _ _ (accepted_command st caller (NewProviderCreate tn old_provider new_provider due
+    lrn cic) ok).unknown_carrier)))
 made_by_carrier st caller s from id (Commands (Donate block used lrn cic)) ok made =
-    some_carrier caller (carriers st.history) (itself_known (is_carrier st caller) (accepted_command st caller (Donate block used lrn cic) ok).unknown_carrier)
+    some_carrier caller (carriers st.history) (itself_known (is_carrier st caller)
+    (accepted_command st caller (Donate block used lrn cic) ok).unknown_carrier)
 made_by_carrier st caller s from id (Commands (Assign block holder lrn cic)) ok made =
     some_carrier holder (carriers st.history) (denied (is_carrier st holder)
-    (or_first (not (is_carrier st holder)) _ (or_first _ _ (accepted_command st caller (Assign block holder lrn cic) ok).unknown_carrier)))
+    (or_first (not (is_carrier st holder)) _
+    (or_first _ _ (accepted_command st caller (Assign block holder lrn cic) ok).unknown_carrier)))
 made_by_carrier st caller s from id _ ok made = cc
 
 -- an acknowledgement that was accepted is a carrier's
@@ -222,7 +249,9 @@ by_carrier : (st : State) (caller id attempt : ℕ) →
     refusal st (Requests caller (Acknowledges id attempt)) ≡ None →
     is_among caller (carriers st.history) ≡ true
 unfolding tests
-by_carrier st caller id attempt ok = denied (is_among caller (carriers st.history)) (none_holds (tests st (Requests caller (Acknowledges id attempt))) ok).0
+by_carrier st caller id attempt ok =
+    denied (is_among caller (carriers st.history))
+    (none_holds (tests st (Requests caller (Acknowledges id attempt))) ok).0
 
 -- ---- what is kept
 
@@ -252,17 +281,23 @@ module _ {P : Property} {w : WindowSet} (keeps : MovesKeep w P) where
     either false u one = p
 
     -- by an acknowledgement
-    acknowledged_kept : (c attempt : ℕ) → is_among c cs ≡ true → P m cs (acknowledged_by w c attempt m v)
-    acknowledged_kept c attempt among = go (nobody_is_missing (answered_by c attempt v).broadcasts) refl
+    acknowledged_kept : (c attempt : ℕ) → is_among c cs ≡ true
+        → P m cs (acknowledged_by w c attempt m v)
+    acknowledged_kept c attempt among =
+        go (nobody_is_missing (answered_by c attempt v).broadcasts) refl
       where
         complete : (status : Status) → v.status ≡ status →
             P m cs (completed w status m (answered_by c attempt v))
         complete (Sending action) e = keeps.closed c attempt action m cs v (among, e) p
         complete PartialFailure e = keeps.whole c attempt m cs v (among, e) p
-        complete _ e = keeps.answered c attempt m cs v (among, λ awaits. true-false (awaits_answers v.status) awaits (ap awaits_answers e)) p
+        complete _ e = keeps.answered c attempt m cs v (
+          among,
+          λ awaits. true-false (awaits_answers v.status) awaits (ap awaits_answers e),
+        ) p
 
         go : (b : Bool) → nobody_is_missing (answered_by c attempt v).broadcasts ≡ b →
-            P m cs (if b then completed w v.status m (answered_by c attempt v) else answered_by c attempt v)
+            P m cs (if b then completed w v.status m (answered_by c attempt v)
+            else answered_by c attempt v)
         go true e = complete v.status refl
         go false e = keeps.answered c attempt m cs v (among, λ awaits. e) p
 
@@ -270,22 +305,31 @@ module _ {P : Property} {w : WindowSet} (keeps : MovesKeep w P) where
     old_create_kept : (authorized : Bool) → awaits_creates v.status ≡ true →
         P m cs (with_old_create w authorized m v)
     old_create_kept true awaits = keeps.old_create m cs v awaits p
-    old_create_kept false awaits = keeps.conflict true m cs (record v { old_at = Some m }) (awaiting_before v.status awaits) (keeps.old_create m cs v awaits p)
+    old_create_kept false awaits =
+        keeps.conflict true m cs (record v { old_at = Some m }) (awaiting_before v.status awaits)
+        (keeps.old_create m cs v awaits p)
 
     -- by a cancel
-    waiting_kept : (caller : ℕ) → is_before_sending v.status ≡ true → is_unserved v.status ≡ true → (b : Bool) →
-        P m cs (if b then enters w (CancelPending (side_of caller v.old_provider)) m v else enters w Canceled m v)
-    waiting_kept caller before unserved true = keeps.cancel_pending (side_of caller v.old_provider) m cs v before p
+    waiting_kept : (caller : ℕ) → is_before_sending v.status ≡ true → is_unserved v.status ≡ true
+        → (b : Bool) →
+        P m cs (if b then enters w (CancelPending (side_of caller v.old_provider)) m v
+        else enters w Canceled m v)
+    waiting_kept caller before unserved true =
+        keeps.cancel_pending (side_of caller v.old_provider) m cs v before p
     waiting_kept caller before unserved false = keeps.canceled m cs v unserved p
 
-    cancelled_kept : (caller : ℕ) (status : Status) → v.status ≡ status → not (can_cancel status) ≡ false →
+    cancelled_kept : (caller : ℕ) (status : Status) → v.status ≡ status
+        → not (can_cancel status) ≡ false →
         P m cs (cancelled_by w status caller m v)
     cancelled_kept caller Pending e may =
-        waiting_kept caller (ap is_before_sending e) (ap is_unserved e) (has_both_creates v.old_at v.new_at)
+        waiting_kept caller (ap is_before_sending e) (ap is_unserved e)
+        (has_both_creates v.old_at v.new_at)
     cancelled_kept caller Conflict e may =
-        waiting_kept caller (ap is_before_sending e) (ap is_unserved e) (has_both_creates v.old_at v.new_at)
+        waiting_kept caller (ap is_before_sending e) (ap is_unserved e)
+        (has_both_creates v.old_at v.new_at)
     cancelled_kept caller Failed e may = keeps.canceled m cs v (ap is_unserved e) p
-    cancelled_kept caller (DisconnectPending release) e may = keeps.active m cs v (ap is_planned e) p
+    cancelled_kept caller (DisconnectPending release) e may =
+        keeps.active m cs v (ap is_planned e) p
     cancelled_kept caller _ e may = cc
 
     -- by a disconnect
@@ -299,7 +343,8 @@ module _ {P : Property} {w : WindowSet} (keeps : MovesKeep w P) where
         go true = keeps.planned release m cs v (active, left) p
         go false = keeps.disconnected m cs v (active, left) p
 
-module _ {P : Property} (st : State) (keeps : MovesKeep (set_now st) P) (is : IsHistory st.windows st.history st.now) (s : Subject) where
+module _ {P : Property} (st : State) (keeps : MovesKeep (set_now st) P)
+    (is : IsHistory st.windows st.history st.now) (s : Subject) where
   abbrev everyone : List ℕ
   everyone = (record_now st s).carriers
 
@@ -308,12 +353,15 @@ module _ {P : Property} (st : State) (keeps : MovesKeep (set_now st) P) (is : Is
 
   test : (id : ℕ) (v : Version) (is_so : Version → Bool) →
       version_with id (record_now st s) ≡ Some v →
-      holds_of (λ (e : SubjectVersion). is_so e.version) (version_of_id st id) ≡ false → is_so v ≡ false
+      holds_of (λ (e : SubjectVersion). is_so e.version) (version_of_id st id) ≡ false
+      → is_so v ≡ false
   test = named_test st s (given_now st is s)
 
   attempts_left : (caller : ℕ) (c : Command) → AcceptedCommand st caller c →
       attempts_too_often st caller c ≡ false
-  attempts_left caller c accepted = or_second (registry_is_full st caller c) (attempts_too_often st caller c) (or_first (registry_is_full st caller c || attempts_too_often st caller c) _ accepted.full)
+  attempts_left caller c accepted =
+      or_second (registry_is_full st caller c) (attempts_too_often st caller c)
+      (or_first (registry_is_full st caller c || attempts_too_often st caller c) _ accepted.full)
 
   -- by a command on the version
   change_kept : (caller id : ℕ) (c : VersionCommand) →
@@ -321,79 +369,145 @@ module _ {P : Property} (st : State) (keeps : MovesKeep (set_now st) P) (is : Is
       version_with id (record_now st s) ≡ Some v →
       P st.now everyone v → P st.now everyone (change_of (set_now st) caller st.now everyone c v)
   change_kept caller id Activate accepted v found p = keeps.activated st.now everyone v (
-    activated_from v.held.windows st.now v.new_at v.old_at v.since v.status (test id v (λ u. not (can_activate u.status)) found accepted.wrong_status)
-        (test id v (λ u. lacks_concurrence u.held.windows st.now u.status u.old_at u.new_at u.since) found accepted.not_concurred),
-    left_by v.attempt (test id v (λ u. has_no_attempt_left u.attempt) found (attempts_left caller (OnVersion id Activate) accepted)),
+    activated_from v.held.windows st.now v.new_at v.old_at v.since v.status
+        (test id v (λ u. not (can_activate u.status)) found accepted.wrong_status)
+        (test id v (λ u. lacks_concurrence u.held.windows st.now u.status u.old_at u.new_at u.since)
+        found accepted.not_concurred),
+    left_by v.attempt (test id v (λ u. has_no_attempt_left u.attempt) found
+        (attempts_left caller (OnVersion id Activate) accepted)),
   ) p
-  change_kept caller id PutInConflict accepted v found p = keeps.conflict true st.now everyone v (pending_before v.status (test id v (λ u. not (is_pending u.status)) found accepted.wrong_status)) p
-  change_kept caller id RemoveFromConflict accepted v found p = keeps.pending st.now everyone v (conflict_before v.status (test id v (λ u. not (is_conflict u.status)) found accepted.wrong_status)) p
-  change_kept caller id Cancel accepted v found p = cancelled_kept keeps st.now everyone v p caller v.status refl (test id v (λ u. not (can_cancel u.status)) found accepted.wrong_status)
+  change_kept caller id PutInConflict accepted v found p =
+      keeps.conflict true st.now everyone v
+      (pending_before v.status (test id v (λ u. not (is_pending u.status)) found
+      accepted.wrong_status)) p
+  change_kept caller id RemoveFromConflict accepted v found p =
+      keeps.pending st.now everyone v
+      (conflict_before v.status (test id v (λ u. not (is_conflict u.status)) found
+      accepted.wrong_status)) p
+  change_kept caller id Cancel accepted v found p =
+      cancelled_kept keeps st.now everyone v p caller v.status refl
+      (test id v (λ u. not (can_cancel u.status)) found accepted.wrong_status)
   change_kept caller id OldProviderCancellationAcknowledge accepted v found p =
-      keeps.canceled st.now everyone v (cancelled_before v.status (test id v (λ u. not (is_cancel_pending u.status)) found accepted.wrong_status)) p
+      keeps.canceled st.now everyone v
+      (cancelled_before v.status (test id v (λ u. not (is_cancel_pending u.status)) found
+      accepted.wrong_status)) p
   change_kept caller id NewProviderCancellationAcknowledge accepted v found p =
-      keeps.canceled st.now everyone v (cancelled_before v.status (test id v (λ u. not (is_cancel_pending u.status)) found accepted.wrong_status)) p
-  change_kept caller id (Disconnect release) accepted v found p = disconnected_kept keeps st.now everyone v p release
-      (is_active-is v.status (test id v (λ u. not (is_active u.status)) found accepted.wrong_status))
-      (left_by v.attempt (test id v (λ u. has_no_attempt_left u.attempt) found (attempts_left caller (OnVersion id (Disconnect release)) accepted)))
-  change_kept caller id (ModifyRouting lrn cic) accepted v found p = keeps.modified (record { lrn = lrn; cic = cic }) st.now everyone v (
-    is_active-is v.status (test id v (λ u. not (is_active u.status)) found accepted.wrong_status),
-    left_by v.attempt (test id v (λ u. has_no_attempt_left u.attempt) found (attempts_left caller (OnVersion id (ModifyRouting lrn cic)) accepted)),
-  ) p
+      keeps.canceled st.now everyone v
+      (cancelled_before v.status (test id v (λ u. not (is_cancel_pending u.status)) found
+      accepted.wrong_status)) p
+  change_kept caller id (Disconnect release) accepted v found p =
+      disconnected_kept keeps st.now everyone v p release
+      (is_active-is v.status (test id v (λ u. not (is_active u.status)) found
+      accepted.wrong_status))
+      (left_by v.attempt (test id v (λ u. has_no_attempt_left u.attempt) found
+      (attempts_left caller (OnVersion id (Disconnect release)) accepted)))
+  change_kept caller id (ModifyRouting lrn cic) accepted v found p =
+      keeps.modified (record { lrn = lrn; cic = cic }) st.now everyone v (
+        is_active-is v.status (test id v (λ u. not (is_active u.status)) found
+            accepted.wrong_status),
+        left_by v.attempt (test id v (λ u. has_no_attempt_left u.attempt) found
+            (attempts_left caller (OnVersion id (ModifyRouting lrn cic)) accepted)),
+      ) p
 
   -- by the release of a block: its last version is active
   released_kept : (caller block : ℕ) → AcceptedCommand st caller (Release block) → (v : Version) →
       version_with v.id (record_now st s) ≡ Some v →
-      (subject_eq s (Block block) && in_force v) ≡ true → P st.now everyone v → P st.now everyone (sent (set_now st) Delete everyone st.now v)
+      (subject_eq s (Block block) && in_force v) ≡ true → P st.now everyone v
+      → P st.now everyone (sent (set_now st) Delete everyone st.now v)
   released_kept caller block accepted v found released p =
-      let same : s ≡ Block block = sym (same_subject s (Block block) (and_first (subject_eq s (Block block)) (in_force v) released)) in
+      let same : s ≡ Block block =
+      sym (same_subject s (Block block) (and_first (subject_eq s (Block block)) (in_force v)
+      released)) in
       let last : first_of_versions (record_now st s).versions ≡ Some v =
-      last_in_force s (record_now st s).versions v (sound_now st is s) (ap is_block same) found (and_second (subject_eq s (Block block)) (in_force v) released) in
-      let last_is : last_version (record_now st (Block block)) ≡ Some v = ap (λ t. last_version (record_now st t)) (sym same) ∙ last in
+      last_in_force s (record_now st s).versions v (sound_now st is s) (ap is_block same) found
+      (and_second (subject_eq s (Block block)) (in_force v) released) in
+      let last_is : last_version (record_now st (Block block)) ≡ Some v =
+      ap (λ t. last_version (record_now st t)) (sym same) ∙ last in
       keeps.disconnected st.now everyone v (
-        is_active-is v.status (ap (holds_of (λ (u : Version). not (is_active u.status))) (sym last_is) ∙ accepted.wrong_status),
-        left_by v.attempt (ap (holds_of (λ (u : Version). has_no_attempt_left u.attempt)) (sym last_is) ∙ attempts_left caller (Release block) accepted),
+        is_active-is v.status (ap (holds_of (λ (u : Version). not (is_active u.status)))
+            (sym last_is) ∙ accepted.wrong_status),
+        left_by v.attempt (ap (holds_of (λ (u : Version). has_no_attempt_left u.attempt))
+            (sym last_is) ∙ attempts_left caller (Release block) accepted),
       ) p
 
   -- by an accepted request, of a version of the subject
   pub done_kept : (caller : ℕ) (request : Request) → refusal st (Requests caller request) ≡ None →
       (v : Version) → version_with v.id (record_now st s) ≡ Some v →
-      P st.now everyone v → P st.now (carrier_added (carrier_named request) everyone) (done_to (set_now st) s caller st.now everyone request v)
-  done_kept caller (Commands (RegisterCarrier spid)) ok v found p = keeps.joined spid st.now everyone v p
-  done_kept caller (Commands (OldProviderCreate tn old_provider new_provider due authorized)) ok v found p =
-      either keeps st.now everyone v p (subject_eq s (Number tn) && lacks_old_create old_provider new_provider v) (with_old_create (set_now st) authorized st.now v)
+      P st.now everyone v → P st.now (carrier_added (carrier_named request) everyone)
+      (done_to (set_now st) s caller st.now everyone request v)
+  done_kept caller (Commands (RegisterCarrier spid)) ok v found p =
+      keeps.joined spid st.now everyone v p
+  done_kept caller (Commands (OldProviderCreate tn old_provider new_provider due authorized)) ok v
+      found p =
+      either keeps st.now everyone v p (subject_eq s (Number tn) && lacks_old_create old_provider
+      new_provider v) (with_old_create (set_now st) authorized st.now v)
       (λ lacks. old_create_kept keeps st.now everyone v p authorized (awaits lacks))
     where
       awaits : (subject_eq s (Number tn) && lacks_old_create old_provider new_provider v) ≡ true →
           awaits_creates v.status ≡ true
-      awaits lacks = and_first (awaits_creates v.status) _ (and_first _ _ (and_second (subject_eq s (Number tn)) (lacks_old_create old_provider new_provider v) lacks))
-  done_kept caller (Commands (NewProviderCreate tn old_provider new_provider due lrn cic)) ok v found p =
-      either keeps st.now everyone v p (subject_eq s (Number tn) && lacks_new_create old_provider new_provider v) (with_new_create (record { lrn = lrn; cic = cic }) st.now v)
-      (λ lacks. keeps.new_create (record { lrn = lrn; cic = cic }) st.now everyone v (awaits lacks) p)
+      awaits lacks =
+          and_first (awaits_creates v.status) _
+          (and_first _ _ (and_second (subject_eq s (Number tn))
+          (lacks_old_create old_provider new_provider v) lacks))
+  done_kept caller (Commands (NewProviderCreate tn old_provider new_provider due lrn cic)) ok v
+      found p =
+      either keeps st.now everyone v p (subject_eq s (Number tn) && lacks_new_create old_provider
+      new_provider v) (with_new_create (record { lrn = lrn; cic = cic }) st.now v)
+      (λ lacks. keeps.new_create (record { lrn = lrn; cic = cic }) st.now everyone v (awaits lacks)
+      p)
     where
       awaits : (subject_eq s (Number tn) && lacks_new_create old_provider new_provider v) ≡ true →
           awaits_creates v.status ≡ true
-      awaits lacks = and_first (awaits_creates v.status) _ (and_first _ _ (and_second (subject_eq s (Number tn)) (lacks_new_create old_provider new_provider v) lacks))
-  done_kept caller (Commands (OnVersion id c)) ok v found p = either keeps st.now everyone v p (v.id == id) (change_of (set_now st) caller st.now everyone c v)
-      (λ named. change_kept caller id c (accepted_command st caller (OnVersion id c) ok) v (subst (λ k. version_with k (record_now st s) ≡ Some v) (equal_number v.id id named) found) p)
-  done_kept caller (Commands (Release block)) ok v found p = either keeps st.now everyone v p (subject_eq s (Block block) && in_force v) (sent (set_now st) Delete everyone st.now v)
-      (λ released. released_kept caller block (accepted_command st caller (Release block) ok) v found released p)
-  done_kept caller (Acknowledges id attempt) ok v found p = either keeps st.now everyone v p (v.id == id) (acknowledged_by (set_now st) caller attempt st.now v)
-      (λ named. acknowledged_kept keeps st.now everyone v p caller attempt (ap (is_among caller) carriers_are ∙ by_carrier st caller id attempt ok))
+      awaits lacks =
+          and_first (awaits_creates v.status) _
+          (and_first _ _ (and_second (subject_eq s (Number tn))
+          (lacks_new_create old_provider new_provider v) lacks))
+  done_kept caller (Commands (OnVersion id c)) ok v found p =
+      either keeps st.now everyone v p (v.id == id) (change_of (set_now st) caller st.now everyone c
+      v)
+      (λ named. change_kept caller id c (accepted_command st caller (OnVersion id c) ok) v
+      (subst (λ k. version_with k (record_now st s) ≡ Some v) (equal_number v.id id named) found) p)
+  done_kept caller (Commands (Release block)) ok v found p =
+      either keeps st.now everyone v p (subject_eq s (Block block) && in_force v)
+      (sent (set_now st) Delete everyone st.now v)
+      (λ released. released_kept caller block (accepted_command st caller (Release block) ok) v
+      found released p)
+  done_kept caller (Acknowledges id attempt) ok v found p =
+      either keeps st.now everyone v p (v.id == id) (acknowledged_by (set_now st) caller attempt
+      st.now v)
+      (λ named. acknowledged_kept keeps st.now everyone v p caller attempt
+      (ap (is_among caller) carriers_are ∙ by_carrier st caller id attempt ok))
   done_kept caller _ ok v found p = p
 
   -- by the version that a request makes
   pub made_kept : (caller : ℕ) (donor : Option ℕ) (from id : ℕ) (request : Request) →
       refusal st (Requests caller request) ≡ None →
-      id_among s from (makes request (record_now st)) ≡ Some id → P st.now (carrier_added (carrier_named request) everyone) (made_version (set_now st) id caller st.now everyone donor request)
-  made_kept caller donor from id request ok made = go request (ap is_nonempty carriers_are ∙ made_by_carrier st caller s from id request ok made) made
+      id_among s from (makes request (record_now st)) ≡ Some id
+      → P st.now (carrier_added (carrier_named request) everyone)
+      (made_version (set_now st) id caller st.now everyone donor request)
+  made_kept caller donor from id request ok made =
+      go request (ap is_nonempty carriers_are ∙ made_by_carrier st caller s from id request ok made)
+      made
     where
       go : (r : Request) → is_nonempty everyone ≡ true →
           id_among s from (makes r (record_now st)) ≡ Some id →
-          P st.now (carrier_added (carrier_named r) everyone) (made_version (set_now st) id caller st.now everyone donor r)
-      go (Commands (OldProviderCreate tn old_provider new_provider due true)) some is_made = keeps.made_old st.now everyone id old_provider new_provider due some
+          P st.now (carrier_added (carrier_named r) everyone) (made_version (set_now st) id caller
+          st.now everyone donor r)
+      go (Commands (OldProviderCreate tn old_provider new_provider due true)) some is_made =
+          keeps.made_old st.now everyone id old_provider new_provider due some
       go (Commands (OldProviderCreate tn old_provider new_provider due false)) some is_made =
-          keeps.conflict true st.now everyone (record (blank_version (set_now st) id old_provider new_provider due st.now) { old_at = Some st.now }) refl (keeps.made_old st.now everyone id old_provider new_provider due some)
-      go (Commands (NewProviderCreate tn old_provider new_provider due lrn cic)) some is_made = keeps.made_new (record { lrn = lrn; cic = cic }) st.now everyone id old_provider new_provider due some
-      go (Commands (Donate block used lrn cic)) some is_made = keeps.made_sent (record { lrn = lrn; cic = cic }) true st.now everyone id caller caller st.now some
-      go (Commands (Assign block holder lrn cic)) some is_made = keeps.made_sent (record { lrn = lrn; cic = cic }) false st.now everyone id (unwrap_or donor 0) holder st.now some
+          keeps.conflict true st.now everyone
+          (record (blank_version (set_now st) id old_provider new_provider due st.now) {
+            old_at =
+                Some st.now;
+          }) refl (keeps.made_old st.now everyone id old_provider new_provider due some)
+      go (Commands (NewProviderCreate tn old_provider new_provider due lrn cic)) some is_made =
+          keeps.made_new (record { lrn = lrn; cic = cic }) st.now everyone id old_provider
+          new_provider due some
+      go (Commands (Donate block used lrn cic)) some is_made =
+          keeps.made_sent (record { lrn = lrn; cic = cic }) true st.now everyone id caller caller
+          st.now some
+      go (Commands (Assign block holder lrn cic)) some is_made =
+          keeps.made_sent (record { lrn = lrn; cic = cic }) false st.now everyone id
+          (unwrap_or donor 0) holder st.now some
       go _ some is_made = cc

@@ -1,4 +1,5 @@
--- A carrier's queue rises by minute, id and attempt: no two of its downloads have one id and attempt.
+-- A carrier's queue rises by minute, id and attempt: no two of its downloads have one id and
+-- attempt.
 use Rattle.std.proofs.Common.{◌≡◌, ◌<◌, ◌≤◌, ◌⊎◌, ℕ, zero, suc, inl, inr, Bool, true, false, List, [], ◌∷◌, ◌++◌, length, Option, Some, None, refl, ap, sym, ◌∙◌, subst, arith}
 use Rattle.std.specs.Prelude.{⊤, ◌==◌, ◌&&◌, not, cond, find, option_and_then, flat_map, filter, map, take, if◌then◌else◌}
 use Rattle.std.specs.List.{cons_option}
@@ -20,7 +21,8 @@ use Rattle.meaning.proofs.Copies.Queue.{listed-from, sorted-from, queued-from, q
 
 -- ---- the order of a queue
 
-before_trans : (a b c : Download) → is_before a b ≡ true → is_before b c ≡ true → is_before a c ≡ true
+before_trans : (a b c : Download) → is_before a b ≡ true → is_before b c ≡ true
+    → is_before a c ≡ true
 before_trans a b c p q = grind (arith, nat_tests)
 
 -- not both
@@ -33,35 +35,47 @@ IsSame a b = (a.id ≡ b.id) × (a.attempt ≡ b.attempt)
 before_or : (a b : Download) → (IsSame a b → ⊥) → is_before a b ≡ false → is_before b a ≡ true
 before_or a b differs p = go (a.id == b.id) refl (a.attempt == b.attempt) refl
   where
-    go : (i : Bool) → (a.id == b.id) ≡ i → (t : Bool) → (a.attempt == b.attempt) ≡ t → is_before b a ≡ true
+    go : (i : Bool) → (a.id == b.id) ≡ i → (t : Bool) → (a.attempt == b.attempt) ≡ t
+        → is_before b a ≡ true
     go true e true f = absurd (differs (grind (arith, nat_tests), grind (arith, nat_tests)))
     go true e false f = grind (arith, nat_tests)
     go false e t f = grind (arith, nat_tests)
 
-pub behind_each : (d : Download) (xs : List Download) (x : Download) → AllBehind d xs → Among x xs → is_before d x ≡ true
+pub behind_each : (d : Download) (xs : List Download) (x : Download) → AllBehind d xs → Among x xs
+    → is_before d x ≡ true
 behind_each d [] x all there = absurd there
 behind_each d (y ∷ ys) x all (inl e) = subst (λ z. is_before d z ≡ true) (sym e) all.0
 behind_each d (y ∷ ys) x all (inr there) = behind_each d ys x all.1 there
 
-behind_more : (a b : Download) (xs : List Download) → is_before a b ≡ true → AllBehind b xs → AllBehind a xs
+behind_more : (a b : Download) (xs : List Download) → is_before a b ≡ true → AllBehind b xs
+    → AllBehind a xs
 behind_more a b [] p all = tt
 behind_more a b (x ∷ xs) p all = (before_trans a b x p all.0, behind_more a b xs p all.1)
 
-behind_inserted : (a d : Download) (es : List Download) → is_before a d ≡ true → AllBehind a es → AllBehind a (inserted d es)
+behind_inserted : (a d : Download) (es : List Download) → is_before a d ≡ true → AllBehind a es
+    → AllBehind a (inserted d es)
 behind_inserted a d [] p all = (p, tt)
 behind_inserted a d (e ∷ es) p all = go (is_before d e) (behind_inserted a d es p all.1)
   where
-    go : (b : Bool) → AllBehind a (inserted d es) → AllBehind a (if b then d ∷ e ∷ es else e ∷ inserted d es)
+    go : (b : Bool) → AllBehind a (inserted d es) → AllBehind a (if b then d ∷ e ∷ es
+        else e ∷ inserted d es)
     go true later = (p, all)
     go false later = (all.0, later)
 
-inserted-rises : (d : Download) (es : List Download) → Rises es → ((x : Download) → Among x es → IsSame x d → ⊥) → Rises (inserted d es)
+inserted-rises : (d : Download) (es : List Download) → Rises es
+    → ((x : Download) → Among x es → IsSame x d → ⊥) → Rises (inserted d es)
 inserted-rises d [] rises differs = (tt, tt)
-inserted-rises d (e ∷ es) rises differs = go (is_before d e) refl (inserted-rises d es rises.1 (λ x there. differs x (inr there)))
+inserted-rises d (e ∷ es) rises differs =
+    go (is_before d e) refl (inserted-rises d es rises.1 (λ x there. differs x (inr there)))
   where
-    go : (b : Bool) → is_before d e ≡ b → Rises (inserted d es) → Rises (if b then d ∷ e ∷ es else e ∷ inserted d es)
+    go : (b : Bool) → is_before d e ≡ b → Rises (inserted d es)
+        → Rises (if b then d ∷ e ∷ es else e ∷ inserted d es)
     go true t later = ((t, behind_more d e es t rises.0), rises)
-    go false t later = (behind_inserted e d es (before_or d e (λ same. differs e (inl refl) (sym same.0, sym same.1)) t) rises.0, later)
+    go false t later = (
+      behind_inserted e d es (before_or d e (λ same. differs e (inl refl) (sym same.0, sym same.1))
+          t) rises.0,
+      later,
+    )
 
 -- ---- no id and attempt stand twice
 
@@ -71,7 +85,9 @@ Apart (d ∷ ds) = ((x : Download) → Among x ds → IsSame x d → ⊥) × Apa
 
 sorted-rises : (ds : List Download) → Apart ds → Rises (sorted ds)
 sorted-rises [] apart = tt
-sorted-rises (d ∷ ds) apart = inserted-rises d (sorted ds) (sorted-rises ds apart.1) (λ x there. apart.0 x (sorted-from ds x there))
+sorted-rises (d ∷ ds) apart =
+    inserted-rises d (sorted ds) (sorted-rises ds apart.1)
+    (λ x there. apart.0 x (sorted-from ds x there))
 
 among_parts : (x : Download) (xs ys : List Download) → Among x (xs ++ ys) → Among x xs ⊎ Among x ys
 among_parts x [] ys there = inr there
@@ -82,7 +98,8 @@ among_parts x (z ∷ zs) ys (inr there) = go (among_parts x zs ys there)
     go (inl is) = inl (inr is)
     go (inr is) = inr is
 
-apart_append : (xs ys : List Download) → Apart xs → Apart ys → ((x y : Download) → Among x xs → Among y ys → IsSame y x → ⊥) → Apart (xs ++ ys)
+apart_append : (xs ys : List Download) → Apart xs → Apart ys → ((x y : Download) → Among x xs
+    → Among y ys → IsSame y x → ⊥) → Apart (xs ++ ys)
 apart_append [] ys first second differs = second
 apart_append (x ∷ xs) ys first second differs = (
   (λ y there. go y (among_parts y xs ys there)),
@@ -93,86 +110,121 @@ apart_append (x ∷ xs) ys first second differs = (
     go y (inl there) = first.0 y there
     go y (inr there) = differs x y (inl refl) there
 
-below_each : (n : ℕ) (bs : List Broadcast) (b : Broadcast) → AreBelow n bs → Among b bs → b.attempt < n
+below_each : (n : ℕ) (bs : List Broadcast) (b : Broadcast) → AreBelow n bs → Among b bs
+    → b.attempt < n
 below_each n [] b below there = absurd there
 below_each n (x ∷ xs) b below (inl e) = subst (λ (y : Broadcast). y.attempt < n) (sym e) below.0
 below_each n (x ∷ xs) b below (inr there) = below_each n xs b below.1 there
 
 -- those of one version
-apart_sent : (test : Broadcast → Bool) (e : SubjectVersion) (bs : List Broadcast) → AreApart bs → Apart (map (download e) (filter test bs))
+apart_sent : (test : Broadcast → Bool) (e : SubjectVersion) (bs : List Broadcast) → AreApart bs
+    → Apart (map (download e) (filter test bs))
 apart_sent test e [] apart = tt
 apart_sent test e (b ∷ bs) apart = go (test b) (apart_sent test e bs apart.1)
   where
-    other : (x : Download) → Among x (map (download e) (filter test bs)) → IsSame x (download e b) → ⊥
+    other : (x : Download) → Among x (map (download e) (filter test bs)) → IsSame x (download e b)
+        → ⊥
     other x there same =
         let from = mapped-from (download e) (filter test bs) x there in
-        let less : from.0.attempt < b.attempt = below_each b.attempt bs from.0 apart.0 (filtered-from test bs from.0 from.1).0 in
-        let equal : from.0.attempt ≡ b.attempt = ap (λ (d : Download). d.attempt) (sym from.2) ∙ same.1 in
+        let less : from.0.attempt < b.attempt =
+        below_each b.attempt bs from.0 apart.0 (filtered-from test bs from.0 from.1).0 in
+        let equal : from.0.attempt ≡ b.attempt = ap (λ (d : Download). d.attempt) (sym from.2)
+        ∙ same.1 in
         absurd (omega (arith, less, equal))
 
-    go : (t : Bool) → Apart (map (download e) (filter test bs)) → Apart (map (download e) (if t then b ∷ filter test bs else filter test bs))
+    go : (t : Bool) → Apart (map (download e) (filter test bs))
+        → Apart (map (download e) (if t then b ∷ filter test bs else filter test bs))
     go true later = (other, later)
     go false later = later
 
 -- those of all versions, whose ids rise
-listed_above : (at : Subject → Record) (from : ℕ) (ss : List Subject) (e : SubjectVersion) → Among e (versions_made at from ss) → from ≤ e.version.id
+listed_above : (at : Subject → Record) (from : ℕ) (ss : List Subject) (e : SubjectVersion)
+    → Among e (versions_made at from ss) → from ≤ e.version.id
 listed_above at from [] e there = absurd there
-listed_above at from (s ∷ ss) e there = go (λ is. listed_above at (suc from) ss e is) (version_with from (at s)) refl there
+listed_above at from (s ∷ ss) e there =
+    go (λ is. listed_above at (suc from) ss e is) (version_with from (at s)) refl there
   where
-    go : (Among e (versions_made at (suc from) ss) → suc from ≤ e.version.id) → (o : Option Version) → version_with from (at s) ≡ o → Among e (cons_option (of_its_subject s o) (versions_made at (suc from) ss)) → from ≤ e.version.id
+    go : (Among e (versions_made at (suc from) ss) → suc from ≤ e.version.id) → (o : Option Version)
+        → version_with from (at s) ≡ o
+        → Among e (cons_option (of_its_subject s o) (versions_made at (suc from) ss))
+        → from ≤ e.version.id
     go later None found is = omega (arith, later is)
-    go later (Some v) found (inl same) = let id : e.version.id ≡ from = ap (λ (x : SubjectVersion). x.version.id) same ∙ id_found from (at s).versions v found in omega (arith, id)
+    go later (Some v) found (inl same) = let id : e.version.id ≡ from =
+        ap (λ (x : SubjectVersion). x.version.id) same ∙ id_found from (at s).versions v found in
+        omega (arith, id)
     go later (Some v) found (inr is) = omega (arith, later is)
 
-apart_listed : (at : Subject → Record) (test : Broadcast → Bool) (from : ℕ) (ss : List Subject) → ((e : SubjectVersion) → Among e (versions_made at from ss) → AreApart e.version.broadcasts) →
+apart_listed : (at : Subject → Record) (test : Broadcast → Bool) (from : ℕ) (ss : List Subject)
+    → ((e : SubjectVersion) → Among e (versions_made at from ss) → AreApart e.version.broadcasts) →
     Apart (flat_map (downloads_of test) (versions_made at from ss))
 apart_listed at test from [] apart = tt
-apart_listed at test from (s ∷ ss) apart = go (λ each. apart_listed at test (suc from) ss each) (version_with from (at s)) refl apart
+apart_listed at test from (s ∷ ss) apart =
+    go (λ each. apart_listed at test (suc from) ss each) (version_with from (at s)) refl apart
   where
-    go : (((e : SubjectVersion) → Among e (versions_made at (suc from) ss) → AreApart e.version.broadcasts) → Apart (flat_map (downloads_of test) (versions_made at (suc from) ss))) → (o : Option Version) → version_with from (at s) ≡ o →
-        ((e : SubjectVersion) → Among e (cons_option (of_its_subject s o) (versions_made at (suc from) ss)) → AreApart e.version.broadcasts) →
-        Apart (flat_map (downloads_of test) (cons_option (of_its_subject s o) (versions_made at (suc from) ss)))
+    go : (((e : SubjectVersion) → Among e (versions_made at (suc from) ss)
+        → AreApart e.version.broadcasts)
+        → Apart (flat_map (downloads_of test) (versions_made at (suc from) ss)))
+        → (o : Option Version) → version_with from (at s) ≡ o →
+        ((e : SubjectVersion)
+        → Among e (cons_option (of_its_subject s o) (versions_made at (suc from) ss))
+        → AreApart e.version.broadcasts) →
+        Apart (flat_map (downloads_of test) (cons_option (of_its_subject s o)
+        (versions_made at (suc from) ss)))
     go later None found each = later each
     go later (Some v) found each =
         let e : SubjectVersion = record { subject = s; version = v } in
-        apart_append (downloads_of test e) (flat_map (downloads_of test) (versions_made at (suc from) ss)) (apart_sent test e v.broadcasts (each e (inl refl))) (later (λ x there. each x (inr there)))
+        apart_append (downloads_of test e)
+        (flat_map (downloads_of test) (versions_made at (suc from) ss))
+        (apart_sent test e v.broadcasts (each e (inl refl))) (later (λ x there. each x (inr there)))
         (λ x y there also same.
         let first = mapped-from (download e) (filter test v.broadcasts) x there in
         let second = flat-from (downloads_of test) (versions_made at (suc from) ss) y also in
-        let told = mapped-from (download second.0) (filter test second.0.version.broadcasts) y second.2 in
-        let id : x.id ≡ from = ap (λ (d : Download). d.id) first.2 ∙ id_found from (at s).versions v found in
-        let above : suc from ≤ second.0.version.id = listed_above at (suc from) ss second.0 second.1 in
+        let told = mapped-from (download second.0) (filter test second.0.version.broadcasts) y
+        second.2 in
+        let id : x.id ≡ from = ap (λ (d : Download). d.id) first.2 ∙ id_found from (at s).versions v
+        found in
+        let above : suc from ≤ second.0.version.id =
+        listed_above at (suc from) ss second.0 second.1 in
         let its : y.id ≡ second.0.version.id = ap (λ (d : Download). d.id) told.2 in
         absurd (omega (arith, id, above, its, same.0)))
 
 -- the queue rises
-pub queue_rises : (st : State) → IsHistory st.windows st.history st.now → (c : ℕ) → Rises (queue st c)
+pub queue_rises : (st : State) → IsHistory st.windows st.history st.now → (c : ℕ)
+    → Rises (queue st c)
 unfolding queue
 queue_rises st is c =
     sorted-rises (flat_map (downloads_of (λ b. is_among c (waiters b))) (all_versions st))
-    (apart_listed (record_now st) (λ b. is_among c (waiters b)) 1 (made_by st.windows st.history) (λ e there.
+    (apart_listed (record_now st) (λ b. is_among c (waiters b)) 1 (made_by st.windows st.history)
+    (λ e there.
     let found = listed-from (record_now st) 1 (made_by st.windows st.history) e there in
     (version_now tended_kept st is e.subject found.0 e.version found.1).apart))
 
 -- ---- what stands in it
 
 -- a broadcast is found by its attempt
-pub found_by_attempt : (bs : List Broadcast) (b : Broadcast) → AreApart bs → Among b bs → find (λ x. x.attempt == b.attempt) bs ≡ Some b
+pub found_by_attempt : (bs : List Broadcast) (b : Broadcast) → AreApart bs → Among b bs
+    → find (λ x. x.attempt == b.attempt) bs ≡ Some b
 found_by_attempt [] b apart there = absurd there
 found_by_attempt (x ∷ xs) b apart (inl e) =
     let attempts : x.attempt ≡ b.attempt = ap (λ (y : Broadcast). y.attempt) (sym e) in
     let same : (x.attempt == b.attempt) ≡ true = grind (arith, nat_tests) in
-    ap (λ k. cond k (Some x) (find (λ y. y.attempt == b.attempt) xs)) same ∙ ap (λ y. Some y) (sym e)
+    ap (λ k. cond k (Some x) (find (λ y. y.attempt == b.attempt) xs)) same
+    ∙ ap (λ y. Some y) (sym e)
 found_by_attempt (x ∷ xs) b apart (inr there) =
     let below : b.attempt < x.attempt = below_each x.attempt xs b apart.0 there in
     let differs : (x.attempt == b.attempt) ≡ false = grind (arith, nat_tests) in
-    ap (λ k. cond k (Some x) (find (λ y. y.attempt == b.attempt) xs)) differs ∙ found_by_attempt xs b apart.1 there
+    ap (λ k. cond k (Some x) (find (λ y. y.attempt == b.attempt) xs)) differs
+    ∙ found_by_attempt xs b apart.1 there
 
--- a broadcast waits for a carrier that it was sent to and that has not acknowledged it, unless it is withdrawn
-waits_is : (c : ℕ) (b : Broadcast) → is_among c (waiters b) ≡ (not (is_withdrawn b) && (not (is_among c b.acknowledged) && is_among c b.recipients))
+-- a broadcast waits for a carrier that it was sent to and that has not acknowledged it, unless it
+-- is withdrawn
+waits_is : (c : ℕ) (b : Broadcast)
+    → is_among c (waiters b)
+    ≡ (not (is_withdrawn b) && (not (is_among c b.acknowledged) && is_among c b.recipients))
 waits_is c b = go (is_withdrawn b)
   where
-    go : (w : Bool) → is_among c (if w then [] else unacknowledged b) ≡ (not w && (not (is_among c b.acknowledged) && is_among c b.recipients))
+    go : (w : Bool) → is_among c (if w then [] else unacknowledged b)
+        ≡ (not w && (not (is_among c b.acknowledged) && is_among c b.recipients))
     go true = refl
     go false = among_filter c (λ k. not (is_among k b.acknowledged)) b.recipients
 
@@ -186,14 +238,19 @@ module _ (st : State) (is : IsHistory st.windows st.history st.now) (c : ℕ) wh
   sent_to : (d : Download) → Among d (queue st c) → IsSentTo st c d
   sent_to d there =
       let q = queued-from st c d there in
-      let id : d.id ≡ q.id = ap (λ (x : Download). x.id) q.is ∙ id_found q.id (record_now st q.at.subject).versions q.at.version q.found in
-      let apart : AreApart q.at.version.broadcasts = (version_now tended_kept st is q.at.subject q.id q.at.version q.found).apart in
-      let parts = three (is_withdrawn q.broadcast) (is_among c q.broadcast.acknowledged) (is_among c q.broadcast.recipients) (sym (waits_is c q.broadcast) ∙ q.waits) in
+      let id : d.id ≡ q.id =
+      ap (λ (x : Download). x.id) q.is ∙ id_found q.id (record_now st q.at.subject).versions
+      q.at.version q.found in
+      let apart : AreApart q.at.version.broadcasts =
+      (version_now tended_kept st is q.at.subject q.id q.at.version q.found).apart in
+      let parts = three (is_withdrawn q.broadcast) (is_among c q.broadcast.acknowledged)
+      (is_among c q.broadcast.recipients) (sym (waits_is c q.broadcast) ∙ q.waits) in
       record {
         at = q.at;
         broadcast = q.broadcast;
         stands = ap (version_of_id st) id ∙ found_is st is q.at.subject q.id q.at.version q.found;
-        sent = ap (λ (x : Download). find (λ b. b.attempt == x.attempt) q.at.version.broadcasts) q.is ∙ found_by_attempt q.at.version.broadcasts q.broadcast apart q.sent;
+        sent = ap (λ (x : Download). find (λ b. b.attempt == x.attempt) q.at.version.broadcasts)
+            q.is ∙ found_by_attempt q.at.version.broadcasts q.broadcast apart q.sent;
         is = q.is;
         kept = parts.0;
         recipient = parts.1;
@@ -201,26 +258,38 @@ module _ (st : State) (is : IsHistory st.windows st.history st.now) (c : ℕ) wh
       }
 
   -- the version that is found by an id stands in its subject's record
-  version_stands : (id : ℕ) (e : SubjectVersion) → version_of_id st id ≡ Some e → version_with id (record_now st e.subject) ≡ Some e.version
+  version_stands : (id : ℕ) (e : SubjectVersion) → version_of_id st id ≡ Some e
+      → version_with id (record_now st e.subject) ≡ Some e.version
   version_stands id e found = go (subject_of_id id 1 (made_by st.windows st.history)) found
     where
-      inner : (t : Subject) (o : Option Version) → version_with id (record_now st t) ≡ o → of_its_subject t o ≡ Some e → version_with id (record_now st e.subject) ≡ Some e.version
+      inner : (t : Subject) (o : Option Version) → version_with id (record_now st t) ≡ o
+          → of_its_subject t o ≡ Some e → version_with id (record_now st e.subject) ≡ Some e.version
       inner t (Some v) at f =
-          let same : record { subject = t; version = v } ≡ e = some_is (record { subject = t; version = v }) e f in
-          subst (λ (x : SubjectVersion). version_with id (record_now st x.subject) ≡ Some x.version) same at
+          let same : record { subject = t; version = v } ≡ e =
+          some_is (record { subject = t; version = v }) e f in
+          subst (λ (x : SubjectVersion). version_with id (record_now st x.subject) ≡ Some x.version)
+          same at
       inner t None at f = let no : None ≡ Some e = f in cc
 
-      go : (o : Option Subject) → option_and_then (λ t. of_its_subject t (version_with id (record_now st t))) o ≡ Some e → version_with id (record_now st e.subject) ≡ Some e.version
+      go : (o : Option Subject)
+          → option_and_then (λ t. of_its_subject t (version_with id (record_now st t))) o ≡ Some e
+          → version_with id (record_now st e.subject) ≡ Some e.version
       go (Some t) f = inner t (version_with id (record_now st t)) refl f
       go None f = let no : None ≡ Some e = f in cc
 
   sent_queued : (d : Download) → IsSentTo st c d → Among d (queue st c)
   sent_queued d sent =
-      let version = found-among (λ (v : Version). v.id == d.id) (record_now st sent.at.subject).versions sent.at.version (version_stands d.id sent.at sent.stands) in
-      let broadcast = found-among (λ (b : Broadcast). b.attempt == d.attempt) sent.at.version.broadcasts sent.broadcast sent.sent in
+      let version =
+      found-among (λ (v : Version). v.id == d.id) (record_now st sent.at.subject).versions
+      sent.at.version (version_stands d.id sent.at sent.stands) in
+      let broadcast =
+      found-among (λ (b : Broadcast). b.attempt == d.attempt) sent.at.version.broadcasts
+      sent.broadcast sent.sent in
       let waits : is_among c (waiters sent.broadcast) ≡ true =
-      waits_is c sent.broadcast ∙ (λ i. not (sent.kept i) && (not (sent.missing i) && sent.recipient i)) in
-      subst (λ x. Among x (queue st c)) (sym sent.is) (queued-to st is sent.at.subject c sent.at.version sent.broadcast version.0 broadcast.0 waits)
+      waits_is c sent.broadcast
+      ∙ (λ i. not (sent.kept i) && (not (sent.missing i) && sent.recipient i)) in
+      subst (λ x. Among x (queue st c)) (sym sent.is) (queued-to st is sent.at.subject c
+      sent.at.version sent.broadcast version.0 broadcast.0 waits)
 
 pub queue_is_what_waits : QueueIsWhatWaits
 queue_is_what_waits st is c = (
@@ -232,34 +301,43 @@ queue_is_what_waits st is c = (
 -- ---- the front of a queue
 
 -- a rising list that is the front of a queue, so many or all
-pub front_is : (many : ℕ) (xs qs : List Download) → Rises xs → Rises qs → ((x : Download) → Among x xs → Among x qs) →
-    ((q : Download) → Among q qs → Among q xs ⊎ ((length xs ≡ many) × ((x : Download) → Among x xs → is_before x q ≡ true))) → length xs ≤ many → xs ≡ take many qs
+pub front_is : (many : ℕ) (xs qs : List Download) → Rises xs → Rises qs
+    → ((x : Download) → Among x xs → Among x qs) →
+    ((q : Download) → Among q qs → Among q xs ⊎ ((length xs ≡ many) × ((x : Download) → Among x xs
+    → is_before x q ≡ true))) → length xs ≤ many → xs ≡ take many qs
 front_is zero [] qs rx rq forth back most = refl
 front_is (suc many) [] [] rx rq forth back most = refl
 front_is (suc many) [] (q ∷ qs) rx rq forth back most = go (back q (inl refl))
   where
-    go : Among q [] ⊎ ((zero ≡ suc many) × ((x : Download) → Among x [] → is_before x q ≡ true)) → [] ≡ take (suc many) (q ∷ qs)
+    go : Among q [] ⊎ ((zero ≡ suc many) × ((x : Download) → Among x [] → is_before x q ≡ true))
+        → [] ≡ take (suc many) (q ∷ qs)
     go (inl there) = absurd there
     go (inr full) = absurd (omega (arith, full.0))
 front_is many (x ∷ xs) [] rx rq forth back most = absurd (forth x (inl refl))
 front_is zero (x ∷ xs) (q ∷ qs) rx rq forth back most = absurd (omega (arith, most))
 front_is (suc many) (x ∷ xs) (q ∷ qs) rx rq forth back most =
     let rest : xs ≡ take many qs =
-    front_is many xs qs rx.1 rq.1 (λ y there. further y there (forth y (inr there))) (λ y there. left y there (back y (inr there))) (omega (arith, most)) in
+    front_is many xs qs rx.1 rq.1 (λ y there. further y there (forth y (inr there)))
+    (λ y there. left y there (back y (inr there))) (omega (arith, most)) in
     (λ i. same i ∷ rest i)
   where
     same : x ≡ q
     same = go (forth x (inl refl)) (back q (inl refl))
       where
-        go : (x ≡ q) ⊎ Among x qs → Among q (x ∷ xs) ⊎ ((length (x ∷ xs) ≡ suc many) × ((z : Download) → Among z (x ∷ xs) → is_before z q ≡ true)) → x ≡ q
+        go : (x ≡ q) ⊎ Among x qs → Among q (x ∷ xs) ⊎ ((length (x ∷ xs) ≡ suc many)
+            × ((z : Download) → Among z (x ∷ xs) → is_before z q ≡ true)) → x ≡ q
         go (inl e) there = e
         go (inr later) (inl (inl e)) = sym e
-        go (inr later) (inl (inr there)) = absurd (before_apart x q (behind_each x xs q rx.0 there) (behind_each q qs x rq.0 later))
-        go (inr later) (inr full) = absurd (before_apart x q (full.1 x (inl refl)) (behind_each q qs x rq.0 later))
+        go (inr later) (inl (inr there)) =
+            absurd (before_apart x q (behind_each x xs q rx.0 there)
+            (behind_each q qs x rq.0 later))
+        go (inr later) (inr full) =
+            absurd (before_apart x q (full.1 x (inl refl)) (behind_each q qs x rq.0 later))
 
     not_first : (y : Download) → Among y xs → y ≡ q → ⊥
     not_first y there e =
-        let p : is_before x x ≡ true = subst (λ z. is_before x z ≡ true) (e ∙ sym same) (behind_each x xs y rx.0 there) in
+        let p : is_before x x ≡ true =
+        subst (λ z. is_before x z ≡ true) (e ∙ sym same) (behind_each x xs y rx.0 there) in
         before_apart x x p p
 
     further : (y : Download) → Among y xs → (y ≡ q) ⊎ Among y qs → Among y qs
@@ -268,10 +346,12 @@ front_is (suc many) (x ∷ xs) (q ∷ qs) rx rq forth back most =
 
     nor_here : (y : Download) → Among y qs → y ≡ x → ⊥
     nor_here y there e =
-        let p : is_before q q ≡ true = subst (λ z. is_before q z ≡ true) (e ∙ same) (behind_each q qs y rq.0 there) in
+        let p : is_before q q ≡ true =
+        subst (λ z. is_before q z ≡ true) (e ∙ same) (behind_each q qs y rq.0 there) in
         before_apart q q p p
 
-    left : (y : Download) → Among y qs → Among y (x ∷ xs) ⊎ ((length (x ∷ xs) ≡ suc many) × ((z : Download) → Among z (x ∷ xs) → is_before z y ≡ true)) →
+    left : (y : Download) → Among y qs → Among y (x ∷ xs) ⊎ ((length (x ∷ xs) ≡ suc many)
+        × ((z : Download) → Among z (x ∷ xs) → is_before z y ≡ true)) →
         Among y xs ⊎ ((length xs ≡ many) × ((z : Download) → Among z xs → is_before z y ≡ true))
     left y there (inl (inl e)) = absurd (nor_here y there e)
     left y there (inl (inr is)) = inl is

@@ -13,7 +13,8 @@ use Rattle.numbers.proofs.Small.{equal_number, same_number}
 
 -- ---- one more number
 
-pub among-with_number : (k c : ℕ) (cs : List ℕ) → is_among k (with_number c cs) ≡ ((c == k) || is_among k cs)
+pub among-with_number : (k c : ℕ) (cs : List ℕ)
+    → is_among k (with_number c cs) ≡ ((c == k) || is_among k cs)
 among-with_number k c [] = refl
 among-with_number k c (d ∷ ds) = go (among-with_number k c ds) (nat_lt c d) (c == d) refl
   where
@@ -30,7 +31,8 @@ among-with_number k c (d ∷ ds) = go (among-with_number k c ds) (nat_lt c d) (c
     twice false y e = refl
 
     go : is_among k (with_number c ds) ≡ ((c == k) || is_among k ds) → (a b : Bool) → (c == d) ≡ b →
-        is_among k (if a then c ∷ d ∷ ds else (if b then d ∷ ds else d ∷ with_number c ds)) ≡ ((c == k) || ((d == k) || is_among k ds))
+        is_among k (if a then c ∷ d ∷ ds else (if b then d ∷ ds else d ∷ with_number c ds))
+        ≡ ((c == k) || ((d == k) || is_among k ds))
     go later true b e = refl
     go later false true e = twice (c == k) (d == k) (same e)
     go later false false e = ap (λ x. (d == k) || x) later ∙ swap (d == k) (c == k) (is_among k ds)
@@ -39,27 +41,34 @@ pub with_number-nonempty : (c : ℕ) (xs : List ℕ) → is_nonempty (with_numbe
 with_number-nonempty c [] = refl
 with_number-nonempty c (d ∷ ds) = go (nat_lt c d) (c == d)
   where
-    go : (a b : Bool) → is_nonempty (if a then c ∷ d ∷ ds else (if b then d ∷ ds else d ∷ with_number c ds)) ≡ true
+    go : (a b : Bool) → is_nonempty (if a then c ∷ d ∷ ds
+        else (if b then d ∷ ds else d ∷ with_number c ds)) ≡ true
     go true b = refl
     go false true = refl
     go false false = refl
 
 -- those that pass a test are still some where one is added
-pub joined-some : (test : ℕ → Bool) (c : ℕ) (xs : List ℕ) → is_empty (filter test xs) ≡ false → is_empty (filter test (with_number c xs)) ≡ false
+pub joined-some : (test : ℕ → Bool) (c : ℕ) (xs : List ℕ) → is_empty (filter test xs) ≡ false
+    → is_empty (filter test (with_number c xs)) ≡ false
 joined-some test c [] some = cc
 joined-some test c (d ∷ ds) some = go (λ more. joined-some test c ds more) (nat_lt c d) (c == d)
   where
-    either : (b : Bool) → is_empty (cond b (c ∷ filter test (d ∷ ds)) (filter test (d ∷ ds))) ≡ false
+    either : (b : Bool) → is_empty (cond b (c ∷ filter test (d ∷ ds)) (filter test (d ∷ ds)))
+        ≡ false
     either true = refl
     either false = some
 
-    more : (is_empty (filter test ds) ≡ false → is_empty (filter test (with_number c ds)) ≡ false) → (b : Bool) → is_empty (cond b (d ∷ filter test ds) (filter test ds)) ≡ false →
-        is_empty (cond b (d ∷ filter test (with_number c ds)) (filter test (with_number c ds))) ≡ false
+    more : (is_empty (filter test ds) ≡ false → is_empty (filter test (with_number c ds)) ≡ false)
+        → (b : Bool) → is_empty (cond b (d ∷ filter test ds) (filter test ds)) ≡ false →
+        is_empty (cond b (d ∷ filter test (with_number c ds)) (filter test (with_number c ds)))
+        ≡ false
     more later true is = refl
     more later false is = later is
 
-    go : (is_empty (filter test ds) ≡ false → is_empty (filter test (with_number c ds)) ≡ false) → (a b : Bool) →
-        is_empty (filter test (if a then c ∷ d ∷ ds else (if b then d ∷ ds else d ∷ with_number c ds))) ≡ false
+    go : (is_empty (filter test ds) ≡ false → is_empty (filter test (with_number c ds)) ≡ false)
+        → (a b : Bool) →
+        is_empty (filter test (if a then c ∷ d ∷ ds
+        else (if b then d ∷ ds else d ∷ with_number c ds))) ≡ false
     go later true b = either (test c)
     go later false true = some
     go later false false = more later (test d) some
@@ -81,11 +90,15 @@ not_above k (n ∷ ns) m le above =
     let apart : (n == m) ≡ false = grind (arith, nat_tests) in
     ap (λ b. b || is_among m ns) apart ∙ not_above k ns m le above.1
 
-pub same_numbers : (xs ys : List ℕ) → Rise xs → Rise ys → ((k : ℕ) → is_among k xs ≡ is_among k ys) → xs ≡ ys
+pub same_numbers : (xs ys : List ℕ) → Rise xs → Rise ys → ((k : ℕ) → is_among k xs ≡ is_among k ys)
+    → xs ≡ ys
 same_numbers [] [] rise sises same = refl
-same_numbers [] (y ∷ ys) rise sises same = let never : false ≡ true = same y ∙ ap (λ b. b || is_among y ys) (same_number y) in cc
-same_numbers (x ∷ xs) [] rise sises same = let never : false ≡ true = sym (same x) ∙ ap (λ b. b || is_among x xs) (same_number x) in cc
-same_numbers (x ∷ xs) (y ∷ ys) rise sises same = heads (same_numbers xs ys rise.1 sises.1) (nat_lt x y) (nat_lt y x) refl refl
+same_numbers [] (y ∷ ys) rise sises same = let never : false ≡ true =
+    same y ∙ ap (λ b. b || is_among y ys) (same_number y) in cc
+same_numbers (x ∷ xs) [] rise sises same = let never : false ≡ true =
+    sym (same x) ∙ ap (λ b. b || is_among x xs) (same_number x) in cc
+same_numbers (x ∷ xs) (y ∷ ys) rise sises same =
+    heads (same_numbers xs ys rise.1 sises.1) (nat_lt x y) (nat_lt y x) refl refl
   where
     lt_of : (a b : ℕ) → nat_lt a b ≡ true → a ≤ b
     lt_of a b e = grind (arith, nat_tests)
@@ -102,19 +115,27 @@ same_numbers (x ∷ xs) (y ∷ ys) rise sises same = heads (same_numbers xs ys r
         go : (b : Bool) → (x == k) ≡ b → is_among k xs ≡ is_among k ys
         go true f =
             let at : x ≡ k = equal_number x k f in
-            ap (λ n. is_among n xs) (sym at) ∙ not_above x xs x (omega arith) rise.0 ∙ sym (ap (λ n. is_among n ys) (sym at ∙ e) ∙ not_above y ys y (omega arith) sises.0)
-        go false f = sym (ap (λ b. b || is_among k xs) f) ∙ same k ∙ ap (λ n. (n == k) || is_among k ys) (sym e) ∙ ap (λ b. b || is_among k ys) f
+            ap (λ n. is_among n xs) (sym at) ∙ not_above x xs x (omega arith) rise.0
+            ∙ sym (ap (λ n. is_among n ys) (sym at ∙ e) ∙ not_above y ys y (omega arith) sises.0)
+        go false f = sym (ap (λ b. b || is_among k xs) f) ∙ same k
+            ∙ ap (λ n. (n == k) || is_among k ys) (sym e) ∙ ap (λ b. b || is_among k ys) f
 
-    heads : (((k : ℕ) → is_among k xs ≡ is_among k ys) → xs ≡ ys) → (p q : Bool) → nat_lt x y ≡ p → nat_lt y x ≡ q → x ∷ xs ≡ y ∷ ys
+    heads : (((k : ℕ) → is_among k xs ≡ is_among k ys) → xs ≡ ys) → (p q : Bool) → nat_lt x y ≡ p
+        → nat_lt y x ≡ q → x ∷ xs ≡ y ∷ ys
     heads later true q e f =
-        let there : is_among x (y ∷ ys) ≡ true = sym (same x) ∙ ap (λ b. b || is_among x xs) (same_number x) in
-        let gone : is_among x (y ∷ ys) ≡ false = ap (λ b. b || is_among x ys) (apart_of x y e) ∙ not_above y ys x (lt_of x y e) sises.0 in
+        let there : is_among x (y ∷ ys) ≡ true =
+        sym (same x) ∙ ap (λ b. b || is_among x xs) (same_number x) in
+        let gone : is_among x (y ∷ ys) ≡ false = ap (λ b. b || is_among x ys) (apart_of x y e)
+        ∙ not_above y ys x (lt_of x y e) sises.0 in
         let never : true ≡ false = sym there ∙ gone in cc
     heads later false true e f =
-        let there : is_among y (x ∷ xs) ≡ true = same y ∙ ap (λ b. b || is_among y ys) (same_number y) in
-        let gone : is_among y (x ∷ xs) ≡ false = ap (λ b. b || is_among y xs) (apart_of y x f) ∙ not_above x xs y (lt_of y x f) rise.0 in
+        let there : is_among y (x ∷ xs) ≡ true =
+        same y ∙ ap (λ b. b || is_among y ys) (same_number y) in
+        let gone : is_among y (x ∷ xs) ≡ false = ap (λ b. b || is_among y xs) (apart_of y x f)
+        ∙ not_above x xs y (lt_of y x f) rise.0 in
         let never : true ≡ false = sym there ∙ gone in cc
-    heads later false false e f = let e2 : x ≡ y = meets x y e f in ap (λ n. n ∷ xs) e2 ∙ ap (λ ns. y ∷ ns) (later (tails e2))
+    heads later false false e f = let e2 : x ≡ y = meets x y e f in
+        ap (λ n. n ∷ xs) e2 ∙ ap (λ ns. y ∷ ns) (later (tails e2))
 
 more_above : (j k : ℕ) (ns : List ℕ) → j < k → AreAbove k ns → AreAbove j ns
 more_above j k [] less above = tt
@@ -124,7 +145,8 @@ with-above : (k c : ℕ) (ns : List ℕ) → k < c → AreAbove k ns → AreAbov
 with-above k c [] less above = (less, tt)
 with-above k c (n ∷ ns) less above = go (with-above k c ns less above.1) (nat_lt c n) (c == n)
   where
-    go : AreAbove k (with_number c ns) → (p q : Bool) → AreAbove k (if p then c ∷ n ∷ ns else (if q then n ∷ ns else n ∷ with_number c ns))
+    go : AreAbove k (with_number c ns) → (p q : Bool) → AreAbove k (if p then c ∷ n ∷ ns
+        else (if q then n ∷ ns else n ∷ with_number c ns))
     go later true q = (less, above)
     go later false true = above
     go later false false = (above.0, later)
@@ -139,7 +161,8 @@ with-rise c (n ∷ ns) rise = go (with-rise c ns rise.1) (nat_lt c n) (c == n) r
     gt_of : nat_lt c n ≡ false → (c == n) ≡ false → n < c
     gt_of e f = grind (arith, nat_tests)
 
-    go : Rise (with_number c ns) → (p q : Bool) → nat_lt c n ≡ p → (c == n) ≡ q → Rise (if p then c ∷ n ∷ ns else (if q then n ∷ ns else n ∷ with_number c ns))
+    go : Rise (with_number c ns) → (p q : Bool) → nat_lt c n ≡ p → (c == n) ≡ q
+        → Rise (if p then c ∷ n ∷ ns else (if q then n ∷ ns else n ∷ with_number c ns))
     go later true q e f = ((lt_of e, more_above c n ns (lt_of e) rise.0), rise)
     go later false true e f = rise
     go later false false e f = (with-above n c ns (gt_of e f) rise.0, later)
@@ -160,7 +183,8 @@ both_of : (a b : Bool) → T (a && b) → (a ≡ true) × T b
 both_of true b t = (refl, t)
 both_of false b t = absurd t
 
-pub keys-rise : {X : Type 0} (es : List (ℕ × X)) → T (is_sorted nat_cmp es) → Rise (map (λ e. e.0) es)
+pub keys-rise : {X : Type 0} (es : List (ℕ × X)) → T (is_sorted nat_cmp es)
+    → Rise (map (λ e. e.0) es)
 keys-rise [] sorted = tt
 keys-rise {X = X} (e ∷ es) sorted =
     let parts = both_of (below_all nat_cmp e.0 es) (is_sorted nat_cmp es) sorted in
@@ -172,11 +196,14 @@ keys-rise {X = X} (e ∷ es) sorted =
         lt_of : nat_lt a b ≡ true → a < b
         lt_of g = grind (arith, nat_tests)
 
-        go : (p q : Bool) → nat_lt a b ≡ p → is_lt (cond p Less (cond q Equal Greater)) ≡ true → a < b
+        go : (p q : Bool) → nat_lt a b ≡ p → is_lt (cond p Less (cond q Equal Greater)) ≡ true
+            → a < b
         go true q g h = lt_of g
         go false true g h = cc
         go false false g h = cc
 
     above : (fs : List (ℕ × X)) → T (below_all nat_cmp e.0 fs) → AreAbove e.0 (map (λ x. x.0) fs)
     above [] below = tt
-    above (f ∷ fs) below = let parts = both_of (is_lt (nat_cmp e.0 f.0)) (below_all nat_cmp e.0 fs) below in (less_of e.0 f.0 parts.0, above fs parts.1)
+    above (f ∷ fs) below = let parts =
+        both_of (is_lt (nat_cmp e.0 f.0)) (below_all nat_cmp e.0 fs) below in
+        (less_of e.0 f.0 parts.0, above fs parts.1)

@@ -26,7 +26,9 @@ use Rattle.numbers.proofs.Small.{denied, equal_number}
 -- ---- what is held
 
 -- the state after an accepted request
-pub accepted_next : (st : State) (caller : ℕ) (request : Request) → refusal st (Requests caller request) ≡ None → next st (Requests caller request) ≡ accepted st (Requests caller request)
+pub accepted_next : (st : State) (caller : ℕ) (request : Request)
+    → refusal st (Requests caller request) ≡ None
+    → next st (Requests caller request) ≡ accepted st (Requests caller request)
 unfolding next
 accepted_next st caller request none = rw none
 
@@ -34,62 +36,90 @@ abbrev by : Option Version → Option Version → Server → Server
 by f o other = elim f [ Some v ↦ ByVersion v.new_provider | None ↦ protected_by o other ]
 
 -- a number with a version in force, or with a protective one that is open, is served by that
-held_service : (old new : State) (n : ℕ) → is_held old n ≡ true → record_now new (Number n) ≡ record_now old (Number n) → KeepsService old new n
+held_service : (old new : State) (n : ℕ) → is_held old n ≡ true
+    → record_now new (Number n) ≡ record_now old (Number n) → KeepsService old new n
 held_service old new n held same = in_force_or (version_in_force (record_now old (Number n))) refl
   where
-    same_force : version_in_force (record_now new (Number n)) ≡ version_in_force (record_now old (Number n))
+    same_force : version_in_force (record_now new (Number n)) ≡ version_in_force
+        (record_now old (Number n))
     same_force = ap version_in_force same
 
-    same_open : open_version (Number n) (record_now new (Number n)) ≡ open_version (Number n) (record_now old (Number n))
+    same_open : open_version (Number n) (record_now new (Number n)) ≡ open_version (Number n)
+        (record_now old (Number n))
     same_open = ap (open_version (Number n)) same
 
-    protected : (o : Option Version) (x y : Server) → holds_of (λ (v : Version). v.protective) o ≡ true → protected_by o x ≡ protected_by o y
+    protected : (o : Option Version) (x y : Server) → holds_of (λ (v : Version). v.protective) o
+        ≡ true → protected_by o x ≡ protected_by o y
     protected None x y is = cc
     protected (Some v) x y is = go v.protective is
       where
-        go : (b : Bool) → b ≡ true → (if b then ByVersion v.new_provider else x) ≡ (if b then ByVersion v.new_provider else y)
+        go : (b : Bool) → b ≡ true → (if b then ByVersion v.new_provider else x) ≡ (if b
+            then ByVersion v.new_provider else y)
         go true e = refl
         go false e = cc
 
-    in_force_or : (f : Option Version) → version_in_force (record_now old (Number n)) ≡ f → KeepsService old new n
+    in_force_or : (f : Option Version) → version_in_force (record_now old (Number n)) ≡ f
+        → KeepsService old new n
     in_force_or (Some v) e =
-        ap (λ o. server_of (by o (open_version (Number n) (record_now new (Number n))) (served_by_code new n))) (same_force ∙ e)
-        ∙ sym (ap (λ o. server_of (by o (open_version (Number n) (record_now old (Number n))) (served_by_code old n))) e)
+        ap (λ o. server_of (by o (open_version (Number n) (record_now new (Number n)))
+        (served_by_code new n))) (same_force ∙ e)
+        ∙ sym (ap (λ o. server_of (by o (open_version (Number n) (record_now old (Number n)))
+        (served_by_code old n))) e)
     in_force_or None e =
-        ap (λ o. server_of (by o (open_version (Number n) (record_now new (Number n))) (served_by_code new n))) (same_force ∙ e)
+        ap (λ o. server_of (by o (open_version (Number n) (record_now new (Number n)))
+        (served_by_code new n))) (same_force ∙ e)
         ∙ ap (λ o. server_of (protected_by o (served_by_code new n))) same_open
-        ∙ ap server_of (protected (open_version (Number n) (record_now old (Number n))) (served_by_code new n) (served_by_code old n)
-        (ap (λ o. is_some o || holds_of (λ (v : Version). v.protective) (open_version (Number n) (record_now old (Number n)))) (sym e) ∙ held))
-        ∙ sym (ap (λ o. server_of (by o (open_version (Number n) (record_now old (Number n))) (served_by_code old n))) e)
+        ∙ ap server_of (protected (open_version (Number n) (record_now old (Number n)))
+        (served_by_code new n) (served_by_code old n)
+        (ap (λ o. is_some o || holds_of (λ (v : Version). v.protective)
+        (open_version (Number n) (record_now old (Number n)))) (sym e) ∙ held))
+        ∙ sym (ap (λ o. server_of (by o (open_version (Number n) (record_now old (Number n)))
+        (served_by_code old n))) e)
 
 -- ---- assignments and releases
 
 assigned_elsewhere : (st : State) (caller block holder lrn : ℕ) (cic : Option ℕ) (n : ℕ) →
-    record_now (accepted st (Requests caller (Commands (Assign block holder lrn cic)))) (Number n) ≡ record_now st (Number n)
+    record_now (accepted st (Requests caller (Commands (Assign block holder lrn cic)))) (Number n)
+    ≡ record_now st (Number n)
 unfolding meaning
 assigned_elsewhere st caller block holder lrn cic n =
-    after-elsewhere (set_now st) (record { minute = st.now; caller = caller; request = Commands (Assign block holder lrn cic) }) (donor_of block st.history) (meaning st.windows st.history) (Number n) st.now refl refl
+    after-elsewhere (set_now st) (record {
+      minute = st.now;
+      caller = caller;
+      request = Commands (Assign block holder lrn cic);
+    }) (donor_of block st.history) (meaning st.windows st.history) (Number n) st.now refl refl
     ∙ judged-now (set_now st) st.now (record_now st (Number n))
 
-released_elsewhere : (st : State) (caller block n : ℕ) → record_now (accepted st (Requests caller (Commands (Release block)))) (Number n) ≡ record_now st (Number n)
+released_elsewhere : (st : State) (caller block n : ℕ)
+    → record_now (accepted st (Requests caller (Commands (Release block)))) (Number n)
+    ≡ record_now st (Number n)
 unfolding meaning
 released_elsewhere st caller block n =
-    after-elsewhere (set_now st) (record { minute = st.now; caller = caller; request = Commands (Release block) }) (donor_of 0 st.history) (meaning st.windows st.history) (Number n) st.now refl refl
+    after-elsewhere (set_now st) (record {
+      minute = st.now;
+      caller = caller;
+      request = Commands (Release block);
+    }) (donor_of 0 st.history) (meaning st.windows st.history) (Number n) st.now refl refl
     ∙ judged-now (set_now st) st.now (record_now st (Number n))
 
 pub assignment_keeps : AssignmentKeepsService
 assignment_keeps st is caller block holder lrn cic none n held =
-    subst (λ new. KeepsService st new n) (sym (accepted_next st caller (Commands (Assign block holder lrn cic)) none))
-    (held_service st (accepted st (Requests caller (Commands (Assign block holder lrn cic)))) n held (assigned_elsewhere st caller block holder lrn cic n))
+    subst (λ new. KeepsService st new n)
+    (sym (accepted_next st caller (Commands (Assign block holder lrn cic)) none))
+    (held_service st (accepted st (Requests caller (Commands (Assign block holder lrn cic)))) n held
+    (assigned_elsewhere st caller block holder lrn cic n))
 
 pub release_keeps : ReleaseKeepsService
 release_keeps st is caller block none n held =
-    subst (λ new. KeepsService st new n) (sym (accepted_next st caller (Commands (Release block)) none))
-    (held_service st (accepted st (Requests caller (Commands (Release block)))) n held (released_elsewhere st caller block n))
+    subst (λ new. KeepsService st new n)
+    (sym (accepted_next st caller (Commands (Release block)) none))
+    (held_service st (accepted st (Requests caller (Commands (Release block)))) n held
+    (released_elsewhere st caller block n))
 
 -- ---- donations
 
-module _ (st : State) (is : IsState st) (caller block : ℕ) (used : List ℕ) (lrn : ℕ) (cic : Option ℕ) (lines : AreLines used)
+module _ (st : State) (is : IsState st) (caller block : ℕ) (used : List ℕ) (lrn : ℕ)
+    (cic : Option ℕ) (lines : AreLines used)
     (none : refusal st (Requests caller (Commands (Donate block used lrn cic))) ≡ None) where
   abbrev donation : Request
   donation = Commands (Donate block used lrn cic)
@@ -104,36 +134,67 @@ module _ (st : State) (is : IsState st) (caller block : ℕ) (used : List ℕ) (
   ids_from = next_id st.windows st.history
 
   -- the record of a number that gets no version
-  left_alone : (n : ℕ) → id_among (Number n) ids_from (makes (Commands (Donate block used lrn cic)) (record_now st)) ≡ None → record_now after_it (Number n) ≡ record_now st (Number n)
+  left_alone : (n : ℕ)
+      → id_among (Number n) ids_from (makes (Commands (Donate block used lrn cic)) (record_now st))
+      ≡ None → record_now after_it (Number n) ≡ record_now st (Number n)
   unfolding meaning
   left_alone n unmade =
-      after-elsewhere (set_now st) (record { minute = st.now; caller = caller; request = Commands (Donate block used lrn cic) }) (donor_of 0 st.history) (meaning st.windows st.history) (Number n) st.now refl unmade
+      after-elsewhere (set_now st) (record {
+        minute = st.now;
+        caller = caller;
+        request = Commands (Donate block used lrn cic);
+      }) (donor_of 0 st.history) (meaning st.windows st.history) (Number n) st.now refl unmade
       ∙ judged-now (set_now st) st.now (record_now st (Number n))
 
   -- the version of a number that gets one stands in front
   abbrev protective : ℕ → ℕ → Version
-  protective id n = made_version (set_now st) id caller st.now (record_now st (Number n)).carriers (donor_of 0 st.history) (Commands (Donate block used lrn cic))
+  protective id n = made_version (set_now st) id caller st.now (record_now st (Number n)).carriers
+      (donor_of 0 st.history) (Commands (Donate block used lrn cic))
 
-  made_in_front : (n id : ℕ) → id_among (Number n) ids_from (makes (Commands (Donate block used lrn cic)) (record_now st)) ≡ Some id →
-      (record_now after_it (Number n)).versions ≡ protective id n ∷ (record_now st (Number n)).versions
+  made_in_front : (n id : ℕ)
+      → id_among (Number n) ids_from (makes (Commands (Donate block used lrn cic)) (record_now st))
+      ≡ Some id →
+      (record_now after_it (Number n)).versions ≡ protective id n
+      ∷ (record_now st (Number n)).versions
   unfolding meaning after effect
   made_in_front n id made =
-      ap (λ (r : Record). r.versions) (judged-now (set_now st) st.now (effect (set_now st) (Number n) (id_among (Number n) ids_from (makes (Commands (Donate block used lrn cic)) (record_now st))) (donor_of 0 st.history)
-      (record { minute = st.now; caller = caller; request = Commands (Donate block used lrn cic) }) (record_now st (Number n))))
-      ∙ ap (λ o. (effect (set_now st) (Number n) o (donor_of 0 st.history) (record { minute = st.now; caller = caller; request = Commands (Donate block used lrn cic) }) (record_now st (Number n))).versions) made
-      ∙ ap (λ vs. protective id n ∷ vs) (changed_at-same (set_now st) st.now (λ v. v) (record_now st (Number n)).versions (everywhere (λ v. refl) (record_now st (Number n)).versions))
+      ap (λ (r : Record). r.versions) (judged-now (set_now st) st.now
+      (effect (set_now st) (Number n)
+      (id_among (Number n) ids_from (makes (Commands (Donate block used lrn cic)) (record_now st)))
+      (donor_of 0 st.history)
+      (record {
+        minute = st.now;
+        caller = caller;
+        request = Commands (Donate block used lrn cic);
+      }) (record_now st (Number n))))
+      ∙ ap (λ o. (effect (set_now st) (Number n) o (donor_of 0 st.history) (record {
+        minute = st.now;
+        caller = caller;
+        request = Commands (Donate block used lrn cic);
+      }) (record_now st (Number n))).versions) made
+      ∙ ap (λ vs. protective id n ∷ vs) (changed_at-same (set_now st) st.now (λ v. v)
+      (record_now st (Number n)).versions
+      (everywhere (λ v. refl) (record_now st (Number n)).versions))
 
   -- so the donor serves it, as it did by its code
-  by_donor : (n id : ℕ) → id_among (Number n) ids_from (makes (Commands (Donate block used lrn cic)) (record_now st)) ≡ Some id → version_in_force (record_now st (Number n)) ≡ None →
+  by_donor : (n id : ℕ)
+      → id_among (Number n) ids_from (makes (Commands (Donate block used lrn cic)) (record_now st))
+      ≡ Some id → version_in_force (record_now st (Number n)) ≡ None →
       server_of (serving after_it n) ≡ Some caller
   by_donor n id made unforced =
-      ap (λ o. server_of (elim o [ Some v ↦ ByVersion v.new_provider | None ↦ protected_by (open_version (Number n) (record_now after_it (Number n))) (served_by_code after_it n) ]))
+      ap (λ o. server_of (elim o [
+        | Some v ↦ ByVersion v.new_provider
+        | None ↦ protected_by (open_version (Number n) (record_now after_it (Number n)))
+            (served_by_code after_it n)
+      ]))
       (ap (find in_force) (made_in_front n id made) ∙ unforced)
-      ∙ ap (λ o. server_of (protected_by o (served_by_code after_it n))) (ap (find (is_open (Number n))) (made_in_front n id made))
+      ∙ ap (λ o. server_of (protected_by o (served_by_code after_it n)))
+      (ap (find (is_open (Number n))) (made_in_front n id made))
 
   none_open : (vs : List Version) → NoneOpen (Number 0) vs → find (is_open (Number 0)) vs ≡ None
   none_open [] closed = refl
-  none_open (v ∷ vs) closed = ap (λ b. cond b (Some v) (find (is_open (Number 0)) vs)) closed.0 ∙ none_open vs closed.1
+  none_open (v ∷ vs) closed = ap (λ b. cond b (Some v) (find (is_open (Number 0)) vs)) closed.0
+      ∙ none_open vs closed.1
 
   not_donated : donor_of block st.history ≡ None
   not_donated = go (donor_of block st.history) accepted_it.block_taken
@@ -143,22 +204,42 @@ module _ (st : State) (is : IsState st) (caller block : ℕ) (used : List ℕ) (
       go (Some d) e = cc
 
   holds_code : code_holder (block_code_of block) st.history ≡ Some caller
-  holds_code = go (code_holder (block_code_of block) st.history) (denied (is_the caller (code_holder (block_code_of block) st.history)) accepted_it.not_yours)
+  holds_code =
+      go (code_holder (block_code_of block) st.history)
+      (denied (is_the caller (code_holder (block_code_of block) st.history)) accepted_it.not_yours)
     where
       go : (o : Option ℕ) → is_the caller o ≡ true → o ≡ Some caller
       go None e = cc
       go (Some d) e = let same : d ≡ caller = grind (arith, nat_tests) in ap (λ k. Some k) same
 
-  by_code : (n id : ℕ) → id_among (Number n) ids_from (makes (Commands (Donate block used lrn cic)) (record_now st)) ≡ Some id → version_in_force (record_now st (Number n)) ≡ None →
+  by_code : (n id : ℕ)
+      → id_among (Number n) ids_from (makes (Commands (Donate block used lrn cic)) (record_now st))
+      ≡ Some id → version_in_force (record_now st (Number n)) ≡ None →
       server_of (serving st n) ≡ Some caller
   by_code n id made unforced =
-      let room = donate-room st caller (Number n) ids_from id block used lrn cic lines accepted_it made (given_now st is.history (Number n)) (sound_now st is.history (Number n)) in
-      let inside : block_of n ≡ block = equal_number (block_of n) block (donate-inside st (Number n) ids_from id block used lrn cic lines made) in
+      let room = donate-room st caller (Number n) ids_from id block used lrn cic lines accepted_it
+      made (given_now st is.history (Number n)) (sound_now st is.history (Number n)) in
+      let inside : block_of n ≡ block =
+      equal_number (block_of n) block (donate-inside st (Number n) ids_from id block used lrn cic
+      lines made) in
       let code : code_of n ≡ block_code_of block = ten n block inside in
-      ap (λ o. server_of (elim o [ Some v ↦ ByVersion v.new_provider | None ↦ protected_by (open_version (Number n) (record_now st (Number n))) (served_by_code st n) ])) unforced
-      ∙ ap (λ o. server_of (protected_by o (served_by_code st n))) (none_open (record_now st (Number n)).versions room.1.closed)
-      ∙ ap (λ b. server_of (elim (donor_of b st.history) [ Some donor ↦ served_by_block (version_in_force (record_now st (Block (block_of n)))) | None ↦ ByCode (code_holder (code_of n) st.history) ])) inside
-      ∙ ap (λ o. server_of (elim o [ Some donor ↦ served_by_block (version_in_force (record_now st (Block (block_of n)))) | None ↦ ByCode (code_holder (code_of n) st.history) ])) not_donated
+      ap (λ o. server_of (elim o [
+        | Some v ↦ ByVersion v.new_provider
+        | None ↦ protected_by (open_version (Number n) (record_now st (Number n)))
+            (served_by_code st n)
+      ])) unforced
+      ∙ ap (λ o. server_of (protected_by o (served_by_code st n)))
+      (none_open (record_now st (Number n)).versions room.1.closed)
+      ∙ ap (λ b. server_of
+      (elim (donor_of b st.history) [
+        | Some donor ↦ served_by_block (version_in_force (record_now st (Block (block_of n))))
+        | None ↦ ByCode (code_holder (code_of n) st.history)
+      ])) inside
+      ∙ ap (λ o. server_of
+      (elim o [
+        | Some donor ↦ served_by_block (version_in_force (record_now st (Block (block_of n))))
+        | None ↦ ByCode (code_holder (code_of n) st.history)
+      ])) not_donated
       ∙ ap (λ k. code_holder k st.history) code
       ∙ holds_code
     where
@@ -166,38 +247,69 @@ module _ (st : State) (is : IsState st) (caller block : ℕ) (used : List ℕ) (
       ten m b e = omega arith
 
   -- a used number without a version in force gets one
-  gets_one : (n from : ℕ) (test : Subject → Bool) (ss : List Subject) → list_any (subject_eq (Number n)) ss ≡ true → test (Number n) ≡ true → (id : ℕ) × (id_among (Number n) from (filter test ss) ≡ Some id)
+  gets_one : (n from : ℕ) (test : Subject → Bool) (ss : List Subject)
+      → list_any (subject_eq (Number n)) ss ≡ true → test (Number n) ≡ true
+      → (id : ℕ) × (id_among (Number n) from (filter test ss) ≡ Some id)
   gets_one n from test [] named passes = cc
-  gets_one n from test (s ∷ ss) named passes = go (λ k later. gets_one n k test ss later passes) (subject_eq (Number n) s) refl (test s) refl named
+  gets_one n from test (s ∷ ss) named passes =
+      go (λ k later. gets_one n k test ss later passes) (subject_eq (Number n) s) refl (test s) refl
+      named
     where
-      go : ((k : ℕ) → list_any (subject_eq (Number n)) ss ≡ true → (id : ℕ) × (id_among (Number n) k (filter test ss) ≡ Some id)) → (b : Bool) → subject_eq (Number n) s ≡ b → (c : Bool) → test s ≡ c →
-          (b || list_any (subject_eq (Number n)) ss) ≡ true → (id : ℕ) × (id_among (Number n) from (cond c (s ∷ filter test ss) (filter test ss)) ≡ Some id)
-      go later true e true f g = (from, ap (λ b. if b then Some from else id_among (Number n) (suc from) (filter test ss)) e)
-      go later true e false f g = let never : true ≡ false = sym passes ∙ ap test (sym (same_subject (Number n) s e)) ∙ f in cc
+      go : ((k : ℕ) → list_any (subject_eq (Number n)) ss ≡ true
+          → (id : ℕ) × (id_among (Number n) k (filter test ss) ≡ Some id)) → (b : Bool)
+          → subject_eq (Number n) s ≡ b → (c : Bool) → test s ≡ c →
+          (b || list_any (subject_eq (Number n)) ss) ≡ true
+          → (id : ℕ) × (id_among (Number n) from (cond c (s ∷ filter test ss) (filter test ss))
+          ≡ Some id)
+      go later true e true f g = (
+        from,
+        ap (λ b. if b then Some from else id_among (Number n) (suc from) (filter test ss)) e,
+      )
+      go later true e false f g = let never : true ≡ false =
+          sym passes ∙ ap test (sym (same_subject (Number n) s e)) ∙ f in cc
       go later false e true f g =
-          let rest = later (suc from) g in
-          (rest.0, ap (λ b. if b then Some from else id_among (Number n) (suc from) (filter test ss)) e ∙ rest.1)
+          let rest = later (suc from) g in (
+            rest.0,
+            ap (λ b. if b then Some from else id_among (Number n) (suc from) (filter test ss)) e
+                ∙ rest.1,
+          )
       go later false e false f g = later from g
 
   -- a number in force gets none
-  gets_none : (n from : ℕ) (test : Subject → Bool) (ss : List Subject) → test (Number n) ≡ false → id_among (Number n) from (filter test ss) ≡ None
+  gets_none : (n from : ℕ) (test : Subject → Bool) (ss : List Subject) → test (Number n) ≡ false
+      → id_among (Number n) from (filter test ss) ≡ None
   gets_none n from test [] fails = refl
-  gets_none n from test (s ∷ ss) fails = go (λ k. gets_none n k test ss fails) (subject_eq (Number n) s) refl (test s) refl
+  gets_none n from test (s ∷ ss) fails =
+      go (λ k. gets_none n k test ss fails) (subject_eq (Number n) s) refl (test s) refl
     where
-      go : ((k : ℕ) → id_among (Number n) k (filter test ss) ≡ None) → (b : Bool) → subject_eq (Number n) s ≡ b → (c : Bool) → test s ≡ c → id_among (Number n) from (cond c (s ∷ filter test ss) (filter test ss)) ≡ None
-      go later true e true f = let never : true ≡ false = sym f ∙ ap test (same_subject (Number n) s e) ∙ fails in cc
-      go later false e true f = ap (λ b. if b then Some from else id_among (Number n) (suc from) (filter test ss)) e ∙ later (suc from)
+      go : ((k : ℕ) → id_among (Number n) k (filter test ss) ≡ None) → (b : Bool)
+          → subject_eq (Number n) s ≡ b → (c : Bool) → test s ≡ c
+          → id_among (Number n) from (cond c (s ∷ filter test ss) (filter test ss)) ≡ None
+      go later true e true f = let never : true ≡ false =
+          sym f ∙ ap test (same_subject (Number n) s e) ∙ fails in cc
+      go later false e true f =
+          ap (λ b. if b then Some from else id_among (Number n) (suc from) (filter test ss)) e
+          ∙ later (suc from)
       go later b e false f = later from
 
-  kept_service : (n : ℕ) → (list_any (subject_eq (Number n)) (used_numbers block used) || is_some (version_in_force (record_now st (Number n)))) ≡ true → KeepsService st after_it n
+  kept_service : (n : ℕ)
+      → (list_any (subject_eq (Number n)) (used_numbers block used) || is_some
+      (version_in_force (record_now st (Number n)))) ≡ true → KeepsService st after_it n
   kept_service n named = by_force (version_in_force (record_now st (Number n))) refl named
     where
-      by_force : (f : Option Version) → version_in_force (record_now st (Number n)) ≡ f → (list_any (subject_eq (Number n)) (used_numbers block used) || is_some f) ≡ true → KeepsService st after_it n
+      by_force : (f : Option Version) → version_in_force (record_now st (Number n)) ≡ f
+          → (list_any (subject_eq (Number n)) (used_numbers block used) || is_some f) ≡ true
+          → KeepsService st after_it n
       by_force (Some v) e is_so =
-          held_service st after_it n (ap (λ o. is_some o || holds_of (λ (u : Version). u.protective) (open_version (Number n) (record_now st (Number n)))) e)
-          (left_alone n (gets_none n ids_from (λ s. is_none (version_in_force (record_now st s))) (used_numbers block used) (ap is_none e)))
+          held_service st after_it n (ap (λ o. is_some o || holds_of (λ (u : Version). u.protective)
+          (open_version (Number n) (record_now st (Number n)))) e)
+          (left_alone n (gets_none n ids_from (λ s. is_none (version_in_force (record_now st s)))
+          (used_numbers block used) (ap is_none e)))
       by_force None e is_so =
-          let made = gets_one n ids_from (λ s. is_none (version_in_force (record_now st s))) (used_numbers block used) (or_none (list_any (subject_eq (Number n)) (used_numbers block used)) is_so) (ap is_none e) in
+          let made = gets_one n ids_from (λ s. is_none (version_in_force (record_now st s)))
+          (used_numbers block used)
+          (or_none (list_any (subject_eq (Number n)) (used_numbers block used)) is_so)
+          (ap is_none e) in
           by_donor n made.0 made.1 e ∙ sym (by_code n made.0 made.1 e)
         where
           or_none : (b : Bool) → (b || false) ≡ true → b ≡ true
@@ -206,5 +318,6 @@ module _ (st : State) (is : IsState st) (caller block : ℕ) (used : List ℕ) (
 
 pub donation_keeps : DonationKeepsService
 donation_keeps st is caller block used lrn cic lines none n named =
-    subst (λ new. KeepsService st new n) (sym (accepted_next st caller (Commands (Donate block used lrn cic)) none))
+    subst (λ new. KeepsService st new n)
+    (sym (accepted_next st caller (Commands (Donate block used lrn cic)) none))
     (kept_service st is caller block used lrn cic lines none n named)

@@ -7,24 +7,29 @@ use Rattle.meaning.specs.History.{Entry, Request, Commands, Acknowledges}
 use Rattle.meaning.specs.Reading.{Download, InForce, registers, all_in_force, queue}
 use Rattle.meaning.specs.Refusals.{is_download}
 
--- where a copy routes s, once a download is applied: a create and a modify put their routing, a delete none
+-- where a copy routes s, once a download is applied: a create and a modify put their routing, a
+-- delete none
 abbrev pub applied : Download → (s : Subject) → Option Routing → Option Routing
 applied d s before = if subject_eq d.subject s then d.routing else before
 
--- where a copy routes s that has these rows and nothing else, of two rows of one subject the later one
+-- where a copy routes s that has these rows and nothing else, of two rows of one subject the later
+-- one
 abbrev pub started : List InForce → Subject → Option Routing
-started rows s = fold (λ before (r : InForce). if subject_eq r.subject s then r.routing else before) None rows
+started rows s = fold (λ before (r : InForce). if subject_eq r.subject s then r.routing
+    else before) None rows
 
 -- ---- what a carrier is handed
 
 -- the rows of its registration
 abbrev pub rows_handed : Windows → ℕ → List Entry → List InForce
 rows_handed w c [] = []
-rows_handed w c (e ∷ h) = if registers c e.request then all_in_force (record { windows = w; history = h; now = e.minute }) else rows_handed w c h
+rows_handed w c (e ∷ h) = if registers c e.request
+    then all_in_force (record { windows = w; history = h; now = e.minute }) else rows_handed w c h
 
 -- which download of its queue a request of the carrier's acknowledges
 abbrev pub acknowledged_of : ℕ → ℕ → Request → List Download → Option Download
-acknowledged_of c caller (Acknowledges id attempt) waiting = if caller == c then find (is_download id attempt) waiting else None
+acknowledged_of c caller (Acknowledges id attempt) waiting = if caller == c
+    then find (is_download id attempt) waiting else None
 acknowledged_of c caller (Commands command) waiting = None
 
 abbrev pub and_then : List Download → Option Download → List Download
@@ -37,8 +42,10 @@ downloads_handed w c [] = []
 downloads_handed w c (e ∷ h) =
     if registers c e.request
     then []
-    else and_then (downloads_handed w c h) (acknowledged_of c e.caller e.request (queue (record { windows = w; history = h; now = e.minute }) c))
+    else and_then (downloads_handed w c h) (acknowledged_of c e.caller e.request
+    (queue (record { windows = w; history = h; now = e.minute }) c))
 
 -- where a copy routes s that is started with the rows and takes the downloads
 abbrev pub copy_handed : Windows → ℕ → List Entry → Subject → Option Routing
-copy_handed w c h s = fold (λ before d. applied d s before) (started (rows_handed w c h) s) (downloads_handed w c h)
+copy_handed w c h s = fold (λ before d. applied d s before) (started (rows_handed w c h) s)
+    (downloads_handed w c h)

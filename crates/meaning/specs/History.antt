@@ -30,7 +30,8 @@ abbrev pub AreLines : List ℕ → Type 0
 AreLines [] = ⊤
 AreLines (line ∷ lines) = (line < 1000) × AreLines lines
 
--- what the values of a request are by their types: of a donation lines, and windows of at least a minute
+-- what the values of a request are by their types: of a donation lines, and windows of at least a
+-- minute
 abbrev pub HasValues : Request → Type 0
 HasValues (Commands (Donate block used lrn cic)) = AreLines used
 HasValues (Commands (RegisterCarrier spid)) = ⊤
@@ -87,7 +88,8 @@ code_holder code h = search_history (λ e. code_named code e.request) h
 
 -- who donated a block
 abbrev pub donor_named : ℕ → ℕ → Request → Option ℕ
-donor_named block caller (Commands (Donate b used lrn cic)) = if b == block then Some caller else None
+donor_named block caller (Commands (Donate b used lrn cic)) = if b == block then Some caller
+    else None
 donor_named block caller _ = None
 
 abbrev pub donor_of : ℕ → List Entry → Option ℕ
@@ -120,11 +122,13 @@ set_named number (Some windows) last other = set_if number (set_added (Some wind
 
 abbrev pub set_of_number : ℕ → Windows → List Entry → Option WindowSet
 set_of_number number w [] = set_if number (first_set w) None
-set_of_number number w (e ∷ h) = set_named number (windows_named e.request) (present_set w h) (set_of_number number w h)
+set_of_number number w (e ∷ h) =
+    set_named number (windows_named e.request) (present_set w h) (set_of_number number w h)
 
 -- ---- creates
 
--- a create of the other side is a second one: pending or conflict, the same providers, and the caller's own create missing
+-- a create of the other side is a second one: pending or conflict, the same providers, and the
+-- caller's own create missing
 abbrev pub awaits_creates : Status → Bool
 awaits_creates Pending = true
 awaits_creates Conflict = true
@@ -138,15 +142,19 @@ awaits_creates Old = false
 awaits_creates Canceled = false
 
 -- over the status, the providers and the create of the caller's side, so that it serves a row too
-abbrev pub lacks_create : (old_provider new_provider : ℕ) → Status → (its_old its_new : ℕ) → (made_at : Option ℕ) → Bool
+abbrev pub lacks_create : (old_provider new_provider : ℕ) → Status → (its_old its_new : ℕ)
+    → (made_at : Option ℕ) → Bool
 lacks_create old_provider new_provider status its_old its_new made_at =
-    awaits_creates status && ((its_old == old_provider) && (its_new == new_provider)) && is_none made_at
+    awaits_creates status && ((its_old == old_provider) && (its_new == new_provider)) && is_none
+    made_at
 
 abbrev pub lacks_old_create : ℕ → ℕ → Version → Bool
-lacks_old_create old_provider new_provider v = lacks_create old_provider new_provider v.status v.old_provider v.new_provider v.old_at
+lacks_old_create old_provider new_provider v =
+    lacks_create old_provider new_provider v.status v.old_provider v.new_provider v.old_at
 
 abbrev pub lacks_new_create : ℕ → ℕ → Version → Bool
-lacks_new_create old_provider new_provider v = lacks_create old_provider new_provider v.status v.old_provider v.new_provider v.new_at
+lacks_new_create old_provider new_provider v =
+    lacks_create old_provider new_provider v.status v.old_provider v.new_provider v.new_at
 
 -- the new provider's second create
 abbrev pub with_new_create : Routing → ℕ → Version → Version
@@ -199,32 +207,43 @@ module _ (present : WindowSet) where
       else sent present Delete everyone minute v
 
   -- what a command makes of the version that it names
-  abbrev pub change_of : (caller minute : ℕ) → (everyone : List ℕ) → VersionCommand → Version → Version
+  abbrev pub change_of : (caller minute : ℕ) → (everyone : List ℕ) → VersionCommand → Version
+      → Version
   change_of caller minute everyone Activate v = sent present Create everyone minute v
-  change_of caller minute everyone PutInConflict v = record (enters present Conflict minute v) { spent = true }
+  change_of caller minute everyone PutInConflict v =
+      record (enters present Conflict minute v) { spent = true }
   change_of caller minute everyone RemoveFromConflict v = enters present Pending minute v
   change_of caller minute everyone Cancel v = cancelled_by v.status caller minute v
-  change_of caller minute everyone OldProviderCancellationAcknowledge v = enters present Canceled minute v
-  change_of caller minute everyone NewProviderCancellationAcknowledge v = enters present Canceled minute v
+  change_of caller minute everyone OldProviderCancellationAcknowledge v =
+      enters present Canceled minute v
+  change_of caller minute everyone NewProviderCancellationAcknowledge v =
+      enters present Canceled minute v
   change_of caller minute everyone (Disconnect release) v = disconnected release everyone minute v
-  change_of caller minute everyone (ModifyRouting lrn cic) v = sent present (Modify (record { lrn = lrn; cic = cic })) everyone minute v
+  change_of caller minute everyone (ModifyRouting lrn cic) v =
+      sent present (Modify (record { lrn = lrn; cic = cic })) everyone minute v
 
   -- a version of the subject s after a request
   abbrev pub done_to : Subject → ℕ → ℕ → List ℕ → Request → Version → Version
   done_to s caller minute everyone (Commands (RegisterCarrier spid)) v = joined_by spid v
   done_to s caller minute everyone (Commands (RegisterRoutingNumber lrn)) v = v
   done_to s caller minute everyone (Commands (OpenCode code spid)) v = v
-  done_to s caller minute everyone (Commands (OldProviderCreate tn old_provider new_provider due authorized)) v =
-      if subject_eq s (Number tn) && lacks_old_create old_provider new_provider v then with_old_create authorized minute v else v
-  done_to s caller minute everyone (Commands (NewProviderCreate tn old_provider new_provider due lrn cic)) v =
-      if subject_eq s (Number tn) && lacks_new_create old_provider new_provider v then with_new_create (record { lrn = lrn; cic = cic }) minute v else v
-  done_to s caller minute everyone (Commands (OnVersion id c)) v = of_id id (change_of caller minute everyone c) v
+  done_to s caller minute everyone
+      (Commands (OldProviderCreate tn old_provider new_provider due authorized)) v =
+      if subject_eq s (Number tn) && lacks_old_create old_provider new_provider v
+      then with_old_create authorized minute v else v
+  done_to s caller minute everyone (Commands (NewProviderCreate tn old_provider new_provider due lrn
+      cic)) v =
+      if subject_eq s (Number tn) && lacks_new_create old_provider new_provider v
+      then with_new_create (record { lrn = lrn; cic = cic }) minute v else v
+  done_to s caller minute everyone (Commands (OnVersion id c)) v =
+      of_id id (change_of caller minute everyone c) v
   done_to s caller minute everyone (Commands (Donate block used lrn cic)) v = v
   done_to s caller minute everyone (Commands (Assign block holder lrn cic)) v = v
   done_to s caller minute everyone (Commands (SetWindows windows)) v = v
   done_to s caller minute everyone (Commands (Release block)) v =
       if subject_eq s (Block block) && in_force v then sent present Delete everyone minute v else v
-  done_to s caller minute everyone (Acknowledges id attempt) v = of_id id (acknowledged_by present caller attempt minute) v
+  done_to s caller minute everyone (Acknowledges id attempt) v =
+      of_id id (acknowledged_by present caller attempt minute) v
 
 -- ---- what an entry makes
 
@@ -236,12 +255,15 @@ rising (n ∷ ns) = with_number n (rising ns)
 abbrev pub used_numbers : ℕ → List ℕ → List Subject
 used_numbers block used = map (λ line. Number (number_in block line)) (rising used)
 
--- the subjects for which a request makes a version, in the order of their ids; `at` gives the records before it
+-- the subjects for which a request makes a version, in the order of their ids; `at` gives the
+-- records before it
 abbrev pub makes : Request → (Subject → Record) → List Subject
 makes (Commands (OldProviderCreate tn old_provider new_provider due authorized)) at =
-    if list_any (lacks_old_create old_provider new_provider) (at (Number tn)).versions then [] else Number tn ∷ []
+    if list_any (lacks_old_create old_provider new_provider) (at (Number tn)).versions then []
+    else Number tn ∷ []
 makes (Commands (NewProviderCreate tn old_provider new_provider due lrn cic)) at =
-    if list_any (lacks_new_create old_provider new_provider) (at (Number tn)).versions then [] else Number tn ∷ []
+    if list_any (lacks_new_create old_provider new_provider) (at (Number tn)).versions then []
+    else Number tn ∷ []
 makes (Commands (Donate block used lrn cic)) at =
     filter (λ s. is_none (version_in_force (at s))) (used_numbers block used)
 makes (Commands (Assign block holder lrn cic)) at = Block block ∷ []
@@ -273,30 +295,50 @@ module _ (present : WindowSet) where
     broadcasts = [];
   }
 
-  -- the version that a request makes. An assigned block has a donor. Of requests that make none (`makes`) the version is asked for nowhere
+  -- the version that a request makes. An assigned block has a donor. Of requests that make none
+  -- (`makes`) the version is asked for nowhere
   abbrev pub made_version : ℕ → ℕ → ℕ → List ℕ → Option ℕ → Request → Version
-  made_version id caller minute everyone donor (Commands (OldProviderCreate tn old_provider new_provider due authorized)) =
-      with_old_create present authorized minute (blank_version id old_provider new_provider due minute)
-  made_version id caller minute everyone donor (Commands (NewProviderCreate tn old_provider new_provider due lrn cic)) =
-      with_new_create (record { lrn = lrn; cic = cic }) minute (blank_version id old_provider new_provider due minute)
+  made_version id caller minute everyone donor
+      (Commands (OldProviderCreate tn old_provider new_provider due authorized)) =
+      with_old_create present authorized minute (blank_version id old_provider new_provider due
+      minute)
+  made_version id caller minute everyone donor
+      (Commands (NewProviderCreate tn old_provider new_provider due lrn cic)) =
+      with_new_create (record { lrn = lrn; cic = cic }) minute
+      (blank_version id old_provider new_provider due minute)
   made_version id caller minute everyone donor (Commands (Donate block used lrn cic)) =
-      sent present Create everyone minute (record (blank_version id caller caller minute minute) { routing = Some (record { lrn = lrn; cic = cic }); protective = true })
+      sent present Create everyone minute (record (blank_version id caller caller minute minute) {
+        routing = Some (record { lrn = lrn; cic = cic });
+        protective = true;
+      })
   made_version id caller minute everyone donor (Commands (Assign block holder lrn cic)) =
-      sent present Create everyone minute (record (blank_version id (unwrap_or donor 0) holder minute minute) { routing = Some (record { lrn = lrn; cic = cic }) })
-  made_version id caller minute everyone donor (Commands (RegisterCarrier spid)) = blank_version id caller caller minute minute
-  made_version id caller minute everyone donor (Commands (RegisterRoutingNumber lrn)) = blank_version id caller caller minute minute
-  made_version id caller minute everyone donor (Commands (OpenCode code spid)) = blank_version id caller caller minute minute
-  made_version id caller minute everyone donor (Commands (OnVersion its_id command)) = blank_version id caller caller minute minute
-  made_version id caller minute everyone donor (Commands (Release block)) = blank_version id caller caller minute minute
-  made_version id caller minute everyone donor (Commands (SetWindows windows)) = blank_version id caller caller minute minute
-  made_version id caller minute everyone donor (Acknowledges its_id attempt) = blank_version id caller caller minute minute
+      sent present Create everyone minute
+      (record (blank_version id (unwrap_or donor 0) holder minute minute) {
+        routing =
+            Some (record { lrn = lrn; cic = cic });
+      })
+  made_version id caller minute everyone donor (Commands (RegisterCarrier spid)) =
+      blank_version id caller caller minute minute
+  made_version id caller minute everyone donor (Commands (RegisterRoutingNumber lrn)) =
+      blank_version id caller caller minute minute
+  made_version id caller minute everyone donor (Commands (OpenCode code spid)) =
+      blank_version id caller caller minute minute
+  made_version id caller minute everyone donor (Commands (OnVersion its_id command)) =
+      blank_version id caller caller minute minute
+  made_version id caller minute everyone donor (Commands (Release block)) =
+      blank_version id caller caller minute minute
+  made_version id caller minute everyone donor (Commands (SetWindows windows)) =
+      blank_version id caller caller minute minute
+  made_version id caller minute everyone donor (Acknowledges its_id attempt) =
+      blank_version id caller caller minute minute
 
 -- the id of the version that is made for s, if one is: the subjects take ids in turn
 abbrev pub id_among : Subject → ℕ → List Subject → Option ℕ
 id_among s id [] = None
 id_among s id (t ∷ ts) = if subject_eq s t then Some id else id_among s (suc id) ts
 
--- the block that an assignment names; any number stands for the other requests, which have no use for a donor
+-- the block that an assignment names; any number stands for the other requests, which have no use
+-- for a donor
 abbrev pub assigned_block : Request → ℕ
 assigned_block (Commands (Assign block holder lrn cic)) = block
 assigned_block (Commands (RegisterCarrier spid)) = 0
@@ -317,7 +359,8 @@ with_made (Some id) made vs = made id ∷ vs
 
 -- ---- the replay
 
--- what stands after an entry: for which subjects the versions 1, 2, .. were made, and each subject's record at each minute from the entry's on
+-- what stands after an entry: for which subjects the versions 1, 2, .. were made, and each
+-- subject's record at each minute from the entry's on
 pub record Meaning : Type 0 where
   pub made : List Subject
   pub at : Subject → ℕ → Record
@@ -330,17 +373,22 @@ next_after made = 1 + length made
 unfoldable pub effect : WindowSet → Subject → Option ℕ → Option ℕ → Entry → Record → Record
 effect present s made donor e r = record {
   carriers = carrier_added (carrier_named e.request) r.carriers;
-  versions = with_made made (λ id. made_version present id e.caller e.minute r.carriers donor e.request)
-      (changed_at present e.minute (done_to present s e.caller e.minute r.carriers e.request) r.versions);
+  versions = with_made made (λ id. made_version present id e.caller e.minute r.carriers donor
+      e.request)
+      (changed_at present e.minute (done_to present s e.caller e.minute r.carriers e.request)
+      r.versions);
 }
 
--- one more entry, before which this set of windows holds: the minutes after it are judged, each before what comes in it, by the windows that it leaves
+-- one more entry, before which this set of windows holds: the minutes after it are judged, each
+-- before what comes in it, by the windows that it leaves
 unfoldable pub after : WindowSet → Entry → Option ℕ → Meaning → Meaning
 after present e donor before =
     let new = makes e.request (λ s. before.at s e.minute) in
     record {
       made = before.made ++ new;
-      at = λ s m. judged (set_added (windows_named e.request) present) e.minute m (effect present s (id_among s (next_after before.made) new) donor e (before.at s e.minute));
+      at = λ s m. judged (set_added (windows_named e.request) present) e.minute m
+          (effect present s (id_among s (next_after before.made) new) donor e
+          (before.at s e.minute));
     }
 
 -- the first state: no version

@@ -1,4 +1,5 @@
--- What is asked of the register, and which refusal it meets: the least number whose condition holds.
+-- What is asked of the register, and which refusal it meets: the least number whose condition
+-- holds.
 use Rattle.std.specs.Prelude.{ℕ, ◌+◌, Bool, true, false, not, ◌&&◌, ◌||◌, ◌==◌, nat_lt, nat_le, List, [], ◌∷◌, ◌++◌, map, filter, find, length, Option, Some, None, is_some, is_none, option_map, if◌then◌else◌}
 use Rattle.std.specs.List.{list_any}
 use Rattle.numbers.specs.Digits.{code_of, block_of, block_code_of}
@@ -19,7 +20,8 @@ pub data Question : Type 0 where
   Waiting : Question
   Ids : (tn : ℕ) → Question
 
--- a clock moment, a caller's command or acknowledgement, or a question (two of which have no caller; any stands there)
+-- a clock moment, a caller's command or acknowledgement, or a question (two of which have no
+-- caller; any stands there)
 pub data Input : Type 0 where
   Moment : (minute : ℕ) → Input
   Requests : (caller : ℕ) (request : Request) → Input
@@ -34,8 +36,10 @@ npac = 0x4E504143
 -- the carriers that a command names
 abbrev pub named_carriers : Command → List ℕ
 named_carriers (OpenCode code spid) = spid ∷ []
-named_carriers (OldProviderCreate tn old_provider new_provider due authorized) = old_provider ∷ new_provider ∷ []
-named_carriers (NewProviderCreate tn old_provider new_provider due lrn cic) = old_provider ∷ new_provider ∷ []
+named_carriers (OldProviderCreate tn old_provider new_provider due authorized) =
+    old_provider ∷ new_provider ∷ []
+named_carriers (NewProviderCreate tn old_provider new_provider due lrn cic) =
+    old_provider ∷ new_provider ∷ []
 named_carriers (Assign block holder lrn cic) = holder ∷ []
 named_carriers (RegisterCarrier spid) = []
 named_carriers (RegisterRoutingNumber lrn) = []
@@ -98,8 +102,22 @@ pub record Creates : Type 0 where
   pub lacks : Version → Bool
 
 abbrev pub create_of : Command → Option Creates
-create_of (OldProviderCreate tn old_provider new_provider due authorized) = Some (record { tn = tn; old_provider = old_provider; new_provider = new_provider; due = due; unauthorized = not authorized; lacks = lacks_old_create old_provider new_provider })
-create_of (NewProviderCreate tn old_provider new_provider due lrn cic) = Some (record { tn = tn; old_provider = old_provider; new_provider = new_provider; due = due; unauthorized = false; lacks = lacks_new_create old_provider new_provider })
+create_of (OldProviderCreate tn old_provider new_provider due authorized) = Some (record {
+  tn = tn;
+  old_provider = old_provider;
+  new_provider = new_provider;
+  due = due;
+  unauthorized = not authorized;
+  lacks = lacks_old_create old_provider new_provider;
+})
+create_of (NewProviderCreate tn old_provider new_provider due lrn cic) = Some (record {
+  tn = tn;
+  old_provider = old_provider;
+  new_provider = new_provider;
+  due = due;
+  unauthorized = false;
+  lacks = lacks_new_create old_provider new_provider;
+})
 create_of (RegisterCarrier spid) = None
 create_of (RegisterRoutingNumber lrn) = None
 create_of (OpenCode code spid) = None
@@ -143,15 +161,18 @@ abbrev pub unknown_carrier : State → Input → Bool
 unknown_carrier st (Moment m) = false
 unknown_carrier st (Requests caller (Commands c)) =
     list_any (λ s. not (is_carrier st s)) (named_carriers c)
-    || (not (is_for_administrator c) && not (is_carrier st caller) && not (is_release c && (caller == npac)))
+    || (not (is_for_administrator c) && not (is_carrier st caller) && not
+    (is_release c && (caller == npac)))
 unknown_carrier st (Requests caller (Acknowledges id attempt)) = not (is_carrier st caller)
 unknown_carrier st (Asks caller q) =
     has_caller q && not (is_carrier st caller) && not (may_be_administrators q && (caller == npac))
 
--- the statuses of a number's open version, of its version in force and of its block's leave no room for a first create
+-- the statuses of a number's open version, of its version in force and of its block's leave no room
+-- for a first create
 abbrev pub number_is_busy : State → ℕ → Bool
 number_is_busy st n =
-    has_no_room (option_map (λ (v : Version). v.status) (open_version (Number n) (record_now st (Number n))))
+    has_no_room (option_map (λ (v : Version). v.status)
+    (open_version (Number n) (record_now st (Number n))))
     (option_map (λ (v : Version). v.status) (version_in_force (record_now st (Number n))))
     (option_map (λ (v : Version). v.status) (version_in_force (record_now st (Block (block_of n)))))
 
@@ -167,7 +188,9 @@ owns st lrn carrier = is_the carrier (lrn_owner lrn st.history)
 module _ (st : State) (caller : ℕ) where
   -- the tests of a command on a version, over the version that it names
   abbrev pub tests_on_version : Command → List (ℕ × Bool)
-  tests_on_version (OnVersion id c) = version_tests (set_now st).windows st.now caller (has_open st) (owns st) c (version_of_id st id)
+  tests_on_version (OnVersion id c) =
+      version_tests (set_now st).windows st.now caller (has_open st) (owns st) c
+      (version_of_id st id)
   tests_on_version (RegisterCarrier spid) = []
   tests_on_version (RegisterRoutingNumber lrn) = []
   tests_on_version (OpenCode code spid) = []
@@ -183,7 +206,10 @@ module _ (st : State) (caller : ℕ) where
 
   -- a create by the test, and a command on a version by its own of this number
   abbrev pub holds_of_create : ℕ → (Creates → Bool) → Command → Bool
-  holds_of_create number test c = elim (create_of c) [ Some n ↦ test n | None ↦ holds_on_version number c ]
+  holds_of_create number test c = elim (create_of c) [
+    | Some n ↦ test n
+    | None ↦ holds_on_version number c
+  ]
 
   -- 2: a command of the administrator's by another
   abbrev pub not_admin : Command → Bool
@@ -236,7 +262,8 @@ module _ (st : State) (caller : ℕ) where
 
   -- 7: the routing number is not one of the carrier that is to be routed to
   abbrev pub bad_lrn : Command → Bool
-  bad_lrn (NewProviderCreate tn old_provider new_provider due lrn cic) = not (is_the new_provider (lrn_owner lrn st.history))
+  bad_lrn (NewProviderCreate tn old_provider new_provider due lrn cic) =
+      not (is_the new_provider (lrn_owner lrn st.history))
   bad_lrn (Donate block used lrn cic) = not (is_the caller (lrn_owner lrn st.history))
   bad_lrn (Assign block holder lrn cic) = not (is_the holder (lrn_owner lrn st.history))
   bad_lrn (RegisterCarrier spid) = false
@@ -253,13 +280,18 @@ module _ (st : State) (caller : ℕ) where
 
   -- 9: the old provider does not serve the number, or is the new one
   abbrev pub wrong_old : Command → Bool
-  wrong_old c = holds_of (λ (n : Creates). not (is_served_by n.old_provider (serving st n.tn)) || (n.old_provider == n.new_provider)) (create_of c)
+  wrong_old c =
+      holds_of (λ (n : Creates). not (is_served_by n.old_provider (serving st n.tn))
+      || (n.old_provider == n.new_provider)) (create_of c)
 
-  -- 10: no such version, or a block's; the block is not donated, or to be released and never assigned
+  -- 10: no such version, or a block's; the block is not donated, or to be released and never
+  -- assigned
   abbrev pub not_found : Command → Bool
   not_found (Assign block holder lrn cic) = is_none (donor_of block st.history)
-  not_found (Release block) = is_none (donor_of block st.history) || is_none (last_version (record_now st (Block block)))
-  not_found (OnVersion id c) = not (holds_of (λ (e : SubjectVersion). is_number e.subject) (version_of_id st id))
+  not_found (Release block) =
+      is_none (donor_of block st.history) || is_none (last_version (record_now st (Block block)))
+  not_found (OnVersion id c) =
+      not (holds_of (λ (e : SubjectVersion). is_number e.subject) (version_of_id st id))
   not_found (RegisterCarrier spid) = false
   not_found (RegisterRoutingNumber lrn) = false
   not_found (OpenCode code spid) = false
@@ -270,25 +302,33 @@ module _ (st : State) (caller : ℕ) where
 
   -- 11: the caller is not the one who may
   abbrev pub not_yours : Command → Bool
-  not_yours (OldProviderCreate tn old_provider new_provider due authorized) = not (caller == old_provider)
-  not_yours (NewProviderCreate tn old_provider new_provider due lrn cic) = not (caller == new_provider)
+  not_yours (OldProviderCreate tn old_provider new_provider due authorized) =
+      not (caller == old_provider)
+  not_yours (NewProviderCreate tn old_provider new_provider due lrn cic) =
+      not (caller == new_provider)
   not_yours (OnVersion id c) = holds_on_version 11 (OnVersion id c)
-  not_yours (Donate block used lrn cic) = not (is_the caller (code_holder (block_code_of block) st.history))
-  not_yours (Release block) = not (caller == npac) && holds_of (λ (v : Version). not (caller == v.new_provider)) (last_version (record_now st (Block block)))
+  not_yours (Donate block used lrn cic) =
+      not (is_the caller (code_holder (block_code_of block) st.history))
+  not_yours (Release block) =
+      not (caller == npac) && holds_of (λ (v : Version). not (caller == v.new_provider))
+      (last_version (record_now st (Block block)))
   not_yours (RegisterCarrier spid) = false
   not_yours (RegisterRoutingNumber lrn) = false
   not_yours (OpenCode code spid) = false
   not_yours (Assign block holder lrn cic) = false
   not_yours (SetWindows windows) = false
 
-  -- 12: a first create where there is no room for it, or a disconnect or a modify beside an open version
+  -- 12: a first create where there is no room for it, or a disconnect or a modify beside an open
+  -- version
   abbrev pub busy : Command → Bool
   busy c = holds_of_create 12 (λ n. is_none (second_of st n) && number_is_busy st n.tn) c
 
   -- 13: the version's status does not allow it
   abbrev pub wrong_status : Command → Bool
   wrong_status (OnVersion id c) = holds_on_version 13 (OnVersion id c)
-  wrong_status (Release block) = holds_of (λ (v : Version). not (is_active v.status)) (last_version (record_now st (Block block)))
+  wrong_status (Release block) =
+      holds_of (λ (v : Version). not (is_active v.status))
+      (last_version (record_now st (Block block)))
   wrong_status (RegisterCarrier spid) = false
   wrong_status (RegisterRoutingNumber lrn) = false
   wrong_status (OpenCode code spid) = false
@@ -304,7 +344,9 @@ module _ (st : State) (caller : ℕ) where
 
   -- 15: a second create with another due minute
   abbrev pub due_mismatch : Command → Bool
-  due_mismatch c = holds_of (λ (n : Creates). holds_of (λ (v : Version). is_another_due n.due v.due) (second_of st n)) (create_of c)
+  due_mismatch c =
+      holds_of (λ (n : Creates). holds_of (λ (v : Version). is_another_due n.due v.due)
+      (second_of st n)) (create_of c)
 
   -- 16: activation of a pending version without the creates that it needs; removal without both
   abbrev pub not_concurred : Command → Bool
@@ -316,11 +358,15 @@ module _ (st : State) (caller : ℕ) where
 
   -- 18: a second conflict
   abbrev pub conflict_spent : Command → Bool
-  conflict_spent c = holds_of_create 18 (λ n. n.unauthorized && holds_of (λ (v : Version). v.spent) (second_of st n)) c
+  conflict_spent c =
+      holds_of_create 18 (λ n. n.unauthorized && holds_of (λ (v : Version). v.spent)
+      (second_of st n)) c
 
   -- 19: a conflict too near to the due minute
   abbrev pub too_late : Command → Bool
-  too_late c = holds_of_create 19 (λ n. n.unauthorized && is_late_conflict (set_now st).windows st.now n.due) c
+  too_late c =
+      holds_of_create 19 (λ n. n.unauthorized && is_late_conflict (set_now st).windows st.now n.due)
+      c
 
   -- 20: a removal by the new provider before the conflict may be resolved
   abbrev pub too_early : Command → Bool
@@ -334,7 +380,8 @@ module _ (st : State) (caller : ℕ) where
   abbrev pub contaminated_numbers : ℕ → List ℕ → List Subject
   contaminated_numbers block used =
       used_numbers block used
-      ++ filter (λ s. is_in_block block s && not (list_any (subject_eq s) (used_numbers block used)))
+      ++ filter (λ s. is_in_block block s && not
+      (list_any (subject_eq s) (used_numbers block used)))
       (map (λ (e : SubjectVersion). e.subject) (filter (λ e. in_force e.version) (all_versions st)))
 
   -- 22: too many numbers of the block are in use
@@ -352,7 +399,9 @@ module _ (st : State) (caller : ℕ) where
 
   -- a number of the block with an open version and none in force
   abbrev pub has_open_port : ℕ → Bool
-  has_open_port block = list_any (λ (e : SubjectVersion). is_in_block block e.subject && is_open e.subject e.version && is_none (version_in_force (record_now st e.subject))) (all_versions st)
+  has_open_port block =
+      list_any (λ (e : SubjectVersion). is_in_block block e.subject && is_open e.subject e.version
+      && is_none (version_in_force (record_now st e.subject))) (all_versions st)
 
   -- 23: a number of the block is being ported
   abbrev pub open_ports : Command → Bool
@@ -361,7 +410,8 @@ module _ (st : State) (caller : ℕ) where
   -- 24: the block is donated already, or assigned
   abbrev pub block_taken : Command → Bool
   block_taken (Donate block used lrn cic) = is_some (donor_of block st.history)
-  block_taken (Assign block holder lrn cic) = holds_of (λ (v : Version). takes_block v.status) (last_version (record_now st (Block block)))
+  block_taken (Assign block holder lrn cic) =
+      holds_of (λ (v : Version). takes_block v.status) (last_version (record_now st (Block block)))
   block_taken (RegisterCarrier spid) = false
   block_taken (RegisterRoutingNumber lrn) = false
   block_taken (OpenCode code spid) = false
@@ -374,7 +424,9 @@ module _ (st : State) (caller : ℕ) where
   -- the attempt that a command sends, or plans
   abbrev pub attempts_too_often : Command → Bool
   attempts_too_often (OnVersion id c) = holds_on_version 28 (OnVersion id c)
-  attempts_too_often (Release block) = holds_of (λ (v : Version). has_no_attempt_left v.attempt) (last_version (record_now st (Block block)))
+  attempts_too_often (Release block) =
+      holds_of (λ (v : Version). has_no_attempt_left v.attempt)
+      (last_version (record_now st (Block block)))
   attempts_too_often (RegisterCarrier spid) = false
   attempts_too_often (RegisterRoutingNumber lrn) = false
   attempts_too_often (OpenCode code spid) = false
@@ -397,7 +449,8 @@ module _ (st : State) (caller : ℕ) where
   registry_is_full (Release block) = false
   registry_is_full (SetWindows windows) = nat_le 1000 (set_now st).number
 
-  -- 28: a hundred carriers, a thousand sets of windows, or an id or an attempt past the last. The test of ids stands for every command, and is right also for one
+  -- 28: a hundred carriers, a thousand sets of windows, or an id or an attempt past the last. The
+  -- test of ids stands for every command, and is right also for one
   -- that makes no version, because the next id never passes the limit
   abbrev pub full : Command → Bool
   full c =
@@ -407,11 +460,16 @@ module _ (st : State) (caller : ℕ) where
 -- the tests of a command, in the order of their numbers
 abbrev pub command_tests : State → ℕ → Command → List (ℕ × Bool)
 command_tests st caller c =
-    (1, unknown_carrier st (Requests caller (Commands c))) ∷ (2, not_admin st caller c) ∷ (3, unknown_code st caller c) ∷ (4, carrier_taken st caller c)
-    ∷ (5, code_taken st caller c) ∷ (6, lrn_taken st caller c) ∷ (7, bad_lrn st caller c) ∷ (8, in_pool st caller c) ∷ (9, wrong_old st caller c)
-    ∷ (10, not_found st caller c) ∷ (11, not_yours st caller c) ∷ (12, busy st caller c) ∷ (13, wrong_status st caller c) ∷ (14, due_past st caller c)
-    ∷ (15, due_mismatch st caller c) ∷ (16, not_concurred st caller c) ∷ (17, before_due st caller c) ∷ (18, conflict_spent st caller c)
-    ∷ (19, too_late st caller c) ∷ (20, too_early st caller c) ∷ (21, protected st caller c) ∷ (22, contaminated st caller c)
+    (1, unknown_carrier st (Requests caller (Commands c))) ∷ (2, not_admin st caller c)
+    ∷ (3, unknown_code st caller c) ∷ (4, carrier_taken st caller c)
+    ∷ (5, code_taken st caller c) ∷ (6, lrn_taken st caller c) ∷ (7, bad_lrn st caller c)
+    ∷ (8, in_pool st caller c) ∷ (9, wrong_old st caller c)
+    ∷ (10, not_found st caller c) ∷ (11, not_yours st caller c) ∷ (12, busy st caller c)
+    ∷ (13, wrong_status st caller c) ∷ (14, due_past st caller c)
+    ∷ (15, due_mismatch st caller c) ∷ (16, not_concurred st caller c)
+    ∷ (17, before_due st caller c) ∷ (18, conflict_spent st caller c)
+    ∷ (19, too_late st caller c) ∷ (20, too_early st caller c) ∷ (21, protected st caller c)
+    ∷ (22, contaminated st caller c)
     ∷ (23, open_ports st caller c) ∷ (24, block_taken st caller c) ∷ (28, full st caller c) ∷ []
 
 -- 10 of an acknowledgement or a question: no version has the id
@@ -428,7 +486,8 @@ is_not_among downloads id attempt = not (list_any (is_download id attempt) downl
 -- an earlier download of its subject stands in the queue
 abbrev pub is_preceded : List Download → ℕ → ℕ → Bool
 is_preceded downloads id attempt =
-    list_any (λ d. is_download id attempt d && list_any (λ e. subject_eq e.subject d.subject && is_before e d) downloads) downloads
+    list_any (λ d. is_download id attempt d && list_any (λ e. subject_eq e.subject d.subject
+    && is_before e d) downloads) downloads
 
 -- 25: no such download waits for the caller
 abbrev pub not_queued : State → ℕ → ℕ → ℕ → Bool
@@ -449,7 +508,8 @@ tests st (Requests caller (Commands c)) = command_tests st caller c
 tests st (Requests caller (Acknowledges id attempt)) =
     (1, unknown_carrier st (Requests caller (Acknowledges id attempt))) ∷ (10, no_version st id)
     ∷ (25, not_queued st caller id attempt) ∷ (26, out_of_order st caller id attempt) ∷ []
-tests st (Asks caller (ShowVersion id)) = (1, unknown_carrier st (Asks caller (ShowVersion id))) ∷ (10, no_version st id) ∷ []
+tests st (Asks caller (ShowVersion id)) =
+    (1, unknown_carrier st (Asks caller (ShowVersion id))) ∷ (10, no_version st id) ∷ []
 tests st (Asks caller Knows) = (1, unknown_carrier st (Asks caller Knows)) ∷ []
 tests st (Asks caller (Fetch n)) = (1, unknown_carrier st (Asks caller (Fetch n))) ∷ []
 tests st (Asks caller (Query tn)) = (1, unknown_carrier st (Asks caller (Query tn))) ∷ []

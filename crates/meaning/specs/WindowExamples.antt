@@ -20,33 +20,41 @@ short_concurrence = record w { initial_concurrence = 10; final_concurrence = 10 
 abbrev pub other : ℕ
 other = 2025331235
 
--- the new provider's create for n at 0; at 50 both windows of concurrence become 10, and then the create for the other number
+-- the new provider's create for n at 0; at 50 both windows of concurrence become 10, and then the
+-- create for the other number
 abbrev pub two_creates : List Input
 two_creates =
-    does a (NewProviderCreate n b a 100 2025440000 None) ∷ Moment 50 ∷ does npac (SetWindows short_concurrence)
+    does a (NewProviderCreate n b a 100 2025440000 None) ∷ Moment 50 ∷ does npac
+    (SetWindows short_concurrence)
     ∷ does a (NewProviderCreate other b a 60 2025440000 None) ∷ []
 
-answers_the_second_set : out (state_after start (Moment 50 ∷ [])) (does npac (SetWindows short_concurrence)) ≡ WindowsSet 50 2
+answers_the_second_set : out (state_after start (Moment 50 ∷ []))
+    (does npac (SetWindows short_concurrence)) ≡ WindowsSet 50 2
 unfolding next meaning after effect judge judged_for judged_version queue tests out
 answers_the_second_set = refl
 
-first_concurs_by_the_first : map (λ m. refused_after start (two_creates ++ Moment m ∷ []) (does a (OnVersion 1 Activate))) (119 ∷ 120 ∷ []) ≡ Some 16 ∷ None ∷ []
+first_concurs_by_the_first : map (λ m. refused_after start (two_creates ++ Moment m ∷ [])
+    (does a (OnVersion 1 Activate))) (119 ∷ 120 ∷ []) ≡ Some 16 ∷ None ∷ []
 unfolding next meaning after effect judge judged_for judged_version queue tests out
 first_concurs_by_the_first = refl
 
-second_concurs_by_the_second : map (λ m. refused_after start (two_creates ++ Moment m ∷ []) (does a (OnVersion 2 Activate))) (69 ∷ 70 ∷ []) ≡ Some 16 ∷ None ∷ []
+second_concurs_by_the_second : map (λ m. refused_after start (two_creates ++ Moment m ∷ [])
+    (does a (OnVersion 2 Activate))) (69 ∷ 70 ∷ []) ≡ Some 16 ∷ None ∷ []
 unfolding next meaning after effect judge judged_for judged_version queue tests out
 second_concurs_by_the_second = refl
 
 -- the phases of both
 abbrev pub phases : ℕ → ℕ → Option (Option Phase)
-phases id m = let st : State = state_after start (two_creates ++ Moment m ∷ []) in option_map (λ e. (view_of st e).phase) (version_of_id st id)
+phases id m = let st : State = state_after start (two_creates ++ Moment m ∷ []) in
+    option_map (λ e. (view_of st e).phase) (version_of_id st id)
 
-phases_by_the_first : map (phases 1) (59 ∷ 60 ∷ 119 ∷ 120 ∷ []) ≡ Some (Some Initial) ∷ Some (Some Final) ∷ Some (Some Final) ∷ Some (Some Ended) ∷ []
+phases_by_the_first : map (phases 1) (59 ∷ 60 ∷ 119 ∷ 120 ∷ []) ≡ Some (Some Initial) ∷ Some
+    (Some Final) ∷ Some (Some Final) ∷ Some (Some Ended) ∷ []
 unfolding next meaning after effect judge judged_for judged_version queue tests out
 phases_by_the_first = refl
 
-phases_by_the_second : map (phases 2) (59 ∷ 60 ∷ 69 ∷ 70 ∷ []) ≡ Some (Some Initial) ∷ Some (Some Final) ∷ Some (Some Final) ∷ Some (Some Ended) ∷ []
+phases_by_the_second : map (phases 2) (59 ∷ 60 ∷ 69 ∷ 70 ∷ []) ≡ Some (Some Initial) ∷ Some
+    (Some Final) ∷ Some (Some Final) ∷ Some (Some Ended) ∷ []
 unfolding next meaning after effect judge judged_for judged_version queue tests out
 phases_by_the_second = refl
 
@@ -61,22 +69,32 @@ short_expiration = record w { conflict_expiration = 5 }
 
 -- the expiration of conflicts becomes 5 at a minute, and then time goes on
 abbrev pub shortened_at : ℕ → List ℕ → Option (Status × ℕ × ℕ)
-shortened_at m ms = standing (state_after start (cancelled_at_10 ++ Moment m ∷ does npac (SetWindows short_expiration) ∷ map (λ k. Moment k) ms)) 1
+shortened_at m ms =
+    standing (state_after start (cancelled_at_10 ++ Moment m ∷ does npac
+    (SetWindows short_expiration) ∷ map (λ k. Moment k) ms)) 1
 
-unchanged : map (λ m. standing (state_after start (cancelled_at_10 ++ Moment m ∷ [])) 1) (129 ∷ 130 ∷ 1129 ∷ 1130 ∷ []) ≡ Some (CancelPending OldProvider, 10, 0) ∷ Some (Conflict, 130, 0) ∷ Some (Conflict, 130, 0) ∷ Some (Canceled, 1130, 0) ∷ []
+unchanged : map (λ m. standing (state_after start (cancelled_at_10 ++ Moment m ∷ [])) 1)
+    (129 ∷ 130 ∷ 1129 ∷ 1130 ∷ []) ≡ Some (CancelPending OldProvider, 10, 0) ∷ Some
+    (Conflict, 130, 0) ∷ Some (Conflict, 130, 0) ∷ Some (Canceled, 1130, 0) ∷ []
 unfolding next meaning after effect judge judged_for judged_version queue tests out
 unchanged = refl
 
 -- before the conflict: it is judged by the new set. In its minute, or after it: by the first
-shortened_before : map (shortened_at 100) ((134 ∷ []) ∷ (135 ∷ []) ∷ (130 ∷ 134 ∷ 135 ∷ 2000 ∷ []) ∷ (2000 ∷ []) ∷ []) ≡ Some (Conflict, 130, 0) ∷ Some (Canceled, 135, 0) ∷ Some (Canceled, 135, 0) ∷ Some (Canceled, 135, 0) ∷ []
+shortened_before : map (shortened_at 100) ((134 ∷ []) ∷ (135 ∷ []) ∷ (130 ∷ 134 ∷ 135 ∷ 2000 ∷ [])
+    ∷ (2000 ∷ []) ∷ []) ≡ Some (Conflict, 130, 0) ∷ Some (Canceled, 135, 0) ∷ Some
+    (Canceled, 135, 0) ∷ Some (Canceled, 135, 0) ∷ []
 unfolding next meaning after effect judge judged_for judged_version queue tests out
 shortened_before = refl
 
-shortened_in_its_minute : map (shortened_at 130) ((1129 ∷ []) ∷ (1130 ∷ []) ∷ (1129 ∷ 1130 ∷ 2000 ∷ []) ∷ (2000 ∷ []) ∷ []) ≡ Some (Conflict, 130, 0) ∷ Some (Canceled, 1130, 0) ∷ Some (Canceled, 1130, 0) ∷ Some (Canceled, 1130, 0) ∷ []
+shortened_in_its_minute : map (shortened_at 130)
+    ((1129 ∷ []) ∷ (1130 ∷ []) ∷ (1129 ∷ 1130 ∷ 2000 ∷ []) ∷ (2000 ∷ []) ∷ [])
+    ≡ Some (Conflict, 130, 0) ∷ Some (Canceled, 1130, 0) ∷ Some (Canceled, 1130, 0) ∷ Some
+    (Canceled, 1130, 0) ∷ []
 unfolding next meaning after effect judge judged_for judged_version queue tests out
 shortened_in_its_minute = refl
 
-shortened_after : map (shortened_at 200) ((1129 ∷ []) ∷ (1130 ∷ []) ∷ (2000 ∷ []) ∷ []) ≡ Some (Conflict, 130, 0) ∷ Some (Canceled, 1130, 0) ∷ Some (Canceled, 1130, 0) ∷ []
+shortened_after : map (shortened_at 200) ((1129 ∷ []) ∷ (1130 ∷ []) ∷ (2000 ∷ []) ∷ [])
+    ≡ Some (Conflict, 130, 0) ∷ Some (Canceled, 1130, 0) ∷ Some (Canceled, 1130, 0) ∷ []
 unfolding next meaning after effect judge judged_for judged_version queue tests out
 shortened_after = refl
 
@@ -85,43 +103,62 @@ shortened_after = refl
 abbrev pub short_retention : Windows
 short_retention = record w { pending_retention = 20 }
 
-retained_by_the_first : map (λ m. standing (state_after start (does b (OldProviderCreate n b a 100 true) ∷ Moment 50 ∷ does npac (SetWindows short_retention) ∷ does a (NewProviderCreate n b a 100 2025440000 None) ∷ Moment m ∷ [])) 1) (120 ∷ 599 ∷ 600 ∷ []) ≡ Some (Pending, 0, 0) ∷ Some (Pending, 0, 0) ∷ Some (Canceled, 600, 0) ∷ []
+retained_by_the_first : map
+    (λ m. standing (state_after start (does b (OldProviderCreate n b a 100 true) ∷ Moment 50 ∷ does
+    npac (SetWindows short_retention) ∷ does a (NewProviderCreate n b a 100 2025440000 None)
+    ∷ Moment m ∷ [])) 1) (120 ∷ 599 ∷ 600 ∷ []) ≡ Some (Pending, 0, 0) ∷ Some (Pending, 0, 0) ∷ Some
+    (Canceled, 600, 0) ∷ []
 unfolding next meaning after effect judge judged_for judged_version queue tests out
 retained_by_the_first = refl
 
--- ---- the restriction of conflicts is the present set's, and the resolution that of the set at the conflict
+-- ---- the restriction of conflicts is the present set's, and the resolution that of the set at the
+-- conflict
 
 abbrev pub other_conflicts : Windows
 other_conflicts = record w { conflict_restriction = 10; conflict_resolution = 20 }
 
-restricted_by_the_present : map (λ m. refused_after start (both_creates 100 ++ Moment 50 ∷ does npac (SetWindows other_conflicts) ∷ Moment m ∷ []) (does b (OnVersion 1 PutInConflict))) (90 ∷ 91 ∷ []) ≡ None ∷ Some 19 ∷ []
+restricted_by_the_present : map (λ m. refused_after start (both_creates 100 ++ Moment 50 ∷ does npac
+    (SetWindows other_conflicts) ∷ Moment m ∷ []) (does b (OnVersion 1 PutInConflict)))
+    (90 ∷ 91 ∷ []) ≡ None ∷ Some 19 ∷ []
 unfolding next meaning after effect judge judged_for judged_version queue tests out
 restricted_by_the_present = refl
 
-resolved_by_the_first : map (λ m. refused_after start (both_creates 100 ++ Moment 50 ∷ does b (OnVersion 1 PutInConflict) ∷ does npac (SetWindows other_conflicts) ∷ Moment m ∷ []) (does a (OnVersion 1 RemoveFromConflict))) (169 ∷ 170 ∷ []) ≡ Some 20 ∷ None ∷ []
+resolved_by_the_first : map (λ m. refused_after start (both_creates 100 ++ Moment 50 ∷ does b
+    (OnVersion 1 PutInConflict) ∷ does npac (SetWindows other_conflicts) ∷ Moment m ∷ [])
+    (does a (OnVersion 1 RemoveFromConflict))) (169 ∷ 170 ∷ []) ≡ Some 20 ∷ None ∷ []
 unfolding next meaning after effect judge judged_for judged_version queue tests out
 resolved_by_the_first = refl
 
-resolved_by_the_second : map (λ m. refused_after start (both_creates 100 ++ Moment 50 ∷ does npac (SetWindows other_conflicts) ∷ does b (OnVersion 1 PutInConflict) ∷ Moment m ∷ []) (does a (OnVersion 1 RemoveFromConflict))) (69 ∷ 70 ∷ []) ≡ Some 20 ∷ None ∷ []
+resolved_by_the_second : map (λ m. refused_after start (both_creates 100 ++ Moment 50 ∷ does npac
+    (SetWindows other_conflicts) ∷ does b (OnVersion 1 PutInConflict) ∷ Moment m ∷ [])
+    (does a (OnVersion 1 RemoveFromConflict))) (69 ∷ 70 ∷ []) ≡ Some 20 ∷ None ∷ []
 unfolding next meaning after effect judge judged_for judged_version queue tests out
 resolved_by_the_second = refl
 
 -- ---- who may set windows, and how often
 
-by_a_carrier : map (λ c. refusal start (does c (SetWindows w))) (a ∷ 7 ∷ npac ∷ []) ≡ Some 2 ∷ Some 2 ∷ None ∷ []
+by_a_carrier : map (λ c. refusal start (does c (SetWindows w))) (a ∷ 7 ∷ npac ∷ []) ≡ Some 2 ∷ Some
+    2 ∷ None ∷ []
 unfolding next meaning after effect judge judged_for judged_version queue tests out
 by_a_carrier = refl
 
 -- so many sets more
 abbrev pub sets_more : ℕ → List Entry
 sets_more zero = start.history
-sets_more (suc k) = record { minute = 0; caller = npac; request = Commands (SetWindows short_retention) } ∷ sets_more k
+sets_more (suc k) = record {
+  minute = 0;
+  caller = npac;
+  request = Commands (SetWindows short_retention);
+} ∷ sets_more k
 
-a_thousand_sets : map (λ k. refusal (record start { history = sets_more k }) (does npac (SetWindows w))) (998 ∷ 999 ∷ []) ≡ None ∷ Some 28 ∷ []
+a_thousand_sets : map (λ k. refusal (record start { history = sets_more k })
+    (does npac (SetWindows w))) (998 ∷ 999 ∷ []) ≡ None ∷ Some 28 ∷ []
 unfolding next meaning after effect judge judged_for judged_version queue tests out
 a_thousand_sets = refl
 
 -- the sets of a history by their numbers
-sets_by_number : map (λ k. option_map (λ set. set.windows.pending_retention) (set_of_number k w (sets_more 2))) (0 ∷ 1 ∷ 2 ∷ 3 ∷ 4 ∷ []) ≡ None ∷ Some 500 ∷ Some 20 ∷ Some 20 ∷ None ∷ []
+sets_by_number : map (λ k. option_map (λ set. set.windows.pending_retention)
+    (set_of_number k w (sets_more 2))) (0 ∷ 1 ∷ 2 ∷ 3 ∷ 4 ∷ []) ≡ None ∷ Some 500 ∷ Some 20 ∷ Some
+    20 ∷ None ∷ []
 unfolding next meaning after effect judge judged_for judged_version queue tests out
 sets_by_number = refl

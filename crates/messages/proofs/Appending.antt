@@ -4,20 +4,28 @@ use Rattle.std.proofs.lemmas.Grind.{common_steps}
 use lib.Seq.{take-add}
 use Rattle.std.specs.Io.KnownBytes.{Appends}
 
-pub Appends-then : (u v w : Option (List ℕ)) (a b : List ℕ) → Appends u v a → Appends v w b → Appends u w (a ++ b)
+pub Appends-then : (u v w : Option (List ℕ)) (a b : List ℕ) → Appends u v a → Appends v w b
+    → Appends u w (a ++ b)
 Appends-then None v w a b x y = tt
 Appends-then (Some xs) None w a b x y = absurd x
 Appends-then (Some xs) (Some ys) None a b x y = y
-Appends-then (Some xs) (Some ys) (Some zs) a b x y = y ∙ ap (λ (t : List ℕ). t ++ b) x ∙ append_assoc xs a b
+Appends-then (Some xs) (Some ys) (Some zs) a b x y =
+    y ∙ ap (λ (t : List ℕ). t ++ b) x ∙ append_assoc xs a b
 
-take_next : (text : List ℕ) (at n : ℕ) → at ≤ length text → n ≤ length text - at → take at text ++ take n (take (length text - at) (drop at text)) ≡ take (at + n) text
+take_next : (text : List ℕ) (at n : ℕ) → at ≤ length text → n ≤ length text - at
+    → take at text ++ take n (take (length text - at) (drop at text)) ≡ take (at + n) text
 take_next text at n h k =
-    let e : take n (take (length text - at) (drop at text)) ≡ take n (drop at text) = grind (arith, common_steps) in
+    let e : take n (take (length text - at) (drop at text)) ≡ take n (drop at text) =
+    grind (arith, common_steps) in
     ap (λ (t : List ℕ). take at text ++ t) e ∙ sym (take-add at n text)
 
-pub Appends-next : (u v w : Option (List ℕ)) (text : List ℕ) (at n : ℕ) → at ≤ length text → n ≤ length text - at
-    → Appends u v (take at text) → Appends v w (take n (take (length text - at) (drop at text))) → Appends u w (take (at + n) text)
-Appends-next u v w text at n h k x y = subst (Appends u w) (take_next text at n h k) (Appends-then u v w _ _ x y)
+pub Appends-next : (u v w : Option (List ℕ)) (text : List ℕ) (at n : ℕ) → at ≤ length text
+    → n ≤ length text - at
+    → Appends u v (take at text) → Appends v w (take n (take (length text - at) (drop at text)))
+    → Appends u w (take (at + n) text)
+Appends-next u v w text at n h k x y =
+    subst (Appends u w) (take_next text at n h k) (Appends-then u v w _ _ x y)
 
-pub length_part : (text : List ℕ) (at : ℕ) → length (take (length text - at) (drop at text)) ≡ length text - at
+pub length_part : (text : List ℕ) (at : ℕ) → length (take (length text - at) (drop at text))
+    ≡ length text - at
 length_part text at = grind (arith, common_steps)

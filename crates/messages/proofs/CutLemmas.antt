@@ -27,15 +27,19 @@ abbrev spid_made : (n : ℕ) → IsSpid n → Spid
 spid_made n valid = record { number = n; valid = valid }
 
 same_spid : (n m : ℕ) (v : IsSpid n) (w : IsSpid m) → n ≡ m → spid_made n v ≡ spid_made m w
-same_spid n m v w e = subst (λ (k : ℕ). (u : IsSpid k) → spid_made n v ≡ spid_made k u) e (λ u. ap (spid_made n) (Bool-set _ _ v u)) w
+same_spid n m v w e = subst (λ (k : ℕ). (u : IsSpid k) → spid_made n v ≡ spid_made k u) e
+    (λ u. ap (spid_made n) (Bool-set _ _ v u)) w
 
 one_name : (value : List ℕ) (a b : Option Spid) → IsNamed value a → IsNamed value b → a ≡ b
-one_name value (Some s) (Some t) x y = ap Some (same_spid s.number t.number s.valid t.valid (spid_number s.number t.number (sym x ∙ y)))
+one_name value (Some s) (Some t) x y =
+    ap Some (same_spid s.number t.number s.valid t.valid (spid_number s.number t.number (sym x
+    ∙ y)))
 one_name value (Some s) None x y = absurd (y s.number s.valid x)
 one_name value None (Some t) x y = absurd (x t.number t.valid y)
 one_name value None None x y = refl
 
-one_caller : (values : List (List ℕ)) (a b : Option Spid) → IsCaller values a → IsCaller values b → a ≡ b
+one_caller : (values : List (List ℕ)) (a b : Option Spid) → IsCaller values a → IsCaller values b
+    → a ≡ b
 one_caller [] a b x y = x ∙ sym y
 one_caller (v ∷ []) a b x y = one_name v a b x y
 one_caller (v ∷ w ∷ vs) a b x y = x ∙ sym y
@@ -55,7 +59,13 @@ one_request h a b x y =
     let caller = one_caller (values_of (codes "x-spid") h) a.caller b.caller x.caller y.caller in
     let size = some_number a.length b.length (sym x.length ∙ y.length) in
     let closes = x.closes ∙ sym y.closes in
-    λ i. record { route = route i; method = method i; caller = caller i; length = size i; closes = closes i }
+    λ i. record {
+      route = route i;
+      method = method i;
+      caller = caller i;
+      length = size i;
+      closes = closes i;
+    }
 
 -- ---- one message
 
@@ -68,35 +78,62 @@ parts (x ∷ a) (y ∷ b) r q l e =
     let more = parts a b r q (omega (arith, l)) (ap (drop 1) e) in
     (λ i. first i ∷ more.0 i, more.1)
 
-one_message : (input : List ℕ) (a b : Request) (body text rest left : List ℕ) → OneHead → IsMessage input a body rest → IsMessage input b text left → Whole a body rest ≡ Whole b text left
+one_message : (input : List ℕ) (a b : Request) (body text rest left : List ℕ) → OneHead
+    → IsMessage input a body rest → IsMessage input b text left
+    → Whole a body rest ≡ Whole b text left
 one_message input a b body text rest left one x y =
     let heads = one input x.head y.head (body ++ rest) (text ++ left) x.front y.front in
-    let asked = one_request y.head a b (subst (λ (h : RequestHead). IsRequestOf h a) heads.0 x.asks) y.asks in
-    let split = parts body text rest left (x.whole ∙ ap (λ (r : Request). r.length) asked ∙ sym y.whole) heads.1 in
+    let asked = one_request y.head a b (subst (λ (h : RequestHead). IsRequestOf h a) heads.0 x.asks)
+    y.asks in
+    let split = parts body text rest left (x.whole ∙ ap (λ (r : Request). r.length) asked
+    ∙ sym y.whole) heads.1 in
     λ i. Whole (asked i) (split.0 i) (split.1 i)
 
 -- ---- one of what stands in place of a message
 
 -- a head of the input says this length, and so many bytes are behind it
 abbrev Says : List ℕ → ℕ → ℕ → Type 0
-Says input size behind = (h : RequestHead) × (rest : List ℕ) × HasHead input h rest × (body_length h ≡ Some size) × (behind ≡ length rest)
+Says input size behind = (h : RequestHead) × (rest : List ℕ) × HasHead input h rest
+    × (body_length h ≡ Some size) × (behind ≡ length rest)
 
-one_size : (input : List ℕ) (n m k l : ℕ) → OneHead → Says input n k → Says input m l → (n ≡ m) × (k ≡ l)
+one_size : (input : List ℕ) (n m k l : ℕ) → OneHead → Says input n k → Says input m l
+    → (n ≡ m) × (k ≡ l)
 one_size input n m k l one x y =
     let heads = one input x.0 y.0 x.1 y.1 x.2 y.2 in
     (some_number n m (sym x.3 ∙ ap body_length heads.0 ∙ y.3), x.4 ∙ ap length heads.1 ∙ sym y.4)
 
-large_says : (input : List ℕ) → IsTooLarge input → (n : ℕ) × (k : ℕ) × Says input n k × (1048576 < n)
-large_says input x = (x.large.0, length x.rest, (x.head, x.rest, x.front, x.large.1, refl), x.large.2)
+large_says : (input : List ℕ) → IsTooLarge input → (n : ℕ) × (k : ℕ) × Says input n k
+    × (1048576 < n)
+large_says input x = (
+  x.large.0,
+  length x.rest,
+  (x.head, x.rest, x.front, x.large.1, refl),
+  x.large.2,
+)
 
-short_says : (input : List ℕ) → IsCutShort input → (n : ℕ) × (k : ℕ) × Says input n k × (n ≤ 1048576) × (k < n)
-short_says input x = (x.says, length x.rest, (x.head, x.rest, x.front, x.said, refl), x.small, x.short)
+short_says : (input : List ℕ) → IsCutShort input → (n : ℕ) × (k : ℕ) × Says input n k
+    × (n ≤ 1048576) × (k < n)
+short_says input x = (
+  x.says,
+  length x.rest,
+  (x.head, x.rest, x.front, x.said, refl),
+  x.small,
+  x.short,
+)
 
-whole_says : (input : List ℕ) (request : Request) (body rest : List ℕ) → IsMessage input request body rest → (n : ℕ) × (k : ℕ) × Says input n k × (n ≤ 1048576) × (n ≤ k)
+whole_says : (input : List ℕ) (request : Request) (body rest : List ℕ)
+    → IsMessage input request body rest → (n : ℕ) × (k : ℕ) × Says input n k × (n ≤ 1048576)
+    × (n ≤ k)
 whole_says input request body rest x =
     let size : request.length ≤ 1048576 = omega (arith, x.whole, x.small) in
-    let fits : request.length ≤ length (body ++ rest) = omega (arith, x.whole, length-append body rest) in
-    (request.length, length (body ++ rest), (x.head, body ++ rest, x.front, x.asks.length, refl), size, fits)
+    let fits : request.length ≤ length (body ++ rest) =
+    omega (arith, x.whole, length-append body rest) in (
+      request.length,
+      length (body ++ rest),
+      (x.head, body ++ rest, x.front, x.asks.length, refl),
+      size,
+      fits,
+    )
 
 bad_says : (input : List ℕ) (n k : ℕ) → IsBad input → Says input n k → ⊥
 bad_says input n k bad x = none_number n (sym (bad.none x.0 x.1 x.2) ∙ x.3)
@@ -148,8 +185,10 @@ module _ (input : List ℕ) (one : OneHead) (lines : HeadsAreNoLines) where
   not_done NoPath x y = x
   not_done BadMethod x y = x
 
-  not_whole : (f : MessageFault) (request : Request) (body rest : List ℕ) → Cuts input (Refuses f) → IsMessage input request body rest → ⊥
-  not_whole BadHead request body rest x y = let b = whole_says input request body rest y in bad_says input b.0 b.1 x b.2
+  not_whole : (f : MessageFault) (request : Request) (body rest : List ℕ) → Cuts input (Refuses f)
+      → IsMessage input request body rest → ⊥
+  not_whole BadHead request body rest x y = let b = whole_says input request body rest y in
+      bad_says input b.0 b.1 x b.2
   not_whole TooLarge request body rest x y =
       let a = large_says input x in
       let b = whole_says input request body rest y in
@@ -172,4 +211,5 @@ module _ (input : List ℕ) (one : OneHead) (lines : HeadsAreNoLines) where
   one_cut (Refuses f) (Whole q text left) x y = absurd (not_whole f q text left x y)
   one_cut (Whole r body rest) Done x y = absurd (lines input x.head (body ++ rest) x.front y)
   one_cut (Whole r body rest) (Refuses g) x y = absurd (not_whole g r body rest y x)
-  one_cut (Whole r body rest) (Whole q text left) x y = one_message input r q body text rest left one x y
+  one_cut (Whole r body rest) (Whole q text left) x y =
+      one_message input r q body text rest left one x y

@@ -23,49 +23,90 @@ held_short held size =
     omega (arith, held_length held, held.fits, size)
 
 -- a head of so many bytes is at the front of what is held
-pub record HoldsHead (all r : Option (List ℕ)) (held : List ℕ) (len : ℕ) (h : RequestHead) : Type 0 where
+pub record HoldsHead (all r : Option (List ℕ)) (held : List ℕ) (len : ℕ)
+    (h : RequestHead) : Type 0 where
   pub keeps : Keeps all (prepend_known held r)
   pub reads : ReadsRequest held h (drop len held)
   pub len_is : len ≡ length (print_request h)
   pub fits : length held ≤ 8192
   pub few : length h.fields < 65
 
-front_of : (input more held : List ℕ) (len : ℕ) (h : RequestHead) → HoldsHead (Some input) (Some more) held len h → HasHead input h (drop len held ++ more)
+front_of : (input more held : List ℕ) (len : ℕ) (h : RequestHead)
+    → HoldsHead (Some input) (Some more) held len h → HasHead input h (drop len held ++ more)
 front_of input more held len h x = record {
-  reads = subst (λ (t : List ℕ). ReadsRequest t h (drop len held ++ more)) x.keeps (ReadsRequest-append held h (drop len held) more x.reads);
-  short = omega (arith, x.fits, ap length x.reads.1, length-append (print_request h) (drop len held));
+  reads = subst (λ (t : List ℕ). ReadsRequest t h (drop len held ++ more)) x.keeps
+      (ReadsRequest-append held h (drop len held) more x.reads);
+  short = omega (
+    arith,
+    x.fits,
+    ap length x.reads.1,
+    length-append (print_request h) (drop len held),
+  );
   few = omega (arith, x.few);
 }
 
-pub message_made : (all r left : Option (List ℕ)) (held held' body : List ℕ) (len : ℕ) (h : RequestHead) (request : Request)
-    → HoldsHead all r held len h → IsRequestOf h request → request.length ≤ 1048576 → held' ≡ drop len held
-    → Consumes (prepend_known held' r) left body → length body ≡ request.length → IfSome all (λ input. Comes input (Message request) body left)
+pub message_made : (all r left : Option (List ℕ)) (held held' body : List ℕ) (len : ℕ)
+    (h : RequestHead) (request : Request)
+    → HoldsHead all r held len h → IsRequestOf h request → request.length ≤ 1048576
+    → held' ≡ drop len held
+    → Consumes (prepend_known held' r) left body → length body ≡ request.length
+    → IfSome all (λ input. Comes input (Message request) body left)
 message_made None r left held held' body len h request x asks small e taken whole = tt
-message_made (Some input) None left held held' body len h request x asks small e taken whole = absurd x.keeps
-message_made (Some input) (Some more) None held held' body len h request x asks small e taken whole = absurd taken
-message_made (Some input) (Some more) (Some rest) held held' body len h request x asks small e taken whole =
-    let same : drop len held ++ more ≡ body ++ rest = ap (λ (t : List ℕ). t ++ more) (sym e) ∙ taken in
-    (rest, refl, record { head = h; front = subst (HasHead input h) same (front_of input more held len h x); asks = asks; whole = whole; small = omega (arith, whole, small) })
+message_made (Some input) None left held held' body len h request x asks small e taken whole =
+    absurd x.keeps
+message_made (Some input) (Some more) None held held' body len h request x asks small e taken
+    whole = absurd taken
+message_made (Some input) (Some more) (Some rest) held held' body len h request x asks small e taken
+    whole =
+    let same : drop len held ++ more ≡ body ++ rest =
+    ap (λ (t : List ℕ). t ++ more) (sym e) ∙ taken in (
+      rest,
+      refl,
+      record {
+        head = h;
+        front = subst (HasHead input h) same (front_of input more held len h x);
+        asks = asks;
+        whole = whole;
+        small = omega (arith, whole, small);
+      },
+    )
 
 nil_of : (xs : List ℕ) → length xs ≡ 0 → xs ≡ []
 nil_of [] e = refl
 nil_of (x ∷ xs) e = cc
 
--- a message that is held whole: its body is taken off what is held behind its head, by a body that was empty
-pub taken_made : (r : Option (List ℕ)) (held held' held'' body body' : List ℕ) (len : ℕ) (h : RequestHead) (request : Request)
-    → HoldsHead (prepend_known held r) r held len h → IsRequestOf h request → request.length ≤ 1048576 → held' ≡ drop len held
-    → request.length ≤ length held' → length body ≡ 0 → held'' ≡ drop request.length held' → body' ≡ body ++ take request.length held'
-    → IfSome (prepend_known held r) (λ input. Comes input (Message request) body' (prepend_known held'' r))
+-- a message that is held whole: its body is taken off what is held behind its head, by a body that
+-- was empty
+pub taken_made : (r : Option (List ℕ)) (held held' held'' body body' : List ℕ) (len : ℕ)
+    (h : RequestHead) (request : Request)
+    → HoldsHead (prepend_known held r) r held len h → IsRequestOf h request
+    → request.length ≤ 1048576 → held' ≡ drop len held
+    → request.length ≤ length held' → length body ≡ 0 → held'' ≡ drop request.length held'
+    → body' ≡ body ++ take request.length held'
+    → IfSome (prepend_known held r) (λ input. Comes input (Message request) body'
+    (prepend_known held'' r))
 taken_made r held held' held'' body body' len h request x asks small e fits empty left taken =
     let behind = prepend_known held' r in
-    let none : Consumes behind behind body = subst (Consumes behind behind) (sym (nil_of body empty)) (Consumes-nil behind) in
-    let whole : length body' ≡ request.length = omega (arith, ap length taken, length-append body (take request.length held'), length-take-le request.length held' fits, empty) in
-    message_made (prepend_known held r) r (prepend_known held'' r) held held' body' len h request x asks small e
-    (more_taken behind behind r held' held'' body body' request.length none (Keeps-refl behind) left taken) whole
+    let none : Consumes behind behind body =
+    subst (Consumes behind behind) (sym (nil_of body empty)) (Consumes-nil behind) in
+    let whole : length body' ≡ request.length = omega (
+      arith,
+      ap length taken,
+      length-append body (take request.length held'),
+      length-take-le request.length held' fits,
+      empty,
+    ) in
+    message_made (prepend_known held r) r (prepend_known held'' r) held held' body' len h request x
+    asks small e
+    (more_taken behind behind r held' held'' body body' request.length none (Keeps-refl behind) left
+    taken) whole
 
-pub cut_made : (all r : Option (List ℕ)) (held held' : List ℕ) (len : ℕ) (h : RequestHead) (request : Request)
-    → HoldsHead all r held len h → IsRequestOf h request → request.length ≤ 1048576 → held' ≡ drop len held
-    → IfSome (prepend_known held' r) (λ input. length input < request.length) → IfSome all IsCutShort
+pub cut_made : (all r : Option (List ℕ)) (held held' : List ℕ) (len : ℕ) (h : RequestHead)
+    (request : Request)
+    → HoldsHead all r held len h → IsRequestOf h request → request.length ≤ 1048576
+    → held' ≡ drop len held
+    → IfSome (prepend_known held' r) (λ input. length input < request.length)
+    → IfSome all IsCutShort
 cut_made None r held held' len h request x asks small e short = tt
 cut_made (Some input) None held held' len h request x asks small e short = absurd x.keeps
 cut_made (Some input) (Some more) held held' len h request x asks small e short = record {
@@ -80,22 +121,36 @@ cut_made (Some input) (Some more) held held' len h request x asks small e short 
 
 -- what a head of the input says of its body, every head says
 abbrev pub OneHead : Type 0
-OneHead = (s : List ℕ) (h k : RequestHead) (r q : List ℕ) → HasHead s h r → HasHead s k q → (h ≡ k) × (r ≡ q)
+OneHead = (s : List ℕ) (h k : RequestHead) (r q : List ℕ) → HasHead s h r → HasHead s k q
+    → (h ≡ k) × (r ≡ q)
 
 abbrev pub HeadsAreNoLines : Type 0
 HeadsAreNoLines = (s : List ℕ) (h : RequestHead) (rest : List ℕ) → HasHead s h rest → ¬ (IsBlank s)
 
-refused_here : (input rest : List ℕ) (h : RequestHead) (fault : MessageFault) → OneHead → HeadsAreNoLines → HasHead input h rest → RefusesHead h fault → Cuts input (Refuses fault)
+refused_here : (input rest : List ℕ) (h : RequestHead) (fault : MessageFault) → OneHead
+    → HeadsAreNoLines → HasHead input h rest → RefusesHead h fault → Cuts input (Refuses fault)
 refused_here input rest h BadHead one lines x refuses =
-    record { not_blank = lines input h rest x; none = λ k q y. ap body_length (one input k h q rest y x).0 ∙ refuses }
-refused_here input rest h TooLarge one lines x refuses = record { head = h; rest = rest; front = x; large = refuses }
+    record {
+      not_blank = lines input h rest x;
+      none = λ k q y. ap body_length (one input k h q rest y x).0 ∙ refuses;
+    }
+refused_here input rest h TooLarge one lines x refuses = record {
+  head = h;
+  rest = rest;
+  front = x;
+  large = refuses;
+}
 refused_here input rest h CutBody one lines x refuses = absurd refuses
 refused_here input rest h BadRequest one lines x refuses = absurd refuses
 refused_here input rest h NoPath one lines x refuses = absurd refuses
 refused_here input rest h BadMethod one lines x refuses = absurd refuses
 
-pub refused_made : (all r : Option (List ℕ)) (held : List ℕ) (len : ℕ) (h : RequestHead) (fault : MessageFault) → OneHead → HeadsAreNoLines
-    → HoldsHead all r held len h → RefusesHead h fault → IfSome all (λ input. Cuts input (Refuses fault))
+pub refused_made : (all r : Option (List ℕ)) (held : List ℕ) (len : ℕ) (h : RequestHead)
+    (fault : MessageFault) → OneHead → HeadsAreNoLines
+    → HoldsHead all r held len h → RefusesHead h fault
+    → IfSome all (λ input. Cuts input (Refuses fault))
 refused_made None r held len h fault one lines x refuses = tt
 refused_made (Some input) None held len h fault one lines x refuses = absurd x.keeps
-refused_made (Some input) (Some more) held len h fault one lines x refuses = refused_here input (drop len held ++ more) h fault one lines (front_of input more held len h x) refuses
+refused_made (Some input) (Some more) held len h fault one lines x refuses =
+    refused_here input (drop len held ++ more) h fault one lines (front_of input more held len h x)
+    refuses

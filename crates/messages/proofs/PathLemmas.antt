@@ -34,24 +34,29 @@ module _ {K : Type 0} where
   own_is (([], key) ∷ rs) = refl
   own_is ((x ∷ t, key) ∷ rs) = own_is rs
 
-  step_by : (b x : ℕ) (u : List ℕ) (key : K) (rs rest : RowsOf K) (p : List ℕ) (c : Bool) → (x == b) ≡ c → row_at rest p ≡ row_at rs (b ∷ p)
-      → row_at (cond c ((u, key) ∷ rest) rest) p ≡ cond (c && bytes_eq u p) (Some key) (row_at rs (b ∷ p))
+  step_by : (b x : ℕ) (u : List ℕ) (key : K) (rs rest : RowsOf K) (p : List ℕ) (c : Bool)
+      → (x == b) ≡ c → row_at rest p ≡ row_at rs (b ∷ p)
+      → row_at (cond c ((u, key) ∷ rest) rest) p ≡ cond (c && bytes_eq u p) (Some key)
+      (row_at rs (b ∷ p))
   step_by b x u key rs rest p true e ih = ap (cond (bytes_eq u p) (Some key)) ih
   step_by b x u key rs rest p false e ih = ih
 
   step_is : (b : ℕ) (rs : RowsOf K) (p : List ℕ) → row_at (step b rs) p ≡ row_at rs (b ∷ p)
   step_is b [] p = refl
   step_is b (([], key) ∷ rs) p = step_is b rs p
-  step_is b ((x ∷ u, key) ∷ rs) p = step_by b x u key rs (step b rs) p (x == b) refl (step_is b rs p)
+  step_is b ((x ∷ u, key) ∷ rs) p =
+      step_by b x u key rs (step b rs) p (x == b) refl (step_is b rs p)
 
-  fixed_by : (u : List ℕ) (key : K) (rest : RowsOf K) (c : Bool) → are_bytes u ≡ true → AreFixed rest → AreFixed (cond c ((u, key) ∷ rest) rest)
+  fixed_by : (u : List ℕ) (key : K) (rest : RowsOf K) (c : Bool) → are_bytes u ≡ true
+      → AreFixed rest → AreFixed (cond c ((u, key) ∷ rest) rest)
   fixed_by u key rest true h r = (h, r)
   fixed_by u key rest false h r = r
 
   step_fixed : (b : ℕ) (rs : RowsOf K) → AreFixed rs → AreFixed (step b rs)
   step_fixed b [] h = tt
   step_fixed b (([], key) ∷ rs) h = step_fixed b rs h.1
-  step_fixed b ((x ∷ u, key) ∷ rs) h = fixed_by u key (step b rs) (x == b) (and_both _ _ h.0).1 (step_fixed b rs h.1)
+  step_fixed b ((x ∷ u, key) ∷ rs) h =
+      fixed_by u key (step b rs) (x == b) (and_both _ _ h.0).1 (step_fixed b rs h.1)
 
   -- no row goes on with a token that is no byte
   no_token : (token : ℕ) (rs : RowsOf K) → 255 < token → AreFixed rs → step token rs ≡ []
@@ -70,7 +75,9 @@ module _ {K : Type 0} where
   both_none None b e f = f
   both_none (Some x) b e f = e
 
-  none_by : (c : Bool) (m : ℕ) (p : List ℕ) → ((n : ℕ) → seek {K = K} n [] p ≡ None) → seek {K = K} ((cond {A = ℕ × RowsOf K} c (0, []) (m, [])).0 - 1) (cond {A = ℕ × RowsOf K} c (0, []) (m, [])).1 p ≡ None
+  none_by : (c : Bool) (m : ℕ) (p : List ℕ) → ((n : ℕ) → seek {K = K} n [] p ≡ None)
+      → seek {K = K} ((cond {A = ℕ × RowsOf K} c (0, []) (m, [])).0 - 1) (cond {A =
+      ℕ × RowsOf K} c (0, []) (m, [])).1 p ≡ None
   none_by true m p h = h _
   none_by false m p h = h _
 
@@ -78,10 +85,13 @@ module _ {K : Type 0} where
   seek_none : (n : ℕ) (p : List ℕ) → seek {K = K} n [] p ≡ None
   unfolding seek param_step
   seek_none n [] = refl
-  seek_none zero (b ∷ p) = both_none _ _ (seek_none 0 p) (both_none _ _ (none_by (has_slash (b ∷ p)) (suc (length p)) p (λ n. seek_none n p)) refl)
+  seek_none zero (b ∷ p) =
+      both_none _ _ (seek_none 0 p) (both_none _ _ (none_by (has_slash (b ∷ p)) (suc (length p)) p
+      (λ n. seek_none n p)) refl)
   seek_none (suc n) (b ∷ p) = seek_none n p
 
-  param_none : (b : ℕ) (p : List ℕ) → seek {K = K} ((param_step {K = K} [] (b ∷ p)).0 - 1) (param_step {K = K} [] (b ∷ p)).1 p ≡ None
+  param_none : (b : ℕ) (p : List ℕ) → seek {K = K} ((param_step {K = K} [] (b ∷ p)).0 - 1)
+      (param_step {K = K} [] (b ∷ p)).1 p ≡ None
   unfolding param_step
   param_none b p = none_by (has_slash (b ∷ p)) (suc (length p)) p (λ n. seek_none n p)
 
@@ -89,60 +99,145 @@ module _ {K : Type 0} where
   unfolding seek
   seek_is rs [] h = own_is rs
   seek_is rs (b ∷ p) h =
-      let first_none = subst (λ (t : RowsOf K). seek {K = K} ((param_step t (b ∷ p)).0 - 1) (param_step t (b ∷ p)).1 p ≡ None) (sym (no_token param_token rs (omega arith) h)) (param_none b p) in
+      let first_none =
+      subst (λ (t : RowsOf K). seek {K = K} ((param_step t (b ∷ p)).0 - 1) (param_step t (b ∷ p)).1
+      p ≡ None) (sym (no_token param_token rs (omega arith) h)) (param_none b p) in
       let second_none = ap (own {K = K}) (no_token catch_all_token rs (omega arith) h) in
-      ap (or_else (seek 0 (step b rs) p)) (both_none _ _ first_none second_none) ∙ or_else_none _ ∙ seek_is (step b rs) p (step_fixed b rs h) ∙ step_is b rs p
+      ap (or_else (seek 0 (step b rs) p)) (both_none _ _ first_none second_none) ∙ or_else_none _
+      ∙ seek_is (step b rs) p (step_fixed b rs h) ∙ step_is b rs p
 
 among_by : (p : List ℕ × Route) (ps : List (List ℕ × Route)) (target : List ℕ) (c : Bool)
-    → option_map (λ (r : RouteOf Route). r.value) (row_at (map fixed ps) target) ≡ path_among ps target
-    → option_map (λ (r : RouteOf Route). r.value) (cond c (Some (fixed p).1) (row_at (map fixed ps) target)) ≡ cond c (Some p.1) (path_among ps target)
+    → option_map (λ (r : RouteOf Route). r.value) (row_at (map fixed ps) target) ≡ path_among ps
+    target
+    → option_map (λ (r : RouteOf Route). r.value)
+    (cond c (Some (fixed p).1) (row_at (map fixed ps) target)) ≡ cond c (Some p.1)
+    (path_among ps target)
 among_by p ps target true ih = refl
 among_by p ps target false ih = ih
 
-among_is : (ps : List (List ℕ × Route)) (target : List ℕ) → option_map (λ (r : RouteOf Route). r.value) (row_at (map fixed ps) target) ≡ path_among ps target
+among_is : (ps : List (List ℕ × Route)) (target : List ℕ)
+    → option_map (λ (r : RouteOf Route). r.value) (row_at (map fixed ps) target) ≡ path_among ps
+    target
 among_is [] target = refl
 among_is (p ∷ ps) target = among_by p ps target (bytes_eq p.0 target) (among_is ps target)
 
 table_fixed : AreFixed table
-table_fixed = (refl, (refl, (refl, (refl, (refl, (refl, (refl, (refl, (refl, (refl, (refl, (refl, (refl, (refl, (refl, (refl, (refl, (refl, (refl, (refl, tt))))))))))))))))))))
+table_fixed = (
+  refl,
+  (
+    refl,
+    (
+      refl,
+      (
+        refl,
+        (
+          refl,
+          (
+            refl,
+            (
+              refl,
+              (
+                refl,
+                (
+                  refl,
+                  (
+                    refl,
+                    (
+                      refl,
+                      (refl, (refl, (refl, (refl, (refl, (refl, (refl, (refl, (refl, tt))))))))),
+                    ),
+                  ),
+                ),
+              ),
+            ),
+          ),
+        ),
+      ),
+    ),
+  ),
+)
 
-pub path_is : (target : List ℕ) → option_map (λ (r : RouteOf Route). r.value) (first table target) ≡ path_among paths target
-path_is target = ap (option_map (λ (r : RouteOf Route). r.value)) (seek_is table target table_fixed) ∙ among_is paths target
+pub path_is : (target : List ℕ) → option_map (λ (r : RouteOf Route). r.value) (first table target)
+    ≡ path_among paths target
+path_is target = ap (option_map (λ (r : RouteOf Route). r.value)) (seek_is table target table_fixed)
+    ∙ among_is paths target
 
-pub found_path : (target : List ℕ) (r : RouteOf Route) → first table target ≡ Some r → Some r.value ≡ path_among paths target
+pub found_path : (target : List ℕ) (r : RouteOf Route) → first table target ≡ Some r
+    → Some r.value ≡ path_among paths target
 found_path target r e = sym (ap (option_map (λ (r : RouteOf Route). r.value)) e) ∙ path_is target
 
 pub no_path : (target : List ℕ) → first table target ≡ None → None ≡ path_among paths target
 no_path target e = sym (ap (option_map (λ (r : RouteOf Route). r.value)) e) ∙ path_is target
 
 -- what is no text is no path
-not_among_by : (p : List ℕ × Route) (rest : Option Route) (target : List ℕ) (c : Bool) → bytes_eq p.0 target ≡ c → IsUtf8 p.0 → ¬ (IsUtf8 target) → None ≡ rest → None ≡ cond c (Some p.1) rest
-not_among_by p rest target true e text n ih = absurd (n (subst IsUtf8 ((bytes_eq-Decides p.0 target).0 e) text))
+not_among_by : (p : List ℕ × Route) (rest : Option Route) (target : List ℕ) (c : Bool)
+    → bytes_eq p.0 target ≡ c → IsUtf8 p.0 → ¬ (IsUtf8 target) → None ≡ rest
+    → None ≡ cond c (Some p.1) rest
+not_among_by p rest target true e text n ih =
+    absurd (n (subst IsUtf8 ((bytes_eq-Decides p.0 target).0 e) text))
 not_among_by p rest target false e text n ih = ih
 
 abbrev AreTexts : List (List ℕ × Route) → Type 0
 AreTexts [] = Unit {0}
 AreTexts (p ∷ ps) = (is_utf8 p.0 ≡ true) × AreTexts ps
 
-not_among : (ps : List (List ℕ × Route)) (target : List ℕ) → AreTexts ps → ¬ (IsUtf8 target) → None ≡ path_among ps target
+not_among : (ps : List (List ℕ × Route)) (target : List ℕ) → AreTexts ps → ¬ (IsUtf8 target)
+    → None ≡ path_among ps target
 not_among [] target texts n = refl
-not_among (p ∷ ps) target texts n = not_among_by p (path_among ps target) target (bytes_eq p.0 target) refl (IsUtf8-from_is_utf8 p.0 texts.0) n (not_among ps target texts.1 n)
+not_among (p ∷ ps) target texts n =
+    not_among_by p (path_among ps target) target (bytes_eq p.0 target) refl
+    (IsUtf8-from_is_utf8 p.0 texts.0) n (not_among ps target texts.1 n)
 
 are_texts : AreTexts paths
 unfolding is_utf8 chars encode
-are_texts = (refl, (refl, (refl, (refl, (refl, (refl, (refl, (refl, (refl, (refl, (refl, (refl, (refl, (refl, (refl, (refl, (refl, (refl, (refl, (refl, tt))))))))))))))))))))
+are_texts = (
+  refl,
+  (
+    refl,
+    (
+      refl,
+      (
+        refl,
+        (
+          refl,
+          (
+            refl,
+            (
+              refl,
+              (
+                refl,
+                (
+                  refl,
+                  (
+                    refl,
+                    (
+                      refl,
+                      (refl, (refl, (refl, (refl, (refl, (refl, (refl, (refl, (refl, tt))))))))),
+                    ),
+                  ),
+                ),
+              ),
+            ),
+          ),
+        ),
+      ),
+    ),
+  ),
+)
 
 pub no_text : (target : List ℕ) → ¬ (IsUtf8 target) → None ≡ path_among paths target
 no_text target n = not_among paths target are_texts n
 
 -- where no row conflicts with the new one, it is refused for want of memory alone
-is_memory : {T : Type 0} (p : List ℕ) (rs : RowsOf (RouteOf T)) (e : InsertError) → nearest p rs ≡ None → Refused p rs e → e ≡ OutOfMemory
+is_memory : {T : Type 0} (p : List ℕ) (rs : RowsOf (RouteOf T)) (e : InsertError)
+    → nearest p rs ≡ None → Refused p rs e → e ≡ OutOfMemory
 is_memory p rs (Conflict with) none h = cc
 is_memory p rs OutOfMemory none h = refl
 is_memory p rs InvalidParamSegment none h = elim h [ ]
 is_memory p rs InvalidParam none h = elim h [ ]
 is_memory p rs InvalidCatchAll none h = elim h [ ]
 
-pub only_memory : {T : Type 0} (p : List ℕ) (rs : RowsOf (RouteOf T)) (e : InsertError) (r : Result (Unit {0}) InsertError)
+pub only_memory : {T : Type 0} (p : List ℕ) (rs : RowsOf (RouteOf T)) (e : InsertError)
+    (r : Result (Unit {0}) InsertError)
     → r ≡ Err e → Refused p rs e → nearest p rs ≡ None → IfErr r (λ e. e ≡ OutOfMemory)
 only_memory p rs e r is h none = rw is (is_memory p rs e none h)

@@ -16,44 +16,90 @@ some_number : (n m : ℕ) → Some n ≡ Some m → n ≡ m
 some_number n m e = cc
 
 -- all that was read is held
-pub held_ahead : (all r : Option (List ℕ)) (held : List ℕ) → Keeps all (prepend_known held r) → length held ≤ 8192 → IfSome all (λ input. IsReadAhead input r)
+pub held_ahead : (all r : Option (List ℕ)) (held : List ℕ) → Keeps all (prepend_known held r)
+    → length held ≤ 8192 → IfSome all (λ input. IsReadAhead input r)
 held_ahead None r held keeps short = tt
 held_ahead (Some input) None held keeps short = absurd keeps
-held_ahead (Some input) (Some more) held keeps short = record { read = held; short = short; all = ap Some keeps }
+held_ahead (Some input) (Some more) held keeps short = record {
+  read = held;
+  short = short;
+  all =
+      ap Some keeps;
+}
 
 -- all that was read is held, and has no head
-pub no_head_yet : (all r : Option (List ℕ)) (held : List ℕ) → Keeps all (prepend_known held r) → HasNoRequest held → IfSome all (λ input. HasNoWhole input r)
+pub no_head_yet : (all r : Option (List ℕ)) (held : List ℕ) → Keeps all (prepend_known held r)
+    → HasNoRequest held → IfSome all (λ input. HasNoWhole input r)
 no_head_yet None r held keeps none = tt
 no_head_yet (Some input) None held keeps none = absurd keeps
 no_head_yet (Some input) (Some more) held keeps none =
-    record { read = held; all = ap Some keeps; none = λ request body rest message. none message.head (body ++ rest) message.front.reads }
+    record {
+      read = held;
+      all = ap Some keeps;
+      none = λ request body rest message. none message.head (body ++ rest) message.front.reads;
+    }
 
 -- where nothing is held, what is left of the input is what the reader has
-pub nothing_held : (all before behind : Option (List ℕ)) (held body : List ℕ) → Consumes all before body → Keeps before (prepend_known held behind) → held ≡ [] → Consumes all behind body
-nothing_held all before None held body taken keeps e = Consumes-kept all before None body taken keeps
+pub nothing_held : (all before behind : Option (List ℕ)) (held body : List ℕ)
+    → Consumes all before body → Keeps before (prepend_known held behind) → held ≡ []
+    → Consumes all behind body
+nothing_held all before None held body taken keeps e =
+    Consumes-kept all before None body taken keeps
 nothing_held all before (Some more) held body taken keeps e =
-    Consumes-kept all before (Some more) body taken (subst (λ (h : List ℕ). Keeps before (Some (h ++ more))) e keeps)
+    Consumes-kept all before (Some more) body taken
+    (subst (λ (h : List ℕ). Keeps before (Some (h ++ more))) e keeps)
 
 -- behind the head there are fewer bytes than it says
-short_body : (read body : List ℕ) (h : RequestHead) (request other : Request) (text rest : List ℕ) → HasHead read h body → IsRequestOf h request → length body < request.length
+short_body : (read body : List ℕ) (h : RequestHead) (request other : Request) (text rest : List ℕ)
+    → HasHead read h body → IsRequestOf h request → length body < request.length
     → ¬ (IsMessage read other text rest)
 short_body read body h request other text rest front asks short message =
-    let heads = request_unique read h message.head body (text ++ rest) front.reads message.front.reads in
-    let sizes : Some request.length ≡ Some other.length = sym asks.length ∙ ap body_length heads.0 ∙ message.asks.length in
-    omega (arith, short, some_number request.length other.length sizes, message.whole, ap length heads.1, length-append text rest)
+    let heads = request_unique read h message.head body (text ++ rest) front.reads
+    message.front.reads in
+    let sizes : Some request.length ≡ Some other.length = sym asks.length ∙ ap body_length heads.0
+    ∙ message.asks.length in
+    omega (
+      arith,
+      short,
+      some_number request.length other.length sizes,
+      message.whole,
+      ap length heads.1,
+      length-append text rest,
+    )
 
 -- the head was read, and of its body less than it says
-pub no_body_yet : (all r left : Option (List ℕ)) (held held' body : List ℕ) (len : ℕ) (h : RequestHead) (request : Request)
-    → HoldsHead all r held len h → IsRequestOf h request → held' ≡ drop len held → Consumes (prepend_known held' r) left body → length body < request.length
+pub no_body_yet : (all r left : Option (List ℕ)) (held held' body : List ℕ) (len : ℕ)
+    (h : RequestHead) (request : Request)
+    → HoldsHead all r held len h → IsRequestOf h request → held' ≡ drop len held
+    → Consumes (prepend_known held' r) left body → length body < request.length
     → IfSome all (λ input. HasNoWhole input left)
 no_body_yet None r left held held' body len h request x asks e taken short = tt
-no_body_yet (Some input) None left held held' body len h request x asks e taken short = absurd x.keeps
-no_body_yet (Some input) (Some more) None held held' body len h request x asks e taken short = absurd taken
-no_body_yet (Some input) (Some more) (Some rest) held held' body len h request x asks e taken short =
-    let same : drop len held ++ more ≡ body ++ rest = ap (λ (t : List ℕ). t ++ more) (sym e) ∙ taken in
+no_body_yet (Some input) None left held held' body len h request x asks e taken short =
+    absurd x.keeps
+no_body_yet (Some input) (Some more) None held held' body len h request x asks e taken short =
+    absurd taken
+no_body_yet (Some input) (Some more) (Some rest) held held' body len h request x asks e taken
+    short =
+    let same : drop len held ++ more ≡ body ++ rest =
+    ap (λ (t : List ℕ). t ++ more) (sym e) ∙ taken in
     let whole : (print_request h ++ body) ++ rest ≡ input =
-    append_assoc (print_request h) body rest ∙ ap (λ (t : List ℕ). print_request h ++ t) (sym same) ∙ sym (append_assoc (print_request h) (drop len held) more)
+    append_assoc (print_request h) body rest ∙ ap (λ (t : List ℕ). print_request h ++ t) (sym same)
+    ∙ sym (append_assoc (print_request h) (drop len held) more)
     ∙ ap (λ (t : List ℕ). t ++ more) (sym x.reads.1) ∙ x.keeps in
-    let long : length (print_request h) ≤ 8192 = omega (arith, x.fits, ap length x.reads.1, length-append (print_request h) (drop len held)) in
-    let front : HasHead (print_request h ++ body) h body = record { reads = (x.reads.0, refl); short = long; few = omega (arith, x.few) } in
-    record { read = print_request h ++ body; all = ap Some whole; none = λ other text behind. short_body (print_request h ++ body) body h request other text behind front asks short }
+    let long : length (print_request h) ≤ 8192 = omega (
+      arith,
+      x.fits,
+      ap length x.reads.1,
+      length-append (print_request h) (drop len held),
+    ) in
+    let front : HasHead (print_request h ++ body) h body = record {
+      reads = (x.reads.0, refl);
+      short = long;
+      few = omega (arith, x.few);
+    } in
+    record {
+      read = print_request h ++ body;
+      all = ap Some whole;
+      none = λ other text behind. short_body (print_request h ++ body) body h request other text
+          behind front asks short;
+    }

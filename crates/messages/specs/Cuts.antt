@@ -65,7 +65,8 @@ pub record IsCutShort (input : List ℕ) : Type 0 where
   pub small : says ≤ body_limit
   pub short : length rest < says
 
--- what stands at the front of the input: nothing more, what is refused, or a message with its body and what follows it
+-- what stands at the front of the input: nothing more, what is refused, or a message with its body
+-- and what follows it
 pub data Cut : Type 0 where
   Done : Cut
   Refuses : (fault : MessageFault) → Cut
@@ -83,7 +84,8 @@ Cuts input (Whole request body rest) = IsMessage input request body rest
 
 -- what comes next in the input, of which so much is left
 abbrev pub Comes : List ℕ → Next → List ℕ → Option (List ℕ) → Type 0
-Comes input (Message request) body left = (rest : List ℕ) × (left ≡ Some rest) × Cuts input (Whole request body rest)
+Comes input (Message request) body left = (rest : List ℕ) × (left ≡ Some rest)
+    × Cuts input (Whole request body rest)
 Comes input (Refused fault) body left = Cuts input (Refuses fault)
 
 -- the same, or nothing more comes
@@ -91,8 +93,10 @@ abbrev pub IsNext : List ℕ → Option Next → List ℕ → Option (List ℕ) 
 IsNext input None body left = Cuts input Done
 IsNext input (Some next) body left = Comes input next body left
 
--- a message was taken off the front of the input, with its body, and so much of the input is left behind it; or none was, and all is left
-abbrev pub IsTaken : (input : Option (List ℕ)) → Option Request → List ℕ → (left : Option (List ℕ)) → Type 0
+-- a message was taken off the front of the input, with its body, and so much of the input is left
+-- behind it; or none was, and all is left
+abbrev pub IsTaken : (input : Option (List ℕ)) → Option Request → List ℕ → (left : Option (List ℕ))
+    → Type 0
 IsTaken input None body left = left ≡ input
 IsTaken input (Some request) body left = IfSome input (λ s. Comes s (Message request) body left)
 

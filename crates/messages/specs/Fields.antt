@@ -16,7 +16,8 @@ lower = map to_ascii_lowercase
 -- the values of the fields of a name, which is in lower case
 abbrev pub values_in : List ℕ → List (List ℕ × List ℕ) → List (List ℕ)
 values_in name [] = []
-values_in name (p ∷ ps) = if bytes_eq (lower p.0) name then p.1 ∷ values_in name ps else values_in name ps
+values_in name (p ∷ ps) = if bytes_eq (lower p.0) name then p.1 ∷ values_in name ps
+    else values_in name ps
 
 abbrev pub values_of : List ℕ → RequestHead → List (List ℕ)
 values_of name h = values_in name (map name_and_value h.fields)
@@ -29,7 +30,8 @@ IsFound buf Twice values = 2 ≤ length values
 
 -- 1 to 19 digits
 abbrev pub number_of : List ℕ → Option ℕ
-number_of v = if nat_lt 0 (length v) && (nat_le (length v) 19 && all_ascii_digits v) then Some (digits_value 10 v) else None
+number_of v = if nat_lt 0 (length v) && (nat_le (length v) 19 && all_ascii_digits v)
+    then Some (digits_value 10 v) else None
 
 -- the length that the fields `content-length` say, none of them 0
 abbrev pub length_said : List (List ℕ) → Option ℕ
@@ -43,11 +45,13 @@ is_empty (v ∷ vs) = false
 
 -- the length of the body, or None where the head is refused
 abbrev pub body_length : RequestHead → Option ℕ
-body_length h = if is_empty (values_of (codes "transfer-encoding") h) then length_said (values_of (codes "content-length") h) else None
+body_length h = if is_empty (values_of (codes "transfer-encoding") h)
+    then length_said (values_of (codes "content-length") h) else None
 
 -- the answer to it is the last
 abbrev pub closes : RequestHead → Bool
-closes h = h.minor == 0 || list_any (λ v. bytes_eq (lower v) (codes "close")) (values_of (codes "connection") h)
+closes h = h.minor == 0 || list_any (λ v. bytes_eq (lower v) (codes "close"))
+    (values_of (codes "connection") h)
 
 -- where a field is there once, its value lies in the first n bytes
 abbrev pub IsFoundWithin : ℕ → Found → Type 0

@@ -10,7 +10,8 @@ use Rattle.messages.specs.Blank.{is_blank}
 
 -- a head that was found in the held bytes, within the limits
 abbrev pub IsHeadAt : List ℕ → List HeaderSpan → RequestSpans → Type 0
-IsHeadAt held headers spans = IsRequestWithin held headers spans × ((h : RequestHead) × IsRequestAt held headers spans h × (length h.fields < 65))
+IsHeadAt held headers spans = IsRequestWithin held headers spans
+    × ((h : RequestHead) × IsRequestAt held headers spans h × (length h.fields < 65))
 
 -- nothing but empty lines is left
 abbrev pub IsDone : List ℕ → Option (List ℕ) → Type 0

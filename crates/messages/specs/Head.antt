@@ -30,7 +30,8 @@ pub record IsBad (s : List ℕ) : Type 0 where
 
 -- what was found: a whole head within the limits, whatever follows more than 64 fields, or none yet
 abbrev pub IsLook : List ℕ → List HeaderSpan → Look → Type 0
-IsLook buf headers (Head spans) = IsRequestWithin buf headers spans × ((h : RequestHead) × IsRequestAt buf headers spans h × (length h.fields ≤ 64))
+IsLook buf headers (Head spans) = IsRequestWithin buf headers spans
+    × ((h : RequestHead) × IsRequestAt buf headers spans h × (length h.fields ≤ 64))
 IsLook buf headers Bad = RequestOverflows 64 buf
 IsLook buf headers More = HasNoRequest buf
 
@@ -38,5 +39,7 @@ IsLook buf headers More = HasNoRequest buf
 abbrev pub IsHeadOf : List ℕ → RequestHead → Option Summary → Type 0
 IsHeadOf buf h None = body_length h ≡ None
 IsHeadOf buf h (Some head) =
-    (body_length h ≡ Some head.body) × (head.closes ≡ closes h) × IsFound buf head.caller (values_of (codes "x-spid") h)
-    × (span_bytes buf head.method ≡ h.method) × (span_bytes buf head.target ≡ h.target) × (head.len ≡ length (print_request h))
+    (body_length h ≡ Some head.body) × (head.closes ≡ closes h)
+    × IsFound buf head.caller (values_of (codes "x-spid") h)
+    × (span_bytes buf head.method ≡ h.method) × (span_bytes buf head.target ≡ h.target)
+    × (head.len ≡ length (print_request h))

@@ -7,7 +7,8 @@ use Rattle.messages.specs.declared.held.Held.{Held}
 abbrev pub held_bytes : Held → List ℕ
 held_bytes h = take (h.filled - h.start) (drop h.start h.bytes.items)
 
--- what is left of the input, where the reader's bytes are known: what is held, and then what the reader has
+-- what is left of the input, where the reader's bytes are known: what is held, and then what the
+-- reader has
 abbrev pub input_left : Held → Option (List ℕ) → Option (List ℕ)
 input_left h remaining = prepend_known (held_bytes h) remaining
 

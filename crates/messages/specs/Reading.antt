@@ -22,7 +22,8 @@ pub record HasNoWhole (input : List ℕ) (unread : Option (List ℕ)) : Type 0 w
   pub all : prepend_known read unread ≡ Some input
   pub none : (request : Request) (body rest : List ℕ) → ¬ (Cuts read (Whole request body rest))
 
--- what is refused for its head is not read on; a body that the input cuts short was read to the input's end
+-- what is refused for its head is not read on; a body that the input cuts short was read to the
+-- input's end
 abbrev pub IsReadTo : MessageFault → List ℕ → Option (List ℕ) → Type 0
 IsReadTo BadHead input unread = IsReadAhead input unread
 IsReadTo TooLarge input unread = IsReadAhead input unread
@@ -31,7 +32,8 @@ IsReadTo BadRequest input unread = ⊥
 IsReadTo NoPath input unread = ⊥
 IsReadTo BadMethod input unread = ⊥
 
--- so much is read until it is told what comes next in the input, or that it can't be. Of a message it is the rest that tells
+-- so much is read until it is told what comes next in the input, or that it can't be. Of a message
+-- it is the rest that tells
 abbrev pub IsRead : Result (Option Next) NextFault → List ℕ → Option (List ℕ) → Type 0
 IsRead (Ok None) input unread = IsAtEnd unread
 IsRead (Ok (Some (Message request))) input unread = ⊤

@@ -31,9 +31,15 @@ paths =
     ∷ (codes "/subscriptionVersionConflict", OnVersion PutInConflict)
     ∷ (codes "/subscriptionVersionDisconnect", OnVersion Disconnect)
     ∷ (codes "/subscriptionVersionModify", OnVersion ModifyRouting)
-    ∷ (codes "/subscriptionVersionNewSP-CancellationAcknowledge", OnVersion NewProviderCancellationAcknowledge)
+    ∷ (
+      codes "/subscriptionVersionNewSP-CancellationAcknowledge",
+      OnVersion NewProviderCancellationAcknowledge,
+    )
     ∷ (codes "/subscriptionVersionNewSP-Create", NewProviderCreate)
-    ∷ (codes "/subscriptionVersionOldSP-CancellationAcknowledge", OnVersion OldProviderCancellationAcknowledge)
+    ∷ (
+      codes "/subscriptionVersionOldSP-CancellationAcknowledge",
+      OnVersion OldProviderCancellationAcknowledge,
+    )
     ∷ (codes "/subscriptionVersionOldSP-Create", OldProviderCreate)
     ∷ (codes "/subscriptionVersionRemoveFromConflict", OnVersion RemoveFromConflict)
     ∷ (codes "/windows", Windows)
@@ -84,12 +90,14 @@ below_limit n = if nat_lt n (2 ^ 40) then Some n else None
 
 -- the number below 2^40 that the part writes in digits, with no zero in front
 unfoldable pub number_in : List ℕ → Option ℕ
-number_in part = if has_zero_in_front part then None else option_and_then below_limit (number_of part)
+number_in part = if has_zero_in_front part then None
+    else option_and_then below_limit (number_of part)
 
 -- what is written behind the prefix, where that is one part: a number, or none
 unfoldable pub number_behind : (prefix : List ℕ) → List ℕ → Option (Option ℕ)
 number_behind prefix target =
-    if bytes_eq (take (length prefix) target) prefix && is_part (drop (length prefix) target) then Some (number_in (drop (length prefix) target)) else None
+    if bytes_eq (take (length prefix) target) prefix && is_part (drop (length prefix) target)
+    then Some (number_in (drop (length prefix) target)) else None
 
 -- a version by its id, a telephone number by its digits, or so many downloads
 abbrev pub numbered_path : List ℕ → Option Route
@@ -107,7 +115,8 @@ path_of target = option_or (path_among paths target) (numbered_path target)
 -- ---- methods
 
 abbrev pub method_of : List ℕ → Method
-method_of name = if bytes_eq name (codes "POST") then Post else (if bytes_eq name (codes "GET") then Get else Other)
+method_of name = if bytes_eq name (codes "POST") then Post else (if bytes_eq name (codes "GET")
+    then Get else Other)
 
 abbrev pub is_post : Method → Bool
 is_post Post = true

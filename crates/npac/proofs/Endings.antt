@@ -42,26 +42,37 @@ module _ (words : List (List ℕ)) (had has : Option (List ℕ)) (status : ℕ) 
   failed f three (inl (is, told)) = (is ∙ three, inl (f, three, told))
   failed f three (inr (is, front)) = (is, inr (line_of (fault_name f), front))
 
-  asked : (text : List ℕ) (wrote written : Option (List ℕ)) → AsksForHelp words → TellsHelp text wrote written had has status → Ends words had has status
+  asked : (text : List ℕ) (wrote written : Option (List ℕ)) → AsksForHelp words
+      → TellsHelp text wrote written had has status → Ends words had has status
   asked text wrote written help (inl (is, shown, kept)) = inl (is, inr help, kept)
   asked text wrote written help (inr told) = inr (inr (inr (failed fault.Write refl told)))
 
-  mistaken : (text : List ℕ) → IsNoLine words → TellsMistake text had has status → Ends words had has status
+  mistaken : (text : List ℕ) → IsNoLine words → TellsMistake text had has status
+      → Ends words had has status
   mistaken text none (inl (is, told)) = inr (inr (inl (is, none, (text, told))))
   mistaken text none (inr (is, front)) = inr (inr (inr (is, inr (text, front))))
 
-  pub usage_ends : (wanted : ℕ) (text : List ℕ) (wrote written : Option (List ℕ)) → IsUsage wanted → (wanted ≡ 0 → AsksForHelp words)
-      → (wanted ≢ 3 → IsNoLine words) → TellsUsage wanted text wrote written had has status → Ends words had has status
-  usage_ends wanted text wrote written (inl zero) help none told = asked text wrote written (help zero) (told.help zero)
-  usage_ends wanted text wrote written (inr (inl two)) help none told = mistaken text (none (λ three. absurd (omega (arith, two, three)))) (told.mistake two)
-  usage_ends wanted text wrote written (inr (inr three)) help none told = inr (inr (inr (failed fault.NoMemory refl (told.memory three))))
+  pub usage_ends : (wanted : ℕ) (text : List ℕ) (wrote written : Option (List ℕ)) → IsUsage wanted
+      → (wanted ≡ 0 → AsksForHelp words)
+      → (wanted ≢ 3 → IsNoLine words) → TellsUsage wanted text wrote written had has status
+      → Ends words had has status
+  usage_ends wanted text wrote written (inl zero) help none told =
+      asked text wrote written (help zero) (told.help zero)
+  usage_ends wanted text wrote written (inr (inl two)) help none told =
+      mistaken text (none (λ three. absurd (omega (arith, two, three)))) (told.mistake two)
+  usage_ends wanted text wrote written (inr (inr three)) help none told =
+      inr (inr (inr (failed fault.NoMemory refl (told.memory three))))
 
-  told_ends : (line : Line) → IsLine words line → (f : Fault) → status ≡ exit_status f → Appends had has (line_of (fault_name f)) → (exit_status f ≡ 1) ⊎ (exit_status f ≡ 3) → Ends words had has status
+  told_ends : (line : Line) → IsLine words line → (f : Fault) → status ≡ exit_status f
+      → Appends had has (line_of (fault_name f)) → (exit_status f ≡ 1) ⊎ (exit_status f ≡ 3)
+      → Ends words had has status
   told_ends line is f same told (inl one) = inr (inl (same ∙ one, (line, is), (f, one, told)))
   told_ends line is f same told (inr three) = inr (inr (inr (same ∙ three, inl (f, three, told))))
 
   -- the line was carried out, or ended by a fault
-  pub outcome_ends : (line : Line) → IsLine words line → (o : Result (Unit {0}) Fault) → TellsOutcome o had has status → Ends words had has status
+  pub outcome_ends : (line : Line) → IsLine words line → (o : Result (Unit {0}) Fault)
+      → TellsOutcome o had has status → Ends words had has status
   outcome_ends line is (Ok done) told = inl (told.0, inl (line, is), told.1)
   outcome_ends line is (Err f) (inl (same, told)) = told_ends line is f same told (one_or_three f)
-  outcome_ends line is (Err f) (inr (three, front)) = inr (inr (inr (three, inr (line_of (fault_name f), front))))
+  outcome_ends line is (Err f) (inr (three, front)) =
+      inr (inr (inr (three, inr (line_of (fault_name f), front))))

@@ -8,14 +8,23 @@ use Rattle.std.specs.Io.KnownBytes.{Appends}
 use Rattle.messages.specs.Sending.{AppendsFront}
 
 -- a front of the first text is one of both
-pub front_of_first : (had has : Option (List ℕ)) (xs ys : List ℕ) → AppendsFront had has xs → AppendsFront had has (xs ++ ys)
-front_of_first had has xs ys (n, fits, written) =
-    (n, omega (arith, length-append xs ys, fits), subst (Appends had has) (sym (take-append-le n xs ys fits)) written)
+pub front_of_first : (had has : Option (List ℕ)) (xs ys : List ℕ) → AppendsFront had has xs
+    → AppendsFront had has (xs ++ ys)
+front_of_first had has xs ys (n, fits, written) = (
+  n,
+  omega (arith, length-append xs ys, fits),
+  subst (Appends had has) (sym (take-append-le n xs ys fits)) written,
+)
 
 -- the first text, and a front of what comes behind it
-pub front_behind : (had mid has : Option (List ℕ)) (xs ys : List ℕ) → Appends had mid xs → AppendsFront mid has ys → AppendsFront had has (xs ++ ys)
-front_behind had mid has xs ys first (n, fits, written) =
-    (length xs + n, omega (arith, length-append xs ys, fits), subst (Appends had has) (sym (take-append-add xs ys n)) (Appends-trans had mid has xs (take n ys) first written))
+pub front_behind : (had mid has : Option (List ℕ)) (xs ys : List ℕ) → Appends had mid xs
+    → AppendsFront mid has ys → AppendsFront had has (xs ++ ys)
+front_behind had mid has xs ys first (n, fits, written) = (
+  length xs + n,
+  omega (arith, length-append xs ys, fits),
+  subst (Appends had has) (sym (take-append-add xs ys n)) (Appends-trans had mid has xs (take n ys)
+      first written),
+)
 
 pub on_err : {T E : Type 0} (r : Result T E) (P : Type 0) → P → OnErr r P
 on_err (Ok x) P p = tt

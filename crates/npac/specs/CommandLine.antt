@@ -12,7 +12,11 @@ use Rattle.npac.specs.declared.parse.Line.{Line}
 
 -- an option `--id`, which may be required
 abbrev pub option_rule : Text → Bool → Rule
-option_rule id required = record (new_rule id) { long = Some id; value_names = 1; required = required }
+option_rule id required = record (new_rule id) {
+  long = Some id;
+  value_names = 1;
+  required = required;
+}
 
 -- the same, of a whole number from 1 to 65535
 abbrev pub number_rule : Text → Bool → Rule
@@ -20,10 +24,13 @@ number_rule id required = record (option_rule id required) { parser = Some (Unsi
 
 -- a subcommand with the options that each has
 abbrev pub plain_app : Text → App
-plain_app name = with_rule (with_rule (with_rule (new_app name) (option_rule (codes "windows") true)) (option_rule (codes "feed") false)) (option_rule (codes "db") false)
+plain_app name =
+    with_rule (with_rule (with_rule (new_app name) (option_rule (codes "windows") true))
+    (option_rule (codes "feed") false)) (option_rule (codes "db") false)
 
 abbrev pub serve_app : App
-serve_app = with_rule (with_rule (plain_app (codes "serve")) (number_rule (codes "port") true)) (number_rule (codes "connections") false)
+serve_app = with_rule (with_rule (plain_app (codes "serve")) (number_rule (codes "port") true))
+    (number_rule (codes "connections") false)
 
 abbrev pub audit_app : App
 audit_app = with_rule (plain_app (codes "audit")) (option_rule (codes "spid") true)
@@ -40,10 +47,13 @@ with_serving a = with_subcommand (with_subcommand a (plain_app (codes "feed")).t
 
 -- those that read and write files
 abbrev pub with_files : App → App
-with_files a = with_subcommand (with_subcommand (with_subcommand a (plain_app (codes "bulk")).top) (plain_app (codes "export")).top) audit_app.top
+with_files a =
+    with_subcommand (with_subcommand (with_subcommand a (plain_app (codes "bulk")).top)
+    (plain_app (codes "export")).top) audit_app.top
 
 abbrev pub npacd_app : App
-npacd_app = with_files (with_serving (with_wanted_subcommand (with_version (new_app (codes "npacd")))))
+npacd_app =
+    with_files (with_serving (with_wanted_subcommand (with_version (new_app (codes "npacd")))))
 
 -- a number below 2^16
 abbrev pub small_number : Option ℕ → Option ℕ
@@ -67,8 +77,11 @@ abbrev pub IsSubcommand : Text → List Row → Subcommand → Type 0
 IsSubcommand name rows sub.Feed = name ≡ codes "feed"
 IsSubcommand name rows sub.Bulk = name ≡ codes "bulk"
 IsSubcommand name rows sub.Export = name ≡ codes "export"
-IsSubcommand name rows (sub.Audit spid) = (name ≡ codes "audit") × (first_of (codes "spid") rows ≡ Some spid.now)
-IsSubcommand name rows (sub.Serve port connections) = (name ≡ codes "serve") × (number_under (codes "port") rows ≡ Some port) × IsNumberIfAny (codes "connections") rows connections
+IsSubcommand name rows (sub.Audit spid) =
+    (name ≡ codes "audit") × (first_of (codes "spid") rows ≡ Some spid.now)
+IsSubcommand name rows (sub.Serve port connections) =
+    (name ≡ codes "serve") × (number_under (codes "port") rows ≡ Some port)
+    × IsNumberIfAny (codes "connections") rows connections
 
 -- it is none
 abbrev pub IsNoSubcommand : Text → List Row → Type 0
@@ -85,9 +98,12 @@ IsNoLineOf name rows = (line : Line) → ¬ (IsLineOf name rows line)
 
 -- the rows that the rule of the subcommand of this name reads off the words after it
 abbrev pub rows_named : Text → List Text → Option (List Row)
-rows_named name words = option_map (λ s. rows_after s.rules [] words) (find (λ s. answers_to name (label_of s)) (built npacd_app).subs)
+rows_named name words =
+    option_map (λ s. rows_after s.rules [] words) (find (λ s. answers_to name (label_of s))
+    (built npacd_app).subs)
 
--- the line is what the words say: the first after the program's name is the subcommand, and the values are those that
+-- the line is what the words say: the first after the program's name is the subcommand, and the
+-- values are those that
 -- its rule reads off the words after it
 pub record IsLine (words : List Text) (line : Line) : Type 0 where
   pub program : Text

@@ -1,5 +1,7 @@
--- What feeding a new register comes to: the answers of the history machine, from its first state on. No minute is handed in beside the
--- messages, and the device of a store in memory never fails: its count of failures is 0 before and after.
+-- What feeding a new register comes to: the answers of the history machine, from its first state
+-- on. No minute is handed in beside the
+-- messages, and the device of a store in memory never fails: its count of failures is 0 before and
+-- after.
 use Rattle.std.specs.Prelude.{◌≡◌, ℕ, ◌⊎◌, List, [], Option, Some, Result, Ok, Err, true}
 use Rattle.std.specs.Io.KnownBytes.{append_known}
 use Rattle.meaning.specs.Content.{Content}
@@ -17,7 +19,14 @@ use Rattle.npac.specs.declared.fault.Fault.TheVariants as fault
 
 -- what is told where no minute is handed in
 abbrev pub fed : (input : List ℕ) → (unread had has : Option (List ℕ)) → Told
-fed input unread had has = record { input = input; unread = unread; before = Some []; behind = Some []; had = had; has = has }
+fed input unread had has = record {
+  input = input;
+  unread = unread;
+  before = Some [];
+  behind = Some [];
+  had = had;
+  has = has;
+}
 
 -- serving ended so, after k messages, and left the content new
 abbrev pub Ended : Windows → Told → End → Type 0
@@ -25,18 +34,27 @@ Ended w told end = (new : Content) × (k : ℕ) × EndsAt end true 0 0 (first_st
 
 -- serving failed so, after k messages
 abbrev pub Failed : Windows → Told → (ℕ → ServingFault) → Type 0
-Failed w told fault_after = (new : Content) × (k : ℕ) × FailsAt (fault_after k) true 0 0 (first_state w) new told
+Failed w told fault_after =
+    (new : Content) × (k : ℕ) × FailsAt (fault_after k) true 0 0 (first_state w) new told
 
--- The input was fed to a new register of these windows, through a buffer: the writer that is told of is the one behind it, and unwritten is
--- what the buffer still holds. Where a write failed, what was written is a front of the answers: with what is unwritten it is all that serving
--- answered, however that came to its end. Elsewhere all is written. Where no memory was left to open the register, nothing was answered
+-- The input was fed to a new register of these windows, through a buffer: the writer that is told
+-- of is the one behind it, and unwritten is
+-- what the buffer still holds. Where a write failed, what was written is a front of the answers:
+-- with what is unwritten it is all that serving
+-- answered, however that came to its end. Elsewhere all is written. Where no memory was left to
+-- open the register, nothing was answered
 abbrev pub Feeds : Windows → Told → (unwritten : List ℕ) → Result (Unit {0}) Fault → Type 0
 Feeds w told unwritten (Ok done) = Ended w told Input ⊎ Ended w told Closed
 Feeds w told unwritten (Err (fault.Message refused)) = Ended w told (Refused refused)
 Feeds w told unwritten (Err fault.Read) = Failed w told serving.Read
-Feeds w told unwritten (Err fault.Write) = (served : Result Served ServingFault) × (new : Content) × Serves served true 0 0 (first_state w) new (record told { has = append_known told.has unwritten })
+Feeds w told unwritten (Err fault.Write) = (served : Result Served ServingFault) × (new : Content)
+    × Serves served true 0 0 (first_state w) new (record told {
+      has =
+          append_known told.has unwritten;
+    })
 Feeds w told unwritten (Err fault.NoMemory) = Failed w told serving.Memory
-Feeds w told unwritten (Err (fault.Open opening.NoMemory)) = append_known told.has unwritten ≡ told.had
+Feeds w told unwritten (Err (fault.Open opening.NoMemory)) =
+    append_known told.has unwritten ≡ told.had
 Feeds w told unwritten (Err (fault.Open opening.Storage)) = ⊥
 Feeds w told unwritten (Err (fault.Open opening.WindowsDiffer)) = ⊥
 Feeds w told unwritten (Err (fault.Windows refused)) = ⊥

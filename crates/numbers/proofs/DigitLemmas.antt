@@ -19,20 +19,28 @@ use Rattle.numbers.specs.Texts.{digits_of}
 pub length-digits_of : (width n : ℕ) → length (digits_of width n) ≡ width
 unfolding digits_of
 length-digits_of zero n = refl
-length-digits_of (suc width) n = grind (arith, length-append (digits_of width (n / 10)) ((48 + n % 10) ∷ []), length-digits_of width (n / 10))
+length-digits_of (suc width) n = grind (
+  arith,
+  length-append (digits_of width (n / 10)) ((48 + n % 10) ∷ []),
+  length-digits_of width (n / 10),
+)
 
 -- each is a digit
 pub digits_of-digits : (width n : ℕ) → All IsAsciiDigit (digits_of width n)
 unfolding digits_of
 digits_of-digits zero n = All-nil IsAsciiDigit
-digits_of-digits (suc width) n = All-push IsAsciiDigit (digits_of width (n / 10)) (48 + n % 10) (digits_of-digits width (n / 10)) (omega arith, omega arith)
+digits_of-digits (suc width) n =
+    All-push IsAsciiDigit (digits_of width (n / 10)) (48 + n % 10) (digits_of-digits width (n / 10))
+    (omega arith, omega arith)
 
 -- bytes below 128 are text
 pub utf8_small : (text : List ℕ) → All (λ b. b < 128) text → IsUtf8 text
 utf8_small text small = IsUtf8-from_ascii text (IsAscii-from_all text small)
 
 -- the next digit of a text
-pub digits_of-more : (text : List ℕ) (i number : ℕ) → i < length text → 48 ≤ get_or text i 0 → get_or text i 0 ≤ 57 → digits_of i number ≡ take i text → digits_of (i + 1) (number * 10 + (get_or text i 0 - 48)) ≡ take (i + 1) text
+pub digits_of-more : (text : List ℕ) (i number : ℕ) → i < length text → 48 ≤ get_or text i 0
+    → get_or text i 0 ≤ 57 → digits_of i number ≡ take i text
+    → digits_of (i + 1) (number * 10 + (get_or text i 0 - 48)) ≡ take (i + 1) text
 unfolding digits_of
 digits_of-more text i number within low high e =
     let tenth : (number * 10 + (get_or text i 0 - 48)) / 10 ≡ number = omega arith in
@@ -40,7 +48,8 @@ digits_of-more text i number within low high e =
     rw (add-one, take-suc text i 0, tenth, last, e) refl
 
 -- two lists of one length that end alike
-snoc_same : (xs ys : List ℕ) (x y : ℕ) → length xs ≡ length ys → xs ++ x ∷ [] ≡ ys ++ y ∷ [] → (xs ≡ ys) × (x ≡ y)
+snoc_same : (xs ys : List ℕ) (x y : ℕ) → length xs ≡ length ys → xs ++ x ∷ [] ≡ ys ++ y ∷ []
+    → (xs ≡ ys) × (x ≡ y)
 snoc_same [] [] x y same e = (refl, cc)
 snoc_same (a ∷ xs) (b ∷ ys) x y same e =
     let shorter : length xs ≡ length ys = omega arith in
@@ -51,14 +60,18 @@ snoc_same [] (b ∷ ys) x y same e = absurd (omega arith)
 snoc_same (a ∷ xs) [] x y same e = absurd (omega arith)
 
 -- numbers below the power of ten have different digits
-pub digits_of-injective : (width m n : ℕ) → m < 10 ^ width → n < 10 ^ width → digits_of width m ≡ digits_of width n → m ≡ n
+pub digits_of-injective : (width m n : ℕ) → m < 10 ^ width → n < 10 ^ width
+    → digits_of width m ≡ digits_of width n → m ≡ n
 unfolding digits_of
 digits_of-injective zero m n small_m small_n e = omega arith
 digits_of-injective (suc width) m n small_m small_n e =
     let p : 10 ^ suc width ≡ 10 ^ width * 10 = pow-suc 10 width in
-    let same : length (digits_of width (m / 10)) ≡ length (digits_of width (n / 10)) = length-digits_of width (m / 10) ∙ sym (length-digits_of width (n / 10)) in
-    let h = snoc_same (digits_of width (m / 10)) (digits_of width (n / 10)) (48 + m % 10) (48 + n % 10) same e in
-    let front : m / 10 ≡ n / 10 = digits_of-injective width (m / 10) (n / 10) (omega arith) (omega arith) h.0 in
+    let same : length (digits_of width (m / 10)) ≡ length (digits_of width (n / 10)) =
+    length-digits_of width (m / 10) ∙ sym (length-digits_of width (n / 10)) in
+    let h = snoc_same (digits_of width (m / 10)) (digits_of width (n / 10)) (48 + m % 10)
+    (48 + n % 10) same e in
+    let front : m / 10 ≡ n / 10 =
+    digits_of-injective width (m / 10) (n / 10) (omega arith) (omega arith) h.0 in
     omega (arith, h.1)
 
 -- a bound on a number of at most eighteen digits
@@ -66,17 +79,21 @@ pub pow_small : (i : ℕ) → i ≤ 18 → 10 ^ i ≤ 1000000000000000000
 pow_small i h = pow-le-pow_right (lit< tt) h
 
 -- a text of digits holds a digit at each place
-pub digit_at : (text : List ℕ) (width n i : ℕ) → text ≡ digits_of width n → i < length text → (48 ≤ get_or text i 0) × (get_or text i 0 ≤ 57)
+pub digit_at : (text : List ℕ) (width n i : ℕ) → text ≡ digits_of width n → i < length text
+    → (48 ≤ get_or text i 0) × (get_or text i 0 ≤ 57)
 digit_at text width n i e within =
     let P : List ℕ → Type 0 = λ t. i < length t → (48 ≤ get_or t i 0) × (get_or t i 0 ≤ 57) in
     subst P (sym e) (λ inside. digits_of-digits width n i 0 inside) within
 
 -- one digit more stays below the next power of ten
-pub below_more : (i number digit : ℕ) → number < 10 ^ i → digit ≤ 9 → number * 10 + digit < 10 ^ (i + 1)
+pub below_more : (i number digit : ℕ) → number < 10 ^ i → digit ≤ 9
+    → number * 10 + digit < 10 ^ (i + 1)
 below_more i number digit small one = omega (arith, pow_more 10 i)
 
 -- the last digits of what is left go before the digits that are written already
-pub digits_of-placed : (digits : List ℕ) (place rest : ℕ) → 0 < place → place ≤ length digits → digits_of (place - 1) (rest / 10) ++ drop (place - 1) (set digits (place - 1) (48 + rest % 10)) ≡ digits_of place rest ++ drop place digits
+pub digits_of-placed : (digits : List ℕ) (place rest : ℕ) → 0 < place → place ≤ length digits
+    → digits_of (place - 1) (rest / 10) ++ drop (place - 1)
+    (set digits (place - 1) (48 + rest % 10)) ≡ digits_of place rest ++ drop place digits
 unfolding digits_of
 digits_of-placed digits zero rest positive within = absurd (omega arith)
 digits_of-placed digits (suc place) rest positive within =
@@ -84,7 +101,9 @@ digits_of-placed digits (suc place) rest positive within =
     rw (e, drop-set digits place (48 + rest % 10), append_assoc, add-one) refl
 
 -- at the first place nothing is left before the digits
-pub digits_of-written : (digits : List ℕ) (place rest width number : ℕ) → place ≤ 0 → digits_of place rest ++ drop place digits ≡ digits_of width number → digits ≡ digits_of width number
+pub digits_of-written : (digits : List ℕ) (place rest width number : ℕ) → place ≤ 0
+    → digits_of place rest ++ drop place digits ≡ digits_of width number
+    → digits ≡ digits_of width number
 unfolding digits_of
 digits_of-written digits zero rest width number first e = e
 digits_of-written digits (suc place) rest width number first e = absurd (omega arith)
@@ -92,22 +111,26 @@ digits_of-written digits (suc place) rest width number first e = absurd (omega a
 -- digits are text
 pub utf8_digits : (text : List ℕ) (width n : ℕ) → text ≡ digits_of width n → IsUtf8 text
 utf8_digits text width n e =
-    subst IsUtf8 (sym e) (utf8_small (digits_of width n) (λ k d inside. let h = digits_of-digits width n k d inside in omega arith))
+    subst IsUtf8 (sym e) (utf8_small (digits_of width n) (λ k d inside. let h =
+    digits_of-digits width n k d inside in omega arith))
 
 -- one digit more in decimal
-one_more : (p d r : ℕ) → 0 < p → d < p → r < 10 → p * 10 ≤ 1000000000000000000 → decimal (p * 10 + (d * 10 + r)) ≡ decimal (p + d) ++ (48 + r) ∷ []
+one_more : (p d r : ℕ) → 0 < p → d < p → r < 10 → p * 10 ≤ 1000000000000000000
+    → decimal (p * 10 + (d * 10 + r)) ≡ decimal (p + d) ++ (48 + r) ∷ []
 one_more p d r some less one small =
     let x : ℕ = p * 10 + (d * 10 + r) in
     let front : x / 10 ≡ p + d = omega arith in
     let last : x % 10 ≡ r = omega arith in
-    decimal_step x (omega arith) (omega arith) ∙ ap (λ k. decimal k ++ (48 + x % 10) ∷ []) front ∙ ap (λ k. decimal (p + d) ++ (48 + k) ∷ []) last
+    decimal_step x (omega arith) (omega arith) ∙ ap (λ k. decimal k ++ (48 + x % 10) ∷ []) front
+    ∙ ap (λ k. decimal (p + d) ++ (48 + k) ∷ []) last
 
 pub power_some : (width : ℕ) → 0 < 10 ^ width
 power_some zero = omega arith
 power_some (suc width) = omega (arith, pow-suc 10 width, power_some width)
 
 -- with a 1 in front, so many digits are a number's in decimal
-pub decimal_behind_one : (width n : ℕ) → width ≤ 18 → decimal (10 ^ width + n % 10 ^ width) ≡ 49 ∷ digits_of width n
+pub decimal_behind_one : (width n : ℕ) → width ≤ 18 → decimal (10 ^ width + n % 10 ^ width)
+    ≡ 49 ∷ digits_of width n
 unfolding digits_of
 decimal_behind_one zero n within = ap decimal one ∙ decimal_digit 1 (omega arith)
   where
@@ -117,10 +140,12 @@ decimal_behind_one (suc width) n within =
     let power : 10 ^ suc width ≡ 10 ^ width * 10 = pow-suc 10 width in
     let small : 10 ^ suc width ≤ 1000000000000000000 = pow_small (suc width) within in
     let some : 0 < 10 ^ width = power_some width in
-    let rest : n % (10 ^ width * 10) ≡ (n / 10 % 10 ^ width) * 10 + n % 10 = mod-mul n some (omega arith) in
+    let rest : n % (10 ^ width * 10) ≡ (n / 10 % 10 ^ width) * 10 + n % 10 =
+    mod-mul n some (omega arith) in
     let less : n / 10 % 10 ^ width < 10 ^ width = mod-lt (n / 10) some in
     let last : n % 10 < 10 = omega arith in
-    let within_ten : 10 ^ width * 10 ≤ 1000000000000000000 = subst (λ k. k ≤ 1000000000000000000) power small in
+    let within_ten : 10 ^ width * 10 ≤ 1000000000000000000 =
+    subst (λ k. k ≤ 1000000000000000000) power small in
     ap (λ k. decimal (k + n % k)) power
     ∙ ap (λ k. decimal (10 ^ width * 10 + k)) rest
     ∙ one_more (10 ^ width) (n / 10 % 10 ^ width) (n % 10) some less last within_ten

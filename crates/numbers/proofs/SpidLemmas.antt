@@ -18,7 +18,9 @@ utf8_spid n h =
     utf8_small (spid_text n) (λ k d inside. small_character _ (each k d inside))
 
 -- four characters make a provider
-pub spid_made : (n a b c d : ℕ) → n ≡ a * 16777216 + b * 65536 + c * 256 + d → is_spid_character a ≡ true → is_spid_character b ≡ true → is_spid_character c ≡ true → is_spid_character d ≡ true → IsSpid n
+pub spid_made : (n a b c d : ℕ) → n ≡ a * 16777216 + b * 65536 + c * 256 + d
+    → is_spid_character a ≡ true → is_spid_character b ≡ true → is_spid_character c ≡ true
+    → is_spid_character d ≡ true → IsSpid n
 spid_made n a b c d e p q r s =
     let low_b = small_character b q in
     let low_c = small_character c r in

@@ -1,4 +1,5 @@
--- The refusals of a donation, an assignment and a release are those of the table, and a donation makes the versions that it makes of the state.
+-- The refusals of a donation, an assignment and a release are those of the table, and a donation
+-- makes the versions that it makes of the state.
 use Rattle.std.proofs.Common.{◌≡◌, ℕ, ◌+◌, ◌<◌, Bool, true, false, cond, not, ◌&&◌, ◌||◌, List, [], ◌∷◌, length, map, Option, Some, None, refl, ap, sym, ◌∙◌}
 use Rattle.std.specs.Prelude.{◌==◌, nat_lt, filter, is_none, is_some, if◌then◌else◌}
 use Rattle.std.specs.List.{list_any}
@@ -45,46 +46,90 @@ none_seen None (Some v) sees = absurd sees
 none_seen (Some u) None sees = absurd sees
 
 -- a test that asks for neither the id, the broadcasts nor the windows
-holds_seen : (test : Version → Bool) → ((u : VersionCode) (id : ℕ) (bs : List Broadcast) (ws : Windows) → test (version_of id bs ws u) ≡ test (seen u)) → (o : Option VersionCode) (p : Option Version) → Sees o p →
+holds_seen : (test : Version → Bool)
+    → ((u : VersionCode) (id : ℕ) (bs : List Broadcast) (ws : Windows)
+    → test (version_of id bs ws u) ≡ test (seen u)) → (o : Option VersionCode) (p : Option Version)
+    → Sees o p →
     holds_of test p ≡ holds_of (λ u. test (seen u)) o
 holds_seen test same None None sees = refl
-holds_seen test same (Some u) (Some v) sees = ap test (sym sees) ∙ same u v.id v.broadcasts v.held.windows
+holds_seen test same (Some u) (Some v) sees =
+    ap test (sym sees) ∙ same u v.id v.broadcasts v.held.windows
 holds_seen test same None (Some v) sees = absurd sees
 holds_seen test same (Some u) None sees = absurd sees
 
 others_seen : (caller : ℕ) (o : Option VersionCode) (p : Option Version) → Sees o p →
-    (not (caller == npac) && holds_of (λ (v : Version). not (caller == v.new_provider)) p) ≡ holds_of (is_others caller) o
+    (not (caller == npac) && holds_of (λ (v : Version). not (caller == v.new_provider)) p)
+    ≡ holds_of (is_others caller) o
 others_seen caller None None sees = go (not (caller == npac))
   where
     go : (b : Bool) → (b && false) ≡ false
     go true = refl
     go false = refl
-others_seen caller (Some u) (Some v) sees = ap (λ (w : Version). not (caller == npac) && not (caller == w.new_provider)) (sym sees)
+others_seen caller (Some u) (Some v) sees =
+    ap (λ (w : Version). not (caller == npac) && not (caller == w.new_provider)) (sym sees)
 others_seen caller None (Some v) sees = absurd sees
 others_seen caller (Some u) None sees = absurd sees
 
-release_by_table : (st : State) (caller block : ℕ) → refusal st (Requests caller (Commands (Release block)))
-    ≡ first_that_holds ((1, unknown_carrier st (Requests caller (Commands (Release block)))) ∷ (3, is_none (code_holder (block_code_of block) st.history))
-    ∷ (10, is_none (donor_of block st.history) || is_none (last_version (record_now st (Block block))))
-    ∷ (11, not (caller == npac) && holds_of (λ (v : Version). not (caller == v.new_provider)) (last_version (record_now st (Block block))))
-    ∷ (13, holds_of (λ (v : Version). not (is_active v.status)) (last_version (record_now st (Block block)))) ∷ (23, has_open_port_in st caller block)
-    ∷ (28, holds_of (λ (v : Version). has_no_attempt_left v.attempt) (last_version (record_now st (Block block))) || nat_lt limit (next_id st.windows st.history + 0)) ∷ [])
+release_by_table : (st : State) (caller block : ℕ)
+    → refusal st (Requests caller (Commands (Release block)))
+    ≡ first_that_holds ((1, unknown_carrier st (Requests caller (Commands (Release block))))
+    ∷ (3, is_none (code_holder (block_code_of block) st.history))
+    ∷ (
+      10,
+      is_none (donor_of block st.history) || is_none (last_version (record_now st (Block block))),
+    )
+    ∷ (
+      11,
+      not (caller == npac) && holds_of (λ (v : Version). not (caller == v.new_provider))
+          (last_version (record_now st (Block block))),
+    )
+    ∷ (
+      13,
+      holds_of (λ (v : Version). not (is_active v.status))
+          (last_version (record_now st (Block block))),
+    ) ∷ (23, has_open_port_in st caller block)
+    ∷ (
+      28,
+      holds_of (λ (v : Version). has_no_attempt_left v.attempt)
+          (last_version (record_now st (Block block))) || nat_lt limit
+          (next_id st.windows st.history + 0),
+    ) ∷ [])
 unfolding tests
 release_by_table st caller block = refl
 
-assign_by_table : (st : State) (caller : ℕ) (a : Assignment) → refusal st (Requests caller (Commands (command_of a)))
-    ≡ first_that_holds ((1, unknown_carrier st (Requests caller (Commands (command_of a)))) ∷ (2, not (caller == npac)) ∷ (3, is_none (code_holder (block_code_of a.block.number) st.history))
-    ∷ (7, bad_lrn st caller (command_of a)) ∷ (10, is_none (donor_of a.block.number st.history)) ∷ (23, has_open_port_in st caller a.block.number)
-    ∷ (24, holds_of (λ (v : Version). takes_block v.status) (last_version (record_now st (Block a.block.number)))) ∷ (28, nat_lt limit (next_id st.windows st.history + 1)) ∷ [])
+assign_by_table : (st : State) (caller : ℕ) (a : Assignment)
+    → refusal st (Requests caller (Commands (command_of a)))
+    ≡ first_that_holds ((1, unknown_carrier st (Requests caller (Commands (command_of a))))
+    ∷ (2, not (caller == npac))
+    ∷ (3, is_none (code_holder (block_code_of a.block.number) st.history))
+    ∷ (7, bad_lrn st caller (command_of a)) ∷ (10, is_none (donor_of a.block.number st.history))
+    ∷ (23, has_open_port_in st caller a.block.number)
+    ∷ (
+      24,
+      holds_of (λ (v : Version). takes_block v.status)
+          (last_version (record_now st (Block a.block.number))),
+    ) ∷ (28, nat_lt limit (next_id st.windows st.history + 1)) ∷ [])
 unfolding tests
 assign_by_table st caller a = refl
 
-donate_by_table : (st : State) (caller : ℕ) (d : Donation) → refusal st (Requests caller (Commands (donated d)))
-    ≡ first_that_holds ((1, unknown_carrier st (Requests caller (Commands (donated d)))) ∷ (3, is_none (code_holder (block_code_of d.block.number) st.history))
-    ∷ (7, bad_lrn st caller (donated d)) ∷ (11, not (is_the caller (code_holder (block_code_of d.block.number) st.history)))
-    ∷ (22, nat_lt 100 (length (contaminated_in st caller d.block.number (lines_of d.used.now)))) ∷ (23, has_open_port_in st caller d.block.number)
+donate_by_table : (st : State) (caller : ℕ) (d : Donation)
+    → refusal st (Requests caller (Commands (donated d)))
+    ≡ first_that_holds ((1, unknown_carrier st (Requests caller (Commands (donated d))))
+    ∷ (3, is_none (code_holder (block_code_of d.block.number) st.history))
+    ∷ (7, bad_lrn st caller (donated d)) ∷ (
+      11,
+      not (is_the caller (code_holder (block_code_of d.block.number) st.history)),
+    )
+    ∷ (
+      22,
+      nat_lt 100 (length (contaminated_in st caller d.block.number (lines_of d.used.now))),
+    ) ∷ (23, has_open_port_in st caller d.block.number)
     ∷ (24, is_some (donor_of d.block.number st.history))
-    ∷ (28, nat_lt limit (next_id st.windows st.history + length (makes (Commands (donated d)) (record_now st)))) ∷ [])
+    ∷ (
+      28,
+      nat_lt limit (next_id st.windows st.history + length
+          (makes (Commands (donated d)) (record_now st))),
+    ) ∷ [])
 unfolding tests
 donate_by_table st caller d = refl
 
@@ -92,9 +137,11 @@ donate_by_table st caller d = refl
 
 with_number-lines : (n : ℕ) (ns : List ℕ) → n < 1000 → AreLines ns → AreLines (with_number n ns)
 with_number-lines n [] small lines = (small, tt)
-with_number-lines n (m ∷ ms) small lines = go (with_number-lines n ms small lines.1) (nat_lt n m) (n == m)
+with_number-lines n (m ∷ ms) small lines =
+    go (with_number-lines n ms small lines.1) (nat_lt n m) (n == m)
   where
-    go : AreLines (with_number n ms) → (b c : Bool) → AreLines (if b then n ∷ m ∷ ms else (if c then m ∷ ms else m ∷ with_number n ms))
+    go : AreLines (with_number n ms) → (b c : Bool) → AreLines (if b then n ∷ m ∷ ms
+        else (if c then m ∷ ms else m ∷ with_number n ms))
     go rest true c = (small, lines)
     go rest false true = lines
     go rest false false = (lines.0, rest)
@@ -113,102 +160,154 @@ none_or_some None false is = refl
 none_or_some (Some x) true is = refl
 none_or_some (Some x) false is = cc
 
-picked_in : (st : State) (block : ℕ) (numbers : List NumberInUse) → NumbersAre st block numbers → (ns : List ℕ) → AreLines ns →
-    filter (λ s. is_none (version_in_force (record_now st s))) (map (λ line. Number (number_in block line)) ns)
+picked_in : (st : State) (block : ℕ) (numbers : List NumberInUse) → NumbersAre st block numbers
+    → (ns : List ℕ) → AreLines ns →
+    filter (λ s. is_none (version_in_force (record_now st s)))
+    (map (λ line. Number (number_in block line)) ns)
     ≡ made_numbers (map (λ line. Number (number_in block line)) ns) (in_force_numbers numbers)
 picked_in st block numbers are [] lines = refl
 picked_in st block numbers are (n ∷ ns) lines =
-    go (picked_in st block numbers are ns lines.1) (is_none (version_in_force (record_now st (Number (number_in block n))))) (not (list_any (subject_eq (Number (number_in block n))) (in_force_numbers numbers)))
-    (none_or_some (version_in_force (record_now st (Number (number_in block n)))) (list_any (subject_eq (Number (number_in block n))) (in_force_numbers numbers)) (are.lines n lines.0))
+    go (picked_in st block numbers are ns lines.1)
+    (is_none (version_in_force (record_now st (Number (number_in block n)))))
+    (not (list_any (subject_eq (Number (number_in block n))) (in_force_numbers numbers)))
+    (none_or_some (version_in_force (record_now st (Number (number_in block n))))
+    (list_any (subject_eq (Number (number_in block n))) (in_force_numbers numbers))
+    (are.lines n lines.0))
   where
     all : List Subject
     all = map (λ line. Number (number_in block line)) ns
 
-    go : filter (λ s. is_none (version_in_force (record_now st s))) all ≡ made_numbers all (in_force_numbers numbers) → (b c : Bool) → b ≡ c →
-        cond b (Number (number_in block n) ∷ filter (λ s. is_none (version_in_force (record_now st s))) all) (filter (λ s. is_none (version_in_force (record_now st s))) all)
-        ≡ cond c (Number (number_in block n) ∷ made_numbers all (in_force_numbers numbers)) (made_numbers all (in_force_numbers numbers))
+    go : filter (λ s. is_none (version_in_force (record_now st s))) all ≡ made_numbers all
+        (in_force_numbers numbers) → (b c : Bool) → b ≡ c →
+        cond b (Number (number_in block n) ∷ filter
+        (λ s. is_none (version_in_force (record_now st s))) all)
+        (filter (λ s. is_none (version_in_force (record_now st s))) all)
+        ≡ cond c (Number (number_in block n) ∷ made_numbers all (in_force_numbers numbers))
+        (made_numbers all (in_force_numbers numbers))
     go later true true e = ap (λ ss. Number (number_in block n) ∷ ss) later
     go later false false e = later
     go later true false e = cc
     go later false true e = cc
 
 -- the numbers for which a donation makes versions are those of the state
-pub donation_makes : (st : State) (d : Donation) (facts : BlockFacts) → NumbersAre st d.block.number facts.numbers.now →
-    makes (Commands (donated d)) (record_now st) ≡ made_numbers (used_by d) (in_force_numbers facts.numbers.now)
-donation_makes st d facts are = picked_in st d.block.number facts.numbers.now are (rising (lines_of d.used.now)) (rising-lines (lines_of d.used.now) (are_lines d.used.now))
+pub donation_makes : (st : State) (d : Donation) (facts : BlockFacts)
+    → NumbersAre st d.block.number facts.numbers.now →
+    makes (Commands (donated d)) (record_now st) ≡ made_numbers (used_by d)
+    (in_force_numbers facts.numbers.now)
+donation_makes st d facts are =
+    picked_in st d.block.number facts.numbers.now are (rising (lines_of d.used.now))
+    (rising-lines (lines_of d.used.now) (are_lines d.used.now))
 
-donation_contaminates : (st : State) (caller : ℕ) (d : Donation) (facts : BlockFacts) → NumbersAre st d.block.number facts.numbers.now →
-    length (contaminated_in st caller d.block.number (lines_of d.used.now)) ≡ length (contaminated_numbers (used_by d) (in_force_numbers facts.numbers.now))
+donation_contaminates : (st : State) (caller : ℕ) (d : Donation) (facts : BlockFacts)
+    → NumbersAre st d.block.number facts.numbers.now →
+    length (contaminated_in st caller d.block.number (lines_of d.used.now))
+    ≡ length (contaminated_numbers (used_by d) (in_force_numbers facts.numbers.now))
 donation_contaminates st caller d facts are =
-    length-append (used_by d) _ ∙ ap (λ n. length (used_by d) + n) (sym (are.others (used_by d))) ∙ sym (length-append (used_by d) (unnamed (used_by d) (in_force_numbers facts.numbers.now)))
+    length-append (used_by d) _ ∙ ap (λ n. length (used_by d) + n) (sym (are.others (used_by d)))
+    ∙ sym (length-append (used_by d) (unnamed (used_by d) (in_force_numbers facts.numbers.now)))
 
 some_carrier : (o : Option Spid) (p : Option ℕ) → carrier_number o ≡ p → is_some p ≡ is_some o
 some_carrier None p is = ap is_some (sym is)
 some_carrier (Some s) p is = ap is_some (sym is)
 
 module _ (st : State) (caller : ℕ) (facts : BlockFacts) where
-  -- a release by a caller who is not registered is refused with number 1, and every other as the facts say, where they are those of the state
-  pub release_refused : (block : ℕ) → BlockFactsAre st caller block (Release block) facts → IsHistory st.windows st.history st.now →
+  -- a release by a caller who is not registered is refused with number 1, and every other as the
+  -- facts say, where they are those of the state
+  pub release_refused : (block : ℕ) → BlockFactsAre st caller block (Release block) facts
+      → IsHistory st.windows st.history st.now →
       refusal st (Requests caller (Commands (Release block)))
-      ≡ (if unknown_carrier st (Requests caller (Commands (Release block))) then Some 1 else release_refusal caller facts)
+      ≡ (if unknown_carrier st (Requests caller (Commands (Release block))) then Some 1
+      else release_refusal caller facts)
   release_refused block are history =
       let last = last_version (record_now st (Block block)) in
-      let code = none_carrier facts.code_holder (code_holder (block_code_of block) st.history) are.code in
+      let code = none_carrier facts.code_holder (code_holder (block_code_of block) st.history)
+      are.code in
       let donor = none_carrier facts.donor (donor_of block st.history) are.donor in
       let made = none_seen facts.last last are.last in
       let others = others_seen caller facts.last last are.last in
-      let active = holds_seen (λ (v : Version). not (is_active v.status)) (λ u id bs ws. refl) facts.last last are.last in
-      let attempts = holds_seen (λ (v : Version). has_no_attempt_left v.attempt) (λ u id bs ws. refl) facts.last last are.last in
-      let room = not_past (next_id st.windows st.history) (next_id-below st.windows st.history st.now history) in
+      let active = holds_seen (λ (v : Version). not (is_active v.status)) (λ u id bs ws. refl)
+      facts.last last are.last in
+      let attempts =
+      holds_seen (λ (v : Version). has_no_attempt_left v.attempt) (λ u id bs ws. refl) facts.last
+      last are.last in
+      let room = not_past (next_id st.windows st.history) (next_id-below st.windows st.history
+      st.now history) in
       release_by_table st caller block
-      ∙ (λ i. first_that_holds ((1, unknown_carrier st (Requests caller (Commands (Release block)))) ∷ (3, code i) ∷ (10, donor i || made i) ∷ (11, others i) ∷ (13, active i)
+      ∙ (λ i. first_that_holds ((1, unknown_carrier st (Requests caller (Commands (Release block))))
+      ∷ (3, code i) ∷ (10, donor i || made i) ∷ (11, others i) ∷ (13, active i)
       ∷ (23, sym are.ports i) ∷ (28, attempts i || room i) ∷ []))
-      ∙ ap (λ b. first_that_holds ((1, unknown_carrier st (Requests caller (Commands (Release block)))) ∷ (3, is_none facts.code_holder) ∷ (10, is_none facts.donor || is_none facts.last)
-      ∷ (11, holds_of (is_others caller) facts.last) ∷ (13, holds_of (λ v. not (is_active (seen v).status)) facts.last) ∷ (23, has_open_port facts.numbers.now) ∷ (28, b) ∷ []))
+      ∙ ap (λ b. first_that_holds
+      ((1, unknown_carrier st (Requests caller (Commands (Release block))))
+      ∷ (3, is_none facts.code_holder) ∷ (10, is_none facts.donor || is_none facts.last)
+      ∷ (11, holds_of (is_others caller) facts.last)
+      ∷ (13, holds_of (λ v. not (is_active (seen v).status)) facts.last)
+      ∷ (23, has_open_port facts.numbers.now) ∷ (28, b) ∷ []))
       (or_false (holds_of (λ v. has_no_attempt_left (seen v).attempt) facts.last))
 
   -- the same of an assignment, whose holder has to be registered too
-  pub assignment_refused : (a : Assignment) → BlockFactsAre st caller a.block.number (command_of a) facts →
+  pub assignment_refused : (a : Assignment) → BlockFactsAre st caller a.block.number (command_of a)
+      facts →
       refusal st (Requests caller (Commands (command_of a)))
-      ≡ (if unknown_carrier st (Requests caller (Commands (command_of a))) then Some 1 else assignment_refusal caller facts)
+      ≡ (if unknown_carrier st (Requests caller (Commands (command_of a))) then Some 1
+      else assignment_refusal caller facts)
   assignment_refused a are =
       let last = last_version (record_now st (Block a.block.number)) in
-      let code = none_carrier facts.code_holder (code_holder (block_code_of a.block.number) st.history) are.code in
+      let code = none_carrier facts.code_holder (code_holder (block_code_of a.block.number)
+      st.history) are.code in
       let donor = none_carrier facts.donor (donor_of a.block.number st.history) are.donor in
-      let lrn : bad_lrn st caller (command_of a) ≡ not facts.is_lrn_good = sym (not_not (bad_lrn st caller (command_of a))) ∙ ap not (sym are.lrn) in
-      let taken = holds_seen (λ (v : Version). takes_block v.status) (λ u id bs ws. refl) facts.last last are.last in
+      let lrn : bad_lrn st caller (command_of a) ≡ not facts.is_lrn_good =
+      sym (not_not (bad_lrn st caller (command_of a))) ∙ ap not (sym are.lrn) in
+      let taken = holds_seen (λ (v : Version). takes_block v.status) (λ u id bs ws. refl) facts.last
+      last are.last in
       assign_by_table st caller a
-      ∙ (λ i. first_that_holds ((1, unknown_carrier st (Requests caller (Commands (command_of a)))) ∷ (2, not (caller == npac)) ∷ (3, code i) ∷ (7, lrn i) ∷ (10, donor i)
+      ∙ (λ i. first_that_holds ((1, unknown_carrier st (Requests caller (Commands (command_of a))))
+      ∷ (2, not (caller == npac)) ∷ (3, code i) ∷ (7, lrn i) ∷ (10, donor i)
       ∷ (23, sym are.ports i) ∷ (24, taken i) ∷ (28, nat_lt limit (sym are.next_id i + 1)) ∷ []))
 
   -- the same of a donation
-  pub donation_refused : (d : Donation) → BlockFactsAre st caller d.block.number (donated d) facts → NumbersAre st d.block.number facts.numbers.now →
+  pub donation_refused : (d : Donation) → BlockFactsAre st caller d.block.number (donated d) facts
+      → NumbersAre st d.block.number facts.numbers.now →
       refusal st (Requests caller (Commands (donated d)))
-      ≡ (if unknown_carrier st (Requests caller (Commands (donated d))) then Some 1 else donation_refusal caller d facts)
+      ≡ (if unknown_carrier st (Requests caller (Commands (donated d))) then Some 1
+      else donation_refusal caller d facts)
   donation_refused d are numbers =
-      let code = none_carrier facts.code_holder (code_holder (block_code_of d.block.number) st.history) are.code in
-      let holder : is_the caller (code_holder (block_code_of d.block.number) st.history) ≡ is_the caller (carrier_number facts.code_holder) = ap (is_the caller) (sym are.code) in
+      let code = none_carrier facts.code_holder (code_holder (block_code_of d.block.number)
+      st.history) are.code in
+      let holder : is_the caller (code_holder (block_code_of d.block.number) st.history)
+      ≡ is_the caller (carrier_number facts.code_holder) = ap (is_the caller) (sym are.code) in
       let donor = some_carrier facts.donor (donor_of d.block.number st.history) are.donor in
-      let lrn : bad_lrn st caller (donated d) ≡ not facts.is_lrn_good = sym (not_not (bad_lrn st caller (donated d))) ∙ ap not (sym are.lrn) in
+      let lrn : bad_lrn st caller (donated d) ≡ not facts.is_lrn_good =
+      sym (not_not (bad_lrn st caller (donated d))) ∙ ap not (sym are.lrn) in
       let many = donation_contaminates st caller d facts numbers in
       let made = donation_makes st d facts numbers in
       donate_by_table st caller d
-      ∙ (λ i. first_that_holds ((1, unknown_carrier st (Requests caller (Commands (donated d)))) ∷ (3, code i) ∷ (7, lrn i) ∷ (11, not (holder i)) ∷ (22, nat_lt 100 (many i))
-      ∷ (23, sym are.ports i) ∷ (24, donor i) ∷ (28, nat_lt limit (sym are.next_id i + length (made i))) ∷ []))
+      ∙ (λ i. first_that_holds ((1, unknown_carrier st (Requests caller (Commands (donated d))))
+      ∷ (3, code i) ∷ (7, lrn i) ∷ (11, not (holder i)) ∷ (22, nat_lt 100 (many i))
+      ∷ (23, sym are.ports i) ∷ (24, donor i)
+      ∷ (28, nat_lt limit (sym are.next_id i + length (made i))) ∷ []))
 
--- where the facts are those of a block of a state, what is refused as they say is refused as the state says
+-- where the facts are those of a block of a state, what is refused as they say is refused as the
+-- state says
 module _ (st : State) (caller : ℕ) (facts : BlockFacts) where
-  pub release_refused_in : (block : ℕ) → IsBlockCommandIn st caller block (Release block) facts → (refused : Option ℕ) →
-      refused ≡ release_refusal caller facts → refused ≡ refusal st (Requests caller (Commands (Release block)))
+  pub release_refused_in : (block : ℕ) → IsBlockCommandIn st caller block (Release block) facts
+      → (refused : Option ℕ) →
+      refused ≡ release_refusal caller facts
+      → refused ≡ refusal st (Requests caller (Commands (Release block)))
   release_refused_in block is refused by_facts =
-      by_facts ∙ sym (release_refused st caller facts block is.are is.reached.history ∙ ap (λ b. if b then Some 1 else release_refusal caller facts) is.known)
+      by_facts ∙ sym (release_refused st caller facts block is.are is.reached.history
+      ∙ ap (λ b. if b then Some 1 else release_refusal caller facts) is.known)
 
-  pub assignment_refused_in : (a : Assignment) → IsBlockCommandIn st caller a.block.number (command_of a) facts → (refused : Option ℕ) →
-      refused ≡ assignment_refusal caller facts → refused ≡ refusal st (Requests caller (Commands (command_of a)))
+  pub assignment_refused_in : (a : Assignment)
+      → IsBlockCommandIn st caller a.block.number (command_of a) facts → (refused : Option ℕ) →
+      refused ≡ assignment_refusal caller facts
+      → refused ≡ refusal st (Requests caller (Commands (command_of a)))
   assignment_refused_in a is refused by_facts =
-      by_facts ∙ sym (assignment_refused st caller facts a is.are ∙ ap (λ b. if b then Some 1 else assignment_refusal caller facts) is.known)
+      by_facts ∙ sym (assignment_refused st caller facts a is.are ∙ ap (λ b. if b then Some 1
+      else assignment_refusal caller facts) is.known)
 
-  pub donation_refused_in : (d : Donation) → IsBlockCommandIn st caller d.block.number (donated d) facts → NumbersAre st d.block.number facts.numbers.now →
+  pub donation_refused_in : (d : Donation) → IsBlockCommandIn st caller d.block.number (donated d)
+      facts → NumbersAre st d.block.number facts.numbers.now →
       refusal st (Requests caller (Commands (donated d))) ≡ donation_refusal caller d facts
   donation_refused_in d is numbers =
-      donation_refused st caller facts d is.are numbers ∙ ap (λ b. if b then Some 1 else donation_refusal caller d facts) is.known
+      donation_refused st caller facts d is.are numbers ∙ ap (λ b. if b then Some 1
+      else donation_refusal caller d facts) is.known

@@ -1,4 +1,5 @@
--- What a donation is refused for, and makes, by the set of its used numbers and the list of those that need a version.
+-- What a donation is refused for, and makes, by the set of its used numbers and the list of those
+-- that need a version.
 use Rattle.std.proofs.Common.{◌≡◌, ℕ, ◌+◌, ◌≤◌, Bool, true, false, List, [], ◌∷◌, ◌++◌, length, map, Option, Some, None, refl, ap, sym, ◌∙◌, subst, arith}
 use Rattle.std.specs.Prelude.{nat_lt, filter, is_some, if◌then◌else◌, Result, Ok, Err, IfErr, IsErrAnd, ◌≢◌}
 use Rattle.std.specs.BTreeSet.{BTreeSet, keys}
@@ -20,20 +21,24 @@ use Rattle.meaning.specs.Windows.{WindowSet}
 
 -- ---- tests in turn
 
-refused-first : (ts us : List (ℕ × Bool)) (n : ℕ) → first_that_holds ts ≡ Some n → first_that_holds (ts ++ us) ≡ Some n
+refused-first : (ts us : List (ℕ × Bool)) (n : ℕ) → first_that_holds ts ≡ Some n
+    → first_that_holds (ts ++ us) ≡ Some n
 refused-first [] us n is = cc
 refused-first (t ∷ ts) us n is = go (refused-first ts us n) t.1 is
   where
-    go : (first_that_holds ts ≡ Some n → first_that_holds (ts ++ us) ≡ Some n) → (b : Bool) → (if b then Some t.0 else first_that_holds ts) ≡ Some n →
+    go : (first_that_holds ts ≡ Some n → first_that_holds (ts ++ us) ≡ Some n) → (b : Bool)
+        → (if b then Some t.0 else first_that_holds ts) ≡ Some n →
         (if b then Some t.0 else first_that_holds (ts ++ us)) ≡ Some n
     go later true e = e
     go later false e = later e
 
-passed-first : (ts us : List (ℕ × Bool)) → first_that_holds ts ≡ None → first_that_holds (ts ++ us) ≡ first_that_holds us
+passed-first : (ts us : List (ℕ × Bool)) → first_that_holds ts ≡ None
+    → first_that_holds (ts ++ us) ≡ first_that_holds us
 passed-first [] us is = refl
 passed-first (t ∷ ts) us is = go (passed-first ts us) t.1 is
   where
-    go : (first_that_holds ts ≡ None → first_that_holds (ts ++ us) ≡ first_that_holds us) → (b : Bool) → (if b then Some t.0 else first_that_holds ts) ≡ None →
+    go : (first_that_holds ts ≡ None → first_that_holds (ts ++ us) ≡ first_that_holds us)
+        → (b : Bool) → (if b then Some t.0 else first_that_holds ts) ≡ None →
         (if b then Some t.0 else first_that_holds (ts ++ us)) ≡ first_that_holds us
     go later true e = cc
     go later false e = later e
@@ -41,45 +46,66 @@ passed-first (t ∷ ts) us is = go (passed-first ts us) t.1 is
 -- ---- a donation's
 
 -- the donor is refused
-pub refused : (caller : ℕ) (d : Donation) (facts : BlockFacts) (n : ℕ) → first_that_holds (donor_tests caller facts) ≡ Some n → donation_refusal caller d facts ≡ Some n
-refused caller d facts n is = refused-first (donor_tests caller facts) (block_tests (used_by d) facts) n is
+pub refused : (caller : ℕ) (d : Donation) (facts : BlockFacts) (n : ℕ)
+    → first_that_holds (donor_tests caller facts) ≡ Some n
+    → donation_refusal caller d facts ≡ Some n
+refused caller d facts n is =
+    refused-first (donor_tests caller facts) (block_tests (used_by d) facts) n is
 
 -- the list has the numbers for which versions are made
-pub made-are : (d : Donation) (facts : BlockFacts) (used : BTreeSet Tn) (made : List Tn) → numbers_in used ≡ used_by d → made ≡ filter (is_unprotected facts) (keys used) →
+pub made-are : (d : Donation) (facts : BlockFacts) (used : BTreeSet Tn) (made : List Tn)
+    → numbers_in used ≡ used_by d → made ≡ filter (is_unprotected facts) (keys used) →
     made_numbers (used_by d) (in_force_numbers facts.numbers.now) ≡ map tn_subject made
 made-are d facts used made all is =
-    ap (λ ss. made_numbers ss (in_force_numbers facts.numbers.now)) (sym all) ∙ picked facts (keys used) ∙ ap (map tn_subject) (sym is)
+    ap (λ ss. made_numbers ss (in_force_numbers facts.numbers.now)) (sym all)
+    ∙ picked facts (keys used) ∙ ap (map tn_subject) (sym is)
 
 -- the donor is not refused: the block decides
-judged : (caller : ℕ) (d : Donation) (facts : BlockFacts) (used : BTreeSet Tn) (made : List Tn) → first_that_holds (donor_tests caller facts) ≡ None → numbers_in used ≡ used_by d →
-    made ≡ filter (is_unprotected facts) (keys used) → donation_refusal caller d facts ≡ first_that_holds (tests_by (numbers_in used) (length made) facts)
+judged : (caller : ℕ) (d : Donation) (facts : BlockFacts) (used : BTreeSet Tn) (made : List Tn)
+    → first_that_holds (donor_tests caller facts) ≡ None → numbers_in used ≡ used_by d →
+    made ≡ filter (is_unprotected facts) (keys used)
+    → donation_refusal caller d facts ≡ first_that_holds (tests_by (numbers_in used) (length made)
+    facts)
 judged caller d facts used made passed all is =
     passed-first (donor_tests caller facts) (block_tests (used_by d) facts) passed
-    ∙ ap (λ n. first_that_holds (tests_by (used_by d) n facts)) (ap length (made-are d facts used made all is) ∙ length-map made tn_subject)
+    ∙ ap (λ n. first_that_holds (tests_by (used_by d) n facts))
+    (ap length (made-are d facts used made all is) ∙ length-map made tn_subject)
     ∙ ap (λ ss. first_that_holds (tests_by ss (length made) facts)) (sym all)
 
-pub answered : (caller : ℕ) (d : Donation) (facts : BlockFacts) (used : BTreeSet Tn) (made : List Tn) (versions : ℕ) (refusal : Option ℕ) → None ≡ first_that_holds (donor_tests caller facts) →
-    numbers_in used ≡ used_by d → made ≡ filter (is_unprotected facts) (keys used) → versions ≡ length made → refusal ≡ first_that_holds (tests_by (numbers_in used) versions facts) →
+pub answered : (caller : ℕ) (d : Donation) (facts : BlockFacts) (used : BTreeSet Tn)
+    (made : List Tn) (versions : ℕ) (refusal : Option ℕ)
+    → None ≡ first_that_holds (donor_tests caller facts) →
+    numbers_in used ≡ used_by d → made ≡ filter (is_unprotected facts) (keys used)
+    → versions ≡ length made
+    → refusal ≡ first_that_holds (tests_by (numbers_in used) versions facts) →
     donation_refusal caller d facts ≡ refusal
 answered caller d facts used made versions refusal passed all is many answer =
-    judged caller d facts used made (sym passed) all is ∙ ap (λ n. first_that_holds (tests_by (numbers_in used) n facts)) (sym many) ∙ sym answer
+    judged caller d facts used made (sym passed) all is
+    ∙ ap (λ n. first_that_holds (tests_by (numbers_in used) n facts)) (sym many) ∙ sym answer
 
 -- a refusal that is handed on
-pub handed : {A : Type 0} (result : Result A Refusal) (was : Refusal) (o : Option ℕ) → IsErrAnd result (λ r. r ≡ was) → o ≡ Some (number_of was) →
+pub handed : {A : Type 0} (result : Result A Refusal) (was : Refusal) (o : Option ℕ)
+    → IsErrAnd result (λ r. r ≡ was) → o ≡ Some (number_of was) →
     IfErr result (λ r. r ≢ NoMemory → o ≡ Some (number_of r))
 handed (Ok value) was o is e = tt
 handed (Err r) was o is e = λ other. e ∙ ap (λ x. Some (number_of x)) (sym is)
 
 -- the same of a refusal that is the state's
-pub refused_as : {A : Type 0} (result : Result A Refusal) (was : Refusal) (o : Option ℕ) → IsErrAnd result (λ r. r ≡ was) → o ≡ Some (number_of was) → IsRefusedAs o result
+pub refused_as : {A : Type 0} (result : Result A Refusal) (was : Refusal) (o : Option ℕ)
+    → IsErrAnd result (λ r. r ≡ was) → o ≡ Some (number_of was) → IsRefusedAs o result
 refused_as (Ok value) was o is e = absurd is
 refused_as (Err r) was o is e = λ other. e ∙ ap (λ x. Some (number_of x)) (sym is)
 
 -- the ids are within the limit where the block is not refused
-pub within : (facts : BlockFacts) (used : BTreeSet Tn) (versions : ℕ) → first_that_holds (tests_by (numbers_in used) versions facts) ≡ None → facts.next_id + versions ≤ limit
-within facts used versions is = fits (go (is_contaminated (numbers_in used) facts) (has_open_port facts.numbers.now) (is_some facts.donor) (nat_lt limit (facts.next_id + versions)) is)
+pub within : (facts : BlockFacts) (used : BTreeSet Tn) (versions : ℕ)
+    → first_that_holds (tests_by (numbers_in used) versions facts) ≡ None
+    → facts.next_id + versions ≤ limit
+within facts used versions is =
+    fits (go (is_contaminated (numbers_in used) facts) (has_open_port facts.numbers.now)
+    (is_some facts.donor) (nat_lt limit (facts.next_id + versions)) is)
   where
-    go : (a b c d : Bool) → first_that_holds ((22, a) ∷ (23, b) ∷ (24, c) ∷ (28, d) ∷ []) ≡ None → d ≡ false
+    go : (a b c d : Bool) → first_that_holds ((22, a) ∷ (23, b) ∷ (24, c) ∷ (28, d) ∷ []) ≡ None
+        → d ≡ false
     go true b c d e = cc
     go false true c d e = cc
     go false false true d e = cc
@@ -89,7 +115,12 @@ within facts used versions is = fits (go (is_contaminated (numbers_in used) fact
     fits : nat_lt limit (facts.next_id + versions) ≡ false → facts.next_id + versions ≤ limit
     fits e = grind (arith, nat_tests)
 
-pub planned : (w : WindowSet) (caller minute : ℕ) (d : Donation) (facts : BlockFacts) (used : BTreeSet Tn) (made : List Tn) (versions : List (ℕ × VersionCode)) → numbers_in used ≡ used_by d →
-    made ≡ filter (is_unprotected facts) (keys used) → AreProtective w caller minute d facts.next_id (map tn_subject made) versions → IsPlanned w caller minute d facts versions
+pub planned : (w : WindowSet) (caller minute : ℕ) (d : Donation) (facts : BlockFacts)
+    (used : BTreeSet Tn) (made : List Tn) (versions : List (ℕ × VersionCode))
+    → numbers_in used ≡ used_by d →
+    made ≡ filter (is_unprotected facts) (keys used)
+    → AreProtective w caller minute d facts.next_id (map tn_subject made) versions
+    → IsPlanned w caller minute d facts versions
 planned w caller minute d facts used made versions all is are =
-    subst (λ ss. AreProtective w caller minute d facts.next_id ss versions) (sym (made-are d facts used made all is)) are
+    subst (λ ss. AreProtective w caller minute d facts.next_id ss versions)
+    (sym (made-are d facts used made all is)) are

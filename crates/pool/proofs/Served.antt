@@ -13,36 +13,53 @@ use Rattle.pool.specs.declared.service.ServingFacts.{ServingFacts}
 use Rattle.pool.specs.Facts.{carrier_number}
 use Rattle.pool.specs.Serving.{served_by_version, served_by_code, serving_of, ServingFactsAre}
 
-by-version : (o : Option VersionCode) (u : Option Version) (a b : Server) → Sees o u → a ≡ b → served_by_version (option_map seen o) a ≡ elim u [ Some v ↦ ByVersion v.new_provider | None ↦ b ]
+by-version : (o : Option VersionCode) (u : Option Version) (a b : Server) → Sees o u → a ≡ b
+    → served_by_version (option_map seen o) a ≡ elim u [
+      | Some v ↦ ByVersion v.new_provider
+      | None ↦ b
+    ]
 by-version None None a b sees same = same
 by-version (Some v) (Some u) a b sees same = ap (λ (w : Version). ByVersion w.new_provider) sees
 by-version None (Some u) a b sees same = absurd sees
 by-version (Some v) None a b sees same = absurd sees
 
-by-open : (o : Option VersionCode) (u : Option Version) (a b : Server) → Sees o u → a ≡ b → protected_by (option_map seen o) a ≡ protected_by u b
+by-open : (o : Option VersionCode) (u : Option Version) (a b : Server) → Sees o u → a ≡ b
+    → protected_by (option_map seen o) a ≡ protected_by u b
 by-open None None a b sees same = same
-by-open (Some v) (Some u) a b sees same = ap (λ (s : Server). if v.is_protective then ByVersion v.new_provider.number else s) same ∙ ap (λ (w : Version). protected_by (Some w) b) sees
+by-open (Some v) (Some u) a b sees same =
+    ap (λ (s : Server). if v.is_protective then ByVersion v.new_provider.number else s) same
+    ∙ ap (λ (w : Version). protected_by (Some w) b) sees
 by-open None (Some u) a b sees same = absurd sees
 by-open (Some v) None a b sees same = absurd sees
 
-by-block : (o : Option VersionCode) (u : Option Version) → Sees o u → served_by_block (option_map seen o) ≡ served_by_block u
+by-block : (o : Option VersionCode) (u : Option Version) → Sees o u
+    → served_by_block (option_map seen o) ≡ served_by_block u
 by-block None None sees = refl
 by-block (Some v) (Some u) sees = ap (λ (w : Version). ByBlock w.new_provider) sees
 by-block None (Some u) sees = absurd sees
 by-block (Some v) None sees = absurd sees
 
-by-donor : (donated : Bool) (donor : Option ℕ) (a b : Server) (c d : Option ℕ) → donated ≡ is_some donor → a ≡ b → c ≡ d →
+by-donor : (donated : Bool) (donor : Option ℕ) (a b : Server) (c d : Option ℕ)
+    → donated ≡ is_some donor → a ≡ b → c ≡ d →
     (if donated then a else ByCode c) ≡ elim donor [ Some s ↦ b | None ↦ ByCode d ]
 by-donor true (Some s) a b c d is same code = same
 by-donor false None a b c d is same code = ap (λ (o : Option ℕ). ByCode o) code
 by-donor true None a b c d is same code = cc
 by-donor false (Some s) a b c d is same code = cc
 
-pub serving-is : (st : State) (n : ℕ) (f : ServingFacts) → ServingFactsAre st n f → serving_of f ≡ serving st n
+pub serving-is : (st : State) (n : ℕ) (f : ServingFacts) → ServingFactsAre st n f
+    → serving_of f ≡ serving st n
 serving-is st n f are =
     let code : served_by_code f ≡ served_in st n =
-    by-donor f.is_donated (donor_of (block_of n) st.history) (served_by_block (option_map seen f.block_in_force)) (served_by_block (version_in_force (record_now st (Block (block_of n)))))
-    (carrier_number f.code_holder) (code_holder (code_of n) st.history) are.donated (by-block f.block_in_force (version_in_force (record_now st (Block (block_of n)))) are.block) are.code in
-    by-version f.in_force (version_in_force (record_now st (Number n))) (protected_by (option_map seen f.opened) (served_by_code f))
-    (protected_by (open_version (Number n) (record_now st (Number n))) (served_in st n)) are.in_force
-    (by-open f.opened (open_version (Number n) (record_now st (Number n))) (served_by_code f) (served_in st n) are.opened code)
+    by-donor f.is_donated (donor_of (block_of n) st.history)
+    (served_by_block (option_map seen f.block_in_force))
+    (served_by_block (version_in_force (record_now st (Block (block_of n)))))
+    (carrier_number f.code_holder) (code_holder (code_of n) st.history) are.donated
+    (by-block f.block_in_force (version_in_force (record_now st (Block (block_of n)))) are.block)
+    are.code in
+    by-version f.in_force (version_in_force (record_now st (Number n)))
+    (protected_by (option_map seen f.opened) (served_by_code f))
+    (protected_by (open_version (Number n) (record_now st (Number n))) (served_in st n))
+    are.in_force
+    (by-open f.opened (open_version (Number n) (record_now st (Number n))) (served_by_code f)
+    (served_in st n) are.opened code)

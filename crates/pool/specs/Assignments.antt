@@ -15,19 +15,25 @@ use Rattle.pool.specs.Facts.{has_open_port}
 use Rattle.meaning.specs.Windows.{WindowSet}
 
 abbrev pub command_of : Assignment → Command
-command_of a = Assign a.block.number a.holder.number a.routing.lrn.number (option_map (λ (c : Cic). c.number) a.routing.cic)
+command_of a =
+    Assign a.block.number a.holder.number a.routing.lrn.number (option_map (λ (c : Cic). c.number)
+    a.routing.cic)
 
 -- the least number whose condition holds of the assignment to a registered carrier
 abbrev pub assignment_tests : (caller : ℕ) → BlockFacts → List (ℕ × Bool)
 assignment_tests caller facts =
-    (2, not (caller == npac)) ∷ (3, is_none facts.code_holder) ∷ (7, not facts.is_lrn_good) ∷ (10, is_none facts.donor) ∷ (23, has_open_port facts.numbers.now)
-    ∷ (24, holds_of (λ v. takes_block (seen v).status) facts.last) ∷ (28, nat_lt limit (facts.next_id + 1)) ∷ []
+    (2, not (caller == npac)) ∷ (3, is_none facts.code_holder) ∷ (7, not facts.is_lrn_good)
+    ∷ (10, is_none facts.donor) ∷ (23, has_open_port facts.numbers.now)
+    ∷ (24, holds_of (λ v. takes_block (seen v).status) facts.last)
+    ∷ (28, nat_lt limit (facts.next_id + 1)) ∷ []
 
 abbrev pub assignment_refusal : (caller : ℕ) → BlockFacts → Option ℕ
 assignment_refusal caller facts = first_that_holds (assignment_tests caller facts)
 
 -- the block's version as the assignment makes it. It has one broadcast, its create
-pub record IsAssigned (present : WindowSet) (minute : ℕ) (a : Assignment) (donor : Option ℕ) (v : VersionCode) : Type 0 where
+pub record IsAssigned (present : WindowSet) (minute : ℕ) (a : Assignment) (donor : Option ℕ)
+    (v : VersionCode) : Type 0 where
   pub subject : subject_of v.subject ≡ Block a.block.number
   pub version : (id caller : ℕ) (everyone : List ℕ) →
-      let made = made_version present id caller minute everyone donor (Commands (command_of a)) in IsSeen v made
+      let made = made_version present id caller minute everyone donor (Commands (command_of a)) in
+      IsSeen v made

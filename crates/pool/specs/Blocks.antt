@@ -16,7 +16,8 @@ use Rattle.pool.specs.Facts.{carrier_number, has_open_port, in_force_numbers}
 use Rattle.pool.specs.Donations.{unnamed}
 
 -- the facts are those of a block of the state, for this command of the caller
-pub record BlockFactsAre (st : State) (caller block : ℕ) (c : Command) (facts : BlockFacts) : Type 0 where
+pub record BlockFactsAre (st : State) (caller block : ℕ) (c : Command)
+    (facts : BlockFacts) : Type 0 where
   pub code : carrier_number facts.code_holder ≡ code_holder (block_code_of block) st.history
   pub lrn : facts.is_lrn_good ≡ not (bad_lrn st caller c)
   pub donor : carrier_number facts.donor ≡ donor_of block st.history
@@ -24,16 +25,22 @@ pub record BlockFactsAre (st : State) (caller block : ℕ) (c : Command) (facts 
   pub ports : has_open_port facts.numbers.now ≡ has_open_port_in st caller block
   pub next_id : facts.next_id ≡ next_id st.windows st.history
 
--- those of the numbers with a version in force are the block's in the state: line by line, and as many beside any used ones
+-- those of the numbers with a version in force are the block's in the state: line by line, and as
+-- many beside any used ones
 pub record NumbersAre (st : State) (block : ℕ) (numbers : List NumberInUse) : Type 0 where
   pub lines : (line : ℕ) → line < 1000 →
-      list_any (subject_eq (Number (number_in block line))) (in_force_numbers numbers) ≡ is_some (version_in_force (record_now st (Number (number_in block line))))
+      list_any (subject_eq (Number (number_in block line))) (in_force_numbers numbers)
+      ≡ is_some (version_in_force (record_now st (Number (number_in block line))))
   pub others : (used : List Subject) →
       length (unnamed used (in_force_numbers numbers))
-      ≡ length (filter (λ s. is_in_block block s && not (list_any (subject_eq s) used)) (map (λ (e : SubjectVersion). e.subject) (filter (λ e. in_force e.version) (all_versions st))))
+      ≡ length (filter (λ s. is_in_block block s && not (list_any (subject_eq s) used))
+      (map (λ (e : SubjectVersion). e.subject) (filter (λ e. in_force e.version)
+      (all_versions st))))
 
--- the command is told of a block of the state, which is one that a run can reach, and no carrier of it is unknown
-pub record IsBlockCommandIn (st : State) (caller block : ℕ) (c : Command) (facts : BlockFacts) : Type 0 where
+-- the command is told of a block of the state, which is one that a run can reach, and no carrier of
+-- it is unknown
+pub record IsBlockCommandIn (st : State) (caller block : ℕ) (c : Command)
+    (facts : BlockFacts) : Type 0 where
   pub reached : IsState st
   pub known : unknown_carrier st (Requests caller (Commands c)) ≡ false
   pub are : BlockFactsAre st caller block c facts

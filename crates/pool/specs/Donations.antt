@@ -28,7 +28,9 @@ abbrev pub lines_of : List Line → List ℕ
 lines_of lines = map (λ (l : Line). l.number) lines
 
 abbrev pub command_of : Donation → Command
-command_of d = Donate d.block.number (lines_of d.used.now) d.routing.lrn.number (option_map (λ (c : Cic). c.number) d.routing.cic)
+command_of d =
+    Donate d.block.number (lines_of d.used.now) d.routing.lrn.number
+    (option_map (λ (c : Cic). c.number) d.routing.cic)
 
 -- the numbers that it names, each once, rising
 abbrev pub used_by : Donation → List Subject
@@ -56,7 +58,8 @@ made_numbers used in_force = filter (λ s. not (list_any (subject_eq s) in_force
 
 -- more than a hundred numbers of the block are in use
 abbrev pub is_contaminated : (used : List Subject) → BlockFacts → Bool
-is_contaminated used facts = nat_lt 100 (length (contaminated_numbers used (in_force_numbers facts.numbers.now)))
+is_contaminated used facts =
+    nat_lt 100 (length (contaminated_numbers used (in_force_numbers facts.numbers.now)))
 
 -- ---- the same over a set of the used numbers
 
@@ -76,19 +79,23 @@ is_unprotected facts t = not (list_any (is_in_force t.number) facts.numbers.now)
 -- whether the caller may donate
 abbrev pub donor_tests : (caller : ℕ) → BlockFacts → List (ℕ × Bool)
 donor_tests caller facts =
-    (3, is_none facts.code_holder) ∷ (7, not facts.is_lrn_good) ∷ (11, not (is_the caller (carrier_number facts.code_holder))) ∷ []
+    (3, is_none facts.code_holder) ∷ (7, not facts.is_lrn_good)
+    ∷ (11, not (is_the caller (carrier_number facts.code_holder))) ∷ []
 
 -- whether the block may be donated with these used numbers, for which so many versions are made
 abbrev pub tests_by : (used : List Subject) → (versions : ℕ) → BlockFacts → List (ℕ × Bool)
 tests_by used versions facts =
-    (22, is_contaminated used facts) ∷ (23, has_open_port facts.numbers.now) ∷ (24, is_some facts.donor) ∷ (28, nat_lt limit (facts.next_id + versions)) ∷ []
+    (22, is_contaminated used facts) ∷ (23, has_open_port facts.numbers.now)
+    ∷ (24, is_some facts.donor) ∷ (28, nat_lt limit (facts.next_id + versions)) ∷ []
 
 abbrev pub block_tests : (used : List Subject) → BlockFacts → List (ℕ × Bool)
-block_tests used facts = tests_by used (length (made_numbers used (in_force_numbers facts.numbers.now))) facts
+block_tests used facts =
+    tests_by used (length (made_numbers used (in_force_numbers facts.numbers.now))) facts
 
 -- the least number whose condition holds of the donation by a registered carrier
 abbrev pub donation_refusal : (caller : ℕ) → Donation → BlockFacts → Option ℕ
-donation_refusal caller d facts = first_that_holds (donor_tests caller facts ++ block_tests (used_by d) facts)
+donation_refusal caller d facts =
+    first_that_holds (donor_tests caller facts ++ block_tests (used_by d) facts)
 
 -- the call is refused for this, or is not where this is none. Want of memory tells nothing of it
 abbrev pub IsRefusedAs : {A : Type 0} → Option ℕ → Result A Refusal → Type 0
@@ -98,19 +105,26 @@ IsRefusedAs refusal (Err r) = r ≢ NoMemory → refusal ≡ Some (number_of r)
 -- ---- what is made
 
 -- a version as the donation makes it for s. It has one broadcast, its create
-pub record IsProtective (present : WindowSet) (caller minute : ℕ) (d : Donation) (s : Subject) (v : VersionCode) : Type 0 where
+pub record IsProtective (present : WindowSet) (caller minute : ℕ) (d : Donation) (s : Subject)
+    (v : VersionCode) : Type 0 where
   pub subject : subject_of v.subject ≡ s
   pub version : (id : ℕ) (everyone : List ℕ) (donor : Option ℕ) →
-      let made = made_version present id caller minute everyone donor (Commands (command_of d)) in IsSeen v made
+      let made = made_version present id caller minute everyone donor (Commands (command_of d)) in
+      IsSeen v made
 
 -- a version for each of these subjects, in their order, with ids in turn
-abbrev pub AreProtective : WindowSet → (caller minute : ℕ) → Donation → (from : ℕ) → List Subject → List (ℕ × VersionCode) → Type 0
+abbrev pub AreProtective : WindowSet → (caller minute : ℕ) → Donation → (from : ℕ) → List Subject
+    → List (ℕ × VersionCode) → Type 0
 AreProtective present caller minute d from [] [] = ⊤
-AreProtective present caller minute d from (s ∷ ss) (e ∷ es) = (e.0 ≡ from) × IsProtective present caller minute d s e.1 × AreProtective present caller minute d (suc from) ss es
+AreProtective present caller minute d from (s ∷ ss) (e ∷ es) =
+    (e.0 ≡ from) × IsProtective present caller minute d s e.1
+    × AreProtective present caller minute d (suc from) ss es
 AreProtective present caller minute d from [] (e ∷ es) = ⊥
 AreProtective present caller minute d from (s ∷ ss) [] = ⊥
 
 -- the versions that a donation makes, given what the facts say
-abbrev pub IsPlanned : WindowSet → (caller minute : ℕ) → Donation → BlockFacts → List (ℕ × VersionCode) → Type 0
+abbrev pub IsPlanned : WindowSet → (caller minute : ℕ) → Donation → BlockFacts
+    → List (ℕ × VersionCode) → Type 0
 IsPlanned present caller minute d facts versions =
-    AreProtective present caller minute d facts.next_id (made_numbers (used_by d) (in_force_numbers facts.numbers.now)) versions
+    AreProtective present caller minute d facts.next_id
+    (made_numbers (used_by d) (in_force_numbers facts.numbers.now)) versions

@@ -18,8 +18,10 @@ is_others caller v = not (caller == npac) && not (caller == v.new_provider.numbe
 
 abbrev pub release_tests : (caller : ℕ) → BlockFacts → List (ℕ × Bool)
 release_tests caller facts =
-    (3, is_none facts.code_holder) ∷ (10, is_none facts.donor || is_none facts.last) ∷ (11, holds_of (is_others caller) facts.last)
-    ∷ (13, holds_of (λ v. not (is_active (seen v).status)) facts.last) ∷ (23, has_open_port facts.numbers.now)
+    (3, is_none facts.code_holder) ∷ (10, is_none facts.donor || is_none facts.last)
+    ∷ (11, holds_of (is_others caller) facts.last)
+    ∷ (13, holds_of (λ v. not (is_active (seen v).status)) facts.last)
+    ∷ (23, has_open_port facts.numbers.now)
     ∷ (28, holds_of (λ v. has_no_attempt_left (seen v).attempt) facts.last) ∷ []
 
 -- the least number whose condition holds of the release
@@ -29,4 +31,5 @@ release_refusal caller facts = first_that_holds (release_tests caller facts)
 -- the block's last version sends a delete
 abbrev pub IsReleased : WindowSet → (minute : ℕ) → Option VersionCode → Step → Type 0
 IsReleased present minute None step = ⊥
-IsReleased present minute (Some v) step = (sends_seen step.sends ≡ Some Delete) × ((everyone : List ℕ) → Becomes (sent present Delete everyone minute) v step.version)
+IsReleased present minute (Some v) step = (sends_seen step.sends ≡ Some Delete)
+    × ((everyone : List ℕ) → Becomes (sent present Delete everyone minute) v step.version)

@@ -32,11 +32,14 @@ served_by_version None other = other
 
 -- a donated block's holder; else the code's
 abbrev pub served_by_code : ServingFacts → Server
-served_by_code f = if f.is_donated then served_by_block (option_map seen f.block_in_force) else ByCode (carrier_number f.code_holder)
+served_by_code f = if f.is_donated then served_by_block (option_map seen f.block_in_force)
+    else ByCode (carrier_number f.code_holder)
 
 -- the definitions' `serving`, over what is known
 abbrev pub serving_of : ServingFacts → Server
-serving_of f = served_by_version (option_map seen f.in_force) (protected_by (option_map seen f.opened) (served_by_code f))
+serving_of f =
+    served_by_version (option_map seen f.in_force) (protected_by (option_map seen f.opened)
+    (served_by_code f))
 
 -- the facts are those of a number of the state
 pub record ServingFactsAre (st : State) (n : ℕ) (f : ServingFacts) : Type 0 where

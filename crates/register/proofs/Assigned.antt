@@ -49,27 +49,43 @@ is_there None e = cc
 is_there (Some x) e = (x, refl)
 
 -- an assignment is not refused with storage
-pub assignment_never : (caller : ℕ) (facts : BlockFacts) (r : Refusal) → Some (number_of r) ≡ assignment_refusal caller facts → r ≡ Storage → ⊥
+pub assignment_never : (caller : ℕ) (facts : BlockFacts) (r : Refusal)
+    → Some (number_of r) ≡ assignment_refusal caller facts → r ≡ Storage → ⊥
 assignment_never caller facts r is storage =
-    never_storage (assignment_tests caller facts) (refl, (refl, (refl, (refl, (refl, (refl, (refl, tt))))))) (sym is ∙ ap (λ x. Some (number_of x)) storage)
+    never_storage (assignment_tests caller facts)
+    (refl, (refl, (refl, (refl, (refl, (refl, (refl, tt))))))) (sym is
+    ∙ ap (λ x. Some (number_of x)) storage)
 
-module _ (old new : Content) (caller : ℕ) (a : Assignment) (clock : ClockRow) (read : BlockRead) (facts : BlockFacts) (has : HasFound old caller a.block.number (assigned a) clock read facts) where
-  refused_read : (st : State) → Stands old st → AreSettled old st (Requests caller (Commands (assigned a))) → refusal st (Requests caller (Commands (assigned a))) ≡ assignment_refusal caller facts
+module _ (old new : Content) (caller : ℕ) (a : Assignment) (clock : ClockRow) (read : BlockRead)
+    (facts : BlockFacts) (has : HasFound old caller a.block.number (assigned a) clock read
+    facts) where
+  refused_read : (st : State) → Stands old st
+      → AreSettled old st (Requests caller (Commands (assigned a)))
+      → refusal st (Requests caller (Commands (assigned a))) ≡ assignment_refusal caller facts
   refused_read st stands settled =
-      assignment_refused st caller facts a (block_facts_are st old stands a.block.number settled read has.is_read clock has.clock_is caller (assigned a) facts has.are refl)
+      assignment_refused st caller facts a (block_facts_are st old stands a.block.number settled
+      read has.is_read clock has.clock_is caller (assigned a) facts has.are refl)
       ∙ ap (λ b. if b then Some 1 else assignment_refusal caller facts) (has.known st stands)
 
-  pub answers_assignment_refused : (k : ℕ) → new ≡ old → Some k ≡ assignment_refusal caller facts → AnswersSettled old new (Requests caller (Commands (assigned a))) (refused_with k)
-  answers_assignment_refused k same refused = answers_refused_same old new (Requests caller (Commands (assigned a))) k same (λ st stands settled. refused_read st stands settled ∙ sym refused)
+  pub answers_assignment_refused : (k : ℕ) → new ≡ old → Some k ≡ assignment_refusal caller facts
+      → AnswersSettled old new (Requests caller (Commands (assigned a))) (refused_with k)
+  answers_assignment_refused k same refused =
+      answers_refused_same old new (Requests caller (Commands (assigned a))) k same
+      (λ st stands settled. refused_read st stands settled ∙ sym refused)
 
-  module _ (version : VersionCode) (everyone : List ℕ) (view : View) (accepts : None ≡ assignment_refusal caller facts) (is : IsAssigned clock.present clock.minute a (carrier_number facts.donor) version)
+  module _ (version : VersionCode) (everyone : List ℕ) (view : View)
+      (accepts : None ≡ assignment_refusal caller facts) (is : IsAssigned clock.present clock.minute
+      a (carrier_number facts.donor) version)
       (are_all : everyone ≡ keys old.carriers)
       (views : Views clock.present.windows clock clock.next_id version view)
       (changed : clock.next_id + 1 ≤ limit
-      → IsChanged (pooling (sending_each clock.minute Create (begun_of clock.present.windows (clock.next_id, version) ∷ []) everyone)
+      → IsChanged
+      (pooling (sending_each clock.minute Create (begun_of clock.present.windows
+      (clock.next_id, version) ∷ []) everyone)
       (assigned_row a.block.number version.old_provider.number clock.next_id)
       (record { minute = clock.minute; next_id = clock.next_id + 1 })) old new) where
-    module _ (st : State) (stands : Stands old st) (settled : AreSettled old st (Requests caller (Commands (assigned a)))) where
+    module _ (st : State) (stands : Stands old st)
+        (settled : AreSettled old st (Requests caller (Commands (assigned a)))) where
       abbrev cic : Option ℕ
       cic = option_map (λ (x : Cic). x.number) a.routing.cic
 
@@ -77,7 +93,8 @@ module _ (old new : Content) (caller : ℕ) (a : Assignment) (clock : ClockRow) 
       donor = donor_of a.block.number st.history
 
       abbrev blank : ℕ → Version
-      blank = unsent_block (set_now st) (donor_of a.block.number st.history) a.holder.number st.now a.routing.lrn.number (option_map (λ (x : Cic). x.number) a.routing.cic)
+      blank = unsent_block (set_now st) (donor_of a.block.number st.history) a.holder.number st.now
+          a.routing.lrn.number (option_map (λ (x : Cic). x.number) a.routing.cic)
 
       abbrev after_it : State
       after_it = accepted st (Requests caller (Commands (assigned a)))
@@ -92,10 +109,13 @@ module _ (old new : Content) (caller : ℕ) (a : Assignment) (clock : ClockRow) 
       same_clock = clock_is_of old st clock stands.represents has.clock_is
 
       donor_is : carrier_number facts.donor ≡ donor_of a.block.number st.history
-      donor_is = (block_facts_are st old stands a.block.number settled read has.is_read clock has.clock_is caller (assigned a) facts has.are refl).donor
+      donor_is = (block_facts_are st old stands a.block.number settled read has.is_read clock
+          has.clock_is caller (assigned a) facts has.are refl).donor
 
       -- the version as the definitions make it
-      made : (id : ℕ) (cs : List ℕ) → version_of id (sent (set_now st) Create cs st.now (blank id)).broadcasts (set_now st).windows version ≡ sent (set_now st) Create cs st.now (blank id)
+      made : (id : ℕ) (cs : List ℕ)
+          → version_of id (sent (set_now st) Create cs st.now (blank id)).broadcasts
+          (set_now st).windows version ≡ sent (set_now st) Create cs st.now (blank id)
       made id cs =
           subst (λ d. IsSeen version (made_version (set_now st) id caller st.now cs d
           (Commands (assigned a)))) donor_is
@@ -106,25 +126,41 @@ module _ (old new : Content) (caller : ℕ) (a : Assignment) (clock : ClockRow) 
       begun : List Begun
       begun = begun_of (set_now st).windows (next_id st.windows st.history, version) ∷ []
 
-      are : AreBegun (set_now st) st.now everyone blank (λ id. refl) (λ id. refl) (λ id. refl) (next_id st.windows st.history) (begun_of (set_now st).windows (next_id st.windows st.history, version) ∷ [])
+      are : AreBegun (set_now st) st.now everyone blank (λ id. refl) (λ id. refl) (λ id. refl)
+          (next_id st.windows st.history)
+          (begun_of (set_now st).windows (next_id st.windows st.history, version) ∷ [])
       are = (refl, ap bare (made (next_id st.windows st.history) []), tt)
 
       the_donor : (d : ℕ) × (donor_of a.block.number st.history ≡ Some d)
-      the_donor = is_there (donor_of a.block.number st.history) (accepted_command st caller (assigned a) none).not_found
+      the_donor =
+          is_there (donor_of a.block.number st.history) (accepted_command st caller (assigned a)
+          none).not_found
 
       donor_named : version.old_provider.number ≡ the_donor.0
-      donor_named = ap (λ (v : Version). v.old_provider) (made (next_id st.windows st.history) []) ∙ ap (λ o. (unsent_block (set_now st) o a.holder.number st.now a.routing.lrn.number cic 0).old_provider) the_donor.1
+      donor_named = ap (λ (v : Version). v.old_provider) (made (next_id st.windows st.history) [])
+          ∙ ap (λ o. (unsent_block (set_now st) o a.holder.number st.now a.routing.lrn.number cic
+          0).old_provider) the_donor.1
 
       room : clock.next_id + 1 ≤ limit
       room =
-          let test : nat_lt limit (next_id st.windows st.history + 1) ≡ false = or_second false (nat_lt limit (next_id st.windows st.history + 1)) (accepted_command st caller (assigned a) none).full in
-          subst (λ k. k + 1 ≤ limit) (ap (λ (k : ClockRow). k.next_id) (sym same_clock)) (not_past (next_id st.windows st.history + 1) test)
+          let test : nat_lt limit (next_id st.windows st.history + 1) ≡ false =
+          or_second false (nat_lt limit (next_id st.windows st.history + 1))
+          (accepted_command st caller (assigned a) none).full in
+          subst (λ k. k + 1 ≤ limit) (ap (λ (k : ClockRow). k.next_id) (sym same_clock))
+          (not_past (next_id st.windows st.history + 1) test)
 
       abbrev next : ClockMove
       next = record { minute = st.now; next_id = next_id st.windows st.history + 1 }
 
-      put : IsChanged (pooling (sending_each st.now Create (begun_of (set_now st).windows (next_id st.windows st.history, version) ∷ []) everyone) (assigned_row a.block.number the_donor.0 (next_id st.windows st.history)) next) old new
-      put = subst (λ d. IsChanged (pooling (sending_each st.now Create (begun_of (set_now st).windows (next_id st.windows st.history, version) ∷ []) everyone) (assigned_row a.block.number d (next_id st.windows st.history)) next) old new) donor_named
+      put : IsChanged
+          (pooling (sending_each st.now Create
+          (begun_of (set_now st).windows (next_id st.windows st.history, version) ∷ []) everyone)
+          (assigned_row a.block.number the_donor.0 (next_id st.windows st.history)) next) old new
+      put = subst
+          (λ d. IsChanged
+          (pooling (sending_each st.now Create
+          (begun_of (set_now st).windows (next_id st.windows st.history, version) ∷ []) everyone)
+          (assigned_row a.block.number d (next_id st.windows st.history)) next) old new) donor_named
           (subst (λ (k : ClockRow). IsChanged
           (pooling (sending_each k.minute Create
           (begun_of k.present.windows (k.next_id, version) ∷ []) everyone)
@@ -132,17 +168,22 @@ module _ (old new : Content) (caller : ℕ) (a : Assignment) (clock : ClockRow) 
           (record { minute = k.minute; next_id = k.next_id + 1 })) old new) same_clock
           (changed room))
 
-      blocks : (k : ℕ) → get new.blocks k ≡ stored_block (accepted st (Requests caller (Commands (assigned a)))) k
-      blocks k = put.blocks k ∙ assignment-blocks st old caller a.block.number a.holder.number a.routing.lrn.number cic the_donor.0 stands the_donor.1 k
+      blocks : (k : ℕ)
+          → get new.blocks k ≡ stored_block (accepted st (Requests caller (Commands (assigned a))))
+          k
+      blocks k = put.blocks k ∙ assignment-blocks st old caller a.block.number a.holder.number
+          a.routing.lrn.number cic the_donor.0 stands the_donor.1 k
 
-      here : (t : Subject) → list_any (subject_eq t) (Block a.block.number ∷ []) ≡ true → is_of_block a.block.number st t ≡ true
+      here : (t : Subject) → list_any (subject_eq t) (Block a.block.number ∷ []) ≡ true
+          → is_of_block a.block.number st t ≡ true
       here t named = go (subject_eq t (Block a.block.number)) named
         where
           go : (b : Bool) → (b || false) ≡ true → (b || is_in_block a.block.number t) ≡ true
           go true e = refl
           go false e = cc
 
-      within : (t : Subject) → is_of_block a.block.number st t ≡ false → list_any (subject_eq t) (Block a.block.number ∷ []) ≡ false
+      within : (t : Subject) → is_of_block a.block.number st t ≡ false
+          → list_any (subject_eq t) (Block a.block.number ∷ []) ≡ false
       within t other = go (subject_eq t (Block a.block.number)) other
         where
           go : (b : Bool) → (b || is_in_block a.block.number t) ≡ false → (b || false) ≡ false
@@ -151,32 +192,51 @@ module _ (old new : Content) (caller : ℕ) (a : Assignment) (clock : ClockRow) 
 
       assigned-stands : Stands new after_it
       assigned-stands =
-          pooled-stands st caller (Commands (assigned a)) (Block a.block.number ∷ []) blank (assignment-makes st caller a.block.number a.holder.number a.routing.lrn.number cic)
-          old new (begun_of (set_now st).windows (next_id st.windows st.history, version) ∷ []) everyone (assigned_row a.block.number the_donor.0 (next_id st.windows st.history)) next stands none
-          are (refl, tt) (ap (λ t. t ∷ []) is.subject) are_all put (λ t named. settled t (here t named)) blocks refl
+          pooled-stands st caller (Commands (assigned a)) (Block a.block.number ∷ []) blank
+          (assignment-makes st caller a.block.number a.holder.number a.routing.lrn.number cic)
+          old new (begun_of (set_now st).windows (next_id st.windows st.history, version) ∷ [])
+          everyone (assigned_row a.block.number the_donor.0 (next_id st.windows st.history)) next
+          stands none
+          are (refl, tt) (ap (λ t. t ∷ []) is.subject) are_all put
+          (λ t named. settled t (here t named)) blocks refl
 
       assigned-leaves : LeavesOthers old new st (Requests caller (Commands (assigned a)))
       assigned-leaves =
-          pooled-leaves st caller (Commands (assigned a)) (Block a.block.number ∷ []) blank (assignment-makes st caller a.block.number a.holder.number a.routing.lrn.number cic)
-          old new (begun_of (set_now st).windows (next_id st.windows st.history, version) ∷ []) everyone (assigned_row a.block.number the_donor.0 (next_id st.windows st.history)) next stands none
-          are (refl, tt) (ap (λ t. t ∷ []) is.subject) are_all put (λ t named. settled t (here t named)) blocks refl within
+          pooled-leaves st caller (Commands (assigned a)) (Block a.block.number ∷ []) blank
+          (assignment-makes st caller a.block.number a.holder.number a.routing.lrn.number cic)
+          old new (begun_of (set_now st).windows (next_id st.windows st.history, version) ∷ [])
+          everyone (assigned_row a.block.number the_donor.0 (next_id st.windows st.history)) next
+          stands none
+          are (refl, tt) (ap (λ t. t ∷ []) is.subject) are_all put
+          (λ t named. settled t (here t named)) blocks refl within
 
       -- ---- the answer
 
       abbrev made_one : Version
-      made_one = sent (set_now st) Create (record_now st (Block a.block.number)).carriers st.now (blank (next_id st.windows st.history))
+      made_one = sent (set_now st) Create (record_now st (Block a.block.number)).carriers st.now
+          (blank (next_id st.windows st.history))
 
-      in_front : version_with (next_id st.windows st.history) (record_now after_it (Block a.block.number)) ≡ Some made_one
+      in_front : version_with (next_id st.windows st.history)
+          (record_now after_it (Block a.block.number)) ≡ Some made_one
       in_front =
           ap (version_with (next_id st.windows st.history))
-          (made-records st caller (Commands (assigned a)) (Block a.block.number ∷ []) blank (assignment-makes st caller a.block.number a.holder.number a.routing.lrn.number cic) (Block a.block.number))
+          (made-records st caller (Commands (assigned a)) (Block a.block.number ∷ []) blank
+          (assignment-makes st caller a.block.number a.holder.number a.routing.lrn.number cic)
+          (Block a.block.number))
           ∙ ap (λ b. version_with (next_id st.windows st.history) (record {
             carriers = (record_now st (Block a.block.number)).carriers;
-            versions = with_made (if b then Some (next_id st.windows st.history) else None) (λ id. sent (set_now st) Create (record_now st (Block a.block.number)).carriers st.now (blank id)) (record_now st (Block a.block.number)).versions;
+            versions = with_made (if b then Some (next_id st.windows st.history)
+                else None) (λ id. sent (set_now st) Create
+                (record_now st (Block a.block.number)).carriers st.now (blank id))
+                (record_now st (Block a.block.number)).versions;
           })) (subject_eq-refl (Block a.block.number))
-          ∙ ap (λ b. cond b (Some made_one) (version_with (next_id st.windows st.history) (record_now st (Block a.block.number)))) (same_number (next_id st.windows st.history))
+          ∙ ap (λ b. cond b (Some made_one) (version_with (next_id st.windows st.history)
+          (record_now st (Block a.block.number)))) (same_number (next_id st.windows st.history))
 
-      seen_as : view ≡ view_of after_it (record { subject = Block a.block.number; version = made_one })
+      seen_as : view ≡ view_of after_it (record {
+        subject = Block a.block.number;
+        version = made_one;
+      })
       seen_as =
           views after_it made_one.broadcasts (ap (λ (k : ClockRow). k.minute) (sym same_clock))
           ∙ ap (λ (k : ClockRow). view_of after_it
@@ -185,19 +245,31 @@ module _ (old new : Content) (caller : ℕ) (a : Assignment) (clock : ClockRow) 
             version =
                 version_of clock.next_id made_one.broadcasts k.present.windows version;
           })) same_clock
-          ∙ ap (λ k. view_of after_it (record { subject = subject_of version.subject; version = version_of k made_one.broadcasts (set_now st).windows version })) (ap (λ (k : ClockRow). k.next_id) same_clock)
-          ∙ ap (λ t. view_of after_it (record { subject = t; version = version_of (next_id st.windows st.history) made_one.broadcasts (set_now st).windows version })) is.subject
-          ∙ ap (λ v. view_of after_it (record { subject = Block a.block.number; version = v })) (made (next_id st.windows st.history) (record_now st (Block a.block.number)).carriers)
+          ∙ ap (λ k. view_of after_it (record {
+            subject = subject_of version.subject;
+            version = version_of k made_one.broadcasts (set_now st).windows version;
+          })) (ap (λ (k : ClockRow). k.next_id) same_clock)
+          ∙ ap (λ t. view_of after_it (record {
+            subject = t;
+            version = version_of (next_id st.windows st.history) made_one.broadcasts
+                (set_now st).windows version;
+          })) is.subject
+          ∙ ap (λ v. view_of after_it (record { subject = Block a.block.number; version = v }))
+          (made (next_id st.windows st.history) (record_now st (Block a.block.number)).carriers)
 
-      assigned-answer : Shown (Some view) ≡ answer_of st after_it (Requests caller (Commands (assigned a)))
+      assigned-answer : Shown (Some view) ≡ answer_of st after_it
+          (Requests caller (Commands (assigned a)))
       assigned-answer =
           ap (λ x. Shown (Some x)) seen_as
-          ∙ sym (shown_is after_it (Block a.block.number) (next_id st.windows st.history) made_one assigned-stands.represents.history in_front)
+          ∙ sym (shown_is after_it (Block a.block.number) (next_id st.windows st.history) made_one
+          assigned-stands.represents.history in_front)
 
-    pub answers_assigned : AnswersSettled old new (Requests caller (Commands (assigned a))) (Some (Shown (Some view)))
-    answers_assigned = answers_accepted old new (Requests caller (Commands (assigned a))) (Shown (Some view)) (λ st stands settled. (
-      none st stands settled,
-      assigned-answer st stands settled,
-      assigned-stands st stands settled,
-      assigned-leaves st stands settled,
-    ))
+    pub answers_assigned : AnswersSettled old new (Requests caller (Commands (assigned a)))
+        (Some (Shown (Some view)))
+    answers_assigned = answers_accepted old new (Requests caller (Commands (assigned a)))
+        (Shown (Some view)) (λ st stands settled. (
+          none st stands settled,
+          assigned-answer st stands settled,
+          assigned-stands st stands settled,
+          assigned-leaves st stands settled,
+        ))

@@ -31,15 +31,19 @@ use Rattle.register.proofs.Stepped.{StepsOne, stepped-answer, stepped-leaves, st
 
 -- ---- releases
 
-first_has_id : (vs : List Version) (v : Version) → first_of_versions vs ≡ Some v → find (λ u. u.id == v.id) vs ≡ Some v
+first_has_id : (vs : List Version) (v : Version) → first_of_versions vs ≡ Some v
+    → find (λ u. u.id == v.id) vs ≡ Some v
 first_has_id [] v is = cc
 first_has_id (u ∷ us) v is =
     let same : u ≡ v = some_is u v is in
-    ap (λ b. cond b (Some u) (find (λ x. x.id == v.id) us)) (ap (λ (x : Version). x.id == v.id) same ∙ same_number v.id) ∙ is
+    ap (λ b. cond b (Some u) (find (λ x. x.id == v.id) us)) (ap (λ (x : Version). x.id == v.id) same
+    ∙ same_number v.id) ∙ is
 
 -- `u` is what was read of the block's last version, and `next` what becomes of it
-module _ (st : State) (old new : Content) (caller block : ℕ) (v : Version) (u next : VersionCode) (id : ℕ) (clock : ClockRow) (everyone : List ℕ) (view : View)
-    (stands : Stands old st) (due : IsSettled old st (Block block)) (none : refusal st (Requests caller (Commands (Release block))) ≡ None)
+module _ (st : State) (old new : Content) (caller block : ℕ) (v : Version) (u next : VersionCode)
+    (id : ℕ) (clock : ClockRow) (everyone : List ℕ) (view : View)
+    (stands : Stands old st) (due : IsSettled old st (Block block))
+    (none : refusal st (Requests caller (Commands (Release block))) ≡ None)
     (last : last_version (record_now st (Block block)) ≡ Some v) (sees : IsSeen u v)
     (its : id ≡ v.id) (subject : subject_of u.subject ≡ Block block)
     (clock_is : old.clock ≡ Some clock) (are_all : everyone ≡ keys old.carriers)
@@ -61,9 +65,11 @@ module _ (st : State) (old new : Content) (caller block : ℕ) (v : Version) (u 
 
   forced : in_force_status v.status ≡ true
   forced = ap in_force_status (is_active-is v.status
-      (ap (holds_of (λ (x : Version). not (is_active x.status))) (sym last) ∙ (accepted_command st caller (Release block) none).wrong_status))
+      (ap (holds_of (λ (x : Version). not (is_active x.status))) (sym last)
+      ∙ (accepted_command st caller (Release block) none).wrong_status))
 
-  one : StepsOne st caller (Commands (Release block)) (Block block) v.id (sent (set_now st) Delete (record_now st (Block block)).carriers st.now) (Some Delete) v
+  one : StepsOne st caller (Commands (Release block)) (Block block) v.id
+      (sent (set_now st) Delete (record_now st (Block block)).carriers st.now) (Some Delete) v
   one = release-steps st old caller block v stands found forced
 
   same_clock : clock ≡ clock_of st
@@ -87,8 +93,10 @@ module _ (st : State) (old new : Content) (caller block : ℕ) (v : Version) (u 
   its_subject : subject_of next.subject ≡ Block block
   its_subject = ap subject_of (becomes []).subject ∙ subject
 
-  put : IsChanged (stepping v.id st.now (Some Delete) (Block block) (sent (set_now st) Delete (record_now st (Block block)).carriers st.now v) everyone) old new
-  put = subst (λ (x : Version). IsChanged (stepping v.id st.now (Some Delete) (Block block) x everyone) old new) after_is
+  put : IsChanged (stepping v.id st.now (Some Delete) (Block block)
+      (sent (set_now st) Delete (record_now st (Block block)).carriers st.now v) everyone) old new
+  put = subst (λ (x : Version). IsChanged (stepping v.id st.now (Some Delete) (Block block) x
+      everyone) old new) after_is
       (subst (λ k. IsChanged (stepping k st.now (Some Delete) (Block block)
       (seen_by (set_now st).windows next) everyone) old new) its
       (subst (λ t. IsChanged (stepping id st.now (Some Delete) t (seen_by (set_now st).windows next)
@@ -97,7 +105,10 @@ module _ (st : State) (old new : Content) (caller block : ℕ) (v : Version) (u 
       (subject_of next.subject) (seen_by k.present.windows next) everyone) old new) same_clock
       changed)))
 
-  seen_as : view ≡ view_of after_it (record { subject = Block block; version = sent (set_now st) Delete (record_now st (Block block)).carriers st.now v })
+  seen_as : view ≡ view_of after_it (record {
+    subject = Block block;
+    version = sent (set_now st) Delete (record_now st (Block block)).carriers st.now v;
+  })
   seen_as =
       views after_it (sent (set_now st) Delete (record_now st (Block block)).carriers st.now
       v).broadcasts (sym now)
@@ -108,17 +119,32 @@ module _ (st : State) (old new : Content) (caller block : ℕ) (v : Version) (u 
             version_of id (sent (set_now st) Delete (record_now st (Block block)).carriers st.now
             v).broadcasts k.present.windows next;
       })) same_clock
-      ∙ ap (λ t. view_of after_it (record { subject = t; version = version_of id (sent (set_now st) Delete (record_now st (Block block)).carriers st.now v).broadcasts (set_now st).windows next })) its_subject
-      ∙ ap (λ k. view_of after_it (record { subject = Block block; version = version_of k (sent (set_now st) Delete (record_now st (Block block)).carriers st.now v).broadcasts (set_now st).windows next })) its
+      ∙ ap (λ t. view_of after_it (record {
+        subject = t;
+        version = version_of id (sent (set_now st) Delete (record_now st (Block block)).carriers
+            st.now v).broadcasts (set_now st).windows next;
+      })) its_subject
+      ∙ ap (λ k. view_of after_it (record {
+        subject = Block block;
+        version = version_of k (sent (set_now st) Delete (record_now st (Block block)).carriers
+            st.now v).broadcasts (set_now st).windows next;
+      })) its
       ∙ ap (λ x. view_of after_it (record { subject = Block block; version = x })) after_is
 
   pub released-stands : Stands new after_it
-  released-stands = stepped-stands st old new caller (Commands (Release block)) (Block block) v.id (sent (set_now st) Delete (record_now st (Block block)).carriers st.now) (Some Delete) v everyone clock one stands due found clock_is none are_all put
+  released-stands = stepped-stands st old new caller (Commands (Release block)) (Block block) v.id
+      (sent (set_now st) Delete (record_now st (Block block)).carriers st.now) (Some Delete) v
+      everyone clock one stands due found clock_is none are_all put
 
   pub released-leaves : LeavesOthers old new st (Requests caller (Commands (Release block)))
-  released-leaves = stepped-leaves st old new caller (Commands (Release block)) (Block block) v.id (sent (set_now st) Delete (record_now st (Block block)).carriers st.now) (Some Delete) v everyone clock one stands due found clock_is none are_all put
+  released-leaves = stepped-leaves st old new caller (Commands (Release block)) (Block block) v.id
+      (sent (set_now st) Delete (record_now st (Block block)).carriers st.now) (Some Delete) v
+      everyone clock one stands due found clock_is none are_all put
 
-  pub released-answer : Shown (Some view) ≡ answer_of st after_it (Requests caller (Commands (Release block)))
+  pub released-answer : Shown (Some view) ≡ answer_of st after_it
+      (Requests caller (Commands (Release block)))
   released-answer =
-      stepped-answer st old new caller (Commands (Release block)) (Block block) v.id (sent (set_now st) Delete (record_now st (Block block)).carriers st.now) (Some Delete) v everyone clock one stands due found clock_is none are_all put view seen_as
+      stepped-answer st old new caller (Commands (Release block)) (Block block) v.id
+      (sent (set_now st) Delete (record_now st (Block block)).carriers st.now) (Some Delete) v
+      everyone clock one stands due found clock_is none are_all put view seen_as
       ∙ sym (ap (λ o. shown_found after_it (option_map (λ (x : Version). x.id) o)) last)

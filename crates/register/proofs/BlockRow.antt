@@ -24,32 +24,51 @@ names_last None = refl
 names_last (Some row) = refl
 
 -- it is that of the version made last, where the block is donated
-pub stored_last : (donor : Option ℕ) (last : Option ℕ) → named_by (option_map (λ d. record { donor = d; last = last }) donor) ≡ (elim donor [ Some d ↦ last | None ↦ None ])
+pub stored_last : (donor : Option ℕ) (last : Option ℕ)
+    → named_by (option_map (λ d. record { donor = d; last = last }) donor)
+    ≡ (elim donor [ Some d ↦ last | None ↦ None ])
 stored_last None last = refl
 stored_last (Some d) last = refl
 
-pub first_has_id : (vs : List Version) (v : Version) → first_of_versions vs ≡ Some v → has_id v.id vs ≡ true
+pub first_has_id : (vs : List Version) (v : Version) → first_of_versions vs ≡ Some v
+    → has_id v.id vs ≡ true
 first_has_id [] v is = cc
-first_has_id (u ∷ us) v is = let same : u ≡ v = cc in ap (λ (x : Version). (x.id == v.id) || has_id v.id us) same ∙ ap (λ b. b || has_id v.id us) (same_number v.id)
+first_has_id (u ∷ us) v is = let same : u ≡ v = cc in
+    ap (λ (x : Version). (x.id == v.id) || has_id v.id us) same ∙ ap (λ b. b || has_id v.id us)
+    (same_number v.id)
 
 -- a version of a record has a row
-pub row_is_there : (st : State) (c : Content) → Represents c st → (s : Subject) (id : ℕ) → has_id id (record_now st s).versions ≡ true → is_some (get c.versions id) ≡ true
+pub row_is_there : (st : State) (c : Content) → Represents c st → (s : Subject) (id : ℕ)
+    → has_id id (record_now st s).versions ≡ true → is_some (get c.versions id) ≡ true
 row_is_there st c represents s id has = go (get c.versions id) refl
   where
     go : (o : Option VersionRow) → get c.versions id ≡ o → is_some o ≡ true
     go (Some row) e = refl
     go None e = let never : true ≡ false = sym has ∙ no_row_at st c represents id e s in cc
 
-module _ (st : State) (c : Content) (represents : Represents c st) (block : ℕ) (row : Option BlockRowCode) (is : option_map block_row_of row ≡ get c.blocks block) where
+module _ (st : State) (c : Content) (represents : Represents c st) (block : ℕ)
+    (row : Option BlockRowCode) (is : option_map block_row_of row ≡ get c.blocks block) where
   -- what the row names
-  pub named_is : last_id row ≡ (elim (donor_of block st.history) [ Some d ↦ option_map (λ (v : Version). v.id) (last_version (record_now st (Block block))) | None ↦ None ])
-  named_is = names_last row ∙ ap named_by (is ∙ represents.blocks block) ∙ stored_last (donor_of block st.history) (option_map (λ (v : Version). v.id) (last_version (record_now st (Block block))))
+  pub named_is : last_id row
+      ≡ (elim (donor_of block st.history) [
+        | Some d ↦ option_map (λ (v : Version). v.id)
+            (last_version (record_now st (Block block)))
+        | None ↦ None
+      ])
+  named_is = names_last row ∙ ap named_by (is ∙ represents.blocks block)
+      ∙ stored_last (donor_of block st.history) (option_map (λ (v : Version). v.id)
+      (last_version (record_now st (Block block))))
 
   pub last_is_there : IsRowThere c (last_id row)
-  last_is_there = subst (IsRowThere c) (sym named_is) (go (donor_of block st.history) (last_version (record_now st (Block block))) refl)
+  last_is_there =
+      subst (IsRowThere c) (sym named_is) (go (donor_of block st.history)
+      (last_version (record_now st (Block block))) refl)
     where
-      go : (donor : Option ℕ) (o : Option Version) → last_version (record_now st (Block block)) ≡ o →
+      go : (donor : Option ℕ) (o : Option Version) → last_version (record_now st (Block block)) ≡ o
+          →
           IsRowThere c (elim donor [ Some d ↦ option_map (λ (v : Version). v.id) o | None ↦ None ])
       go None o e = tt
       go (Some d) None e = tt
-      go (Some d) (Some v) e = row_is_there st c represents (Block block) v.id (first_has_id (record_now st (Block block)).versions v e)
+      go (Some d) (Some v) e =
+          row_is_there st c represents (Block block) v.id
+          (first_has_id (record_now st (Block block)).versions v e)

@@ -9,11 +9,13 @@ use Rattle.meaning.proofs.Ascending as ascending
 -- ---- rising lists
 
 module _ {A : Type 0} (key : A → ℕ) (p : A → Bool) where
-  above_filtered : (k : ℕ) (xs : List A) → ascending.AreAbove key k xs → ascending.AreAbove key k (filter p xs)
+  above_filtered : (k : ℕ) (xs : List A) → ascending.AreAbove key k xs
+      → ascending.AreAbove key k (filter p xs)
   above_filtered k [] above = tt
   above_filtered k (x ∷ xs) above = go (above_filtered k xs above.1) (p x)
     where
-      go : ascending.AreAbove key k (filter p xs) → (b : Bool) → ascending.AreAbove key k (cond b (x ∷ filter p xs) (filter p xs))
+      go : ascending.AreAbove key k (filter p xs) → (b : Bool)
+          → ascending.AreAbove key k (cond b (x ∷ filter p xs) (filter p xs))
       go later true = (above.0, later)
       go later false = later
 
@@ -22,16 +24,21 @@ module _ {A : Type 0} (key : A → ℕ) (p : A → Bool) where
   filtered-rise [] rise = tt
   filtered-rise (x ∷ xs) rise = go (filtered-rise xs rise.1) (p x)
     where
-      go : ascending.Rise key (filter p xs) → (b : Bool) → ascending.Rise key (cond b (x ∷ filter p xs) (filter p xs))
+      go : ascending.Rise key (filter p xs) → (b : Bool)
+          → ascending.Rise key (cond b (x ∷ filter p xs) (filter p xs))
       go later true = (above_filtered (key x) xs rise.0, later)
       go later false = later
 
 -- what rises by one number rises by another that grows with it
-pub rekeyed-rise : {A : Type 0} (key other : A → ℕ) → ((x y : A) → key x < key y → other x < other y) → (xs : List A) → ascending.Rise key xs → ascending.Rise other xs
+pub rekeyed-rise : {A : Type 0} (key other : A → ℕ)
+    → ((x y : A) → key x < key y → other x < other y) → (xs : List A) → ascending.Rise key xs
+    → ascending.Rise other xs
 rekeyed-rise key other grows [] rise = tt
-rekeyed-rise {A} key other grows (x ∷ xs) rise = (above xs rise.0, rekeyed-rise key other grows xs rise.1)
+rekeyed-rise {A} key other grows (x ∷ xs) rise =
+    (above xs rise.0, rekeyed-rise key other grows xs rise.1)
   where
-    above : (ys : List A) → ascending.AreAbove key (key x) ys → ascending.AreAbove other (other x) ys
+    above : (ys : List A) → ascending.AreAbove key (key x) ys
+        → ascending.AreAbove other (other x) ys
     above [] all = tt
     above (y ∷ ys) all = (grows x y all.0, above ys all.1)
 
@@ -42,12 +49,14 @@ module _ (p : Subject → Bool) where
   passing_rows rows = filter p (map (λ (r : InForce). r.subject) rows)
 
   abbrev pub passing_versions : List SubjectVersion → List Subject
-  passing_versions es = filter p (map (λ (e : SubjectVersion). e.subject) (filter (λ e. in_force e.version) es))
+  passing_versions es =
+      filter p (map (λ (e : SubjectVersion). e.subject) (filter (λ e. in_force e.version) es))
 
   abbrev counted : Bool → ℕ → ℕ
   counted b n = if b then suc n else n
 
-  first_counted : (b : Bool) (s : Subject) (ss : List Subject) → length (cond b (s ∷ ss) ss) ≡ counted b (length ss)
+  first_counted : (b : Bool) (s : Subject) (ss : List Subject)
+      → length (cond b (s ∷ ss) ss) ≡ counted b (length ss)
   first_counted true s ss = refl
   first_counted false s ss = refl
 
@@ -58,19 +67,25 @@ module _ (p : Subject → Bool) where
   counted-swap false false n = refl
 
   -- a row inserted counts as one in front
-  length-inserted : (r : InForce) (qs : List InForce) → length (passing_rows (row_inserted r qs)) ≡ counted (p r.subject) (length (passing_rows qs))
+  length-inserted : (r : InForce) (qs : List InForce) → length (passing_rows (row_inserted r qs))
+      ≡ counted (p r.subject) (length (passing_rows qs))
   length-inserted r [] = first_counted (p r.subject) r.subject []
   length-inserted r (q ∷ qs) = go (length-inserted r qs) (subject_lt r.subject q.subject)
     where
-      go : length (passing_rows (row_inserted r qs)) ≡ counted (p r.subject) (length (passing_rows qs)) → (b : Bool) →
-          length (passing_rows (if b then r ∷ q ∷ qs else q ∷ row_inserted r qs)) ≡ counted (p r.subject) (length (passing_rows (q ∷ qs)))
+      go : length (passing_rows (row_inserted r qs)) ≡ counted (p r.subject)
+          (length (passing_rows qs)) → (b : Bool) →
+          length (passing_rows (if b then r ∷ q ∷ qs else q ∷ row_inserted r qs))
+          ≡ counted (p r.subject) (length (passing_rows (q ∷ qs)))
       go later true = first_counted (p r.subject) r.subject (passing_rows (q ∷ qs))
       go later false =
-          first_counted (p q.subject) q.subject (passing_rows (row_inserted r qs)) ∙ ap (counted (p q.subject)) later
+          first_counted (p q.subject) q.subject (passing_rows (row_inserted r qs))
+          ∙ ap (counted (p q.subject)) later
           ∙ counted-swap (p q.subject) (p r.subject) (length (passing_rows qs))
-          ∙ ap (counted (p r.subject)) (sym (first_counted (p q.subject) q.subject (passing_rows qs)))
+          ∙ ap (counted (p r.subject))
+          (sym (first_counted (p q.subject) q.subject (passing_rows qs)))
 
-  pub length-rows : (es : List SubjectVersion) → length (passing_versions es) ≡ length (passing_rows (rows_in_force es))
+  pub length-rows : (es : List SubjectVersion)
+      → length (passing_versions es) ≡ length (passing_rows (rows_in_force es))
   length-rows [] = refl
   length-rows (e ∷ es) = go (length-rows es) (in_force e.version)
     where
@@ -78,9 +93,17 @@ module _ (p : Subject → Bool) where
       row = record { subject = e.subject; routing = e.version.routing }
 
       go : length (passing_versions es) ≡ length (passing_rows (rows_in_force es)) → (b : Bool) →
-          length (filter p (map (λ (x : SubjectVersion). x.subject) (cond b (e ∷ filter (λ x. in_force x.version) es) (filter (λ x. in_force x.version) es))))
-          ≡ length (passing_rows (if b then row_inserted (record { subject = e.subject; routing = e.version.routing }) (rows_in_force es) else rows_in_force es))
+          length (filter p (map (λ (x : SubjectVersion). x.subject)
+          (cond b (e ∷ filter (λ x. in_force x.version) es) (filter (λ x. in_force x.version) es))))
+          ≡ length (passing_rows (if b then row_inserted (record {
+            subject = e.subject;
+            routing = e.version.routing;
+          }) (rows_in_force es) else rows_in_force es))
       go later true =
-          first_counted (p e.subject) e.subject (passing_versions es) ∙ ap (counted (p e.subject)) later
-          ∙ sym (length-inserted (record { subject = e.subject; routing = e.version.routing }) (rows_in_force es))
+          first_counted (p e.subject) e.subject (passing_versions es) ∙ ap (counted (p e.subject))
+          later
+          ∙ sym (length-inserted (record {
+            subject = e.subject;
+            routing = e.version.routing;
+          }) (rows_in_force es))
       go later false = later

@@ -24,17 +24,24 @@ looked_up_before old mid is_known id clock row held same found =
     subst (λ m. IsLookedUp m is_known id clock row held) same found
 
 -- by what is answered to a caller who is not known, and of an id that no version has
-pub answers_in_vain : {A : Type 0} (old mid new : Content) (input : Input) (is_known : Bool) (id : ℕ) (seen : A → Reply) (result : Result A Refusal) (r : Refusal) →
+pub answers_in_vain : {A : Type 0} (old mid new : Content) (input : Input) (is_known : Bool)
+    (id : ℕ) (seen : A → Reply) (result : Result A Refusal) (r : Refusal) →
     result ≡ Err r → mid ≡ old → new ≡ mid → IsLookedUpInVain mid is_known id r →
     (is_known ≡ false → AnswersSettled old new input (refused_with 1)) →
-    (is_known ≡ true → get old.versions id ≡ None → AnswersSettled old new input (refused_with 10)) →
+    (is_known ≡ true → get old.versions id ≡ None → AnswersSettled old new input (refused_with 10))
+    →
     AnswersSettled old new input (replied seen result)
 answers_in_vain old mid new input is_known id seen result r is early late vain unknown missing =
-    subst (λ x. AnswersSettled old new input (replied seen x)) (sym is) (go (subst (λ m. IsLookedUpInVain m is_known id r) early vain))
+    subst (λ x. AnswersSettled old new input (replied seen x)) (sym is)
+    (go (subst (λ m. IsLookedUpInVain m is_known id r) early vain))
   where
     go : IsLookedUpInVain old is_known id r → AnswersSettled old new input (replied seen (Err r))
-    go (inl (its, stranger)) = subst (λ x. AnswersSettled old new input (replied seen (Err x))) (sym its) (unknown stranger)
-    go (inr (inl (its, registered, none))) = subst (λ x. AnswersSettled old new input (replied seen (Err x))) (sym its) (missing registered none)
+    go (inl (its, stranger)) =
+        subst (λ x. AnswersSettled old new input (replied seen (Err x))) (sym its)
+        (unknown stranger)
+    go (inr (inl (its, registered, none))) =
+        subst (λ x. AnswersSettled old new input (replied seen (Err x))) (sym its)
+        (missing registered none)
     go (inr (inr past)) = answers_without old new input _ past (late ∙ early)
 
 -- the same, before anything is written

@@ -55,11 +55,15 @@ use Rattle.register.proofs.Acknowledged.{broadcast_there, broadcast_read, acknow
 -- ---- rows of the code
 
 -- a broadcast's row after one more acknowledgement
-pub answered_seen : (row after : BroadcastRow) (closes : Bool) → ((s : Subject) (b : Broadcast) (c : ℕ) → row ≡ broadcast_row s b → after ≡ broadcast_row s (answered c closes b)) → after ≡ answered_row closes row
+pub answered_seen : (row after : BroadcastRow) (closes : Bool)
+    → ((s : Subject) (b : Broadcast) (c : ℕ) → row ≡ broadcast_row s b
+    → after ≡ broadcast_row s (answered c closes b)) → after ≡ answered_row closes row
 answered_seen row after closes gives = go row.is_open refl row.any refl closes gives
   where
-    with_both : (is_open any : Bool) → row.is_open ≡ is_open → row.any ≡ any → row ≡ record row { is_open = is_open; any = any }
-    with_both is_open any e f = ap (λ o. let x : BroadcastRow = record row { is_open = o } in x) e ∙ ap (λ a. let x : BroadcastRow = record row { is_open = is_open; any = a } in x) f
+    with_both : (is_open any : Bool) → row.is_open ≡ is_open → row.any ≡ any
+        → row ≡ record row { is_open = is_open; any = any }
+    with_both is_open any e f = ap (λ o. let x : BroadcastRow = record row { is_open = o } in
+        x) e ∙ ap (λ a. let x : BroadcastRow = record row { is_open = is_open; any = a } in x) f
 
     one : (is_open any : Bool) → Broadcast
     one is_open any = record {
@@ -73,51 +77,80 @@ answered_seen row after closes gives = go row.is_open refl row.any refl closes g
     }
 
     go : (is_open : Bool) → row.is_open ≡ is_open → (any : Bool) → row.any ≡ any → (k : Bool) →
-        ((s : Subject) (b : Broadcast) (c : ℕ) → row ≡ broadcast_row s b → after ≡ broadcast_row s (answered c k b)) → after ≡ answered_row k row
-    go true e true f true gives = gives row.subject (one true true) 0 (with_both true true e f) ∙ sym (ap (answered_row true) (with_both true true e f))
-    go true e true f false gives = gives row.subject (one true true) 0 (with_both true true e f) ∙ sym (ap (answered_row false) (with_both true true e f))
-    go true e false f true gives = gives row.subject (one true false) 0 (with_both true false e f) ∙ sym (ap (answered_row true) (with_both true false e f))
-    go true e false f false gives = gives row.subject (one true false) 0 (with_both true false e f) ∙ sym (ap (answered_row false) (with_both true false e f))
-    go false e true f true gives = gives row.subject (one false true) 0 (with_both false true e f) ∙ sym (ap (answered_row true) (with_both false true e f))
-    go false e true f false gives = gives row.subject (one false true) 0 (with_both false true e f) ∙ sym (ap (answered_row false) (with_both false true e f))
-    go false e false f true gives = gives row.subject (one false false) 0 (with_both false false e f) ∙ sym (ap (answered_row true) (with_both false false e f))
-    go false e false f false gives = gives row.subject (one false false) 0 (with_both false false e f) ∙ sym (ap (answered_row false) (with_both false false e f))
+        ((s : Subject) (b : Broadcast) (c : ℕ) → row ≡ broadcast_row s b
+        → after ≡ broadcast_row s (answered c k b)) → after ≡ answered_row k row
+    go true e true f true gives = gives row.subject (one true true) 0 (with_both true true e f)
+        ∙ sym (ap (answered_row true) (with_both true true e f))
+    go true e true f false gives = gives row.subject (one true true) 0 (with_both true true e f)
+        ∙ sym (ap (answered_row false) (with_both true true e f))
+    go true e false f true gives = gives row.subject (one true false) 0 (with_both true false e f)
+        ∙ sym (ap (answered_row true) (with_both true false e f))
+    go true e false f false gives = gives row.subject (one true false) 0 (with_both true false e f)
+        ∙ sym (ap (answered_row false) (with_both true false e f))
+    go false e true f true gives = gives row.subject (one false true) 0 (with_both false true e f)
+        ∙ sym (ap (answered_row true) (with_both false true e f))
+    go false e true f false gives = gives row.subject (one false true) 0 (with_both false true e f)
+        ∙ sym (ap (answered_row false) (with_both false true e f))
+    go false e false f true gives =
+        gives row.subject (one false false) 0 (with_both false false e f)
+        ∙ sym (ap (answered_row true) (with_both false false e f))
+    go false e false f false gives =
+        gives row.subject (one false false) 0 (with_both false false e f)
+        ∙ sym (ap (answered_row false) (with_both false false e f))
 
 -- ---- refusals
 
-pub answers_unknown : (old new : Content) (caller id attempt : ℕ) → new ≡ old → is_some (get old.carriers caller) ≡ false → AnswersSettled old new (Requests caller (Acknowledges id attempt)) (refused_with 1)
+pub answers_unknown : (old new : Content) (caller id attempt : ℕ) → new ≡ old
+    → is_some (get old.carriers caller) ≡ false
+    → AnswersSettled old new (Requests caller (Acknowledges id attempt)) (refused_with 1)
 answers_unknown old new caller id attempt same unknown =
-    answers_refused_same old new (Requests caller (Acknowledges id attempt)) 1 same (λ st stands settled. refused_unknown old caller id attempt st stands unknown)
+    answers_refused_same old new (Requests caller (Acknowledges id attempt)) 1 same
+    (λ st stands settled. refused_unknown old caller id attempt st stands unknown)
 
-pub answers_not_found : (old new : Content) (caller id attempt : ℕ) → new ≡ old → is_some (get old.carriers caller) ≡ true → get old.versions id ≡ None →
+pub answers_not_found : (old new : Content) (caller id attempt : ℕ) → new ≡ old
+    → is_some (get old.carriers caller) ≡ true → get old.versions id ≡ None →
     AnswersSettled old new (Requests caller (Acknowledges id attempt)) (refused_with 10)
 answers_not_found old new caller id attempt same known none =
-    answers_refused_same old new (Requests caller (Acknowledges id attempt)) 10 same (λ st stands settled. refused_not_found old caller id attempt st stands known none)
+    answers_refused_same old new (Requests caller (Acknowledges id attempt)) 10 same
+    (λ st stands settled. refused_not_found old caller id attempt st stands known none)
 
-pub answers_by_keys : (old new : Content) (caller id attempt : ℕ) (row : VersionRow) (u : Inside) (keys : List DownloadKey) (k : ℕ) → new ≡ old → is_some (get old.carriers caller) ≡ true →
-    get old.versions id ≡ Some row → version_row_of u ≡ row → AreWaitsAbout old caller (subject_of u.version.subject) keys → Some k ≡ key_refusal keys id attempt →
+pub answers_by_keys : (old new : Content) (caller id attempt : ℕ) (row : VersionRow) (u : Inside)
+    (keys : List DownloadKey) (k : ℕ) → new ≡ old → is_some (get old.carriers caller) ≡ true →
+    get old.versions id ≡ Some row → version_row_of u ≡ row
+    → AreWaitsAbout old caller (subject_of u.version.subject) keys
+    → Some k ≡ key_refusal keys id attempt →
     AnswersSettled old new (Requests caller (Acknowledges id attempt)) (refused_with k)
 answers_by_keys old new caller id attempt row u keys k same known found is waits refused =
     answers_refused_same old new (Requests caller (Acknowledges id attempt)) k same
-    (λ st stands settled. refused_by_keys old caller id attempt st stands settled row keys known found (subst (λ s. AreWaitsAbout old caller s keys) (ap (λ (r : VersionRow). r.subject) is) waits) ∙ sym refused)
+    (λ st stands settled. refused_by_keys old caller id attempt st stands settled row keys known
+    found (subst (λ s. AreWaitsAbout old caller s keys) (ap (λ (r : VersionRow). r.subject) is)
+    waits) ∙ sym refused)
 
 -- a download that waits is of a broadcast that has a row
-pub never_missing : (old : Content) (caller id attempt : ℕ) (row : VersionRow) (u : Inside) (keys : List DownloadKey) (key : DownloadKey) →
-    get old.versions id ≡ Some row → version_row_of u ≡ row → AreWaitsAbout old caller (subject_of u.version.subject) keys → find (is_key id attempt) keys ≡ Some key →
-    get old.broadcasts (record { id = id; attempt = attempt }) ≡ None → (st : State) → Stands old st → IdSettled old st id → ⊥
-never_missing old caller id attempt row u keys key found is waits key_is absent st stands settled = broadcast_there st old stands caller row.subject due key.minute.number id attempt awaited absent
+pub never_missing : (old : Content) (caller id attempt : ℕ) (row : VersionRow) (u : Inside)
+    (keys : List DownloadKey) (key : DownloadKey) →
+    get old.versions id ≡ Some row → version_row_of u ≡ row
+    → AreWaitsAbout old caller (subject_of u.version.subject) keys
+    → find (is_key id attempt) keys ≡ Some key →
+    get old.broadcasts (record { id = id; attempt = attempt }) ≡ None → (st : State) → Stands old st
+    → IdSettled old st id → ⊥
+never_missing old caller id attempt row u keys key found is waits key_is absent st stands settled =
+    broadcast_there st old stands caller row.subject due key.minute.number id attempt awaited absent
   where
     waits_about : AreWaitsAbout old caller row.subject keys
-    waits_about = subst (λ s. AreWaitsAbout old caller s keys) (ap (λ (r : VersionRow). r.subject) is) waits
+    waits_about =
+        subst (λ s. AreWaitsAbout old caller s keys) (ap (λ (r : VersionRow). r.subject) is) waits
 
     due : IsSettled old st row.subject
     due = row_settled st old id row stands.represents settled found
 
-    shown : (v : Version) × (version_with id (record_now st row.subject) ≡ Some v) × (row ≡ row_of row.subject v)
+    shown : (v : Version) × (version_with id (record_now st row.subject) ≡ Some v)
+        × (row ≡ row_of row.subject v)
     shown = row_now st old id row stands.represents settled found
 
     awaited : IsAwaited st caller row.subject key.minute.number id attempt
-    awaited = (found-awaited st old stands caller row.subject due keys waits_about id attempt shown.0 shown.1 key key_is).0
+    awaited = (found-awaited st old stands caller row.subject due keys waits_about id attempt
+        shown.0 shown.1 key key_is).0
 
 -- ---- an acknowledgement
 
@@ -185,8 +218,14 @@ pub answers_acknowledged : (old new : Content) (caller id attempt : ℕ) (clock 
     ≡ Some row → AreHeld old clock row.held held →
     version_row_of u ≡ row → AreWaitsAbout old caller (subject_of u.version.subject) keys →
     None ≡ key_refusal keys id attempt → find (is_key id attempt) keys ≡ Some key →
-    IsFound old (record { carrier = caller; minute = key.minute.number; id = id; attempt = attempt }) u.version broadcast last earlier →
-    Becomes (completed_if clock.present (completes u.version attempt last) clock.minute) u.version after →
+    IsFound old (record {
+      carrier = caller;
+      minute = key.minute.number;
+      id = id;
+      attempt = attempt;
+    }) u.version broadcast last earlier →
+    Becomes (completed_if clock.present (completes u.version attempt last) clock.minute) u.version
+    after →
     windows ≡ windows_after clock.present held u.version.held after.held →
     IsChanged (all_changes clock.present windows clock.minute
     (record { carrier = caller; minute = key.minute.number; id = id; attempt = attempt })
@@ -209,30 +248,42 @@ answers_acknowledged old new caller id attempt clock row held u keys key broadca
     waits_about : AreWaitsAbout old caller row.subject keys
     waits_about = subst (λ s. AreWaitsAbout old caller s keys) subject_is waits
 
-    each : (st : State) → Stands old st → AreSettled old st (Requests caller (Acknowledges id attempt)) → (refusal st (Requests caller (Acknowledges id attempt)) ≡ None)
-        × (Shown (Some view) ≡ answer_of st (accepted st (Requests caller (Acknowledges id attempt))) (Requests caller (Acknowledges id attempt)))
-        × Stands new (accepted st (Requests caller (Acknowledges id attempt))) × LeavesOthers old new st (Requests caller (Acknowledges id attempt))
+    each : (st : State) → Stands old st
+        → AreSettled old st (Requests caller (Acknowledges id attempt))
+        → (refusal st (Requests caller (Acknowledges id attempt)) ≡ None)
+        × (Shown (Some view) ≡ answer_of st
+        (accepted st (Requests caller (Acknowledges id attempt)))
+        (Requests caller (Acknowledges id attempt)))
+        × Stands new (accepted st (Requests caller (Acknowledges id attempt)))
+        × LeavesOthers old new st (Requests caller (Acknowledges id attempt))
     each st stands settled = (
       none,
-      acknowledged-answer st old new stands caller row.subject due key.minute.number id attempt awaited last there.last change none clock clock_is view seen_view,
-      acknowledged-stands st old new stands caller row.subject due key.minute.number id attempt awaited last there.last change none clock clock_is,
-      acknowledged-leaves st old new stands caller row.subject due key.minute.number id attempt awaited last there.last change,
+      acknowledged-answer st old new stands caller row.subject due key.minute.number id attempt
+          awaited last there.last change none clock clock_is view seen_view,
+      acknowledged-stands st old new stands caller row.subject due key.minute.number id attempt
+          awaited last there.last change none clock clock_is,
+      acknowledged-leaves st old new stands caller row.subject due key.minute.number id attempt
+          awaited last there.last change,
     )
       where
         due : IsSettled old st row.subject
         due = row_settled st old id row stands.represents settled found
 
-        shown : (v : Version) × (version_with id (record_now st row.subject) ≡ Some v) × (row ≡ row_of row.subject v)
+        shown : (v : Version) × (version_with id (record_now st row.subject) ≡ Some v)
+            × (row ≡ row_of row.subject v)
         shown = row_now st old id row stands.represents settled found
 
         none : refusal st (Requests caller (Acknowledges id attempt)) ≡ None
-        none = refused_by_keys old caller id attempt st stands settled row keys known found waits_about ∙ sym accepts
+        none = refused_by_keys old caller id attempt st stands settled row keys known found
+            waits_about ∙ sym accepts
 
         awaited : IsAwaited st caller row.subject key.minute.number id attempt
-        awaited = (found-awaited st old stands caller row.subject due keys waits_about id attempt shown.0 shown.1 key key_is).0
+        awaited = (found-awaited st old stands caller row.subject due keys waits_about id attempt
+            shown.0 shown.1 key key_is).0
 
         row_is : row ≡ row_of row.subject awaited.version
-        row_is = shown.2 ∙ ap (row_of row.subject) (some_is shown.0 awaited.version (sym shown.1 ∙ awaited.found))
+        row_is = shown.2 ∙ ap (row_of row.subject) (some_is shown.0 awaited.version (sym shown.1
+            ∙ awaited.found))
 
         before : IsSeen u.version awaited.version
         before = row_version row.subject awaited.version u (is ∙ row_is)
@@ -263,14 +314,17 @@ answers_acknowledged old new caller id attempt clock row held u keys key broadca
             (answered_all caller attempt st.now awaited.version).broadcasts
             awaited.version.held.windows u.version
             ≡ answered_all caller attempt st.now awaited.version
-        before_answered = ap (λ (x : Version). let y : Version = record x { broadcasts = (answered_all caller attempt st.now awaited.version).broadcasts } in y) before
+        before_answered = ap (λ (x : Version). let y : Version = record x {
+          broadcasts = (answered_all caller attempt st.now awaited.version).broadcasts;
+        } in y) before
 
         becomes_now : Becomes (completed_if (set_now st)
             (last && (awaited.version.attempt == attempt)) st.now) u.version after
         becomes_now = subst (λ (k : ClockRow). Becomes
             (completed_if k.present (last && (awaited.version.attempt == attempt)) k.minute)
             u.version after) same_clock
-            (subst (λ b. Becomes (completed_if clock.present b clock.minute) u.version after) complete becomes)
+            (subst (λ b. Becomes (completed_if clock.present b clock.minute) u.version after)
+            complete becomes)
 
         finished : Version
         finished = completed_if (set_now st) (last && (awaited.version.attempt == attempt)) st.now
@@ -313,15 +367,21 @@ answers_acknowledged old new caller id attempt clock row held u keys key broadca
         subject_after : subject_of after.subject ≡ row.subject
         subject_after = ap subject_of becomes.subject ∙ subject_is
 
-        replaced : IsEarlier ((last && (awaited.version.attempt == attempt)) && sends_create awaited.version.status) old row.subject earlier
-        replaced = subst (λ s. IsEarlier ((last && (awaited.version.attempt == attempt)) && sends_create awaited.version.status) old s earlier) subject_is
-            (subst (λ t. IsEarlier ((last && (awaited.version.attempt == attempt)) && sends_create t) old (subject_of u.version.subject) earlier) same_status
-            (subst (λ b. IsEarlier (b && sends_create (status_of u.version.status)) old (subject_of u.version.subject) earlier) complete there.replaced))
+        replaced : IsEarlier ((last && (awaited.version.attempt == attempt)) && sends_create
+            awaited.version.status) old row.subject earlier
+        replaced = subst (λ s. IsEarlier ((last && (awaited.version.attempt == attempt))
+            && sends_create awaited.version.status) old s earlier) subject_is
+            (subst (λ t. IsEarlier ((last && (awaited.version.attempt == attempt)) && sends_create
+            t) old (subject_of u.version.subject) earlier) same_status
+            (subst (λ b. IsEarlier (b && sends_create (status_of u.version.status)) old
+            (subject_of u.version.subject) earlier) complete there.replaced))
 
         versions_same : retired_rows (set_now st) st.now earlier ++ own_rows
             (completes u.version attempt last) id
             (row_of (subject_of after.subject) (seen_by windows after))
-            ≡ puts_of (set_now st) st.now row.subject (the_replaced ((last && (awaited.version.attempt == attempt)) && sends_create awaited.version.status) (record_now st row.subject))
+            ≡ puts_of (set_now st) st.now row.subject
+            (the_replaced ((last && (awaited.version.attempt == attempt)) && sends_create
+            awaited.version.status) (record_now st row.subject))
             ++ own_rows (last && (awaited.version.attempt == attempt)) id
             (row_of row.subject (completed_if (set_now st)
             (last && (awaited.version.attempt == attempt)) st.now
@@ -329,34 +389,57 @@ answers_acknowledged old new caller id attempt clock row held u keys key broadca
         versions_same =
             ap (λ ps. ps ++ own_rows (completes u.version attempt last) id
             (row_of (subject_of after.subject) (seen_by windows after)))
-            (retired_read (set_now st) st.now row.subject (made_by st.windows st.history) (record_now st row.subject) old due.shows (given_now st stands.represents.history row.subject)
-            (one_in_force st old stands row.subject) (λ t. ((stands.represents.subjects t).kept, (stands.represents.subjects t).shows)) ((last && (awaited.version.attempt == attempt)) && sends_create awaited.version.status) earlier replaced)
-            ∙ ap (λ b. puts_of (set_now st) st.now row.subject (the_replaced ((last && (awaited.version.attempt == attempt)) && sends_create awaited.version.status) (record_now st row.subject))
+            (retired_read (set_now st) st.now row.subject (made_by st.windows st.history)
+            (record_now st row.subject) old due.shows (given_now st stands.represents.history
+            row.subject)
+            (one_in_force st old stands row.subject) (λ t. (
+              (stands.represents.subjects t).kept,
+              (stands.represents.subjects t).shows,
+            )) ((last && (awaited.version.attempt == attempt)) && sends_create
+            awaited.version.status) earlier replaced)
+            ∙ ap (λ b. puts_of (set_now st) st.now row.subject
+            (the_replaced ((last && (awaited.version.attempt == attempt)) && sends_create
+            awaited.version.status) (record_now st row.subject))
             ++ own_rows b id (row_of (subject_of after.subject) (seen_by windows after))) complete
-            ∙ ap (λ r. puts_of (set_now st) st.now row.subject (the_replaced ((last && (awaited.version.attempt == attempt)) && sends_create awaited.version.status) (record_now st row.subject))
+            ∙ ap (λ r. puts_of (set_now st) st.now row.subject
+            (the_replaced ((last && (awaited.version.attempt == attempt)) && sends_create
+            awaited.version.status) (record_now st row.subject))
             ++ own_rows (last && (awaited.version.attempt == attempt)) id r)
             (ap (λ t. row_of t (seen_by windows after)) subject_after
             ∙ ap (row_of row.subject) after_is)
 
-        broadcast_same : answered_row (completes u.version attempt last && is_sending (status_of u.version.status)) broadcast
-            ≡ answered_row ((last && (awaited.version.attempt == attempt)) && is_sending awaited.version.status) (row_was caller awaited.broadcast awaited.waits row.subject)
+        broadcast_same : answered_row (completes u.version attempt last && is_sending
+            (status_of u.version.status)) broadcast
+            ≡ answered_row ((last && (awaited.version.attempt == attempt)) && is_sending
+            awaited.version.status) (row_was caller awaited.broadcast awaited.waits row.subject)
         broadcast_same =
             ap (λ b. answered_row (b && is_sending (status_of u.version.status)) broadcast) complete
-            ∙ ap (λ t. answered_row ((last && (awaited.version.attempt == attempt)) && is_sending t) broadcast) same_status
-            ∙ ap (answered_row ((last && (awaited.version.attempt == attempt)) && is_sending awaited.version.status))
-            (broadcast_read st old stands caller row.subject due key.minute.number id attempt awaited broadcast there.stored)
+            ∙ ap (λ t. answered_row ((last && (awaited.version.attempt == attempt)) && is_sending t)
+            broadcast) same_status
+            ∙ ap (answered_row ((last && (awaited.version.attempt == attempt)) && is_sending
+            awaited.version.status))
+            (broadcast_read st old stands caller row.subject due key.minute.number id attempt
+            awaited broadcast there.stored)
 
         change : IsChanged (acknowledging caller key.minute.number id attempt last
-            (puts_of (set_now st) st.now row.subject (the_replaced ((last && (awaited.version.attempt == attempt)) && sends_create awaited.version.status) (record_now st row.subject))
+            (puts_of (set_now st) st.now row.subject
+            (the_replaced ((last && (awaited.version.attempt == attempt)) && sends_create
+            awaited.version.status) (record_now st row.subject))
             ++ own_rows (last && (awaited.version.attempt == attempt)) id
             (row_of row.subject (completed_if (set_now st)
             (last && (awaited.version.attempt == attempt)) st.now
             (answered_all caller attempt st.now awaited.version))))
-            (answered_row ((last && (awaited.version.attempt == attempt)) && is_sending awaited.version.status) (row_was caller awaited.broadcast awaited.waits row.subject))) old new
+            (answered_row ((last && (awaited.version.attempt == attempt)) && is_sending
+            awaited.version.status) (row_was caller awaited.broadcast awaited.waits row.subject)))
+            old new
         change = subst (λ d. IsChanged d old new)
-            (ap (λ ps. acknowledging caller key.minute.number id attempt last ps (answered_row (completes u.version attempt last && is_sending (status_of u.version.status)) broadcast)) versions_same
+            (ap (λ ps. acknowledging caller key.minute.number id attempt last ps
+            (answered_row (completes u.version attempt last && is_sending
+            (status_of u.version.status)) broadcast)) versions_same
             ∙ ap (acknowledging caller key.minute.number id attempt last
-            (puts_of (set_now st) st.now row.subject (the_replaced ((last && (awaited.version.attempt == attempt)) && sends_create awaited.version.status) (record_now st row.subject))
+            (puts_of (set_now st) st.now row.subject
+            (the_replaced ((last && (awaited.version.attempt == attempt)) && sends_create
+            awaited.version.status) (record_now st row.subject))
             ++ own_rows (last && (awaited.version.attempt == attempt)) id
             (row_of row.subject (completed_if (set_now st)
             (last && (awaited.version.attempt == attempt)) st.now
@@ -401,7 +484,8 @@ answers_acknowledged old new caller id attempt clock row held u keys key broadca
                   (answered_all caller attempt st.now awaited.version)).broadcasts windows after;
             }))
             (sym (id_found id (record_now st row.subject).versions awaited.version awaited.found))
-            ∙ ap (λ x. view_of (accepted st (Requests caller (Acknowledges id attempt))) (record { subject = row.subject; version = x })) after_is
+            ∙ ap (λ x. view_of (accepted st (Requests caller (Acknowledges id attempt)))
+            (record { subject = row.subject; version = x })) after_is
 
 -- by what the store says of the download
 pub taken_by : (last : Bool) (old mid : Content) (clock : ClockRow) (held : Windows)

@@ -24,7 +24,8 @@ last_id (Some row) = row.last
 -- the version with this id, where one is named
 abbrev pub IsLast : Content → Option ℕ → Option (ℕ × VersionCode) → Type 0
 IsLast c None None = ⊤
-IsLast c (Some id) (Some e) = (e.0 ≡ id) × (row : Inside) × (get c.versions id ≡ Some (version_row_of row)) × (row.version ≡ e.1)
+IsLast c (Some id) (Some e) = (e.0 ≡ id) × (row : Inside)
+    × (get c.versions id ≡ Some (version_row_of row)) × (row.version ≡ e.1)
 IsLast c None (Some e) = ⊥
 IsLast c (Some id) None = ⊥
 
@@ -41,14 +42,16 @@ pub record IsBlockRead (c : Content) (block : ℕ) (read : BlockRead) : Type 0 w
   pub numbers : AreInBlock c block read.numbers.items
 
 -- the carriers of the command are known, this is the clock's row, and this was read of the block
-pub record IsBlockFound (c : Content) (is_known : Bool) (block : ℕ) (clock : ClockRow) (read : BlockRead) : Type 0 where
+pub record IsBlockFound (c : Content) (is_known : Bool) (block : ℕ) (clock : ClockRow)
+    (read : BlockRead) : Type 0 where
   pub known : is_known ≡ true
   pub clock_is : c.clock ≡ Some clock
   pub is_read : IsBlockRead c block read
 
 -- they are not known; or it is no refusal of the machine's
 abbrev pub IsBlockFoundInVain : (is_known : Bool) → Refusal → Type 0
-IsBlockFoundInVain is_known r = ((r ≡ UnknownCarrier) × (is_known ≡ false)) ⊎ (nat_lt (number_of r) 29 ≡ false)
+IsBlockFoundInVain is_known r = ((r ≡ UnknownCarrier) × (is_known ≡ false))
+    ⊎ (nat_lt (number_of r) 29 ≡ false)
 
 -- the routing number, if one is named, is that of the carrier to whom calls will be routed
 abbrev pub is_routing_good : Content → (caller : ℕ) → Command → Bool
@@ -60,11 +63,13 @@ is_routing_good c caller (RegisterCarrier spid) = true
 is_routing_good c caller (RegisterRoutingNumber lrn) = true
 is_routing_good c caller (OpenCode code spid) = true
 is_routing_good c caller (OldProviderCreate tn old_provider new_provider due authorized) = true
-is_routing_good c caller (NewProviderCreate tn old_provider new_provider due lrn cic) = is_the new_provider (get c.lrns lrn)
+is_routing_good c caller (NewProviderCreate tn old_provider new_provider due lrn cic) =
+    is_the new_provider (get c.lrns lrn)
 is_routing_good c caller (OnVersion id command) = true
 
 -- the facts of the block are what was read, and these two
-pub record AreBlockFacts (read : BlockRead) (is_lrn_good : Bool) (next : ℕ) (facts : BlockFacts) : Type 0 where
+pub record AreBlockFacts (read : BlockRead) (is_lrn_good : Bool) (next : ℕ)
+    (facts : BlockFacts) : Type 0 where
   pub code : facts.code_holder ≡ read.code_holder
   pub lrn : facts.is_lrn_good ≡ is_lrn_good
   pub donor : facts.donor ≡ option_map (λ (row : BlockRowCode). row.donor) read.row

@@ -13,8 +13,10 @@ StaysAs old new = (st : State) → Stands old st → Stands new st
 
 -- or for the machine's next state
 abbrev pub StaysOrComes : Content → Input → Content → Type 0
-StaysOrComes old input new = (st : State) → Stands old st → Stands new st ⊎ Stands new (next st input)
+StaysOrComes old input new = (st : State) → Stands old st → Stands new st
+    ⊎ Stands new (next st input)
 
 -- where the subjects of the call are settled, it stands for the machine's next state
 abbrev pub ComesSettled : Content → Input → Content → Type 0
-ComesSettled old input new = (st : State) → Stands old st → AreSettled old st input → Stands new (next st input)
+ComesSettled old input new = (st : State) → Stands old st → AreSettled old st input
+    → Stands new (next st input)

@@ -40,4 +40,5 @@ pub record IsLookedUp (c : Content) (is_known : Bool) (id : ℕ) (clock : ClockR
 abbrev pub IsLookedUpInVain : Content → (is_known : Bool) → (id : ℕ) → Refusal → Type 0
 IsLookedUpInVain c is_known id r =
     ((r ≡ UnknownCarrier) × (is_known ≡ false))
-    ⊎ (((r ≡ NotFound) × (is_known ≡ true) × (get c.versions id ≡ None)) ⊎ (nat_lt (number_of r) 29 ≡ false))
+    ⊎ (((r ≡ NotFound) × (is_known ≡ true) × (get c.versions id ≡ None))
+    ⊎ (nat_lt (number_of r) 29 ≡ false))

@@ -18,18 +18,25 @@ use Rattle.numbers.proofs.Small.{numbers_turned, grouped}
 
 -- ---- one table
 
-pub put_rows-append : {K R : Type 0} (same : K → K → Bool) (ps qs : List (K × R)) (k : K) (before : Option R) → put_rows same (ps ++ qs) k before ≡ put_rows same qs k (put_rows same ps k before)
+pub put_rows-append : {K R : Type 0} (same : K → K → Bool) (ps qs : List (K × R)) (k : K)
+    (before : Option R) → put_rows same (ps ++ qs) k before ≡ put_rows same qs k
+    (put_rows same ps k before)
 put_rows-append same [] qs k before = refl
-put_rows-append same (p ∷ ps) qs k before = put_rows-append same ps qs k (if same p.0 k then Some p.1 else before)
+put_rows-append same (p ∷ ps) qs k before =
+    put_rows-append same ps qs k (if same p.0 k then Some p.1 else before)
 
 abbrev pub put_all : {K X : Type 0} {R : K → K → Ordering} → FinMap R X → List (K × X) → FinMap R X
 put_all m [] = m
 put_all m (p ∷ ps) = put_all (insert m p.0 p.1) ps
 
-module _ {K X : Type 0} {R : K → K → Ordering} (o : IsTotalOrder R) (same : K → K → Bool) (ties : (a b : K) → eq_by_cmp R b a ≡ same a b) where
-  pub get-put_all : (m : FinMap R X) (ps : List (K × X)) (q : K) → get (put_all m ps) q ≡ put_rows same ps q (get m q)
+module _ {K X : Type 0} {R : K → K → Ordering} (o : IsTotalOrder R) (same : K → K
+    → Bool) (ties : (a b : K) → eq_by_cmp R b a ≡ same a b) where
+  pub get-put_all : (m : FinMap R X) (ps : List (K × X)) (q : K)
+      → get (put_all m ps) q ≡ put_rows same ps q (get m q)
   get-put_all m [] q = refl
-  get-put_all m (p ∷ ps) q = get-put_all (insert m p.0 p.1) ps q ∙ ap (put_rows same ps q) (get-insert o m p.0 p.1 q ∙ ap (λ b. cond b (Some p.1) (get m q)) (ties p.0 q))
+  get-put_all m (p ∷ ps) q =
+      get-put_all (insert m p.0 p.1) ps q ∙ ap (put_rows same ps q) (get-insert o m p.0 p.1 q
+      ∙ ap (λ b. cond b (Some p.1) (get m q)) (ties p.0 q))
 
 -- ---- the three tables
 
@@ -37,23 +44,35 @@ number_ties : (a b : ℕ) → eq_by_cmp nat_cmp b a ≡ (a == b)
 number_ties a b = unsigned_tied b a ∙ numbers_turned b a
 
 broadcast_total : IsTotalOrder broadcast_cmp
-broadcast_total = then_total (on_total (λ (k : BroadcastKey). k.id) nat_cmp_total) (on_total (λ (k : BroadcastKey). k.attempt) nat_cmp_total)
+broadcast_total =
+    then_total (on_total (λ (k : BroadcastKey). k.id) nat_cmp_total)
+    (on_total (λ (k : BroadcastKey). k.attempt) nat_cmp_total)
 
 broadcast_ties : (a b : BroadcastKey) → eq_by_cmp broadcast_cmp b a ≡ same_broadcast a b
-broadcast_ties a b = sym (tied_then (nat_cmp b.id a.id) (nat_cmp b.attempt a.attempt)) ∙ ap (λ x. x && eq_by_cmp nat_cmp b.attempt a.attempt) (number_ties a.id b.id) ∙ ap (λ x. (a.id == b.id) && x) (number_ties a.attempt b.attempt)
+broadcast_ties a b = sym (tied_then (nat_cmp b.id a.id) (nat_cmp b.attempt a.attempt))
+    ∙ ap (λ x. x && eq_by_cmp nat_cmp b.attempt a.attempt) (number_ties a.id b.id)
+    ∙ ap (λ x. (a.id == b.id) && x) (number_ties a.attempt b.attempt)
 
 wait_total : IsTotalOrder wait_cmp
 wait_total =
     then_total (on_total (λ (k : WaitKey). k.carrier) nat_cmp_total)
-    (then_total (on_total (λ (k : WaitKey). k.minute) nat_cmp_total) (then_total (on_total (λ (k : WaitKey). k.id) nat_cmp_total) (on_total (λ (k : WaitKey). k.attempt) nat_cmp_total)))
+    (then_total (on_total (λ (k : WaitKey). k.minute) nat_cmp_total)
+    (then_total (on_total (λ (k : WaitKey). k.id) nat_cmp_total)
+    (on_total (λ (k : WaitKey). k.attempt) nat_cmp_total)))
 
 wait_ties : (a b : WaitKey) → eq_by_cmp wait_cmp b a ≡ same_wait a b
 wait_ties a b =
-    sym (tied_then (nat_cmp b.carrier a.carrier) (ordering_then (nat_cmp b.minute a.minute) (ordering_then (nat_cmp b.id a.id) (nat_cmp b.attempt a.attempt))))
-    ∙ ap (λ x. eq_by_cmp nat_cmp b.carrier a.carrier && x) (sym (tied_then (nat_cmp b.minute a.minute) (ordering_then (nat_cmp b.id a.id) (nat_cmp b.attempt a.attempt))))
-    ∙ ap (λ x. eq_by_cmp nat_cmp b.carrier a.carrier && (eq_by_cmp nat_cmp b.minute a.minute && x)) (sym (tied_then (nat_cmp b.id a.id) (nat_cmp b.attempt a.attempt)))
-    ∙ (λ i. number_ties a.carrier b.carrier i && (number_ties a.minute b.minute i && (number_ties a.id b.id i && number_ties a.attempt b.attempt i)))
-    ∙ grouped (a.carrier == b.carrier) (a.minute == b.minute) (a.id == b.id) (a.attempt == b.attempt)
+    sym (tied_then (nat_cmp b.carrier a.carrier) (ordering_then (nat_cmp b.minute a.minute)
+    (ordering_then (nat_cmp b.id a.id) (nat_cmp b.attempt a.attempt))))
+    ∙ ap (λ x. eq_by_cmp nat_cmp b.carrier a.carrier && x)
+    (sym (tied_then (nat_cmp b.minute a.minute) (ordering_then (nat_cmp b.id a.id)
+    (nat_cmp b.attempt a.attempt))))
+    ∙ ap (λ x. eq_by_cmp nat_cmp b.carrier a.carrier && (eq_by_cmp nat_cmp b.minute a.minute && x))
+    (sym (tied_then (nat_cmp b.id a.id) (nat_cmp b.attempt a.attempt)))
+    ∙ (λ i. number_ties a.carrier b.carrier i && (number_ties a.minute b.minute i
+    && (number_ties a.id b.id i && number_ties a.attempt b.attempt i)))
+    ∙ grouped (a.carrier == b.carrier) (a.minute == b.minute) (a.id == b.id)
+    (a.attempt == b.attempt)
 
 -- the rows of versions, broadcasts and downloads put
 abbrev pub applied : Changes → Content → Content
@@ -65,14 +84,17 @@ applied changes c = record c {
 
 -- a content has the rows of another with those of the changes put
 pub record Puts (changes : Changes) (old new : Content) : Type 0 where
-  pub versions : (k : ℕ) → get new.versions k ≡ put_rows ◌==◌ changes.versions k (get old.versions k)
-  pub broadcasts : (k : BroadcastKey) → get new.broadcasts k ≡ put_rows same_broadcast changes.broadcasts k (get old.broadcasts k)
+  pub versions : (k : ℕ) → get new.versions k ≡ put_rows ◌==◌ changes.versions k
+      (get old.versions k)
+  pub broadcasts : (k : BroadcastKey)
+      → get new.broadcasts k ≡ put_rows same_broadcast changes.broadcasts k (get old.broadcasts k)
   pub waits : (k : WaitKey) → get new.waits k ≡ put_rows same_wait changes.waits k (get old.waits k)
 
 pub applied_puts : (changes : Changes) (c : Content) → Puts changes c (applied changes c)
 applied_puts changes c = record {
   versions = λ k. get-put_all nat_cmp_total ◌==◌ number_ties c.versions changes.versions k;
-  broadcasts = λ k. get-put_all broadcast_total same_broadcast broadcast_ties c.broadcasts changes.broadcasts k;
+  broadcasts = λ k. get-put_all broadcast_total same_broadcast broadcast_ties c.broadcasts
+      changes.broadcasts k;
   waits = λ k. get-put_all wait_total same_wait wait_ties c.waits changes.waits k;
 }
 
@@ -80,26 +102,35 @@ applied_puts changes c = record {
 
 module _ (w : WindowSet) (minute : ℕ) (action : Send) (everyone : List ℕ) where
   abbrev pub sending_one : Begun → Changes
-  sending_one b = sending b.id minute action b.subject b.version (routing_sent action b.version) everyone
+  sending_one b = sending b.id minute action b.subject b.version (routing_sent action b.version)
+      everyone
 
   abbrev pub sent_in_turn : List Begun → Content → Content
   sent_in_turn [] c = c
   sent_in_turn (b ∷ bs) c = sent_in_turn bs (applied (sending_one b) c)
 
-  pub sent_puts : (bs : List Begun) (c : Content) → Puts (sending_each minute action bs everyone) c (sent_in_turn bs c)
+  pub sent_puts : (bs : List Begun) (c : Content)
+      → Puts (sending_each minute action bs everyone) c (sent_in_turn bs c)
   sent_puts [] c = record { versions = λ k. refl; broadcasts = λ k. refl; waits = λ k. refl }
   sent_puts (b ∷ bs) c =
       let later = sent_puts bs (applied (sending_one b) c) in
       let first = applied_puts (sending_one b) c in
       record {
-        versions = λ k. later.versions k ∙ ap (put_rows ◌==◌ (map (begun_version) bs) k) (first.versions k);
-        broadcasts = λ k. later.broadcasts k ∙ ap (put_rows same_broadcast (map (begun_broadcast minute action) bs) k) (first.broadcasts k);
-        waits = λ k. later.waits k ∙ ap (put_rows same_wait (flat_map (begun_waits minute everyone) bs) k) (first.waits k)
-            ∙ sym (put_rows-append same_wait (begun_waits minute everyone b) (flat_map (begun_waits minute everyone) bs) k (get c.waits k));
+        versions = λ k. later.versions k ∙ ap (put_rows ◌==◌ (map (begun_version) bs) k)
+            (first.versions k);
+        broadcasts =
+            λ k. later.broadcasts k
+            ∙ ap (put_rows same_broadcast (map (begun_broadcast minute action) bs) k)
+            (first.broadcasts k);
+        waits = λ k. later.waits k
+            ∙ ap (put_rows same_wait (flat_map (begun_waits minute everyone) bs) k) (first.waits k)
+            ∙ sym (put_rows-append same_wait (begun_waits minute everyone b)
+            (flat_map (begun_waits minute everyone) bs) k (get c.waits k));
       }
 
   -- one step
-  pub one_changed : (b : Begun) (c : Content) → IsChanged (sending_one b) c (applied (sending_one b) c)
+  pub one_changed : (b : Begun) (c : Content)
+      → IsChanged (sending_one b) c (applied (sending_one b) c)
   one_changed b c =
       let puts = applied_puts (sending_one b) c in
       record {
@@ -115,9 +146,23 @@ module _ (w : WindowSet) (minute : ℕ) (action : Send) (everyone : List ℕ) wh
       }
 
 -- two contents with the same rows put show the same records
-pub same_shows : (changes : Changes) (old one other : Content) → Puts changes old one → Puts changes old other → (w : WindowSet) (s : Subject) (r : Record) → Shows one s r → Shows other s r
+pub same_shows : (changes : Changes) (old one other : Content) → Puts changes old one
+    → Puts changes old other → (w : WindowSet) (s : Subject) (r : Record) → Shows one s r
+    → Shows other s r
 same_shows changes old one other is its w s r shows = record {
-  versions = λ k. ap (of_subject s (λ (v : VersionRow). v.subject)) (its.versions k ∙ sym (is.versions k)) ∙ shows.versions k;
-  broadcasts = λ k a. ap (of_subject s (λ (b : BroadcastRow). b.subject)) (its.broadcasts (record { id = k; attempt = a }) ∙ sym (is.broadcasts (record { id = k; attempt = a }))) ∙ shows.broadcasts k a;
-  waits = λ c m k a. ap (of_subject s (λ t. t)) (its.waits (record { carrier = c; minute = m; id = k; attempt = a }) ∙ sym (is.waits (record { carrier = c; minute = m; id = k; attempt = a }))) ∙ shows.waits c m k a;
+  versions = λ k. ap (of_subject s (λ (v : VersionRow). v.subject)) (its.versions k
+      ∙ sym (is.versions k)) ∙ shows.versions k;
+  broadcasts =
+      λ k a. ap (of_subject s (λ (b : BroadcastRow). b.subject)) (its.broadcasts (record {
+        id = k;
+        attempt = a;
+      }) ∙ sym (is.broadcasts (record { id = k; attempt = a }))) ∙ shows.broadcasts k a;
+  waits = λ c m k a. ap (of_subject s (λ t. t)) (its.waits (record {
+    carrier = c;
+    minute = m;
+    id =
+        k;
+    attempt = a;
+  }) ∙ sym (is.waits (record { carrier = c; minute = m; id = k; attempt = a })))
+      ∙ shows.waits c m k a;
 }

@@ -7,19 +7,26 @@ use Rattle.version.specs.Views.{no_windows}
 use Rattle.version.specs.declared.version.Version.{Version as VersionCode}
 use Rattle.settle.specs.Sending.{begun_of, begun_broadcast, begun_waits}
 
-broadcast-any : (w : Windows) (minute : ℕ) (action : Send) (e : ℕ × VersionCode) → begun_broadcast minute action (begun_of no_windows e) ≡ begun_broadcast minute action (begun_of w e)
+broadcast-any : (w : Windows) (minute : ℕ) (action : Send) (e : ℕ × VersionCode)
+    → begun_broadcast minute action (begun_of no_windows e) ≡ begun_broadcast minute action
+    (begun_of w e)
 broadcast-any w minute Create e = refl
 broadcast-any w minute Delete e = refl
 broadcast-any w minute (Modify routing) e = refl
 
 pub broadcasts-any : (w : Windows) (minute : ℕ) (action : Send) (es : List (ℕ × VersionCode)) →
-    map (begun_broadcast minute action) (map (begun_of no_windows) es) ≡ map (begun_broadcast minute action) (map (begun_of w) es)
+    map (begun_broadcast minute action) (map (begun_of no_windows) es)
+    ≡ map (begun_broadcast minute action) (map (begun_of w) es)
 broadcasts-any w minute action [] = refl
 broadcasts-any w minute action (e ∷ es) =
-    ap (λ b. b ∷ map (begun_broadcast minute action) (map (begun_of no_windows) es)) (broadcast-any w minute action e)
-    ∙ ap (λ bs. begun_broadcast minute action (begun_of w e) ∷ bs) (broadcasts-any w minute action es)
+    ap (λ b. b ∷ map (begun_broadcast minute action) (map (begun_of no_windows) es))
+    (broadcast-any w minute action e)
+    ∙ ap (λ bs. begun_broadcast minute action (begun_of w e) ∷ bs) (broadcasts-any w minute action
+    es)
 
 pub waits-any : (w : Windows) (minute : ℕ) (everyone : List ℕ) (es : List (ℕ × VersionCode)) →
-    flat_map (begun_waits minute everyone) (map (begun_of no_windows) es) ≡ flat_map (begun_waits minute everyone) (map (begun_of w) es)
+    flat_map (begun_waits minute everyone) (map (begun_of no_windows) es)
+    ≡ flat_map (begun_waits minute everyone) (map (begun_of w) es)
 waits-any w minute everyone [] = refl
-waits-any w minute everyone (e ∷ es) = ap (λ ws. begun_waits minute everyone (begun_of w e) ++ ws) (waits-any w minute everyone es)
+waits-any w minute everyone (e ∷ es) =
+    ap (λ ws. begun_waits minute everyone (begun_of w e) ++ ws) (waits-any w minute everyone es)

@@ -9,17 +9,22 @@ use Rattle.settle.specs.declared.store.StoreFault.{StoreFault}
 use Rattle.settle.specs.declared.store.StoreFault.TheVariants.{Storage as StorageFault, NoMemory as NoMemoryFault}
 
 -- a call that ends for a fault of the store answers nothing
-pub fault_is_none : {A : Type 0} (result : Result A Refusal) (fault : StoreFault) → result ≡ Err (refusal_of fault) → ¬ IsAnswered result
-fault_is_none {A = A} result fault is answered = go fault (subst (λ r. IsAnswered {A = A} r) is answered)
+pub fault_is_none : {A : Type 0} (result : Result A Refusal) (fault : StoreFault)
+    → result ≡ Err (refusal_of fault) → ¬ IsAnswered result
+fault_is_none {A = A} result fault is answered =
+    go fault (subst (λ r. IsAnswered {A = A} r) is answered)
   where
     go : (f : StoreFault) → ¬ IsAnswered {A = A} (Err (refusal_of f))
     go StorageFault none = none.0 refl
     go NoMemoryFault none = none.1 refl
 
 -- a call that ends for this fault of the store, and answers storage
-pub storage_by : {A : Type 0} (result : Result A Refusal) (fault : StoreFault) → result ≡ Err (refusal_of fault) → result ≡ Err Storage → fault ≡ StorageFault
+pub storage_by : {A : Type 0} (result : Result A Refusal) (fault : StoreFault)
+    → result ≡ Err (refusal_of fault) → result ≡ Err Storage → fault ≡ StorageFault
 storage_by result StorageFault is said = refl
-storage_by result NoMemoryFault is said = let never : Err Storage ≡ Err NoMemory = sym said ∙ is in cc
+storage_by result NoMemoryFault is said = let never : Err Storage ≡ Err NoMemory = sym said ∙ is in
+    cc
 
-pub same_refusal : {A : Type 0} (r : Refusal) (result : Result A Refusal) → result ≡ Err r → result ≡ Err Storage → r ≡ Storage
+pub same_refusal : {A : Type 0} (r : Refusal) (result : Result A Refusal) → result ≡ Err r
+    → result ≡ Err Storage → r ≡ Storage
 same_refusal r result is said = let same : Err r ≡ Err Storage = sym is ∙ said in cc

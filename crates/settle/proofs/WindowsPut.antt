@@ -15,41 +15,77 @@ use Rattle.meaning.proofs.SettingWindows.{after_windows, windows-record, windows
 use Rattle.settle.specs.Changes.{IsChanged, no_changes, clock_after}
 use Rattle.settle.specs.Settling.{IsSettled}
 
-module _ (st : State) (old new : Content) (caller : ℕ) (windows : Windows) (clock : ClockRow) (rep : Represents old st) (is : old.clock ≡ Some clock) (are : AreWindows windows)
-    (ok : refusal st (Requests caller (Commands (SetWindows windows))) ≡ None) (settled : (s : Subject) → IsSettled old st s)
-    (changed : IsChanged (record no_changes { set = Some (record { number = clock.present.number + 1; windows = windows }) }) old new) where
+module _ (st : State) (old new : Content) (caller : ℕ) (windows : Windows) (clock : ClockRow)
+    (rep : Represents old st) (is : old.clock ≡ Some clock) (are : AreWindows windows)
+    (ok : refusal st (Requests caller (Commands (SetWindows windows))) ≡ None)
+    (settled : (s : Subject) → IsSettled old st s)
+    (changed : IsChanged (record no_changes {
+      set = Some (record { number = clock.present.number + 1; windows = windows });
+    }) old new) where
   abbrev after : State
   after = after_windows st caller windows
 
-  clock_now : clock ≡ record { minute = st.now; next_id = next_id st.windows st.history; present = set_now st }
+  clock_now : clock ≡ record {
+    minute = st.now;
+    next_id = next_id st.windows st.history;
+    present = set_now st;
+  }
   clock_now = subst (λ o. ClockShows o st) is rep.clock
 
   -- the clock's row has the next set
-  clock_new : new.clock ≡ Some (record { minute = st.now; next_id = next_id st.windows after.history; present = set_now after })
+  clock_new : new.clock ≡ Some (record {
+    minute = st.now;
+    next_id = next_id st.windows after.history;
+    present = set_now after;
+  })
   clock_new =
       changed.clock
-      ∙ ap (clock_after None (Some (record { number = clock.present.number + 1; windows = windows }))) is
-      ∙ ap (λ (c : ClockRow). Some (let row : ClockRow = record c { present = record { number = c.present.number + 1; windows = windows } } in row)) clock_now
-      ∙ ap (λ n. Some (let row : ClockRow = record { minute = st.now; next_id = n; present = set_now after } in row)) (sym (windows-next_id st caller windows))
+      ∙ ap (clock_after None (Some (record {
+        number = clock.present.number + 1;
+        windows = windows;
+      }))) is
+      ∙ ap (λ (c : ClockRow). Some (let row : ClockRow = record c {
+        present = record { number = c.present.number + 1; windows = windows };
+      } in row)) clock_now
+      ∙ ap (λ n. Some (let row : ClockRow = record {
+        minute = st.now;
+        next_id = n;
+        present = set_now after;
+      } in row)) (sym (windows-next_id st caller windows))
 
   -- and the sets have it
-  sets_new : (k : ℕ) → get new.sets k ≡ option_map (λ (x : WindowSet). x.windows) (set_of_number k st.windows after.history)
+  sets_new : (k : ℕ) → get new.sets k ≡ option_map (λ (x : WindowSet). x.windows)
+      (set_of_number k st.windows after.history)
   sets_new k =
       changed.sets k
-      ∙ ap (λ (c : ClockRow). if c.present.number + 1 == k then Some windows else get old.sets k) clock_now
-      ∙ ap (λ o. if (set_now st).number + 1 == k then Some windows else o) (rep.sets k ∙ ap (λ o. stored_set o st k) is)
+      ∙ ap (λ (c : ClockRow). if c.present.number + 1 == k then Some windows
+      else get old.sets k) clock_now
+      ∙ ap (λ o. if (set_now st).number + 1 == k then Some windows
+      else o) (rep.sets k ∙ ap (λ o. stored_set o st k) is)
       ∙ go ((set_now st).number + 1 == k)
     where
-      go : (b : Bool) → (if b then Some windows else option_map (λ (x : WindowSet). x.windows) (set_of_number k st.windows st.history))
-          ≡ option_map (λ (x : WindowSet). x.windows) (if b then Some (record { number = (set_now st).number + 1; windows = windows }) else set_of_number k st.windows st.history)
+      go : (b : Bool)
+          → (if b then Some windows
+          else option_map (λ (x : WindowSet). x.windows) (set_of_number k st.windows st.history))
+          ≡ option_map (λ (x : WindowSet). x.windows) (if b then Some (record {
+            number = (set_now st).number + 1;
+            windows = windows;
+          }) else set_of_number k st.windows st.history)
       go true = refl
       go false = refl
 
   same : (s : Subject) → SameRows s old new
   same s = record {
     versions = λ id. ap (of_subject s (λ (v : VersionRow). v.subject)) (changed.versions id);
-    broadcasts = λ id attempt. ap (of_subject s (λ (b : BroadcastRow). b.subject)) (changed.broadcasts (record { id = id; attempt = attempt }));
-    waits = λ carrier minute id attempt. ap (of_subject s (λ t. t)) (changed.waits (record { carrier = carrier; minute = minute; id = id; attempt = attempt }));
+    broadcasts =
+        λ id attempt. ap (of_subject s (λ (b : BroadcastRow). b.subject))
+        (changed.broadcasts (record { id = id; attempt = attempt }));
+    waits = λ carrier minute id attempt. ap (of_subject s (λ t. t)) (changed.waits (record {
+      carrier = carrier;
+      minute = minute;
+      id = id;
+      attempt = attempt;
+    }));
   }
 
   pub windows_put-represents : Represents new (after_windows st caller windows)
@@ -58,11 +94,16 @@ module _ (st : State) (old new : Content) (caller : ℕ) (windows : Windows) (cl
     early = rep.early;
     history = windows-history st caller windows are rep.history ok;
     clock = subst (λ o. ClockShows o (after_windows st caller windows)) (sym clock_new) refl;
-    sets = λ k. sets_new k ∙ sym (ap (λ o. stored_set o (after_windows st caller windows) k) clock_new);
+    sets = λ k. sets_new k ∙ sym (ap (λ o. stored_set o (after_windows st caller windows) k)
+        clock_new);
     carriers = λ k. ap is_some (changed.carriers k) ∙ rep.carriers k;
     lrns = λ k. changed.lrns k ∙ rep.lrns k;
     codes = λ k. changed.codes k ∙ rep.codes k;
     blocks = λ b. changed.blocks b ∙ rep.blocks b
-        ∙ ap (λ (r : Record). option_map (λ donor. record { donor = donor; last = option_map (λ (v : Version). v.id) (last_version r) }) (donor_of b st.history)) (sym (windows-record st caller windows (Block b)));
-    subjects = λ s. windows-lag st caller windows are rep.history ok new s (same_rows_show s old new (record_now st s) (same s) (settled s).shows) (settled s).quiet;
+        ∙ ap (λ (r : Record). option_map (λ donor. record {
+          donor = donor;
+          last = option_map (λ (v : Version). v.id) (last_version r);
+        }) (donor_of b st.history)) (sym (windows-record st caller windows (Block b)));
+    subjects = λ s. windows-lag st caller windows are rep.history ok new s
+        (same_rows_show s old new (record_now st s) (same s) (settled s).shows) (settled s).quiet;
   }

@@ -68,39 +68,64 @@ sides Old = refl
 sides Canceled = refl
 
 -- what each table's statements take is bound as it is
-pub bound_as : (rs : List ValueRef) (row : Row) → map owned rs ≡ row → map bound_value row ≡ row → bound rs ≡ row
+pub bound_as : (rs : List ValueRef) (row : Row) → map owned rs ≡ row → map bound_value row ≡ row
+    → bound rs ≡ row
 bound_as rs row is same = bound_map rs ∙ ap (map bound_value) is ∙ same
 
-pub bound_version : (rs : List ValueRef) (id : ℕ) (v : VersionRow) → map owned rs ≡ version_params id v → bound rs ≡ version_params id v
+pub bound_version : (rs : List ValueRef) (id : ℕ) (v : VersionRow)
+    → map owned rs ≡ version_params id v → bound rs ≡ version_params id v
 bound_version rs id v is =
-    bound_as rs _ is (rw (lrns v.routing, cics v.routing, numbers v.old_at, numbers v.new_at, releases v.status, bools v.spent, bools v.protective, sides v.status, numbers v.deadline, founds id v.holds, founds id v.opens) refl)
+    bound_as rs _ is (rw (
+      lrns v.routing,
+      cics v.routing,
+      numbers v.old_at,
+      numbers v.new_at,
+      releases v.status,
+      bools v.spent,
+      bools v.protective,
+      sides v.status,
+      numbers v.deadline,
+      founds id v.holds,
+      founds id v.opens,
+    ) refl)
 
-pub bound_block : (rs : List ValueRef) (block : ℕ) (row : BlockRow) → map owned rs ≡ block_params block row → bound rs ≡ block_params block row
+pub bound_block : (rs : List ValueRef) (block : ℕ) (row : BlockRow)
+    → map owned rs ≡ block_params block row → bound rs ≡ block_params block row
 bound_block rs block row is = bound_as rs _ is (rw (numbers row.last) refl)
 
-pub bound_broadcast : (rs : List ValueRef) (k : BroadcastKey) (b : BroadcastRow) → map owned rs ≡ broadcast_params k b → bound rs ≡ broadcast_params k b
-bound_broadcast rs k b is = bound_as rs _ is (rw (lrns b.routing, cics b.routing, bools b.is_open, bools b.any) refl)
+pub bound_broadcast : (rs : List ValueRef) (k : BroadcastKey) (b : BroadcastRow)
+    → map owned rs ≡ broadcast_params k b → bound rs ≡ broadcast_params k b
+bound_broadcast rs k b is =
+    bound_as rs _ is (rw (lrns b.routing, cics b.routing, bools b.is_open, bools b.any) refl)
 
-pub bound_set : (rs : List ValueRef) (number : ℕ) (w : Windows) → map owned rs ≡ set_params number w → bound rs ≡ set_params number w
+pub bound_set : (rs : List ValueRef) (number : ℕ) (w : Windows) → map owned rs ≡ set_params number w
+    → bound rs ≡ set_params number w
 bound_set rs number w is = bound_as rs _ is refl
 
-pub bound_next : (rs : List ValueRef) (id : ℕ) (r : Routing) → map owned rs ≡ next_params id r → bound rs ≡ next_params id r
+pub bound_next : (rs : List ValueRef) (id : ℕ) (r : Routing) → map owned rs ≡ next_params id r
+    → bound rs ≡ next_params id r
 bound_next rs id r is = bound_as rs _ is (rw (cics (Some r)) refl)
 
-pub bound_clock : (rs : List ValueRef) (number : ℕ) (c : StoredClock) → map owned rs ≡ clock_params number c → bound rs ≡ clock_params number c
+pub bound_clock : (rs : List ValueRef) (number : ℕ) (c : StoredClock)
+    → map owned rs ≡ clock_params number c → bound rs ≡ clock_params number c
 bound_clock rs number c is = bound_as rs _ is refl
 
-pub bound_wait : (rs : List ValueRef) (k : WaitKey) (s : Subject) → map owned rs ≡ wait_params k s → bound rs ≡ wait_params k s
+pub bound_wait : (rs : List ValueRef) (k : WaitKey) (s : Subject) → map owned rs ≡ wait_params k s
+    → bound rs ≡ wait_params k s
 bound_wait rs k s is = bound_as rs _ is refl
 
-pub bound_owner : (rs : List ValueRef) (number owner : ℕ) → map owned rs ≡ owner_params number owner → bound rs ≡ owner_params number owner
+pub bound_owner : (rs : List ValueRef) (number owner : ℕ) → map owned rs ≡ owner_params number owner
+    → bound rs ≡ owner_params number owner
 bound_owner rs number owner is = bound_as rs _ is refl
 
-pub bound_carrier : (rs : List ValueRef) (carrier : ℕ) → map owned rs ≡ carrier_params carrier → bound rs ≡ carrier_params carrier
+pub bound_carrier : (rs : List ValueRef) (carrier : ℕ) → map owned rs ≡ carrier_params carrier
+    → bound rs ≡ carrier_params carrier
 bound_carrier rs carrier is = bound_as rs _ is refl
 
-pub bound_wait_key : (rs : List ValueRef) (k : WaitKey) → map owned rs ≡ wait_key_params k → bound rs ≡ wait_key_params k
+pub bound_wait_key : (rs : List ValueRef) (k : WaitKey) → map owned rs ≡ wait_key_params k
+    → bound rs ≡ wait_key_params k
 bound_wait_key rs k is = bound_as rs _ is refl
 
-pub bound_broadcast_key : (rs : List ValueRef) (k : BroadcastKey) → map owned rs ≡ broadcast_key_params k → bound rs ≡ broadcast_key_params k
+pub bound_broadcast_key : (rs : List ValueRef) (k : BroadcastKey)
+    → map owned rs ≡ broadcast_key_params k → bound rs ≡ broadcast_key_params k
 bound_broadcast_key rs k is = bound_as rs _ is refl

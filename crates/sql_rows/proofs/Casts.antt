@@ -88,28 +88,52 @@ module _ (db : Trees) where
   abbrev pub next_in : ℕ → Value
   next_in tree = Int (next_rowid (db tree))
 
-  pub carrier_cast : (carrier : ℕ) → cast_rows Carrier (carrier_params carrier) db ≡ (next_in 0 ∷ carrier_params carrier) ∷ []
+  pub carrier_cast : (carrier : ℕ) → cast_rows Carrier (carrier_params carrier) db
+      ≡ (next_in 0 ∷ carrier_params carrier) ∷ []
   carrier_cast carrier = rw cast_null refl
 
-  pub lrn_cast : (lrn owner : ℕ) → cast_rows Lrn (owner_params lrn owner) db ≡ stored (owner_params lrn owner) ∷ []
+  pub lrn_cast : (lrn owner : ℕ) → cast_rows Lrn (owner_params lrn owner) db
+      ≡ stored (owner_params lrn owner) ∷ []
   lrn_cast lrn owner = rw (cast_int (pos lrn), cast_null) refl
 
-  pub code_cast : (code owner : ℕ) → cast_rows Code (owner_params code owner) db ≡ stored (owner_params code owner) ∷ []
+  pub code_cast : (code owner : ℕ) → cast_rows Code (owner_params code owner) db
+      ≡ stored (owner_params code owner) ∷ []
   code_cast code owner = rw (cast_int (pos code), cast_null) refl
 
-  pub block_cast : (block : ℕ) (row : BlockRow) → cast_rows Block (block_params block row) db ≡ stored (block_params block row) ∷ []
+  pub block_cast : (block : ℕ) (row : BlockRow) → cast_rows Block (block_params block row) db
+      ≡ stored (block_params block row) ∷ []
   block_cast block row = rw (cast_int (pos block), cast_null, cast_number row.last) refl
 
-  pub broadcast_cast : (k : BroadcastKey) (b : BroadcastRow) → cast_rows Broadcast (broadcast_params k b) db ≡ (next_in 8 ∷ broadcast_params k b) ∷ []
-  broadcast_cast k b = rw (cast_null, cast_int (pos k.id), cast_int (pos k.attempt), cast_int (pos b.minute), cast_subject b.subject, cast_lrn b.routing, cast_cic b.routing, cast_bool b.is_open, cast_bool b.any) refl
+  pub broadcast_cast : (k : BroadcastKey) (b : BroadcastRow)
+      → cast_rows Broadcast (broadcast_params k b) db ≡ (next_in 8 ∷ broadcast_params k b) ∷ []
+  broadcast_cast k b = rw (
+    cast_null,
+    cast_int (pos k.id),
+    cast_int (pos k.attempt),
+    cast_int (pos b.minute),
+    cast_subject b.subject,
+    cast_lrn b.routing,
+    cast_cic b.routing,
+    cast_bool b.is_open,
+    cast_bool b.any,
+  ) refl
 
-  pub wait_cast : (k : WaitKey) (s : Subject) → cast_rows Wait (wait_params k s) db ≡ (next_in 10 ∷ wait_params k s) ∷ []
-  wait_cast k s = rw (cast_null, cast_int (pos k.minute), cast_int (pos k.id), cast_int (pos k.attempt), cast_subject s) refl
+  pub wait_cast : (k : WaitKey) (s : Subject)
+      → cast_rows Wait (wait_params k s) db ≡ (next_in 10 ∷ wait_params k s) ∷ []
+  wait_cast k s = rw (
+    cast_null,
+    cast_int (pos k.minute),
+    cast_int (pos k.id),
+    cast_int (pos k.attempt),
+    cast_subject s,
+  ) refl
 
-  pub next_cast : (id : ℕ) (r : Routing) → cast_rows NextRouting (next_params id r) db ≡ stored (next_params id r) ∷ []
+  pub next_cast : (id : ℕ) (r : Routing) → cast_rows NextRouting (next_params id r) db
+      ≡ stored (next_params id r) ∷ []
   next_cast id r = rw (cast_int (pos id), cast_null, cast_lrn (Some r), cast_cic (Some r)) refl
 
-  pub set_cast : (number : ℕ) (w : Windows) → cast_rows WindowSet (set_params number w) db ≡ stored (set_params number w) ∷ []
+  pub set_cast : (number : ℕ) (w : Windows) → cast_rows WindowSet (set_params number w) db
+      ≡ stored (set_params number w) ∷ []
   set_cast number w =
       rw (
         cast_int (pos number),
@@ -125,10 +149,18 @@ module _ (db : Trees) where
         cast_int (pos w.broadcast),
       ) refl
 
-  pub clock_cast : (number : ℕ) (c : StoredClock) → cast_rows Clock (clock_params number c) db ≡ stored (clock_params number c) ∷ []
-  clock_cast number c = rw (cast_int (pos number), cast_null, cast_int (pos c.minute), cast_int (pos c.next_id), cast_int (pos c.present)) refl
+  pub clock_cast : (number : ℕ) (c : StoredClock) → cast_rows Clock (clock_params number c) db
+      ≡ stored (clock_params number c) ∷ []
+  clock_cast number c = rw (
+    cast_int (pos number),
+    cast_null,
+    cast_int (pos c.minute),
+    cast_int (pos c.next_id),
+    cast_int (pos c.present),
+  ) refl
 
-  pub version_cast : (id : ℕ) (v : VersionRow) → cast_rows Version (version_params id v) db ≡ version_row id v ∷ []
+  pub version_cast : (id : ℕ) (v : VersionRow) → cast_rows Version (version_params id v) db
+      ≡ version_row id v ∷ []
   version_cast id v =
       rw (
         cast_int (pos id),

@@ -62,19 +62,22 @@ behind_true false = refl
 le_numbers : (m n : ℕ) → is_le (int_cmp (pos m) (pos n)) ≡ is_le (nat_cmp m n)
 le_numbers m n = grind (arith, ints, nat_tests)
 
-pub below_numbers : (m n : ℕ) → is_true (binary (Compare Le Binary) (Int (pos m)) (Int (pos n))) ≡ is_le (nat_cmp m n)
+pub below_numbers : (m n : ℕ) → is_true (binary (Compare Le Binary) (Int (pos m)) (Int (pos n)))
+    ≡ is_le (nat_cmp m n)
 unfolding binary
 below_numbers m n = true_of _ ∙ ap is_le (value_cmp-Int (pos m) (pos n)) ∙ le_numbers m n
 
 above_ints : (m n : ℕ) → is_ge (int_cmp (pos m) (pos n)) ≡ is_ge (nat_cmp m n)
 above_ints m n = grind (arith, ints, nat_tests)
 
-pub above_numbers : (m n : ℕ) → is_true (binary (Compare Ge Binary) (Int (pos m)) (Int (pos n))) ≡ is_ge (nat_cmp m n)
+pub above_numbers : (m n : ℕ) → is_true (binary (Compare Ge Binary) (Int (pos m)) (Int (pos n)))
+    ≡ is_ge (nat_cmp m n)
 unfolding binary
 above_numbers m n = true_of _ ∙ ap is_ge (value_cmp-Int (pos m) (pos n)) ∙ above_ints m n
 
 -- what says that a row is not found is no number
-pub never_above : (m n : ℕ) → is_true (binary (Compare Ge Binary) (Int (negsuc m)) (Int (pos n))) ≡ false
+pub never_above : (m n : ℕ) → is_true (binary (Compare Ge Binary) (Int (negsuc m)) (Int (pos n)))
+    ≡ false
 unfolding binary
 never_above m n = true_of _ ∙ ap is_ge (value_cmp-Int (negsuc m) (pos n))
 
@@ -86,13 +89,17 @@ above_zero m = above_numbers m 0 ∙ ge_told m 0 (omega arith)
 
 -- the two tests of a deadline
 abbrev tests : ℕ → Value → List Bool
-tests n v = is_true (binary (Compare Ge Binary) v (Int (pos 0))) ∷ is_true (binary (Compare Le Binary) v (Int (pos n))) ∷ []
+tests n v =
+    is_true (binary (Compare Ge Binary) v (Int (pos 0))) ∷ is_true
+    (binary (Compare Le Binary) v (Int (pos n))) ∷ []
 
 number_due : (n m : ℕ) (r : Row) → column r 18 ≡ Int (pos m) → is_due n r ≡ is_le (nat_cmp m n)
 number_due n m r is =
     ap (λ v. list_all (λ (b : Bool). b) (tests n v)) is
-    ∙ ap (λ b. list_all (λ (c : Bool). c) (b ∷ is_true (binary (Compare Le Binary) (Int (pos m)) (Int (pos n))) ∷ [])) (above_zero m)
-    ∙ ap (λ b. list_all (λ (c : Bool). c) (true ∷ b ∷ [])) (below_numbers m n) ∙ behind_true (is_le (nat_cmp m n))
+    ∙ ap (λ b. list_all (λ (c : Bool). c)
+    (b ∷ is_true (binary (Compare Le Binary) (Int (pos m)) (Int (pos n))) ∷ [])) (above_zero m)
+    ∙ ap (λ b. list_all (λ (c : Bool). c) (true ∷ b ∷ [])) (below_numbers m n)
+    ∙ behind_true (is_le (nat_cmp m n))
 
 null_not_due : (n : ℕ) (r : Row) → column r 18 ≡ Null → is_due n r ≡ false
 unfolding binary
@@ -105,10 +112,12 @@ pub le_told : (m n : ℕ) → m ≤ n → is_le (nat_cmp m n) ≡ true
 le_told m n h = grind (arith, nat_tests)
 
 not_less : (m n : ℕ) → is_lt (value_cmp (Int (pos n)) (Int (pos m))) ≡ false → m ≤ n
-not_less m n h = let e : is_lt (int_cmp (pos n) (pos m)) ≡ false = ap is_lt (sym (value_cmp-Int (pos n) (pos m))) ∙ h in grind (arith, ints, nat_tests, e)
+not_less m n h = let e : is_lt (int_cmp (pos n) (pos m)) ≡ false =
+    ap is_lt (sym (value_cmp-Int (pos n) (pos m))) ∙ h in grind (arith, ints, nat_tests, e)
 
 -- of two outputs, the order is that of the deadlines
-by_deadline : (a b : Output) → is_lt (output_cmp due_query a b) ≡ is_lt (value_cmp (column a.0 0) (column b.0 0))
+by_deadline : (a b : Output)
+    → is_lt (output_cmp due_query a b) ≡ is_lt (value_cmp (column a.0 0) (column b.0 0))
 by_deadline a b = ap is_lt (then-Equal (value_cmp (column a.0 0) (column b.0 0)))
 
 abbrev out : Row → Output
@@ -121,7 +130,8 @@ lt_no n m h = grind arith
 abbrev IsOutput : Trees → ℕ → Output → Type 0
 IsOutput db n o = (r : Row) × Has (db 18) r × (is_due n r ≡ true) × (o ≡ out r)
 
-outputs : (xs : List Row) (P : Output → Type 0) → ((r : Row) → Has xs r → P (out r)) → AllByRecursion P (map out xs)
+outputs : (xs : List Row) (P : Output → Type 0) → ((r : Row) → Has xs r → P (out r))
+    → AllByRecursion P (map out xs)
 outputs [] P h = tt
 outputs (x ∷ xs) P h = (h x (inl refl), outputs xs P (λ r at. h r (inr at)))
 
@@ -132,10 +142,13 @@ has_output (x ∷ xs) r (inr at) = inr (has_output xs r at)
 
 -- what stands in one list stands in its permutation
 pub has_permuted : {X : Type 0} (xs ys : List X) (x : X) → IsPermutation xs ys → Has xs x → Has ys x
-has_permuted xs ys x p at = all_has (λ y. Has ys y) xs x (all-permutation (λ y. Has ys y) ys xs (IsPermutation-sym xs ys p) (all_from (λ y. Has ys y) ys (λ y h. h))) at
+has_permuted xs ys x p at =
+    all_has (λ y. Has ys y) xs x (all-permutation (λ y. Has ys y) ys xs (IsPermutation-sym xs ys p)
+    (all_from (λ y. Has ys y) ys (λ y h. h))) at
 
 -- the first of a sorted list is not above any
-pub first_least : (lt : Output → Output → Bool) (o : IsStrictWeakOrder lt) (x : Output) (xs : List Output) → IsSortedBy lt (x ∷ xs) → (y : Output) → Has (x ∷ xs) y → lt y x ≡ false
+pub first_least : (lt : Output → Output → Bool) (o : IsStrictWeakOrder lt) (x : Output)
+    (xs : List Output) → IsSortedBy lt (x ∷ xs) → (y : Output) → Has (x ∷ xs) y → lt y x ≡ false
 first_least lt o x xs up y at =
     let c = contains_had (x ∷ xs) y at in
     ap (λ z. lt z x) (sym c.2) ∙ sorted_far lt o (x ∷ xs) up 0 c.0 y (omega arith) c.1
@@ -146,7 +159,8 @@ not_back Equal h = refl
 not_back Greater h = refl
 
 module _ {K : Type 0} {R : K → K → Ordering} (o : IsTotalOrder R) where
-  no_less : (x y z : K) (r s : Ordering) → R y x ≡ r → R x z ≡ s → is_lt (R x y) ≡ false → is_lt (R y z) ≡ false → is_lt s ≡ false
+  no_less : (x y z : K) (r s : Ordering) → R y x ≡ r → R x z ≡ s → is_lt (R x y) ≡ false
+      → is_lt (R y z) ≡ false → is_lt s ≡ false
   no_less x y z r Equal p q a b = refl
   no_less x y z r Greater p q a b = refl
   no_less x y z Less Less p q a b = sym (ap is_lt (o.trans y x z p q)) ∙ b
@@ -155,7 +169,8 @@ module _ {K : Type 0} {R : K → K → Ordering} (o : IsTotalOrder R) where
 
   pub ranks_by : {X : Type 0} (key : X → K) → IsStrictWeakOrder (λ x y. is_lt (R (key x) (key y)))
   ranks_by key = record {
-    one_way = λ x y h. not_back (R (key y) (key x)) (ap is_lt (sym (o.antisymm (key x) (key y))) ∙ h);
+    one_way = λ x y h. not_back (R (key y) (key x)) (ap is_lt (sym (o.antisymm (key x) (key y)))
+        ∙ h);
     chain = λ x y z a b. no_less (key x) (key y) (key z) _ _ refl refl a b;
   }
 
@@ -165,9 +180,12 @@ weak = ranks_by value_cmp_total (λ (o : Output). column o.0 0)
 -- the query found none due, or the first of those due
 pub data Found (db : Trees) (n : ℕ) (rows : List Row) : Type 0 where
   nothing : rows ≡ [] → filter (is_due n) (db 18) ≡ [] → Found db n rows
-  first : (r : Row) → Has (db 18) r → is_due n r ≡ true → rows ≡ shown_of r ∷ [] → ((x : Row) → Has (db 18) x → is_due n x ≡ true → is_lt (value_cmp (column x 18) (column r 18)) ≡ false) → Found db n rows
+  first : (r : Row) → Has (db 18) r → is_due n r ≡ true → rows ≡ shown_of r ∷ []
+      → ((x : Row) → Has (db 18) x → is_due n x ≡ true
+      → is_lt (value_cmp (column x 18) (column r 18)) ≡ false) → Found db n rows
 
-due_found : (db : Trees) (n : ℕ) (rows : List Row) → IsAnswer due_query (overlay db []) (Int (pos n) ∷ []) rows → Found db n rows
+due_found : (db : Trees) (n : ℕ) (rows : List Row)
+    → IsAnswer due_query (overlay db []) (Int (pos n) ∷ []) rows → Found db n rows
 due_found db n rows a = go a.ordered a.same a.sorted a.shown
   where
     picks : List Row
@@ -175,26 +193,43 @@ due_found db n rows a = go a.ordered a.same a.sorted a.shown
 
     kept : a.kept ≡ map out picks
     kept =
-        let staged : a.staged ≡ map (λ r. (Int (pos n) ∷ []) ∷ r ∷ []) picks = a.grouped ∙ picked (is_due n) (λ r. (Int (pos n) ∷ []) ∷ r ∷ []) (db 18) in
-        a.distinct ∙ ap (map (output due_query)) staged ∙ map_twice (output due_query) (λ r. (Int (pos n) ∷ []) ∷ r ∷ []) picks
+        let staged : a.staged ≡ map (λ r. (Int (pos n) ∷ []) ∷ r ∷ []) picks =
+        a.grouped ∙ picked (is_due n) (λ r. (Int (pos n) ∷ []) ∷ r ∷ []) (db 18) in
+        a.distinct ∙ ap (map (output due_query)) staged ∙ map_twice (output due_query)
+        (λ r. (Int (pos n) ∷ []) ∷ r ∷ []) picks
 
-    go : (ordered : List Output) → IsPermutation a.kept ordered → IsSorted (output_cmp due_query) ordered → rows ≡ take 1 (map (λ (o : Output). o.1) ordered) → Found db n rows
+    go : (ordered : List Output) → IsPermutation a.kept ordered
+        → IsSorted (output_cmp due_query) ordered
+        → rows ≡ take 1 (map (λ (o : Output). o.1) ordered) → Found db n rows
     go [] same up shown = nothing shown (no_rows picks (subst (λ l. IsPermutation l []) kept same))
       where
         no_rows : (xs : List Row) → IsPermutation (map out xs) [] → xs ≡ []
         no_rows [] p = refl
         no_rows (x ∷ xs) p = absurd (has_permuted (map out (x ∷ xs)) [] (out x) p (inl refl))
     go (o ∷ rest) same up shown =
-        let p : IsPermutation (map out picks) (o ∷ rest) = subst (λ l. IsPermutation l (o ∷ rest)) kept same in
-        let at : IsOutput db n o = all_has (IsOutput db n) (o ∷ rest) o (all-permutation (IsOutput db n) (map out picks) (o ∷ rest) p
-        (outputs picks (IsOutput db n) (λ r h. let f = has_filtered (is_due n) (db 18) r h in (r, f.0, f.1, refl)))) (inl refl) in
-        let sorted : IsSortedBy (λ (a b : Output). is_lt (value_cmp (column a.0 0) (column b.0 0))) (o ∷ rest) = λ k d low high. sym (by_deadline (slice_index_or (o ∷ rest) (k + 1) d) (slice_index_or (o ∷ rest) k d)) ∙ up k d low high in
+        let p : IsPermutation (map out picks) (o ∷ rest) =
+        subst (λ l. IsPermutation l (o ∷ rest)) kept same in
+        let at : IsOutput db n o =
+        all_has (IsOutput db n) (o ∷ rest) o (all-permutation (IsOutput db n) (map out picks)
+        (o ∷ rest) p
+        (outputs picks (IsOutput db n) (λ r h. let f = has_filtered (is_due n) (db 18) r h in
+        (r, f.0, f.1, refl)))) (inl refl) in
+        let sorted : IsSortedBy (λ (a b : Output). is_lt (value_cmp (column a.0 0) (column b.0 0)))
+        (o ∷ rest) =
+        λ k d low high. sym (by_deadline (slice_index_or (o ∷ rest) (k + 1) d)
+        (slice_index_or (o ∷ rest) k d)) ∙ up k d low high in
         first at.0 at.1 at.2 (shown ∙ ap (λ (e : Output). e.1 ∷ []) at.3) (λ x h due.
-        let there : Has (o ∷ rest) (out x) = has_permuted (map out picks) (o ∷ rest) (out x) p (has_output picks x (has_kept (is_due n) (db 18) x h due)) in
-        ap (λ (e : Output). is_lt (value_cmp (column x 18) (column e.0 0))) (sym at.3) ∙ first_least _ weak o rest sorted (out x) there)
+        let there : Has (o ∷ rest) (out x) =
+        has_permuted (map out picks) (o ∷ rest) (out x) p
+        (has_output picks x (has_kept (is_due n) (db 18) x h due)) in
+        ap (λ (e : Output). is_lt (value_cmp (column x 18) (column e.0 0))) (sym at.3)
+        ∙ first_least _ weak o rest sorted (out x) there)
 
-deadline_at : (r : Row) (e : ℕ × VersionRow) (d : ℕ) → version_entry r ≡ Some e → e.1.deadline ≡ Some d → column r 18 ≡ Int (pos d)
-deadline_at r e d is given = minute_read (column r 18) d (some_read minute_in (column r 18) d ((reads (shown_of r) e is).deadline ∙ ap Some given))
+deadline_at : (r : Row) (e : ℕ × VersionRow) (d : ℕ) → version_entry r ≡ Some e
+    → e.1.deadline ≡ Some d → column r 18 ≡ Int (pos d)
+deadline_at r e d is given =
+    minute_read (column r 18) d (some_read minute_in (column r 18) d
+    ((reads (shown_of r) e is).deadline ∙ ap Some given))
 
 module _ (db : Trees) (shaped : AreShaped db) (n : ℕ) where
   none_due : filter (is_due n) (db 18) ≡ [] → NoRowIsDue (bare_in db) n
@@ -205,14 +240,20 @@ module _ (db : Trees) (shaped : AreShaped db) (n : ℕ) where
       go false e =
           let f = version_row_of db id row at in
           let low : d ≤ n = lt_no n d e in
-          absurd (none_passes (is_due n) (db 18) f.row none f.has (number_due n d f.row (deadline_at f.row (id, row) d f.reads given) ∙ le_told d n low))
+          absurd (none_passes (is_due n) (db 18) f.row none f.has
+          (number_due n d f.row (deadline_at f.row (id, row) d f.reads given) ∙ le_told d n low))
 
-  least : (r : Row) (v : NumberedRow) → Has (db 18) r → is_due n r ≡ true → version_entry r ≡ Some (v.id, v.row) → ((x : Row) → Has (db 18) x → is_due n x ≡ true → is_lt (value_cmp (column x 18) (column r 18)) ≡ false)
+  least : (r : Row) (v : NumberedRow) → Has (db 18) r → is_due n r ≡ true
+      → version_entry r ≡ Some (v.id, v.row) → ((x : Row) → Has (db 18) x → is_due n x ≡ true
+      → is_lt (value_cmp (column x 18) (column r 18)) ≡ false)
       → IsLeastDue (bare_in db) n (Some v)
   least r v at due is low = go v.row.deadline refl
     where
       go : (o : Option ℕ) → v.row.deadline ≡ o → IsLeastDue (bare_in db) n (Some v)
-      go None e = absurd (true≢false (sym due ∙ null_not_due n r (none_read minute_in (column r 18) ((reads (shown_of r) (v.id, v.row) is).deadline ∙ ap Some e))))
+      go None e =
+          absurd (true≢false (sym due
+          ∙ null_not_due n r (none_read minute_in (column r 18)
+          ((reads (shown_of r) (v.id, v.row) is).deadline ∙ ap Some e))))
       go (Some d) e =
           let col : column r 18 ≡ Int (pos d) = deadline_at r (v.id, v.row) d is e in
           let come : d ≤ n = le_said d n (sym (number_due n d r col) ∙ due) in
@@ -221,16 +262,22 @@ module _ (db : Trees) (shaped : AreShaped db) (n : ℕ) where
           each : (d : ℕ) → column r 18 ≡ Int (pos d) → d ≤ n → IsLeastDeadline (bare_in db) d
           each d col come id row got f given =
               let other = version_row_of db id row got in
-              let at_f : column other.row 18 ≡ Int (pos f) = deadline_at other.row (id, row) f other.reads given in
+              let at_f : column other.row 18 ≡ Int (pos f) =
+              deadline_at other.row (id, row) f other.reads given in
               by (nat_lt n f) refl other.row other.has at_f
             where
-              by : (b : Bool) → nat_lt n f ≡ b → (other : Row) → Has (db 18) other → column other 18 ≡ Int (pos f) → d ≤ f
+              by : (b : Bool) → nat_lt n f ≡ b → (other : Row) → Has (db 18) other
+                  → column other 18 ≡ Int (pos f) → d ≤ f
               by true e other has at_f = let up : n < f = less_is n f e in omega arith
               by false e other has at_f =
-                  let due_f : is_due n other ≡ true = number_due n f other at_f ∙ le_told f n (lt_no n f e) in
-                  not_less d f (ap (λ w. is_lt (value_cmp (Int (pos f)) w)) (sym col) ∙ ap (λ w. is_lt (value_cmp w (column r 18))) (sym at_f) ∙ low other has due_f)
+                  let due_f : is_due n other ≡ true =
+                  number_due n f other at_f ∙ le_told f n (lt_no n f e) in
+                  not_less d f (ap (λ w. is_lt (value_cmp (Int (pos f)) w)) (sym col)
+                  ∙ ap (λ w. is_lt (value_cmp w (column r 18))) (sym at_f) ∙ low other has due_f)
 
-  pub due_is_found : (o : Option NumberedRow) → IsSoleAnswer VersionDue version_in db (Int (pos n) ∷ []) (option_map (λ (v : NumberedRow). (v.id, v.row)) o) → IsLeastDue (bare_in db) n o
+  pub due_is_found : (o : Option NumberedRow)
+      → IsSoleAnswer VersionDue version_in db (Int (pos n) ∷ [])
+      (option_map (λ (v : NumberedRow). (v.id, v.row)) o) → IsLeastDue (bare_in db) n o
   due_is_found None h = go (due_found db n h.0 h.1)
     where
       go : Found db n h.0 → NoRowIsDue (bare_in db) n

@@ -57,35 +57,58 @@ sent_by s = None
 
 module _ (own put : Routing) where
   -- the words of a status: only one of them says that something is sent
-  sent_own : (a b c d e f g h i j : Bool) (by : Option Side) (sends : Option Send) (release : Option ℕ) → (sends ≡ Some (Modify put) → own ≡ put) →
-      cond a (Some Pending) (cond b (Some Conflict) (cond c (option_map CancelPending by) (cond d (option_map Sending sends) (cond e (Some Active) (cond f (Some PartialFailure) (cond g (Some Failed) (cond h (option_map DisconnectPending release) (cond i (Some Old) (cond j (Some Canceled) None)))))))))
+  sent_own : (a b c d e f g h i j : Bool) (by : Option Side) (sends : Option Send)
+      (release : Option ℕ) → (sends ≡ Some (Modify put) → own ≡ put) →
+      cond a (Some Pending)
+      (cond b (Some Conflict) (cond c (option_map CancelPending by)
+      (cond d (option_map Sending sends)
+      (cond e (Some Active)
+      (cond f (Some PartialFailure)
+      (cond g (Some Failed) (cond h (option_map DisconnectPending release)
+      (cond i (Some Old) (cond j (Some Canceled) None)))))))))
       ≡ Some (Sending (Modify put)) → own ≡ put
-  sent_own true b c d e f g h i j by sends release same it = absurd (let no = ap (option_map sent_by) it in cc)
-  sent_own false true c d e f g h i j by sends release same it = absurd (let no = ap (option_map sent_by) it in cc)
+  sent_own true b c d e f g h i j by sends release same it =
+      absurd (let no = ap (option_map sent_by) it in cc)
+  sent_own false true c d e f g h i j by sends release same it =
+      absurd (let no = ap (option_map sent_by) it in cc)
   sent_own false false true d e f g h i j None sends release same it = absurd cc
-  sent_own false false true d e f g h i j (Some side) sends release same it = absurd (let no = ap (option_map sent_by) it in cc)
+  sent_own false false true d e f g h i j (Some side) sends release same it =
+      absurd (let no = ap (option_map sent_by) it in cc)
   sent_own false false false true e f g h i j by None release same it = absurd cc
-  sent_own false false false true e f g h i j by (Some send) release same it = same (some_is (Some send) (Some (Modify put)) (ap (option_map sent_by) it))
-  sent_own false false false false true f g h i j by sends release same it = absurd (let no = ap (option_map sent_by) it in cc)
-  sent_own false false false false false true g h i j by sends release same it = absurd (let no = ap (option_map sent_by) it in cc)
-  sent_own false false false false false false true h i j by sends release same it = absurd (let no = ap (option_map sent_by) it in cc)
+  sent_own false false false true e f g h i j by (Some send) release same it =
+      same (some_is (Some send) (Some (Modify put)) (ap (option_map sent_by) it))
+  sent_own false false false false true f g h i j by sends release same it =
+      absurd (let no = ap (option_map sent_by) it in cc)
+  sent_own false false false false false true g h i j by sends release same it =
+      absurd (let no = ap (option_map sent_by) it in cc)
+  sent_own false false false false false false true h i j by sends release same it =
+      absurd (let no = ap (option_map sent_by) it in cc)
   sent_own false false false false false false false true i j by sends None same it = absurd cc
-  sent_own false false false false false false false true i j by sends (Some m) same it = absurd (let no = ap (option_map sent_by) it in cc)
-  sent_own false false false false false false false false true j by sends release same it = absurd (let no = ap (option_map sent_by) it in cc)
-  sent_own false false false false false false false false false true by sends release same it = absurd (let no = ap (option_map sent_by) it in cc)
-  sent_own false false false false false false false false false false by sends release same it = absurd cc
+  sent_own false false false false false false false true i j by sends (Some m) same it =
+      absurd (let no = ap (option_map sent_by) it in cc)
+  sent_own false false false false false false false false true j by sends release same it =
+      absurd (let no = ap (option_map sent_by) it in cc)
+  sent_own false false false false false false false false false true by sends release same it =
+      absurd (let no = ap (option_map sent_by) it in cc)
+  sent_own false false false false false false false false false false by sends release same it =
+      absurd cc
 
-  modified_own : (a b c : Bool) → cond a (Some Create) (cond b (Some Delete) (cond c (Some (Modify own)) None)) ≡ Some (Modify put) → own ≡ put
+  modified_own : (a b c : Bool)
+      → cond a (Some Create) (cond b (Some Delete) (cond c (Some (Modify own)) None))
+      ≡ Some (Modify put) → own ≡ put
   modified_own true b c e = absurd cc
   modified_own false true c e = absurd cc
   modified_own false false true e = cc
   modified_own false false false e = absurd cc
 
-bare_own : (own : Option Routing) (status sends release by : Value) (s : Status) → status_in own status sends release by ≡ Some s → bare_status own s ≡ s
+bare_own : (own : Option Routing) (status sends release by : Value) (s : Status)
+    → status_in own status sends release by ≡ Some s → bare_status own s ≡ s
 bare_own own status sends release by (Sending Create) e = refl
 bare_own own status sends release by (Sending Delete) e = refl
 bare_own None status sends release by (Sending (Modify put)) e = refl
-bare_own (Some own) status sends release by (Sending (Modify put)) e = ap (λ r. Sending (Modify r)) (sent_own own put _ _ _ _ _ _ _ _ _ _ (side_in by) (send_in (Some own) sends) (minute_in release) (modified_own own put _ _ _) e)
+bare_own (Some own) status sends release by (Sending (Modify put)) e =
+    ap (λ r. Sending (Modify r)) (sent_own own put _ _ _ _ _ _ _ _ _ _ (side_in by)
+    (send_in (Some own) sends) (minute_in release) (modified_own own put _ _ _) e)
 bare_own own status sends release by Pending e = refl
 bare_own own status sends release by Conflict e = refl
 bare_own own status sends release by (CancelPending side) e = refl
@@ -96,7 +119,8 @@ bare_own own status sends release by (DisconnectPending m) e = refl
 bare_own own status sends release by Old e = refl
 bare_own own status sends release by Canceled e = refl
 
-pub bare_read : (held : Option ℕ) (r : Row) (e : ℕ × VersionRow) → version_with held r ≡ Some e → bare e.1 ≡ e.1
+pub bare_read : (held : Option ℕ) (r : Row) (e : ℕ × VersionRow) → version_with held r ≡ Some e
+    → bare e.1 ≡ e.1
 bare_read held r e h =
     let a = bind_some _ (number_in (column r 0)) e h in
     let b = bind_some _ (subject_in (column r 1)) e a.2 in
@@ -106,7 +130,8 @@ bare_read held r e h =
     let g = bind_some _ (routing_in (column r 5) (column r 6)) e f.2 in
     let i = bind_some _ (or_null_in minute_in (column r 7)) e g.2 in
     let j = bind_some _ (or_null_in minute_in (column r 8)) e i.2 in
-    let k = bind_some _ (status_in g.0 (column r 9) (column r 10) (column r 13) (column r 16)) e j.2 in
+    let k = bind_some _ (status_in g.0 (column r 9) (column r 10) (column r 13) (column r 16)) e
+    j.2 in
     let l = bind_some _ (minute_in (column r 11)) e k.2 in
     let w = bind_some _ held e l.2 in
     let m = bind_some _ (number_in (column r 12)) e w.2 in
@@ -116,7 +141,24 @@ bare_read held r e h =
     let q = bind_some _ (found_in a.0 b.0 (column r 18)) e p.2 in
     let s = map_some _ (found_in a.0 b.0 (column r 19)) e q.2 in
     let same = bare_own g.0 (column r 9) (column r 10) (column r 13) (column r 16) k.0 k.1 in
-    subst (λ (x : ℕ × VersionRow). bare x.1 ≡ x.1) s.2 (ap (λ t. record (e.1) { subject = b.0; old_provider = c.0; new_provider = d.0; due = f.0; routing = g.0; old_at = i.0; new_at = j.0; status = t; since = l.0; held = w.0; attempt = m.0; spent = n.0; protective = o.0; deadline = p.0; holds = subject_if q.0 b.0; opens = subject_if s.0 b.0 }) same)
+    subst (λ (x : ℕ × VersionRow). bare x.1 ≡ x.1) s.2 (ap (λ t. record (e.1) {
+      subject = b.0;
+      old_provider = c.0;
+      new_provider = d.0;
+      due = f.0;
+      routing = g.0;
+      old_at = i.0;
+      new_at = j.0;
+      status = t;
+      since = l.0;
+      held = w.0;
+      attempt = m.0;
+      spent = n.0;
+      protective = o.0;
+      deadline = p.0;
+      holds = subject_if q.0 b.0;
+      opens = subject_if s.0 b.0;
+    }) same)
 
 -- ---- the versions
 
@@ -125,28 +167,45 @@ old_seen v = (v.version.id, v.version.row)
 
 module _ (db : Trees) (shaped : IsShaped AsTable (db 5)) where
   -- rows of one id are one row
-  once : (r s : Row) (k : ℕ) (a b : VersionRow) → Has (db 5) r → Has (db 5) s → old_version_entry r ≡ Some (k, a) → old_version_entry s ≡ Some (k, b) → s ≡ r
+  once : (r s : Row) (k : ℕ) (a b : VersionRow) → Has (db 5) r → Has (db 5) s
+      → old_version_entry r ≡ Some (k, a) → old_version_entry s ≡ Some (k, b) → s ≡ r
   once r s k a b at there is also =
       let one = number_read (column r 0) k (reads_with (Some 1) (old_shown_of r) (k, a) is).id in
       let two = number_read (column s 0) k (reads_with (Some 1) (old_shown_of s) (k, b) also).id in
-      tied_same (db 5) s r shaped.0 there at (ap (value_cmp (rowid s)) (one ∙ sym two) ∙ tied_itself value_cmp_total (rowid s))
+      tied_same (db 5) s r shaped.0 there at (ap (value_cmp (rowid s)) (one ∙ sym two)
+      ∙ tied_itself value_cmp_total (rowid s))
 
-  pub old_picked : (items : List OldVersion) → IsListAnswer (All VersionTable) old_version_in db [] (map old_seen items) → Picks old_seen (old_versions_in (db 5)) (λ k v. Unit {0}) items
+  pub old_picked : (items : List OldVersion) → IsListAnswer (All VersionTable) old_version_in db []
+      (map old_seen items) → Picks old_seen (old_versions_in (db 5)) (λ k v. Unit {0}) items
   old_picked items h =
-      picks nat_cmp_total same_number old_version_in old_shown_of old_seen (passes (query_test (All VersionTable)) []) (λ k v. Unit {0}) (db 5) items once (λ r k v is. (λ e. tt, λ e. refl))
-      (listed old_seen old_version_in old_shown_of _ (db 5) h.0 items (plain_answer 5 (query_test (All VersionTable)) (shown_by VersionTable) (overlay db []) [] h.0 h.1) h.2)
+      picks nat_cmp_total same_number old_version_in old_shown_of old_seen
+      (passes (query_test (All VersionTable)) []) (λ k v. Unit {0}) (db 5) items once
+      (λ r k v is. (λ e. tt, λ e. refl))
+      (listed old_seen old_version_in old_shown_of _ (db 5) h.0 items
+      (plain_answer 5 (query_test (All VersionTable)) (shown_by VersionTable) (overlay db []) [] h.0
+      h.1) h.2)
 
 -- each is bare
-pub old_bare : (db : Trees) (k : ℕ) (v : VersionRow) → get (old_versions_in (db 5)) k ≡ Some v → bare v ≡ v
-old_bare db k v e = let f = entry_from nat_cmp nat_cmp_total old_version_in old_shown_of same_number (db 5) k v e in bare_read (Some 1) (old_shown_of f.row) (k, v) f.reads
+pub old_bare : (db : Trees) (k : ℕ) (v : VersionRow) → get (old_versions_in (db 5)) k ≡ Some v
+    → bare v ≡ v
+old_bare db k v e = let f = entry_from nat_cmp nat_cmp_total old_version_in old_shown_of same_number
+    (db 5) k v e in bare_read (Some 1) (old_shown_of f.row) (k, v) f.reads
 
 -- the version with an id
 module _ (db : Trees) where
-  old_tests : (n : ℕ) → Tests nat_cmp old_version_entry n (passes (query_test OldVersionNumbered) (Int (pos n) ∷ []))
-  old_tests = number_tests old_version_entry (λ r e is. (reads_with (Some 1) (old_shown_of r) e is).id)
+  old_tests : (n : ℕ)
+      → Tests nat_cmp old_version_entry n (passes (query_test OldVersionNumbered)
+      (Int (pos n) ∷ []))
+  old_tests =
+      number_tests old_version_entry (λ r e is. (reads_with (Some 1) (old_shown_of r) e is).id)
 
-  pub old_version_found : (id : ℕ) (o : Option (ℕ × VersionRow)) → IsSoleAnswer OldVersionNumbered old_version_in db (Int (pos id) ∷ []) o → get (old_versions_in (db 5)) id ≡ value_of o
-  old_version_found id o h = looked_up nat_cmp nat_cmp_total old_version_in old_shown_of id _ (old_tests id) (db 5) h.0 o (plain_answer 5 (query_test OldVersionNumbered) (shown_by VersionTable) (overlay db []) (Int (pos id) ∷ []) h.0 h.1) h.2
+  pub old_version_found : (id : ℕ) (o : Option (ℕ × VersionRow))
+      → IsSoleAnswer OldVersionNumbered old_version_in db (Int (pos id) ∷ []) o
+      → get (old_versions_in (db 5)) id ≡ value_of o
+  old_version_found id o h =
+      looked_up nat_cmp nat_cmp_total old_version_in old_shown_of id _ (old_tests id) (db 5) h.0 o
+      (plain_answer 5 (query_test OldVersionNumbered) (shown_by VersionTable) (overlay db [])
+      (Int (pos id) ∷ []) h.0 h.1) h.2
 
 -- ---- the clock's row
 
@@ -169,12 +228,20 @@ old_clock_key r e h =
         go true e = cc
         go false e = absurd cc
 
-pub old_clock_is : (db : Trees) (o : Option (ℕ × ClockRow)) (rows : List Row) → IsAnswer (query_of (All ClockTable)) (overlay db []) [] rows → IsSole old_clock_in rows o → old_clock (db 12) ≡ option_map (λ (e : ℕ × ClockRow). e.1) o
+pub old_clock_is : (db : Trees) (o : Option (ℕ × ClockRow)) (rows : List Row)
+    → IsAnswer (query_of (All ClockTable)) (overlay db []) [] rows → IsSole old_clock_in rows o
+    → old_clock (db 12) ≡ option_map (λ (e : ℕ × ClockRow). e.1) o
 old_clock_is db o rows answer sole =
-    looked_up nat_cmp nat_cmp_total old_clock_in old_clock_shown 0 (passes (query_test (All ClockTable)) []) (λ r e is. sym (ap (λ n. eq_by_cmp nat_cmp 0 n) (old_clock_key r e is))) (db 12) rows o
-    (plain_answer 12 (query_test (All ClockTable)) (shown_by ClockTable) (overlay db []) [] rows answer) sole
+    looked_up nat_cmp nat_cmp_total old_clock_in old_clock_shown 0
+    (passes (query_test (All ClockTable)) [])
+    (λ r e is. sym (ap (λ n. eq_by_cmp nat_cmp 0 n) (old_clock_key r e is))) (db 12) rows o
+    (plain_answer 12 (query_test (All ClockTable)) (shown_by ClockTable) (overlay db []) [] rows
+    answer) sole
 
 -- ---- a table emptied keeps the shapes
 
-pub old_rows : (t : OldTable) (db next : Trees) → next (tree_of (table_of_old t)) ≡ [] → IsFrame (table_of_old t) db next → AreShaped db → AreShaped next
-old_rows t db next none frame shaped = shaped_framed (table_of_old t) db next frame (subst (IsShaped AsTable) (sym none) (tt, tt)) shaped
+pub old_rows : (t : OldTable) (db next : Trees) → next (tree_of (table_of_old t)) ≡ []
+    → IsFrame (table_of_old t) db next → AreShaped db → AreShaped next
+old_rows t db next none frame shaped =
+    shaped_framed (table_of_old t) db next frame (subst (IsShaped AsTable) (sym none) (tt, tt))
+    shaped

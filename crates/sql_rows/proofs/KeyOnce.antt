@@ -28,27 +28,36 @@ unfolding binary
 equal_itself how v p = rw (p, tied_itself (collated_total how) v)
 
 -- columns that are the same, and no NULL, agree
-agree_from : (o : Order) (ps : List ℕ) (s r : Row) → AllByRecursion (λ p. (column s p ≡ column r p) × (is_null (column r p) ≡ false)) ps → agree o ps s ps r ≡ true
+agree_from : (o : Order) (ps : List ℕ) (s r : Row) → AllByRecursion (λ p. (column s p ≡ column r p)
+    × (is_null (column r p) ≡ false)) ps → agree o ps s ps r ≡ true
 agree_from o [] s r all = refl
-agree_from o (p ∷ ps) s r all = rw (all.0.0, equal_itself _ (column r p) all.0.1) (agree_from (later o) ps s r all.1)
+agree_from o (p ∷ ps) s r all =
+    rw (all.0.0, equal_itself _ (column r p) all.0.1) (agree_from (later o) ps s r all.1)
 
-pub broadcasts_once : (db : Trees) → Obeys the_schema db → IsShaped Table (db 8) → AreOnce broadcast_entry (db 8)
+pub broadcasts_once : (db : Trees) → Obeys the_schema db → IsShaped Table (db 8)
+    → AreOnce broadcast_entry (db 8)
 broadcasts_once db obeys shaped = λ r s k a b at there is also.
     let one = broadcast_reads r (k, a) is in
     let two = broadcast_reads s (k, b) also in
     let id : column r 1 ≡ Int (pos k.id) = number_read (column r 1) k.id one.id in
-    let attempt : column r 2 ≡ Int (pos k.attempt) = number_read (column r 2) k.attempt one.attempt in
-    broadcast_once db obeys shaped r s at there (agree_from plain (1 ∷ 2 ∷ []) s r
-    ((number_read (column s 1) k.id two.id ∙ sym id, ap is_null id), ((number_read (column s 2) k.attempt two.attempt ∙ sym attempt, ap is_null attempt), tt)))
+    let attempt : column r 2 ≡ Int (pos k.attempt) =
+    number_read (column r 2) k.attempt one.attempt in
+    broadcast_once db obeys shaped r s at there (agree_from plain (1 ∷ 2 ∷ []) s r (
+      (number_read (column s 1) k.id two.id ∙ sym id, ap is_null id),
+      ((number_read (column s 2) k.attempt two.attempt ∙ sym attempt, ap is_null attempt), tt),
+    ))
 
-pub waits_once : (db : Trees) → Obeys the_schema db → IsShaped Table (db 10) → AreOnce wait_entry (db 10)
+pub waits_once : (db : Trees) → Obeys the_schema db → IsShaped Table (db 10)
+    → AreOnce wait_entry (db 10)
 waits_once db obeys shaped = λ r s k a b at there is also.
     let one = wait_reads r (k, a) is in
     let two = wait_reads s (k, b) also in
-    let carrier : column r 1 ≡ Text (spid_text k.carrier) = spid_read (column r 1) k.carrier one.carrier in
+    let carrier : column r 1 ≡ Text (spid_text k.carrier) =
+    spid_read (column r 1) k.carrier one.carrier in
     let minute : column r 2 ≡ Int (pos k.minute) = minute_read (column r 2) k.minute one.minute in
     let id : column r 3 ≡ Int (pos k.id) = number_read (column r 3) k.id one.id in
-    let attempt : column r 4 ≡ Int (pos k.attempt) = number_read (column r 4) k.attempt one.attempt in
+    let attempt : column r 4 ≡ Int (pos k.attempt) =
+    number_read (column r 4) k.attempt one.attempt in
     wait_once db obeys shaped r s at there (agree_from plain (1 ∷ 2 ∷ 3 ∷ 4 ∷ []) s r (
       (spid_read (column s 1) k.carrier two.carrier ∙ sym carrier, ap is_null carrier),
       (
@@ -60,11 +69,15 @@ waits_once db obeys shaped = λ r s k a b at there is also.
       ),
     ))
 
-pub carriers_once : (db : Trees) → Obeys the_schema db → IsShaped Table (db 0) → AreOnce carrier_entry (db 0)
+pub carriers_once : (db : Trees) → Obeys the_schema db → IsShaped Table (db 0)
+    → AreOnce carrier_entry (db 0)
 carriers_once db obeys shaped = λ r s k a b at there is also.
-    let one : column r 1 ≡ Text (spid_text k) = spid_read (column r 1) k (carrier_key r (k, a) is) in
-    let two : column s 1 ≡ Text (spid_text k) = spid_read (column s 1) k (carrier_key s (k, b) also) in
-    carrier_once db obeys shaped r s at there (agree_from plain (1 ∷ []) s r ((two ∙ sym one, ap is_null one), tt))
+    let one : column r 1 ≡ Text (spid_text k) =
+    spid_read (column r 1) k (carrier_key r (k, a) is) in
+    let two : column s 1 ≡ Text (spid_text k) =
+    spid_read (column s 1) k (carrier_key s (k, b) also) in
+    carrier_once db obeys shaped r s at there
+    (agree_from plain (1 ∷ []) s r ((two ∙ sym one, ap is_null one), tt))
 
 -- in a database that obeys its rules no key stands twice
 pub keys_once : (db : Trees) → Obeys the_schema db → AreShaped db → AreKeysOnce db

@@ -26,12 +26,16 @@ one_back row (x ∷ []) p = sym (one_permutation x (row ∷ []) p)
 one_back row (x ∷ y ∷ xs) p = absurd (let e = length_permutation _ _ p in omega arith)
 
 -- none passes
-pub none_picked : (shown : Row → Row) (p : Row → Bool) (rows : List Row) → IsPermutation (map shown (filter p rows)) [] → filter p rows ≡ []
+pub none_picked : (shown : Row → Row) (p : Row → Bool) (rows : List Row)
+    → IsPermutation (map shown (filter p rows)) [] → filter p rows ≡ []
 none_picked shown p rows h = nil_of shown _ (sym (length_permutation _ _ h))
 
-pub none_passes : (p : Row → Bool) (rows : List Row) (r : Row) → filter p rows ≡ [] → Has rows r → p r ≡ true → ⊥
+pub none_passes : (p : Row → Bool) (rows : List Row) (r : Row) → filter p rows ≡ [] → Has rows r
+    → p r ≡ true → ⊥
 none_passes p [] r none at is = at
-none_passes p (x ∷ rows) r none (inl same) is = let h : p x ≡ true = ap p (sym same) ∙ is in let e : cond true (x ∷ filter p rows) (filter p rows) ≡ [] = subst (λ b. cond b (x ∷ filter p rows) (filter p rows) ≡ []) h none in absurd cc
+none_passes p (x ∷ rows) r none (inl same) is = let h : p x ≡ true = ap p (sym same) ∙ is in
+    let e : cond true (x ∷ filter p rows) (filter p rows) ≡ [] =
+    subst (λ b. cond b (x ∷ filter p rows) (filter p rows) ≡ []) h none in absurd cc
 none_passes p (x ∷ rows) r none (inr at) is = go (p x) none (λ e. none_passes p rows r e at is)
   where
     go : (b : Bool) → cond b (x ∷ filter p rows) (filter p rows) ≡ [] → (filter p rows ≡ [] → ⊥) → ⊥
@@ -46,10 +50,12 @@ pub record Only (shown : Row → Row) (p : Row → Bool) (rows : List Row) (foun
   pub shows : shown row ≡ found
   pub alone : filter p rows ≡ row ∷ []
 
-pub only : (shown : Row → Row) (p : Row → Bool) (rows : List Row) (found : Row) → IsPermutation (map shown (filter p rows)) (found ∷ []) → Only shown p rows found
+pub only : (shown : Row → Row) (p : Row → Bool) (rows : List Row) (found : Row)
+    → IsPermutation (map shown (filter p rows)) (found ∷ []) → Only shown p rows found
 only shown p rows found h = go (filter p rows) refl (one_back found _ h)
   where
-    go : (picked : List Row) → filter p rows ≡ picked → map shown picked ≡ found ∷ [] → Only shown p rows found
+    go : (picked : List Row) → filter p rows ≡ picked → map shown picked ≡ found ∷ []
+        → Only shown p rows found
     go [] is one = absurd cc
     go (r ∷ x ∷ more) is one = absurd (let e = ap length one in omega arith)
     go (r ∷ []) is one =
@@ -57,19 +63,25 @@ only shown p rows found h = go (filter p rows) refl (one_back found _ h)
         let at = has_filtered p rows r (subst (λ l. Has l r) (sym is) (inl refl)) in
         record { row = r; has = at.0; passes = at.1; shows = shows; alone = is }
 
-module _ {K V : Type 0} (R : K → K → Ordering) (o : IsTotalOrder R) (read : Row → Option (K × V)) (shown : Row → Row) where
+module _ {K V : Type 0} (R : K → K → Ordering) (o : IsTotalOrder R) (read : Row
+    → Option (K × V)) (shown : Row → Row) where
   abbrev entry : Row → Option (K × V)
   entry r = read (shown r)
 
   -- the row with a key, or none has it
-  pub looked_up : (k : K) (p : Row → Bool) → Tests R entry k p → (rows found : List Row) (x : Option (K × V)) → IsPermutation (map shown (filter p rows)) found → IsSole read found x
+  pub looked_up : (k : K) (p : Row → Bool) → Tests R entry k p
+      → (rows found : List Row) (x : Option (K × V))
+      → IsPermutation (map shown (filter p rows)) found → IsSole read found x
       → get (content_of R entry rows) k ≡ option_map (λ (e : K × V). e.1) x
   looked_up k p tests rows found None same is =
-      get-from_entries o _ k ∙ find_none R entry k p (λ r e d tie. tests r e d ∙ tie) rows (none_picked shown p rows (subst (IsPermutation (map shown (filter p rows))) is same))
+      get-from_entries o _ k ∙ find_none R entry k p (λ r e d tie. tests r e d ∙ tie) rows
+      (none_picked shown p rows (subst (IsPermutation (map shown (filter p rows))) is same))
   looked_up k p tests rows found (Some e) same is =
-      let one = only shown p rows is.0 (subst (IsPermutation (map shown (filter p rows))) is.1 same) in
+      let one = only shown p rows is.0 (subst (IsPermutation (map shown (filter p rows))) is.1
+      same) in
       let reads : entry one.row ≡ Some e = ap read one.shows ∙ is.2 in
-      get-from_entries o _ k ∙ find_one R entry k p (λ r e d tie. tests r e d ∙ tie) rows one.row e reads (sym (tests one.row e reads) ∙ one.passes) one.alone
+      get-from_entries o _ k ∙ find_one R entry k p (λ r e d tie. tests r e d ∙ tie) rows one.row e
+      reads (sym (tests one.row e reads) ∙ one.passes) one.alone
 
   -- ---- a row of the table is an entry of the map
 
@@ -79,49 +91,67 @@ module _ {K V : Type 0} (R : K → K → Ordering) (o : IsTotalOrder R) (read : 
     pub reads : entry row ≡ Some (k, w)
 
   module _ (same_key : (a b : K) → eq_by_cmp R a b ≡ true → a ≡ b) where
-    find_from : (k : K) (rows : List Row) (w : V) → find R k (filter_map entry rows) ≡ Some w → From k rows w
+    find_from : (k : K) (rows : List Row) (w : V) → find R k (filter_map entry rows) ≡ Some w
+        → From k rows w
     find_from k [] w h = absurd cc
     find_from k (x ∷ rows) w h = go (entry x) refl h (find_from k rows w)
       where
         later : From k rows w → From k (x ∷ rows) w
         later f = record { row = f.row; has = inr f.has; reads = f.reads }
 
-        here : (f : K × V) (b : Bool) → entry x ≡ Some f → eq_by_cmp R k f.0 ≡ b → cond b (Some f.1) (find R k (filter_map entry rows)) ≡ Some w → (find R k (filter_map entry rows) ≡ Some w → From k rows w) → From k (x ∷ rows) w
+        here : (f : K × V) (b : Bool) → entry x ≡ Some f → eq_by_cmp R k f.0 ≡ b
+            → cond b (Some f.1) (find R k (filter_map entry rows)) ≡ Some w
+            → (find R k (filter_map entry rows) ≡ Some w → From k rows w) → From k (x ∷ rows) w
         here f true is tie h more =
             let value : f.1 ≡ w = cc in
             let key : f.0 ≡ k = sym (same_key k f.0 tie) in
-            record { row = x; has = inl refl; reads = is ∙ ap (λ n. Some (n, f.1)) key ∙ ap (λ v. Some (k, v)) value }
+            record {
+              row = x;
+              has = inl refl;
+              reads = is ∙ ap (λ n. Some (n, f.1)) key ∙ ap (λ v. Some (k, v)) value;
+            }
         here f false is tie h more = later (more h)
 
-        go : (o : Option (K × V)) → entry x ≡ o → find R k (cons_option o (filter_map entry rows)) ≡ Some w → (find R k (filter_map entry rows) ≡ Some w → From k rows w) → From k (x ∷ rows) w
+        go : (o : Option (K × V)) → entry x ≡ o → find R k (cons_option o (filter_map entry rows))
+            ≡ Some w → (find R k (filter_map entry rows) ≡ Some w → From k rows w)
+            → From k (x ∷ rows) w
         go None is h more = later (more h)
         go (Some f) is h more = here f _ is refl h more
 
     -- an entry stands in a row
-    pub entry_from : (rows : List Row) (k : K) (w : V) → get (content_of R entry rows) k ≡ Some w → From k rows w
-    entry_from rows k w h = find_from k rows w (sym (get-from_entries o (filter_map entry rows) k) ∙ h)
+    pub entry_from : (rows : List Row) (k : K) (w : V) → get (content_of R entry rows) k ≡ Some w
+        → From k rows w
+    entry_from rows k w h =
+        find_from k rows w (sym (get-from_entries o (filter_map entry rows) k) ∙ h)
 
-    find_some : (k : K) (rows : List Row) (r : Row) (e : K × V) → Has rows r → entry r ≡ Some e → eq_by_cmp R k e.0 ≡ true → (w : V) × (find R k (filter_map entry rows) ≡ Some w)
+    find_some : (k : K) (rows : List Row) (r : Row) (e : K × V) → Has rows r → entry r ≡ Some e
+        → eq_by_cmp R k e.0 ≡ true → (w : V) × (find R k (filter_map entry rows) ≡ Some w)
     find_some k [] r e at is tie = absurd at
     find_some k (x ∷ rows) r e (inl same) is tie =
         let o : entry x ≡ Some e = ap entry (sym same) ∙ is in
         (e.1, ap (λ o. find R k (cons_option o (filter_map entry rows))) o ∙ rw tie refl)
     find_some k (x ∷ rows) r e (inr at) is tie = go (entry x) (find_some k rows r e at is tie)
       where
-        here : (f : K × V) (b : Bool) → eq_by_cmp R k f.0 ≡ b → ((w : V) × (find R k (filter_map entry rows) ≡ Some w)) → (w : V) × (cond b (Some f.1) (find R k (filter_map entry rows)) ≡ Some w)
+        here : (f : K × V) (b : Bool) → eq_by_cmp R k f.0 ≡ b
+            → ((w : V) × (find R k (filter_map entry rows) ≡ Some w))
+            → (w : V) × (cond b (Some f.1) (find R k (filter_map entry rows)) ≡ Some w)
         here f true h more = (f.1, refl)
         here f false h more = more
 
-        go : (o : Option (K × V)) → ((w : V) × (find R k (filter_map entry rows) ≡ Some w)) → (w : V) × (find R k (cons_option o (filter_map entry rows)) ≡ Some w)
+        go : (o : Option (K × V)) → ((w : V) × (find R k (filter_map entry rows) ≡ Some w))
+            → (w : V) × (find R k (cons_option o (filter_map entry rows)) ≡ Some w)
         go None more = more
         go (Some f) more = here f _ refl more
 
     same_second : (k : K) (v w : V) → ◌≡◌ {A = Option (K × V)} (Some (k, v)) (Some (k, w)) → v ≡ w
-    same_second k v w h = let pairs : ◌≡◌ {A = K × V} (k, v) (k, w) = cc in ap (λ (p : K × V). p.1) pairs
+    same_second k v w h = let pairs : ◌≡◌ {A = K × V} (k, v) (k, w) = cc in
+        ap (λ (p : K × V). p.1) pairs
 
     -- where rows that read as one key are one row, each row stands in the map
-    pub entry_of : (rows : List Row) → ((r s : Row) (k : K) (a b : V) → Has rows r → Has rows s → entry r ≡ Some (k, a) → entry s ≡ Some (k, b) → s ≡ r)
-        → (r : Row) (k : K) (v : V) → Has rows r → entry r ≡ Some (k, v) → get (content_of R entry rows) k ≡ Some v
+    pub entry_of : (rows : List Row) → ((r s : Row) (k : K) (a b : V) → Has rows r → Has rows s
+        → entry r ≡ Some (k, a) → entry s ≡ Some (k, b) → s ≡ r)
+        → (r : Row) (k : K) (v : V) → Has rows r → entry r ≡ Some (k, v)
+        → get (content_of R entry rows) k ≡ Some v
     entry_of rows once r k v at is =
         let some = find_some k rows r (k, v) at is ((eq_by_cmp_equiv o).refl k) in
         let f = find_from k rows some.0 some.1 in

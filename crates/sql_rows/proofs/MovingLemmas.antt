@@ -44,7 +44,8 @@ create_plain made.WindowSet = (refl, refl)
 create_plain made.Version = (refl, refl)
 create_plain made.Clock = (refl, refl)
 
-create_whole : (t : NewTable) → statement_of (create_text t) (understood (schema_before t) (create_text t)) ≡ create_text t
+create_whole : (t : NewTable)
+    → statement_of (create_text t) (understood (schema_before t) (create_text t)) ≡ create_text t
 unfolding understood everything
 create_whole made.NextRouting = refl
 create_whole made.WindowSet = refl
@@ -77,7 +78,9 @@ uncounted made.WindowSet = refl
 uncounted made.Version = refl
 uncounted made.Clock = refl
 
-index_is : (command_of (understood (schema_after made.Clock) index_text) ≡ CreateIndex 10) × (statement_of index_text (understood (schema_after made.Clock) index_text) ≡ index_text) × (index_defined_by version_table index_text ≡ Ok (record version2_deadline { tree = 0 }))
+index_is : (command_of (understood (schema_after made.Clock) index_text) ≡ CreateIndex 10)
+    × (statement_of index_text (understood (schema_after made.Clock) index_text) ≡ index_text)
+    × (index_defined_by version_table index_text ≡ Ok (record version2_deadline { tree = 0 }))
 unfolding understood everything
 index_is = (refl, refl, refl)
 
@@ -85,7 +88,8 @@ index_plain : IsPlain (understood (schema_after made.Clock) index_text)
 unfolding understood everything
 index_plain = (refl, refl)
 
-indexed_is : indexed (schema_after made.Clock) version_table (record version2_deadline { tree = 0 }) ≡ the_schema
+indexed_is : indexed (schema_after made.Clock) version_table (record version2_deadline { tree = 0 })
+    ≡ the_schema
 indexed_is = refl
 
 pub clear_is : (t : OldTable) → command_of (understood the_schema (clear_text t)) ≡ clear_command t
@@ -100,7 +104,8 @@ clear_plain former.Clock = (refl, refl)
 
 -- ---- what stands in a file of an earlier form is read as it is
 
-pub old_query_is : (f : Form) (t : RowTable) → IsTableOf t f → command_of (understood (schema_of f) (all_text t)) ≡ query_command (All t)
+pub old_query_is : (f : Form) (t : RowTable) → IsTableOf t f
+    → command_of (understood (schema_of f) (all_text t)) ≡ query_command (All t)
 unfolding understood everything
 old_query_is First stored.Carrier is = refl
 old_query_is Modify stored.Carrier is = refl
@@ -124,7 +129,8 @@ old_query_is f stored.WindowSet is = absurd is
 old_query_is f stored.Version is = absurd is
 old_query_is f stored.Clock is = absurd is
 
-pub old_query_plain : (f : Form) (t : RowTable) → IsTableOf t f → IsPlain (understood (schema_of f) (all_text t))
+pub old_query_plain : (f : Form) (t : RowTable) → IsTableOf t f
+    → IsPlain (understood (schema_of f) (all_text t))
 unfolding understood everything
 old_query_plain First stored.Carrier is = (refl, refl)
 old_query_plain Modify stored.Carrier is = (refl, refl)
@@ -148,7 +154,8 @@ old_query_plain f stored.WindowSet is = absurd is
 old_query_plain f stored.Version is = absurd is
 old_query_plain f stored.Clock is = absurd is
 
-pub old_query_unlisted : (f : Form) (t : RowTable) → IsTableOf t f → reads_listing (schema_of f) (all_text t) ≡ false
+pub old_query_unlisted : (f : Form) (t : RowTable) → IsTableOf t f
+    → reads_listing (schema_of f) (all_text t) ≡ false
 unfolding understood everything
 old_query_unlisted First stored.Carrier is = refl
 old_query_unlisted Modify stored.Carrier is = refl
@@ -175,7 +182,8 @@ old_query_unlisted f stored.Clock is = absurd is
 -- ---- statements
 
 -- a part that gave a value did not stop on the way
-went : {B E R : Type 0} {b : B} {Stops : E → Type 0} → ((stop : E) × Stops stop × (Ok b ≡ Err stop)) ⊎ R → R
+went : {B E R : Type 0} {b : B} {Stops : E → Type 0} → ((stop : E) × Stops stop × (Ok b ≡ Err stop))
+    ⊎ R → R
 went (inl stopped) = absurd (let e = stopped.2 in cc)
 went (inr on) = on
 
@@ -183,33 +191,48 @@ same_value : {B E : Type 0} {a b : B} → ◌≡◌ {A = Result B E} (Ok a) (Ok 
 same_value e = cc
 
 module _ (old new : State) (count : ℕ) where
-  pub creates : (t : NewTable) → old.now.schema ≡ schema_before t → Executes (create_text t) [] old new (Ok count) → IsMade t old.now new.now
+  pub creates : (t : NewTable) → old.now.schema ≡ schema_before t
+      → Executes (create_text t) [] old new (Ok count) → IsMade t old.now new.now
   creates t has h =
-      let w = subst (λ text. Writes old new None CreateTable text [] count) (create_whole t) (runs_as (create_text t) [] old new (schema_before t) has CreateTable (create_is t) (create_plain t) count h) in
+      let w = subst (λ text. Writes old new None CreateTable text [] count) (create_whole t)
+      (runs_as (create_text t) [] old new (schema_before t) has CreateTable (create_is t)
+      (create_plain t) count h) in
       let all = went w.changed in
       let first = went all.1 in
       let it = first.1 in
       let both : Ok it.table ≡ Ok (parsed t) = sym it.defined ∙ create_defines t in
       let same : it.table ≡ parsed t = cc in
-      let schema : first.0.schema ≡ schema_after t = it.is ∙ ap (λ s. created s it.table) has ∙ ap (created (schema_before t)) same ∙ created_is t in
+      let schema : first.0.schema ≡ schema_after t = it.is ∙ ap (λ s. created s it.table) has
+      ∙ ap (created (schema_before t)) same ∙ created_is t in
       let plain : lacks_sequence first.0.schema ≡ false = ap lacks_sequence schema ∙ uncounted t in
-      let now : new.now ≡ first.0 = ap (λ (p : Tally × Database). p.1) (same_value all.2) ∙ same_value (rw plain at first.2) in
+      let now : new.now ≡ first.0 = ap (λ (p : Tally × Database). p.1) (same_value all.2)
+      ∙ same_value (rw plain at first.2) in
       record {
         schema = ap (λ (d : Database). d.schema) now ∙ schema;
-        blank = ap (λ (d : Database). d.trees (made_table t).tree) now ∙ subst (λ n. first.0.trees n ≡ []) (ap next_tree has ∙ tree_is t) it.empty;
-        others = subst (λ (d : Database). KeepsRows (schema_before t).tables old.now.trees d.trees) (sym now) (subst (λ (s : Schema). KeepsRows s.tables old.now.trees first.0.trees) has it.others);
+        blank = ap (λ (d : Database). d.trees (made_table t).tree) now
+            ∙ subst (λ n. first.0.trees n ≡ []) (ap next_tree has ∙ tree_is t) it.empty;
+        others = subst (λ (d : Database). KeepsRows (schema_before t).tables old.now.trees d.trees)
+            (sym now) (subst (λ (s : Schema). KeepsRows s.tables old.now.trees first.0.trees) has
+            it.others);
       }
 
   -- the index is there, and all tables have the rows that they had
-  pub indexes : old.now.schema ≡ schema_after made.Clock → Executes index_text [] old new (Ok count) → (new.now.schema ≡ the_schema) × KeepsRows the_schema.tables old.now.trees new.now.trees
+  pub indexes : old.now.schema ≡ schema_after made.Clock → Executes index_text [] old new (Ok count)
+      → (new.now.schema ≡ the_schema) × KeepsRows the_schema.tables old.now.trees new.now.trees
   indexes has h =
-      let w = subst (λ text. Writes old new None (CreateIndex 10) text [] count) index_is.1 (runs_as index_text [] old new (schema_after made.Clock) has (CreateIndex 10) index_is.0 index_plain count h) in
-      let did = subst (λ s. Does old.step_limit (mode_of old) [] (record old.now { schema = s }) index_text None (CreateIndex 10) (Ok (w.tally, new.now))) has w.changed in
+      let w = subst (λ text. Writes old new None (CreateIndex 10) text [] count) index_is.1
+      (runs_as index_text [] old new (schema_after made.Clock) has (CreateIndex 10) index_is.0
+      index_plain count h) in
+      let did = subst (λ s. Does old.step_limit (mode_of old) [] (record old.now { schema = s })
+      index_text None (CreateIndex 10) (Ok (w.tally, new.now))) has w.changed in
       let all = went did in
       let it = all.1 in
-      let both : Ok it.index ≡ Ok (record version2_deadline { tree = 0 }) = sym it.defined ∙ index_is.2 in
+      let both : Ok it.index ≡ Ok (record version2_deadline { tree = 0 }) =
+      sym it.defined ∙ index_is.2 in
       let same : it.index ≡ record version2_deadline { tree = 0 } = cc in
       let now : new.now ≡ all.0 = ap (λ (p : Tally × Database). p.1) (same_value all.2) in (
-        ap (λ (d : Database). d.schema) now ∙ it.is ∙ ap (indexed (schema_after made.Clock) version_table) same ∙ indexed_is,
-        subst (λ (d : Database). KeepsRows the_schema.tables old.now.trees d.trees) (sym now) it.rows,
+        ap (λ (d : Database). d.schema) now ∙ it.is
+            ∙ ap (indexed (schema_after made.Clock) version_table) same ∙ indexed_is,
+        subst (λ (d : Database). KeepsRows the_schema.tables old.now.trees d.trees) (sym now)
+            it.rows,
       )

@@ -28,7 +28,8 @@ tied_of Equal h = refl
 tied_of Greater h = absurd (true≢false h)
 
 -- rowids that do not differ tie
-no_differ : (a b : Value) → is_int a ≡ true → is_int b ≡ true → differ a b ≡ false → value_cmp a b ≡ Equal
+no_differ : (a b : Value) → is_int a ≡ true → is_int b ≡ true → differ a b ≡ false
+    → value_cmp a b ≡ Equal
 unfolding binary
 no_differ (Int a) (Int b) x y h = tied_of _ (sym (true_of _) ∙ h)
 no_differ (Int a) Null x y h = absurd (true≢false (sym y))
@@ -40,7 +41,8 @@ no_differ (Real a) b x y h = absurd (true≢false (sym x))
 no_differ (Text a) b x y h = absurd (true≢false (sym x))
 no_differ (Blob a) b x y h = absurd (true≢false (sym x))
 
-none_does : (p : Row → Bool) (rows : List Row) (r : Row) → list_any p rows ≡ false → Has rows r → p r ≡ false
+none_does : (p : Row → Bool) (rows : List Row) (r : Row) → list_any p rows ≡ false → Has rows r
+    → p r ≡ false
 none_does p [] r h at = absurd at
 none_does p (x ∷ rows) r h (inl same) = ap p same ∙ first (p x) _ h
   where
@@ -62,23 +64,33 @@ not_then true h = absurd (true≢false (sym h))
 not_then false h = refl
 
 -- rows that do not clash and have one key are one row
-one_row : (rows : List Row) (places : List ℕ) → IsShaped Table rows → (r s : Row) → Has rows r → Has rows s → clashes plain places rows r ≡ false → agree plain places s places r ≡ true → s ≡ r
+one_row : (rows : List Row) (places : List ℕ) → IsShaped Table rows → (r s : Row) → Has rows r
+    → Has rows s → clashes plain places rows r ≡ false → agree plain places s places r ≡ true
+    → s ≡ r
 one_row rows places shaped r s at there none same =
     let differs = and_false _ _ (none_does _ rows s none there) same in
-    tied_same rows s r shaped.0 there at (no_differ (rowid s) (rowid r) (int_at rows s shaped.1 there) (int_at rows r shaped.1 at) differs)
+    tied_same rows s r shaped.0 there at
+    (no_differ (rowid s) (rowid r) (int_at rows s shaped.1 there) (int_at rows r shaped.1 at)
+    differs)
 
 module _ (db : Trees) (obeys : Obeys the_schema db) where
-  pub wait_once : IsShaped Table (db 10) → (r s : Row) → Has (db 10) r → Has (db 10) s → agree plain (1 ∷ 2 ∷ 3 ∷ 4 ∷ []) s (1 ∷ 2 ∷ 3 ∷ 4 ∷ []) r ≡ true → s ≡ r
+  pub wait_once : IsShaped Table (db 10) → (r s : Row) → Has (db 10) r → Has (db 10) s
+      → agree plain (1 ∷ 2 ∷ 3 ∷ 4 ∷ []) s (1 ∷ 2 ∷ 3 ∷ 4 ∷ []) r ≡ true → s ≡ r
   wait_once shaped r s at there =
       one_row (db 10) (1 ∷ 2 ∷ 3 ∷ 4 ∷ []) shaped r s at there
-      (not_then _ (keeps_at Unique the_schema db wait_table r (obeys.rules Unique) (inr (inr (inr (inr (inr (inr (inl refl))))))) at))
+      (not_then _ (keeps_at Unique the_schema db wait_table r (obeys.rules Unique)
+      (inr (inr (inr (inr (inr (inr (inl refl))))))) at))
 
-  pub broadcast_once : IsShaped Table (db 8) → (r s : Row) → Has (db 8) r → Has (db 8) s → agree plain (1 ∷ 2 ∷ []) s (1 ∷ 2 ∷ []) r ≡ true → s ≡ r
+  pub broadcast_once : IsShaped Table (db 8) → (r s : Row) → Has (db 8) r → Has (db 8) s
+      → agree plain (1 ∷ 2 ∷ []) s (1 ∷ 2 ∷ []) r ≡ true → s ≡ r
   broadcast_once shaped r s at there =
       one_row (db 8) (1 ∷ 2 ∷ []) shaped r s at there
-      (not_then _ (keeps_at Unique the_schema db broadcast_table r (obeys.rules Unique) (inr (inr (inr (inr (inr (inl refl)))))) at))
+      (not_then _ (keeps_at Unique the_schema db broadcast_table r (obeys.rules Unique)
+      (inr (inr (inr (inr (inr (inl refl)))))) at))
 
-  pub carrier_once : IsShaped Table (db 0) → (r s : Row) → Has (db 0) r → Has (db 0) s → agree plain (1 ∷ []) s (1 ∷ []) r ≡ true → s ≡ r
+  pub carrier_once : IsShaped Table (db 0) → (r s : Row) → Has (db 0) r → Has (db 0) s
+      → agree plain (1 ∷ []) s (1 ∷ []) r ≡ true → s ≡ r
   carrier_once shaped r s at there =
       one_row (db 0) (1 ∷ []) shaped r s at there
-      (not_then _ (keeps_at Unique the_schema db carrier_table r (obeys.rules Unique) (inl refl) at))
+      (not_then _ (keeps_at Unique the_schema db carrier_table r (obeys.rules Unique) (inl refl)
+      at))

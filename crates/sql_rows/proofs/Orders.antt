@@ -16,22 +16,31 @@ both_Equal Less b e = let no : Less ≡ Equal = e in cc
 both_Equal Greater b e = let no : Greater ≡ Equal = e in cc
 
 pub broadcast_total : IsTotalOrder broadcast_cmp
-broadcast_total = then_total (on_total (λ (k : BroadcastKey). k.id) nat_cmp_total) (on_total (λ (k : BroadcastKey). k.attempt) nat_cmp_total)
+broadcast_total =
+    then_total (on_total (λ (k : BroadcastKey). k.id) nat_cmp_total)
+    (on_total (λ (k : BroadcastKey). k.attempt) nat_cmp_total)
 
 pub broadcast_exact : IsAntisymmetric broadcast_cmp
 broadcast_exact a b e =
     let p = both_Equal (nat_cmp a.id b.id) (nat_cmp a.attempt b.attempt) e in
-    λ i. record { id = nat_cmp-IsAntisymmetric a.id b.id p.0 i; attempt = nat_cmp-IsAntisymmetric a.attempt b.attempt p.1 i }
+    λ i. record {
+      id = nat_cmp-IsAntisymmetric a.id b.id p.0 i;
+      attempt = nat_cmp-IsAntisymmetric a.attempt b.attempt p.1 i;
+    }
 
 pub wait_total : IsTotalOrder wait_cmp
 wait_total =
     then_total (on_total (λ (k : WaitKey). k.carrier) nat_cmp_total)
-    (then_total (on_total (λ (k : WaitKey). k.minute) nat_cmp_total) (then_total (on_total (λ (k : WaitKey). k.id) nat_cmp_total) (on_total (λ (k : WaitKey). k.attempt) nat_cmp_total)))
+    (then_total (on_total (λ (k : WaitKey). k.minute) nat_cmp_total)
+    (then_total (on_total (λ (k : WaitKey). k.id) nat_cmp_total)
+    (on_total (λ (k : WaitKey). k.attempt) nat_cmp_total)))
 
 pub wait_exact : IsAntisymmetric wait_cmp
 wait_exact a b e =
-    let p = both_Equal (nat_cmp a.carrier b.carrier) (ordering_then (nat_cmp a.minute b.minute) (ordering_then (nat_cmp a.id b.id) (nat_cmp a.attempt b.attempt))) e in
-    let q = both_Equal (nat_cmp a.minute b.minute) (ordering_then (nat_cmp a.id b.id) (nat_cmp a.attempt b.attempt)) p.1 in
+    let p = both_Equal (nat_cmp a.carrier b.carrier) (ordering_then (nat_cmp a.minute b.minute)
+    (ordering_then (nat_cmp a.id b.id) (nat_cmp a.attempt b.attempt))) e in
+    let q = both_Equal (nat_cmp a.minute b.minute) (ordering_then (nat_cmp a.id b.id)
+    (nat_cmp a.attempt b.attempt)) p.1 in
     let r = both_Equal (nat_cmp a.id b.id) (nat_cmp a.attempt b.attempt) q.1 in
     λ i. record {
       carrier = nat_cmp-IsAntisymmetric a.carrier b.carrier p.0 i;
@@ -41,14 +50,23 @@ wait_exact a b e =
     }
 
 -- a tied of keys is one of each part
-pub broadcast_tie : (a b : BroadcastKey) → eq_by_cmp broadcast_cmp a b ≡ (is_eq (nat_cmp a.id b.id) && is_eq (nat_cmp a.attempt b.attempt))
+pub broadcast_tie : (a b : BroadcastKey)
+    → eq_by_cmp broadcast_cmp a b
+    ≡ (is_eq (nat_cmp a.id b.id) && is_eq (nat_cmp a.attempt b.attempt))
 broadcast_tie a b = sym (tied_then (nat_cmp a.id b.id) (nat_cmp a.attempt b.attempt))
 
-pub wait_tie : (a b : WaitKey) → eq_by_cmp wait_cmp a b ≡ (is_eq (nat_cmp a.carrier b.carrier) && (is_eq (nat_cmp a.minute b.minute) && (is_eq (nat_cmp a.id b.id) && is_eq (nat_cmp a.attempt b.attempt))))
+pub wait_tie : (a b : WaitKey)
+    → eq_by_cmp wait_cmp a b
+    ≡ (is_eq (nat_cmp a.carrier b.carrier) && (is_eq (nat_cmp a.minute b.minute)
+    && (is_eq (nat_cmp a.id b.id) && is_eq (nat_cmp a.attempt b.attempt))))
 wait_tie a b =
-    sym (tied_then (nat_cmp a.carrier b.carrier) (ordering_then (nat_cmp a.minute b.minute) (ordering_then (nat_cmp a.id b.id) (nat_cmp a.attempt b.attempt))))
-    ∙ ap (λ t. is_eq (nat_cmp a.carrier b.carrier) && t) (sym (tied_then (nat_cmp a.minute b.minute) (ordering_then (nat_cmp a.id b.id) (nat_cmp a.attempt b.attempt)))
-    ∙ ap (λ t. is_eq (nat_cmp a.minute b.minute) && t) (sym (tied_then (nat_cmp a.id b.id) (nat_cmp a.attempt b.attempt))))
+    sym (tied_then (nat_cmp a.carrier b.carrier) (ordering_then (nat_cmp a.minute b.minute)
+    (ordering_then (nat_cmp a.id b.id) (nat_cmp a.attempt b.attempt))))
+    ∙ ap (λ t. is_eq (nat_cmp a.carrier b.carrier) && t)
+    (sym (tied_then (nat_cmp a.minute b.minute) (ordering_then (nat_cmp a.id b.id)
+    (nat_cmp a.attempt b.attempt)))
+    ∙ ap (λ t. is_eq (nat_cmp a.minute b.minute) && t)
+    (sym (tied_then (nat_cmp a.id b.id) (nat_cmp a.attempt b.attempt))))
 
 -- keys that tied are one key
 pub same_number : (m n : ℕ) → eq_by_cmp nat_cmp m n ≡ true → m ≡ n

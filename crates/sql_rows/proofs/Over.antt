@@ -11,32 +11,64 @@ module _ {X Y : Type 0} (change : Option Y → X → X) where
   ties : (k j : ℕ) → eq_by_cmp nat_cmp k j ≡ true → k ≡ j
   ties k j e = let h : (k == j) ≡ true = sym (unsigned_tied k j) ∙ e in grind (arith, nat_tests)
 
-  found : (more : FinMap nat_cmp Y) (es : List (ℕ × X)) (k : ℕ) → find nat_cmp k (map (λ (e : ℕ × X). (e.0, change (get more e.0) e.1)) es) ≡ option_map (change (get more k)) (find nat_cmp k es)
+  found : (more : FinMap nat_cmp Y) (es : List (ℕ × X)) (k : ℕ)
+      → find nat_cmp k (map (λ (e : ℕ × X). (e.0, change (get more e.0) e.1)) es)
+      ≡ option_map (change (get more k)) (find nat_cmp k es)
   found more [] k = refl
   found more (e ∷ es) k = go (eq_by_cmp nat_cmp k e.0) refl (found more es k)
     where
-      go : (b : Bool) → eq_by_cmp nat_cmp k e.0 ≡ b → find nat_cmp k (map (λ (x : ℕ × X). (x.0, change (get more x.0) x.1)) es) ≡ option_map (change (get more k)) (find nat_cmp k es) →
-          cond b (Some (change (get more e.0) e.1)) (find nat_cmp k (map (λ (x : ℕ × X). (x.0, change (get more x.0) x.1)) es)) ≡ option_map (change (get more k)) (cond b (Some e.1) (find nat_cmp k es))
+      go : (b : Bool) → eq_by_cmp nat_cmp k e.0 ≡ b
+          → find nat_cmp k (map (λ (x : ℕ × X). (x.0, change (get more x.0) x.1)) es)
+          ≡ option_map (change (get more k)) (find nat_cmp k es) →
+          cond b (Some (change (get more e.0) e.1))
+          (find nat_cmp k (map (λ (x : ℕ × X). (x.0, change (get more x.0) x.1)) es))
+          ≡ option_map (change (get more k)) (cond b (Some e.1) (find nat_cmp k es))
       go true same later = ap (λ j. Some (change (get more j) e.1)) (sym (ties k e.0 same))
       go false same later = later
 
-  pub get-over : (bare : FinMap nat_cmp X) (more : FinMap nat_cmp Y) (k : ℕ) → get (over change bare more) k ≡ option_map (change (get more k)) (get bare k)
-  get-over bare more k = get-from_entries nat_cmp_total (map (λ (e : ℕ × X). (e.0, change (get more e.0) e.1)) (entries bare)) k ∙ found more (entries bare) k ∙ ap (option_map (change (get more k))) (sym (get-entries bare k))
+  pub get-over : (bare : FinMap nat_cmp X) (more : FinMap nat_cmp Y) (k : ℕ)
+      → get (over change bare more) k ≡ option_map (change (get more k)) (get bare k)
+  get-over bare more k =
+      get-from_entries nat_cmp_total (map (λ (e : ℕ × X). (e.0, change (get more e.0) e.1))
+      (entries bare)) k ∙ found more (entries bare) k ∙ ap (option_map (change (get more k)))
+      (sym (get-entries bare k))
 
   -- a row put in both is one put in what they are together
-  pub over-put : (bare : FinMap nat_cmp X) (more next : FinMap nat_cmp Y) (k : ℕ) (x : X) → ((j : ℕ) → eq_by_cmp nat_cmp j k ≡ false → get next j ≡ get more j) →
+  pub over-put : (bare : FinMap nat_cmp X) (more next : FinMap nat_cmp Y) (k : ℕ) (x : X)
+      → ((j : ℕ) → eq_by_cmp nat_cmp j k ≡ false → get next j ≡ get more j) →
       over change (insert bare k x) next ≡ insert (over change bare more) k (change (get next k) x)
-  over-put bare more next k x others = same_map nat_cmp_total nat_cmp-IsAntisymmetric _ _ (λ j. get-over (insert bare k x) next j ∙ ap (option_map (change (get next j))) (get-insert nat_cmp_total bare k x j) ∙ at j (eq_by_cmp nat_cmp j k) refl ∙ sym (get-insert nat_cmp_total (over change bare more) k (change (get next k) x) j))
+  over-put bare more next k x others =
+      same_map nat_cmp_total nat_cmp-IsAntisymmetric _ _ (λ j. get-over (insert bare k x) next j
+      ∙ ap (option_map (change (get next j))) (get-insert nat_cmp_total bare k x j)
+      ∙ at j (eq_by_cmp nat_cmp j k) refl ∙ sym (get-insert nat_cmp_total (over change bare more) k
+      (change (get next k) x) j))
     where
-      at : (j : ℕ) (b : Bool) → eq_by_cmp nat_cmp j k ≡ b → option_map (change (get next j)) (cond (eq_by_cmp nat_cmp j k) (Some x) (get bare j)) ≡ cond (eq_by_cmp nat_cmp j k) (Some (change (get next k) x)) (get (over change bare more) j)
-      at j true e = ap (λ b. option_map (change (get next j)) (cond b (Some x) (get bare j))) e ∙ ap (λ i. Some (change (get next i) x)) (ties j k e) ∙ sym (ap (λ b. cond b (Some (change (get next k) x)) (get (over change bare more) j)) e)
-      at j false e = ap (λ b. option_map (change (get next j)) (cond b (Some x) (get bare j))) e ∙ ap (λ o. option_map (change o) (get bare j)) (others j e) ∙ sym (get-over bare more j) ∙ sym (ap (λ b. cond b (Some (change (get next k) x)) (get (over change bare more) j)) e)
+      at : (j : ℕ) (b : Bool) → eq_by_cmp nat_cmp j k ≡ b
+          → option_map (change (get next j)) (cond (eq_by_cmp nat_cmp j k) (Some x) (get bare j))
+          ≡ cond (eq_by_cmp nat_cmp j k) (Some (change (get next k) x))
+          (get (over change bare more) j)
+      at j true e = ap (λ b. option_map (change (get next j)) (cond b (Some x) (get bare j))) e
+          ∙ ap (λ i. Some (change (get next i) x)) (ties j k e)
+          ∙ sym (ap (λ b. cond b (Some (change (get next k) x)) (get (over change bare more) j)) e)
+      at j false e = ap (λ b. option_map (change (get next j)) (cond b (Some x) (get bare j))) e
+          ∙ ap (λ o. option_map (change o) (get bare j)) (others j e) ∙ sym (get-over bare more j)
+          ∙ sym (ap (λ b. cond b (Some (change (get next k) x)) (get (over change bare more) j)) e)
 
   -- a row taken out of both is one taken out of what they are together
-  pub over-remove : (bare : FinMap nat_cmp X) (more next : FinMap nat_cmp Y) (k : ℕ) → ((j : ℕ) → eq_by_cmp nat_cmp j k ≡ false → get next j ≡ get more j) →
+  pub over-remove : (bare : FinMap nat_cmp X) (more next : FinMap nat_cmp Y) (k : ℕ)
+      → ((j : ℕ) → eq_by_cmp nat_cmp j k ≡ false → get next j ≡ get more j) →
       over change (remove bare k) next ≡ remove (over change bare more) k
-  over-remove bare more next k others = same_map nat_cmp_total nat_cmp-IsAntisymmetric _ _ (λ j. get-over (remove bare k) next j ∙ ap (option_map (change (get next j))) (get-remove nat_cmp_total bare k j) ∙ at j (eq_by_cmp nat_cmp j k) refl ∙ sym (get-remove nat_cmp_total (over change bare more) k j))
+  over-remove bare more next k others =
+      same_map nat_cmp_total nat_cmp-IsAntisymmetric _ _ (λ j. get-over (remove bare k) next j
+      ∙ ap (option_map (change (get next j))) (get-remove nat_cmp_total bare k j)
+      ∙ at j (eq_by_cmp nat_cmp j k) refl ∙ sym (get-remove nat_cmp_total (over change bare more) k
+      j))
     where
-      at : (j : ℕ) (b : Bool) → eq_by_cmp nat_cmp j k ≡ b → option_map (change (get next j)) (cond (eq_by_cmp nat_cmp j k) None (get bare j)) ≡ cond (eq_by_cmp nat_cmp j k) None (get (over change bare more) j)
-      at j true e = ap (λ b. option_map (change (get next j)) (cond b None (get bare j))) e ∙ sym (ap (λ b. cond b None (get (over change bare more) j)) e)
-      at j false e = ap (λ b. option_map (change (get next j)) (cond b None (get bare j))) e ∙ ap (λ o. option_map (change o) (get bare j)) (others j e) ∙ sym (get-over bare more j) ∙ sym (ap (λ b. cond b None (get (over change bare more) j)) e)
+      at : (j : ℕ) (b : Bool) → eq_by_cmp nat_cmp j k ≡ b
+          → option_map (change (get next j)) (cond (eq_by_cmp nat_cmp j k) None (get bare j))
+          ≡ cond (eq_by_cmp nat_cmp j k) None (get (over change bare more) j)
+      at j true e = ap (λ b. option_map (change (get next j)) (cond b None (get bare j))) e
+          ∙ sym (ap (λ b. cond b None (get (over change bare more) j)) e)
+      at j false e = ap (λ b. option_map (change (get next j)) (cond b None (get bare j))) e
+          ∙ ap (λ o. option_map (change o) (get bare j)) (others j e) ∙ sym (get-over bare more j)
+          ∙ sym (ap (λ b. cond b None (get (over change bare more) j)) e)

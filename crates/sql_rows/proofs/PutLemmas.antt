@@ -40,67 +40,188 @@ pub record Became (new : Database) (wanted : Content) : Type 0 where
   pub is : content_in new.trees ≡ wanted
 
 module _ (old new : Database) (shaped : AreShaped old.trees) where
-  pub put_carrier : (s : Spid) → Replaced Carrier (spid_value s.number ∷ []) (carrier_params s.number) old new → Became new (record (content_in old.trees) { carriers = insert (content_in old.trees).carriers s.number tt })
+  pub put_carrier : (s : Spid)
+      → Replaced Carrier (spid_value s.number ∷ []) (carrier_params s.number) old new
+      → Became new (record (content_in old.trees) {
+        carriers = insert (content_in old.trees).carriers s.number tt;
+      })
   put_carrier s r =
-      let l = put Carrier nat_cmp nat_cmp_total nat_cmp-IsAntisymmetric carrier_entry s.number (spid_value s.number ∷ []) (carrier_tests s) (carrier_params s.number) (λ mid. next_in mid 0 ∷ carrier_params s.number) tt (λ mid. refl) (λ mid. carrier_back (next_in mid 0) s) old new (λ mid. carrier_cast mid s.number) shaped r in
-      record { schema = (r.added (next_in r.mid.trees 0 ∷ carrier_params s.number) (carrier_cast r.mid.trees s.number)).schema; shaped = l.shaped; is = carriers_framed old.trees new.trees l.frame ∙ ap (λ m. record (content_in old.trees) { carriers = m }) l.map }
+      let l = put Carrier nat_cmp nat_cmp_total nat_cmp-IsAntisymmetric carrier_entry s.number
+      (spid_value s.number ∷ []) (carrier_tests s) (carrier_params s.number)
+      (λ mid. next_in mid 0 ∷ carrier_params s.number) tt (λ mid. refl)
+      (λ mid. carrier_back (next_in mid 0) s) old new (λ mid. carrier_cast mid s.number) shaped r in
+      record {
+        schema = (r.added (next_in r.mid.trees 0 ∷ carrier_params s.number)
+            (carrier_cast r.mid.trees s.number)).schema;
+        shaped = l.shaped;
+        is = carriers_framed old.trees new.trees l.frame
+            ∙ ap (λ m. record (content_in old.trees) { carriers = m }) l.map;
+      }
 
-  pub put_lrn : (n v : ℕ) → lrn_entry (stored (owner_params n v)) ≡ Some (n, v) → Replaced Lrn (Int (pos n) ∷ []) (owner_params n v) old new → Became new (record (content_in old.trees) { lrns = insert (content_in old.trees).lrns n v })
+  pub put_lrn : (n v : ℕ) → lrn_entry (stored (owner_params n v)) ≡ Some (n, v)
+      → Replaced Lrn (Int (pos n) ∷ []) (owner_params n v) old new
+      → Became new (record (content_in old.trees) { lrns = insert (content_in old.trees).lrns n v })
   put_lrn n v back r =
-      let l = put Lrn nat_cmp nat_cmp_total nat_cmp-IsAntisymmetric lrn_entry n (Int (pos n) ∷ []) (lrn_tests n) (owner_params n v) (λ mid. stored (owner_params n v)) v (λ mid. refl) (λ mid. back) old new (λ mid. lrn_cast mid n v) shaped r in
-      record { schema = (r.added (stored (owner_params n v)) (lrn_cast r.mid.trees n v)).schema; shaped = l.shaped; is = lrns_framed old.trees new.trees l.frame ∙ ap (λ m. record (content_in old.trees) { lrns = m }) l.map }
+      let l = put Lrn nat_cmp nat_cmp_total nat_cmp-IsAntisymmetric lrn_entry n (Int (pos n) ∷ [])
+      (lrn_tests n) (owner_params n v) (λ mid. stored (owner_params n v)) v (λ mid. refl)
+      (λ mid. back) old new (λ mid. lrn_cast mid n v) shaped r in
+      record {
+        schema = (r.added (stored (owner_params n v)) (lrn_cast r.mid.trees n v)).schema;
+        shaped = l.shaped;
+        is = lrns_framed old.trees new.trees l.frame
+            ∙ ap (λ m. record (content_in old.trees) { lrns = m }) l.map;
+      }
 
-  pub put_code : (n v : ℕ) → code_entry (stored (owner_params n v)) ≡ Some (n, v) → Replaced Code (Int (pos n) ∷ []) (owner_params n v) old new → Became new (record (content_in old.trees) { codes = insert (content_in old.trees).codes n v })
+  pub put_code : (n v : ℕ) → code_entry (stored (owner_params n v)) ≡ Some (n, v)
+      → Replaced Code (Int (pos n) ∷ []) (owner_params n v) old new
+      → Became new (record (content_in old.trees) {
+        codes =
+            insert (content_in old.trees).codes n v;
+      })
   put_code n v back r =
-      let l = put Code nat_cmp nat_cmp_total nat_cmp-IsAntisymmetric code_entry n (Int (pos n) ∷ []) (code_tests n) (owner_params n v) (λ mid. stored (owner_params n v)) v (λ mid. refl) (λ mid. back) old new (λ mid. code_cast mid n v) shaped r in
-      record { schema = (r.added (stored (owner_params n v)) (code_cast r.mid.trees n v)).schema; shaped = l.shaped; is = codes_framed old.trees new.trees l.frame ∙ ap (λ m. record (content_in old.trees) { codes = m }) l.map }
+      let l = put Code nat_cmp nat_cmp_total nat_cmp-IsAntisymmetric code_entry n (Int (pos n) ∷ [])
+      (code_tests n) (owner_params n v) (λ mid. stored (owner_params n v)) v (λ mid. refl)
+      (λ mid. back) old new (λ mid. code_cast mid n v) shaped r in
+      record {
+        schema = (r.added (stored (owner_params n v)) (code_cast r.mid.trees n v)).schema;
+        shaped = l.shaped;
+        is = codes_framed old.trees new.trees l.frame
+            ∙ ap (λ m. record (content_in old.trees) { codes = m }) l.map;
+      }
 
-  pub put_block : (n : ℕ) (v : BlockRow) → block_entry (stored (block_params n v)) ≡ Some (n, v) → Replaced Block (Int (pos n) ∷ []) (block_params n v) old new → Became new (record (content_in old.trees) { blocks = insert (content_in old.trees).blocks n v })
+  pub put_block : (n : ℕ) (v : BlockRow) → block_entry (stored (block_params n v)) ≡ Some (n, v)
+      → Replaced Block (Int (pos n) ∷ []) (block_params n v) old new
+      → Became new (record (content_in old.trees) {
+        blocks = insert (content_in old.trees).blocks n v;
+      })
   put_block n v back r =
-      let l = put Block nat_cmp nat_cmp_total nat_cmp-IsAntisymmetric block_entry n (Int (pos n) ∷ []) (block_tests n) (block_params n v) (λ mid. stored (block_params n v)) v (λ mid. refl) (λ mid. back) old new (λ mid. block_cast mid n v) shaped r in
-      record { schema = (r.added (stored (block_params n v)) (block_cast r.mid.trees n v)).schema; shaped = l.shaped; is = blocks_framed old.trees new.trees l.frame ∙ ap (λ m. record (content_in old.trees) { blocks = m }) l.map }
+      let l = put Block nat_cmp nat_cmp_total nat_cmp-IsAntisymmetric block_entry n
+      (Int (pos n) ∷ []) (block_tests n) (block_params n v) (λ mid. stored (block_params n v)) v
+      (λ mid. refl) (λ mid. back) old new (λ mid. block_cast mid n v) shaped r in
+      record {
+        schema = (r.added (stored (block_params n v)) (block_cast r.mid.trees n v)).schema;
+        shaped = l.shaped;
+        is = blocks_framed old.trees new.trees l.frame
+            ∙ ap (λ m. record (content_in old.trees) { blocks = m }) l.map;
+      }
 
-  pub put_set : (n : ℕ) (w : Windows) → set_entry (stored (set_params n w)) ≡ Some (n, w) → Replaced WindowSet (Int (pos n) ∷ []) (set_params n w) old new →
-      Became new (record (content_in old.trees) { sets = insert (content_in old.trees).sets n w; clock = clock_from (insert (content_in old.trees).sets n w) (clocks_in (old.trees 21)) })
+  pub put_set : (n : ℕ) (w : Windows) → set_entry (stored (set_params n w)) ≡ Some (n, w)
+      → Replaced WindowSet (Int (pos n) ∷ []) (set_params n w) old new →
+      Became new (record (content_in old.trees) {
+        sets = insert (content_in old.trees).sets n w;
+        clock = clock_from (insert (content_in old.trees).sets n w) (clocks_in (old.trees 21));
+      })
   put_set n w back r =
-      let l = put WindowSet nat_cmp nat_cmp_total nat_cmp-IsAntisymmetric set_entry n (Int (pos n) ∷ []) (set_tests n) (set_params n w) (λ mid. stored (set_params n w)) w (λ mid. refl) (λ mid. back) old new (λ mid. set_cast mid n w) shaped r in
-      record { schema = (r.added (stored (set_params n w)) (set_cast r.mid.trees n w)).schema; shaped = l.shaped; is = sets_framed old.trees new.trees l.frame ∙ ap (λ m. record (content_in old.trees) { sets = m; clock = clock_from m (clocks_in (old.trees 21)) }) l.map }
+      let l = put WindowSet nat_cmp nat_cmp_total nat_cmp-IsAntisymmetric set_entry n
+      (Int (pos n) ∷ []) (set_tests n) (set_params n w) (λ mid. stored (set_params n w)) w
+      (λ mid. refl) (λ mid. back) old new (λ mid. set_cast mid n w) shaped r in
+      record {
+        schema = (r.added (stored (set_params n w)) (set_cast r.mid.trees n w)).schema;
+        shaped = l.shaped;
+        is = sets_framed old.trees new.trees l.frame ∙ ap (λ m. record (content_in old.trees) {
+          sets = m;
+          clock = clock_from m (clocks_in (old.trees 21));
+        }) l.map;
+      }
 
-  pub put_clock : (c : StoredClock) → clock_entry (stored (clock_params 0 c)) ≡ Some (0, c) → Replaced Clock (Int (pos 0) ∷ []) (clock_params 0 c) old new → Became new (record (content_in old.trees) { clock = with_windows (content_in old.trees).sets c })
+  pub put_clock : (c : StoredClock) → clock_entry (stored (clock_params 0 c)) ≡ Some (0, c)
+      → Replaced Clock (Int (pos 0) ∷ []) (clock_params 0 c) old new
+      → Became new (record (content_in old.trees) {
+        clock = with_windows (content_in old.trees).sets c;
+      })
   put_clock c back r =
-      let l = put Clock nat_cmp nat_cmp_total nat_cmp-IsAntisymmetric clock_entry 0 (Int (pos 0) ∷ []) (clock_tests 0) (clock_params 0 c) (λ mid. stored (clock_params 0 c)) c (λ mid. refl) (λ mid. back) old new (λ mid. clock_cast mid 0 c) shaped r in
+      let l = put Clock nat_cmp nat_cmp_total nat_cmp-IsAntisymmetric clock_entry 0
+      (Int (pos 0) ∷ []) (clock_tests 0) (clock_params 0 c) (λ mid. stored (clock_params 0 c)) c
+      (λ mid. refl) (λ mid. back) old new (λ mid. clock_cast mid 0 c) shaped r in
       record {
         schema = (r.added (stored (clock_params 0 c)) (clock_cast r.mid.trees 0 c)).schema;
         shaped = l.shaped;
-        is = clock_framed old.trees new.trees l.frame ∙ ap (λ o. record (content_in old.trees) { clock = option_and_then (with_windows (sets_in (old.trees 17))) o }) (ap (λ m. get m 0) l.map ∙ get-insert nat_cmp_total _ 0 c 0);
+        is = clock_framed old.trees new.trees l.frame ∙ ap (λ o. record (content_in old.trees) {
+          clock = option_and_then (with_windows (sets_in (old.trees 17))) o;
+        }) (ap (λ m. get m 0) l.map ∙ get-insert nat_cmp_total _ 0 c 0);
       }
 
-  pub put_broadcast : (k : BroadcastKey) (v : BroadcastRow) → ((rowid : Value) → broadcast_entry (rowid ∷ broadcast_params k v) ≡ Some (k, v)) → Replaced Broadcast (broadcast_key_params k) (broadcast_params k v) old new → Became new (record (content_in old.trees) { broadcasts = insert (content_in old.trees).broadcasts k v })
+  pub put_broadcast : (k : BroadcastKey) (v : BroadcastRow)
+      → ((rowid : Value) → broadcast_entry (rowid ∷ broadcast_params k v) ≡ Some (k, v))
+      → Replaced Broadcast (broadcast_key_params k) (broadcast_params k v) old new
+      → Became new (record (content_in old.trees) {
+        broadcasts = insert (content_in old.trees).broadcasts k v;
+      })
   put_broadcast k v back r =
-      let l = put Broadcast broadcast_cmp broadcast_total broadcast_exact broadcast_entry k (broadcast_key_params k) (broadcast_tests k) (broadcast_params k v) (λ mid. next_in mid 8 ∷ broadcast_params k v) v (λ mid. refl) (λ mid. back (next_in mid 8)) old new (λ mid. broadcast_cast mid k v) shaped r in
-      record { schema = (r.added (next_in r.mid.trees 8 ∷ broadcast_params k v) (broadcast_cast r.mid.trees k v)).schema; shaped = l.shaped; is = broadcasts_framed old.trees new.trees l.frame ∙ ap (λ m. record (content_in old.trees) { broadcasts = m }) l.map }
+      let l = put Broadcast broadcast_cmp broadcast_total broadcast_exact broadcast_entry k
+      (broadcast_key_params k) (broadcast_tests k) (broadcast_params k v)
+      (λ mid. next_in mid 8 ∷ broadcast_params k v) v (λ mid. refl) (λ mid. back (next_in mid 8))
+      old new (λ mid. broadcast_cast mid k v) shaped r in
+      record {
+        schema = (r.added (next_in r.mid.trees 8 ∷ broadcast_params k v)
+            (broadcast_cast r.mid.trees k v)).schema;
+        shaped = l.shaped;
+        is = broadcasts_framed old.trees new.trees l.frame
+            ∙ ap (λ m. record (content_in old.trees) { broadcasts = m }) l.map;
+      }
 
-  pub put_wait : (c : WaitCode) (v : Subject) → ((rowid : Value) → wait_entry (rowid ∷ wait_params (wait_key_of c) v) ≡ Some (wait_key_of c, v)) → Replaced Wait (wait_key_params (wait_key_of c)) (wait_params (wait_key_of c) v) old new → Became new (record (content_in old.trees) { waits = insert (content_in old.trees).waits (wait_key_of c) v })
+  pub put_wait : (c : WaitCode) (v : Subject)
+      → ((rowid : Value) → wait_entry (rowid ∷ wait_params (wait_key_of c) v)
+      ≡ Some (wait_key_of c, v))
+      → Replaced Wait (wait_key_params (wait_key_of c)) (wait_params (wait_key_of c) v) old new
+      → Became new (record (content_in old.trees) {
+        waits = insert (content_in old.trees).waits (wait_key_of c) v;
+      })
   put_wait c v back r =
-      let l = put Wait wait_cmp wait_total wait_exact wait_entry (wait_key_of c) (wait_key_params (wait_key_of c)) (wait_tests c.carrier c.minute.number c.id c.attempt) (wait_params (wait_key_of c) v) (λ mid. next_in mid 10 ∷ wait_params (wait_key_of c) v) v (λ mid. refl) (λ mid. back (next_in mid 10)) old new (λ mid. wait_cast mid (wait_key_of c) v) shaped r in
-      record { schema = (r.added (next_in r.mid.trees 10 ∷ wait_params (wait_key_of c) v) (wait_cast r.mid.trees (wait_key_of c) v)).schema; shaped = l.shaped; is = waits_framed old.trees new.trees l.frame ∙ ap (λ m. record (content_in old.trees) { waits = m }) l.map }
+      let l = put Wait wait_cmp wait_total wait_exact wait_entry (wait_key_of c)
+      (wait_key_params (wait_key_of c)) (wait_tests c.carrier c.minute.number c.id c.attempt)
+      (wait_params (wait_key_of c) v) (λ mid. next_in mid 10 ∷ wait_params (wait_key_of c) v) v
+      (λ mid. refl) (λ mid. back (next_in mid 10)) old new (λ mid. wait_cast mid (wait_key_of c) v)
+      shaped r in
+      record {
+        schema = (r.added (next_in r.mid.trees 10 ∷ wait_params (wait_key_of c) v)
+            (wait_cast r.mid.trees (wait_key_of c) v)).schema;
+        shaped = l.shaped;
+        is = waits_framed old.trees new.trees l.frame
+            ∙ ap (λ m. record (content_in old.trees) { waits = m }) l.map;
+      }
 
-  pub take_broadcast : (k : BroadcastKey) → Removed Broadcast (broadcast_key_params k) old new → Became new (record (content_in old.trees) { broadcasts = remove (content_in old.trees).broadcasts k })
+  pub take_broadcast : (k : BroadcastKey) → Removed Broadcast (broadcast_key_params k) old new
+      → Became new (record (content_in old.trees) {
+        broadcasts = remove (content_in old.trees).broadcasts k;
+      })
   take_broadcast k r =
-      let l = taken Broadcast broadcast_cmp broadcast_total broadcast_exact broadcast_entry k (broadcast_key_params k) (broadcast_tests k) old new shaped r in
-      record { schema = r.schema; shaped = l.shaped; is = broadcasts_framed old.trees new.trees l.frame ∙ ap (λ m. record (content_in old.trees) { broadcasts = m }) l.map }
+      let l = taken Broadcast broadcast_cmp broadcast_total broadcast_exact broadcast_entry k
+      (broadcast_key_params k) (broadcast_tests k) old new shaped r in
+      record {
+        schema = r.schema;
+        shaped = l.shaped;
+        is = broadcasts_framed old.trees new.trees l.frame
+            ∙ ap (λ m. record (content_in old.trees) { broadcasts = m }) l.map;
+      }
 
-  pub take_wait : (c : WaitCode) → Removed Wait (wait_key_params (wait_key_of c)) old new → Became new (record (content_in old.trees) { waits = remove (content_in old.trees).waits (wait_key_of c) })
+  pub take_wait : (c : WaitCode) → Removed Wait (wait_key_params (wait_key_of c)) old new
+      → Became new (record (content_in old.trees) {
+        waits = remove (content_in old.trees).waits (wait_key_of c);
+      })
   take_wait c r =
-      let l = taken Wait wait_cmp wait_total wait_exact wait_entry (wait_key_of c) (wait_key_params (wait_key_of c)) (wait_tests c.carrier c.minute.number c.id c.attempt) old new shaped r in
-      record { schema = r.schema; shaped = l.shaped; is = waits_framed old.trees new.trees l.frame ∙ ap (λ m. record (content_in old.trees) { waits = m }) l.map }
+      let l = taken Wait wait_cmp wait_total wait_exact wait_entry (wait_key_of c)
+      (wait_key_params (wait_key_of c)) (wait_tests c.carrier c.minute.number c.id c.attempt) old
+      new shaped r in
+      record {
+        schema = r.schema;
+        shaped = l.shaped;
+        is = waits_framed old.trees new.trees l.frame
+            ∙ ap (λ m. record (content_in old.trees) { waits = m }) l.map;
+      }
 
 -- ---- rows of two tables
 
 -- the set's row, and then the clock's
-pub put_set_clock : (old mid new : Database) → AreShaped old.trees → (w : Windows) (c : StoredClock) → set_entry (stored (set_params c.present w)) ≡ Some (c.present, w) → clock_entry (stored (clock_params 0 c)) ≡ Some (0, c) →
-    Replaced WindowSet (Int (pos c.present) ∷ []) (set_params c.present w) old mid → Replaced Clock (Int (pos 0) ∷ []) (clock_params 0 c) mid new →
-    Became new (record (content_in old.trees) { sets = insert (content_in old.trees).sets c.present w; clock = Some (clock_row c.minute c.next_id c.present w) })
+pub put_set_clock : (old mid new : Database) → AreShaped old.trees → (w : Windows) (c : StoredClock)
+    → set_entry (stored (set_params c.present w)) ≡ Some (c.present, w)
+    → clock_entry (stored (clock_params 0 c)) ≡ Some (0, c) →
+    Replaced WindowSet (Int (pos c.present) ∷ []) (set_params c.present w) old mid
+    → Replaced Clock (Int (pos 0) ∷ []) (clock_params 0 c) mid new →
+    Became new (record (content_in old.trees) {
+      sets = insert (content_in old.trees).sets c.present w;
+      clock = Some (clock_row c.minute c.next_id c.present w);
+    })
 put_set_clock old mid new shaped w c set_back clock_back first second =
     let a = put_set old mid shaped c.present w set_back first in
     let b = put_clock mid new a.shaped c clock_back second in
@@ -108,7 +229,12 @@ put_set_clock old mid new shaped w c set_back clock_back first second =
       schema = b.schema;
       shaped = b.shaped;
       is = b.is ∙ ap (λ (x : Content). record x { clock = with_windows x.sets c }) a.is
-          ∙ ap (λ o. record (content_in old.trees) { sets = insert (content_in old.trees).sets c.present w; clock = option_map (clock_row c.minute c.next_id c.present) o }) (get-insert nat_cmp_total (content_in old.trees).sets c.present w c.present ∙ ap (λ b. cond b (Some w) (get (content_in old.trees).sets c.present)) ((eq_by_cmp_equiv nat_cmp_total).refl c.present));
+          ∙ ap (λ o. record (content_in old.trees) {
+            sets = insert (content_in old.trees).sets c.present w;
+            clock = option_map (clock_row c.minute c.next_id c.present) o;
+          }) (get-insert nat_cmp_total (content_in old.trees).sets c.present w c.present
+          ∙ ap (λ b. cond b (Some w) (get (content_in old.trees).sets c.present))
+          ((eq_by_cmp_equiv nat_cmp_total).refl c.present));
     }
 
 module _ (old mid new : Database) (shaped : AreShaped old.trees) (n : ℕ) where
@@ -119,35 +245,69 @@ module _ (old mid new : Database) (shaped : AreShaped old.trees) (n : ℕ) where
   abbrev NextLeft : (FinMap nat_cmp Routing → FinMap nat_cmp Routing) → Type 0
   NextLeft change = Leaves NextRouting nat_cmp next_entry change mid.trees new.trees
 
-  version_put : (v w : VersionRow) → version_entry (version_row n v) ≡ Some (n, w) → Replaced Version (Int (pos n) ∷ []) (version_params n v) old mid → VersionLeft (λ m. insert m n w)
-  version_put v w back r = put Version nat_cmp nat_cmp_total nat_cmp-IsAntisymmetric version_entry n (Int (pos n) ∷ []) (version_tests n) (version_params n v) (λ db. version_row n v) w (λ db. refl) (λ db. back) old mid (λ db. version_cast db n v) shaped r
+  version_put : (v w : VersionRow) → version_entry (version_row n v) ≡ Some (n, w)
+      → Replaced Version (Int (pos n) ∷ []) (version_params n v) old mid
+      → VersionLeft (λ m. insert m n w)
+  version_put v w back r = put Version nat_cmp nat_cmp_total nat_cmp-IsAntisymmetric version_entry n
+      (Int (pos n) ∷ []) (version_tests n) (version_params n v) (λ db. version_row n v) w
+      (λ db. refl) (λ db. back) old mid (λ db. version_cast db n v) shaped r
 
   -- the tables between the two
-  pub version_between : (v : VersionRow) → version_entry (version_row n v) ≡ Some (n, bare v) → Replaced Version (Int (pos n) ∷ []) (version_params n v) old mid → (mid.schema ≡ the_schema) × AreShaped mid.trees
-  version_between v back r = ((r.added (version_row n v) (version_cast r.mid.trees n v)).schema, (version_put v (bare v) back r).shaped)
+  pub version_between : (v : VersionRow) → version_entry (version_row n v) ≡ Some (n, bare v)
+      → Replaced Version (Int (pos n) ∷ []) (version_params n v) old mid → (mid.schema ≡ the_schema)
+      × AreShaped mid.trees
+  version_between v back r = (
+    (r.added (version_row n v) (version_cast r.mid.trees n v)).schema,
+    (version_put v (bare v) back r).shaped,
+  )
 
-  next_put : (r : Routing) → AreShaped mid.trees → next_entry (stored (next_params n r)) ≡ Some (n, r) → Replaced NextRouting (Int (pos n) ∷ []) (next_params n r) mid new → NextLeft (λ m. insert m n r)
-  next_put r there back did = put NextRouting nat_cmp nat_cmp_total nat_cmp-IsAntisymmetric next_entry n (Int (pos n) ∷ []) (next_tests n) (next_params n r) (λ db. stored (next_params n r)) r (λ db. refl) (λ db. back) mid new (λ db. next_cast db n r) there did
+  next_put : (r : Routing) → AreShaped mid.trees → next_entry (stored (next_params n r))
+      ≡ Some (n, r) → Replaced NextRouting (Int (pos n) ∷ []) (next_params n r) mid new
+      → NextLeft (λ m. insert m n r)
+  next_put r there back did =
+      put NextRouting nat_cmp nat_cmp_total nat_cmp-IsAntisymmetric next_entry n (Int (pos n) ∷ [])
+      (next_tests n) (next_params n r) (λ db. stored (next_params n r)) r (λ db. refl) (λ db. back)
+      mid new (λ db. next_cast db n r) there did
 
-  next_taken : AreShaped mid.trees → Removed NextRouting (Int (pos n) ∷ []) mid new → NextLeft (λ m. remove m n)
-  next_taken there did = taken NextRouting nat_cmp nat_cmp_total nat_cmp-IsAntisymmetric next_entry n (Int (pos n) ∷ []) (next_tests n) mid new there did
+  next_taken : AreShaped mid.trees → Removed NextRouting (Int (pos n) ∷ []) mid new
+      → NextLeft (λ m. remove m n)
+  next_taken there did = taken NextRouting nat_cmp nat_cmp_total nat_cmp-IsAntisymmetric next_entry
+      n (Int (pos n) ∷ []) (next_tests n) mid new there did
 
   -- the routings are of the tree that the first change left alone
-  same_nexts : (change : FinMap nat_cmp VersionRow → FinMap nat_cmp VersionRow) → VersionLeft change → nexts_in (mid.trees 16) ≡ nexts_in (old.trees 16)
+  same_nexts : (change : FinMap nat_cmp VersionRow → FinMap nat_cmp VersionRow) → VersionLeft change
+      → nexts_in (mid.trees 16) ≡ nexts_in (old.trees 16)
   same_nexts change l = ap nexts_in (l.frame NextRouting (λ e. omega arith))
 
   -- what both make of the content
-  together : (change : FinMap nat_cmp VersionRow → FinMap nat_cmp VersionRow) (turn : FinMap nat_cmp Routing → FinMap nat_cmp Routing) → VersionLeft change → NextLeft turn →
-      content_in new.trees ≡ record (content_in old.trees) { versions = over rerouted (change (versions_in (old.trees 18))) (turn (nexts_in (old.trees 16))) }
+  together : (change : FinMap nat_cmp VersionRow → FinMap nat_cmp VersionRow)
+      (turn : FinMap nat_cmp Routing → FinMap nat_cmp Routing) → VersionLeft change → NextLeft turn
+      →
+      content_in new.trees ≡ record (content_in old.trees) {
+        versions = over rerouted (change (versions_in (old.trees 18)))
+            (turn (nexts_in (old.trees 16)));
+      }
   together change turn first second =
       nexts_framed mid.trees new.trees second.frame
-      ∙ ap (λ (c : Content). record c { versions = over rerouted (versions_in (mid.trees 18)) (nexts_in (new.trees 16)) }) (versions_framed old.trees mid.trees first.frame)
-      ∙ ap (λ m. record (content_in old.trees) { versions = over rerouted m (nexts_in (new.trees 16)) }) first.map
-      ∙ ap (λ m. record (content_in old.trees) { versions = over rerouted (change (versions_in (old.trees 18))) m }) (second.map ∙ ap turn (same_nexts change first))
+      ∙ ap (λ (c : Content). record c {
+        versions = over rerouted (versions_in (mid.trees 18)) (nexts_in (new.trees 16));
+      }) (versions_framed old.trees mid.trees first.frame)
+      ∙ ap (λ m. record (content_in old.trees) {
+        versions = over rerouted m (nexts_in (new.trees 16));
+      }) first.map
+      ∙ ap (λ m. record (content_in old.trees) {
+        versions = over rerouted (change (versions_in (old.trees 18))) m;
+      }) (second.map ∙ ap turn (same_nexts change first))
 
   -- a version that sends a modify is put, with its routing
-  pub put_modified : (v : VersionRow) (r : Routing) → next_of v.status ≡ Some r → version_entry (version_row n v) ≡ Some (n, bare v) → next_entry (stored (next_params n r)) ≡ Some (n, r) →
-      Replaced Version (Int (pos n) ∷ []) (version_params n v) old mid → Replaced NextRouting (Int (pos n) ∷ []) (next_params n r) mid new → Became new (record (content_in old.trees) { versions = insert (content_in old.trees).versions n v })
+  pub put_modified : (v : VersionRow) (r : Routing) → next_of v.status ≡ Some r
+      → version_entry (version_row n v) ≡ Some (n, bare v) → next_entry (stored (next_params n r))
+      ≡ Some (n, r) →
+      Replaced Version (Int (pos n) ∷ []) (version_params n v) old mid
+      → Replaced NextRouting (Int (pos n) ∷ []) (next_params n r) mid new
+      → Became new (record (content_in old.trees) {
+        versions = insert (content_in old.trees).versions n v;
+      })
   put_modified v r sends back next_back first second =
       let a = version_put v (bare v) back first in
       let b = next_put r a.shaped next_back second in
@@ -156,15 +316,23 @@ module _ (old mid new : Database) (shaped : AreShaped old.trees) (n : ℕ) where
         schema = (second.added (stored (next_params n r)) (next_cast second.mid.trees n r)).schema;
         shaped = b.shaped;
         is = together (λ m. insert m n (bare v)) (λ m. insert m n r) a b
-            ∙ ap (λ m. record (content_in old.trees) { versions = m }) (row-put (versions_in (old.trees 18)) more (insert more n r) n v (put_at more r ∙ sym sends) (λ j apart. get-insert nat_cmp_total more n r j ∙ ap (λ b. cond b (Some r) (get more j)) apart));
+            ∙ ap (λ m. record (content_in old.trees) { versions = m })
+            (row-put (versions_in (old.trees 18)) more (insert more n r) n v (put_at more r
+            ∙ sym sends) (λ j apart. get-insert nat_cmp_total more n r j
+            ∙ ap (λ b. cond b (Some r) (get more j)) apart));
       }
     where
       put_at : (more : FinMap nat_cmp Routing) (r : Routing) → get (insert more n r) n ≡ Some r
-      put_at more r = get-insert nat_cmp_total more n r n ∙ ap (λ b. cond b (Some r) (get more n)) ((eq_by_cmp_equiv nat_cmp_total).refl n)
+      put_at more r = get-insert nat_cmp_total more n r n ∙ ap (λ b. cond b (Some r) (get more n))
+          ((eq_by_cmp_equiv nat_cmp_total).refl n)
 
   -- any other is put, and no routing is left beside it
-  pub put_plain : (v : VersionRow) → next_of v.status ≡ None → version_entry (version_row n v) ≡ Some (n, bare v) →
-      Replaced Version (Int (pos n) ∷ []) (version_params n v) old mid → Removed NextRouting (Int (pos n) ∷ []) mid new → Became new (record (content_in old.trees) { versions = insert (content_in old.trees).versions n v })
+  pub put_plain : (v : VersionRow) → next_of v.status ≡ None
+      → version_entry (version_row n v) ≡ Some (n, bare v) →
+      Replaced Version (Int (pos n) ∷ []) (version_params n v) old mid
+      → Removed NextRouting (Int (pos n) ∷ []) mid new → Became new (record (content_in old.trees) {
+        versions = insert (content_in old.trees).versions n v;
+      })
   put_plain v sends back first second =
       let a = version_put v (bare v) back first in
       let b = next_taken a.shaped second in
@@ -173,38 +341,59 @@ module _ (old mid new : Database) (shaped : AreShaped old.trees) (n : ℕ) where
         schema = second.schema;
         shaped = b.shaped;
         is = together (λ m. insert m n (bare v)) (λ m. remove m n) a b
-            ∙ ap (λ m. record (content_in old.trees) { versions = m }) (row-put (versions_in (old.trees 18)) more (remove more n) n v (taken_at more ∙ sym sends) (λ j apart. get-remove nat_cmp_total more n j ∙ ap (λ b. cond b None (get more j)) apart));
+            ∙ ap (λ m. record (content_in old.trees) { versions = m })
+            (row-put (versions_in (old.trees 18)) more (remove more n) n v (taken_at more
+            ∙ sym sends) (λ j apart. get-remove nat_cmp_total more n j
+            ∙ ap (λ b. cond b None (get more j)) apart));
       }
     where
       taken_at : (more : FinMap nat_cmp Routing) → get (remove more n) n ≡ None
-      taken_at more = get-remove nat_cmp_total more n n ∙ ap (λ b. cond b None (get more n)) ((eq_by_cmp_equiv nat_cmp_total).refl n)
+      taken_at more = get-remove nat_cmp_total more n n ∙ ap (λ b. cond b None (get more n))
+          ((eq_by_cmp_equiv nat_cmp_total).refl n)
 
   -- a version is taken away, with the routing that it sends
-  pub take_version : Removed Version (Int (pos n) ∷ []) old mid → Removed NextRouting (Int (pos n) ∷ []) mid new → Became new (record (content_in old.trees) { versions = remove (content_in old.trees).versions n })
+  pub take_version : Removed Version (Int (pos n) ∷ []) old mid
+      → Removed NextRouting (Int (pos n) ∷ []) mid new → Became new (record (content_in old.trees) {
+        versions = remove (content_in old.trees).versions n;
+      })
   take_version first second =
-      let a : VersionLeft (λ m. remove m n) = taken Version nat_cmp nat_cmp_total nat_cmp-IsAntisymmetric version_entry n (Int (pos n) ∷ []) (version_tests n) old mid shaped first in
+      let a : VersionLeft (λ m. remove m n) =
+      taken Version nat_cmp nat_cmp_total nat_cmp-IsAntisymmetric version_entry n (Int (pos n) ∷ [])
+      (version_tests n) old mid shaped first in
       let b = next_taken a.shaped second in
       let more = nexts_in (old.trees 16) in
       record {
         schema = second.schema;
         shaped = b.shaped;
         is = together (λ m. remove m n) (λ m. remove m n) a b
-            ∙ ap (λ m. record (content_in old.trees) { versions = m }) (over-remove rerouted (versions_in (old.trees 18)) more (remove more n) n (λ j apart. get-remove nat_cmp_total more n j ∙ ap (λ b. cond b None (get more j)) apart));
+            ∙ ap (λ m. record (content_in old.trees) { versions = m })
+            (over-remove rerouted (versions_in (old.trees 18)) more (remove more n) n
+            (λ j apart. get-remove nat_cmp_total more n j ∙ ap (λ b. cond b None (get more j))
+            apart));
       }
 
 -- the clock's row has the windows of its set
-pub clock_joins : (db : Trees) (r : ClockRow) → (content_in db).clock ≡ Some r → get (content_in db).sets r.present.number ≡ Some r.present.windows
+pub clock_joins : (db : Trees) (r : ClockRow) → (content_in db).clock ≡ Some r
+    → get (content_in db).sets r.present.number ≡ Some r.present.windows
 clock_joins db r e =
     let a = bind_some (with_windows (sets_in (db 17))) (get (clocks_in (db 21)) 0) r e in
-    let b = map_some (clock_row a.0.minute a.0.next_id a.0.present) (get (sets_in (db 17)) a.0.present) r a.2 in
-    subst (λ (c : ClockRow). get (content_in db).sets c.present.number ≡ Some c.present.windows) b.2 b.1
+    let b = map_some (clock_row a.0.minute a.0.next_id a.0.present)
+    (get (sets_in (db 17)) a.0.present) r a.2 in
+    subst (λ (c : ClockRow). get (content_in db).sets c.present.number ≡ Some c.present.windows) b.2
+    b.1
 
 -- a version's row as its table has it, put alone
-pub version_left : (old new : Database) (n : ℕ) (v : VersionRow) → version_entry (version_row n v) ≡ Some (n, bare v) → Replaced Version (Int (pos n) ∷ []) (version_params n v) old new →
-    (new.schema ≡ the_schema) × (AreShaped old.trees → Leaves Version nat_cmp version_entry (λ m. insert m n (bare v)) old.trees new.trees) × IsFrame Version old.trees new.trees
+pub version_left : (old new : Database) (n : ℕ) (v : VersionRow)
+    → version_entry (version_row n v) ≡ Some (n, bare v)
+    → Replaced Version (Int (pos n) ∷ []) (version_params n v) old new →
+    (new.schema ≡ the_schema) × (AreShaped old.trees
+    → Leaves Version nat_cmp version_entry (λ m. insert m n (bare v)) old.trees new.trees)
+    × IsFrame Version old.trees new.trees
 version_left old new n v back r =
     let added = r.added (version_row n v) (version_cast r.mid.trees n v) in (
       added.schema,
-      λ shaped. put Version nat_cmp nat_cmp_total nat_cmp-IsAntisymmetric version_entry n (Int (pos n) ∷ []) (version_tests n) (version_params n v) (λ db. version_row n v) (bare v) (λ db. refl) (λ db. back) old new (λ db. version_cast db n v) shaped r,
+      λ shaped. put Version nat_cmp nat_cmp_total nat_cmp-IsAntisymmetric version_entry n
+          (Int (pos n) ∷ []) (version_tests n) (version_params n v) (λ db. version_row n v) (bare v)
+          (λ db. refl) (λ db. back) old new (λ db. version_cast db n v) shaped r,
       framed_twice Version old.trees r.mid.trees new.trees r.removed.frame added.frame,
     )

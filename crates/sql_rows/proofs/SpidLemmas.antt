@@ -10,7 +10,9 @@ small_character : (c : ℕ) → is_spid_character c ≡ true → c < 128
 small_character c h = grind (arith, nat_tests)
 
 -- four characters make a provider
-pub spid_made : (n a b c d : ℕ) → n ≡ a * 16777216 + b * 65536 + c * 256 + d → is_spid_character a ≡ true → is_spid_character b ≡ true → is_spid_character c ≡ true → is_spid_character d ≡ true → IsSpid n
+pub spid_made : (n a b c d : ℕ) → n ≡ a * 16777216 + b * 65536 + c * 256 + d
+    → is_spid_character a ≡ true → is_spid_character b ≡ true → is_spid_character c ≡ true
+    → is_spid_character d ≡ true → IsSpid n
 spid_made n a b c d e p q r s =
     let low_b = small_character b q in
     let low_c = small_character c r in
@@ -21,7 +23,8 @@ spid_made n a b c d e p q r s =
     let fourth : n % 256 ≡ d = omega arith in
     rw (first, second, third, fourth, p, q, r, s)
 
-digits : (n a b c d : ℕ) → n ≡ a * 16777216 + b * 65536 + c * 256 + d → b < 128 → c < 128 → d < 128 → spid_text n ≡ a ∷ b ∷ c ∷ d ∷ []
+digits : (n a b c d : ℕ) → n ≡ a * 16777216 + b * 65536 + c * 256 + d → b < 128 → c < 128 → d < 128
+    → spid_text n ≡ a ∷ b ∷ c ∷ d ∷ []
 digits n a b c d e low_b low_c low_d =
     let first : n / 16777216 ≡ a = omega arith in
     let second : n / 65536 % 256 ≡ b = omega arith in
@@ -31,12 +34,18 @@ digits n a b c d e low_b low_c low_d =
 
 -- a text that reads as a provider is the provider's own
 pub spelt : (t : List ℕ) (n : ℕ) → spid_from t ≡ Some n → t ≡ spid_text n
-spelt (a ∷ b ∷ c ∷ d ∷ []) n h = go (is_spid_character a) (is_spid_character b) (is_spid_character c) (is_spid_character d) refl refl refl h
+spelt (a ∷ b ∷ c ∷ d ∷ []) n h =
+    go (is_spid_character a) (is_spid_character b) (is_spid_character c) (is_spid_character d) refl
+    refl refl h
   where
-    go : (w x y z : Bool) → is_spid_character b ≡ x → is_spid_character c ≡ y → is_spid_character d ≡ z → cond (w && (x && (y && z))) (Some (a * 16777216 + b * 65536 + c * 256 + d)) None ≡ Some n → a ∷ b ∷ c ∷ d ∷ [] ≡ spid_text n
+    go : (w x y z : Bool) → is_spid_character b ≡ x → is_spid_character c ≡ y
+        → is_spid_character d ≡ z
+        → cond (w && (x && (y && z))) (Some (a * 16777216 + b * 65536 + c * 256 + d)) None ≡ Some n
+        → a ∷ b ∷ c ∷ d ∷ [] ≡ spid_text n
     go true true true true q r s h =
         let sum : a * 16777216 + b * 65536 + c * 256 + d ≡ n = cc in
-        sym (digits n a b c d (sym sum) (small_character b q) (small_character c r) (small_character d s))
+        sym (digits n a b c d (sym sum) (small_character b q) (small_character c r)
+        (small_character d s))
     go true true true false q r s h = absurd cc
     go true true false z q r s h = absurd cc
     go true false y z q r s h = absurd cc

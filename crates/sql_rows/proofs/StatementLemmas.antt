@@ -1,4 +1,5 @@
--- What the texts mean. Each is compiled once here, to its command where it has no RETURNING and does
+-- What the texts mean. Each is compiled once here, to its command where it has no RETURNING and
+-- does
 -- not read the time; all else that is known of it is read off that one computation.
 use Rattle.std.proofs.Common.{◌≡◌, ◌∙◌, ℕ, false, if◌then◌else◌, List, [], ◌∷◌, Option, None, Some, Result, Ok, Err, refl, ap, sym, subst}
 use Rattle.std.specs.Prelude.{⊤}
@@ -42,7 +43,8 @@ module _ (text : List ℕ) (command : Command)
     (compiles : plain_command (compiled the_schema text) ≡ Some command) where
   unlisted : reads_listing the_schema text ≡ false
   unlisted = go (compiled the_schema text) compiles where
-    go : (x : Result Compiled CompileError) → plain_command x ≡ Some command → misses_table x ≡ false
+    go : (x : Result Compiled CompileError) → plain_command x ≡ Some command
+        → misses_table x ≡ false
     go (Ok c) is = refl
     go (Err e) is = absurd (none-some command is)
 
@@ -54,7 +56,8 @@ module _ (text : List ℕ) (command : Command)
 
   means : command_of (understood the_schema text) ≡ command
   means = ap command_of same ∙ go (compiled the_schema text) compiles where
-    go : (x : Result Compiled CompileError) → plain_command x ≡ Some command → command_of x ≡ command
+    go : (x : Result Compiled CompileError) → plain_command x ≡ Some command
+        → command_of x ≡ command
     go (Ok c) is = (bare_is c.returning c.formats c.command command is).0
     go (Err e) is = absurd (none-some command is)
 

@@ -26,15 +26,19 @@ use Rattle.sql_rows.specs.Written.{Removed, Replaced, IsFrame, cast_rows}
 alike : (m n : ℕ) → (m ≡ n) ⊎ (m ≢ n)
 alike m n = grind arith
 
-pub shaped_framed : (t : Table) (db next : Trees) → IsFrame t db next → IsShaped AsTable (next (tree_of t)) → AreShaped db → AreShaped next
+pub shaped_framed : (t : Table) (db next : Trees) → IsFrame t db next
+    → IsShaped AsTable (next (tree_of t)) → AreShaped db → AreShaped next
 shaped_framed t db next frame given shaped u = elim (alike (tree_of u) (tree_of t)) [
   | inl same ↦ subst (λ n. IsShaped AsTable (next n)) (sym same) given
   | inr other ↦ subst (IsShaped AsTable) (sym (frame u other)) (shaped u)
 ]
 
 -- rows taken away leave the shape
-pub removed_shaped : (t : Table) (key : Row) (old new : Database) → AreShaped old.trees → Removed t key old new → AreShaped new.trees
-removed_shaped t key old new shaped r = shaped_framed t old.trees new.trees r.frame (subst (IsShaped AsTable) (sym r.rows) (filter_shaped _ (old.trees (tree_of t)) (shaped t))) shaped
+pub removed_shaped : (t : Table) (key : Row) (old new : Database) → AreShaped old.trees
+    → Removed t key old new → AreShaped new.trees
+removed_shaped t key old new shaped r =
+    shaped_framed t old.trees new.trees r.frame (subst (IsShaped AsTable) (sym r.rows)
+    (filter_shaped _ (old.trees (tree_of t)) (shaped t))) shaped
 
 pub framed_twice : (t : Table) (a b c : Trees) → IsFrame t a b → IsFrame t b c → IsFrame t a c
 framed_twice t a b c first second u other = second u other ∙ first u other
@@ -44,75 +48,237 @@ shadowed true x y z = refl
 shadowed false x y z = refl
 
 -- the table's map after the change, and the others as they were
-pub record Leaves (t : Table) {K V : Type 0} (R : K → K → Ordering) (entry : Row → Option (K × V)) (wanted : FinMap R V → FinMap R V) (old new : Trees) : Type 0 where
+pub record Leaves (t : Table) {K V : Type 0} (R : K → K → Ordering) (entry : Row
+    → Option (K × V)) (wanted : FinMap R V → FinMap R V) (old new : Trees) : Type 0 where
   pub shaped : AreShaped new
   pub map : content_of R entry (new (tree_of t)) ≡ wanted (content_of R entry (old (tree_of t)))
   pub frame : IsFrame t old new
 
-module _ (t : Table) {K V : Type 0} (R : K → K → Ordering) (o : IsTotalOrder R) (exact : IsAntisymmetric R) (entry : Row → Option (K × V)) (k : K) (key : Row) (tests : Tests R entry k (passes (key_test t) key)) where
-  pub taken : (old new : Database) → AreShaped old.trees → Removed t key old new → Leaves t R entry (λ m. remove m k) old.trees new.trees
+module _ (t : Table) {K V : Type 0} (R : K → K → Ordering) (o : IsTotalOrder R)
+    (exact : IsAntisymmetric R) (entry : Row → Option (K × V)) (k : K) (key : Row)
+    (tests : Tests R entry k (passes (key_test t) key)) where
+  pub taken : (old new : Database) → AreShaped old.trees → Removed t key old new
+      → Leaves t R entry (λ m. remove m k) old.trees new.trees
   taken old new shaped r = record {
     shaped = removed_shaped t key old new shaped r;
-    map = ap (content_of R entry) r.rows ∙ content_kept R entry k (passes (key_test t) key) o tests exact (old.trees (tree_of t));
+    map = ap (content_of R entry) r.rows ∙ content_kept R entry k (passes (key_test t) key) o tests
+        exact (old.trees (tree_of t));
     frame = r.frame;
   }
 
   over : (m : FinMap R V) (v : V) → insert (remove m k) k v ≡ insert m k v
   over m v = same_map o exact _ _ (λ q.
-      get-insert o (remove m k) k v q ∙ ap (cond (eq_by_cmp R q k) (Some v)) (get-remove o m k q) ∙ shadowed (eq_by_cmp R q k) (Some v) None (get m q) ∙ sym (get-insert o m k v q))
+      get-insert o (remove m k) k v q ∙ ap (cond (eq_by_cmp R q k) (Some v)) (get-remove o m k q)
+      ∙ shadowed (eq_by_cmp R q k) (Some v) None (get m q) ∙ sym (get-insert o m k v q))
 
   -- the rowid is in the parameters, or chosen
-  pub put : (params : Row) (row : Trees → Row) (v : V) → ((mid : Trees) → is_int (rowid (row mid)) ≡ true) → ((mid : Trees) → entry (row mid) ≡ Some (k, v)) → (old new : Database)
-      → ((mid : Trees) → cast_rows t params mid ≡ row mid ∷ []) → AreShaped old.trees → Replaced t key params old new → Leaves t R entry (λ m. insert m k v) old.trees new.trees
+  pub put : (params : Row) (row : Trees → Row) (v : V)
+      → ((mid : Trees) → is_int (rowid (row mid)) ≡ true)
+      → ((mid : Trees) → entry (row mid) ≡ Some (k, v)) → (old new : Database)
+      → ((mid : Trees) → cast_rows t params mid ≡ row mid ∷ []) → AreShaped old.trees
+      → Replaced t key params old new → Leaves t R entry (λ m. insert m k v) old.trees new.trees
   put params row v int reads old new news shaped r =
       let first = taken old r.mid shaped r.removed in
       let it = row r.mid.trees in
       let a = r.added it (news r.mid.trees) in
       let free : get (content_of R entry (r.mid.trees (tree_of t))) k ≡ None =
-      ap (λ (m : FinMap R V). get m k) first.map ∙ get-remove o (content_of R entry (old.trees (tree_of t))) k k ∙ ap (λ b. cond b None (get (content_of R entry (old.trees (tree_of t))) k)) ((eq_by_cmp_equiv o).refl k) in
+      ap (λ (m : FinMap R V). get m k) first.map
+      ∙ get-remove o (content_of R entry (old.trees (tree_of t))) k k
+      ∙ ap (λ b. cond b None (get (content_of R entry (old.trees (tree_of t))) k))
+      ((eq_by_cmp_equiv o).refl k) in
       record {
-        shaped = shaped_framed t r.mid.trees new.trees a.frame (subst (IsShaped AsTable) (sym a.rows) (IsShaped-put_row it (r.mid.trees (tree_of t)) (int r.mid.trees) (first.shaped t))) first.shaped;
-        map = ap (content_of R entry) a.rows ∙ content_added o exact entry it k v (r.mid.trees (tree_of t)) _ (reads r.mid.trees) free (put_adds it (r.mid.trees (tree_of t)) a.free)
-            ∙ ap (λ (m : FinMap R V). insert m k v) first.map ∙ over (content_of R entry (old.trees (tree_of t))) v;
+        shaped = shaped_framed t r.mid.trees new.trees a.frame
+            (subst (IsShaped AsTable) (sym a.rows) (IsShaped-put_row it (r.mid.trees (tree_of t))
+            (int r.mid.trees) (first.shaped t))) first.shaped;
+        map = ap (content_of R entry) a.rows ∙ content_added o exact entry it k v
+            (r.mid.trees (tree_of t)) _ (reads r.mid.trees) free
+            (put_adds it (r.mid.trees (tree_of t)) a.free)
+            ∙ ap (λ (m : FinMap R V). insert m k v) first.map
+            ∙ over (content_of R entry (old.trees (tree_of t))) v;
         frame = framed_twice t old.trees r.mid.trees new.trees first.frame a.frame;
       }
 
 -- ---- the content with one table changed
 
 module _ (db next : Trees) where
-  pub carriers_framed : IsFrame Carrier db next → content_in next ≡ record (content_in db) { carriers = content_of nat_cmp carrier_entry (next 0) }
-  carriers_framed f = rw (f Lrn (λ e. omega arith), f Code (λ e. omega arith), f Block (λ e. omega arith), f Broadcast (λ e. omega arith), f Wait (λ e. omega arith), f NextRouting (λ e. omega arith), f WindowSet (λ e. omega arith), f Version (λ e. omega arith), f Clock (λ e. omega arith)) refl
+  pub carriers_framed : IsFrame Carrier db next → content_in next ≡ record (content_in db) {
+    carriers = content_of nat_cmp carrier_entry (next 0);
+  }
+  carriers_framed f = rw (
+    f Lrn (λ e. omega arith),
+    f Code (λ e. omega arith),
+    f Block (λ e. omega arith),
+    f Broadcast (λ e. omega arith),
+    f Wait (λ e. omega arith),
+    f NextRouting (λ e. omega arith),
+    f WindowSet (λ e. omega arith),
+    f Version (λ e. omega arith),
+    f Clock (λ e. omega arith),
+  ) refl
 
-  pub lrns_framed : IsFrame Lrn db next → content_in next ≡ record (content_in db) { lrns = content_of nat_cmp lrn_entry (next 2) }
-  lrns_framed f = rw (f Carrier (λ e. omega arith), f Code (λ e. omega arith), f Block (λ e. omega arith), f Broadcast (λ e. omega arith), f Wait (λ e. omega arith), f NextRouting (λ e. omega arith), f WindowSet (λ e. omega arith), f Version (λ e. omega arith), f Clock (λ e. omega arith)) refl
+  pub lrns_framed : IsFrame Lrn db next → content_in next ≡ record (content_in db) {
+    lrns =
+        content_of nat_cmp lrn_entry (next 2);
+  }
+  lrns_framed f = rw (
+    f Carrier (λ e. omega arith),
+    f Code (λ e. omega arith),
+    f Block (λ e. omega arith),
+    f Broadcast (λ e. omega arith),
+    f Wait (λ e. omega arith),
+    f NextRouting (λ e. omega arith),
+    f WindowSet (λ e. omega arith),
+    f Version (λ e. omega arith),
+    f Clock (λ e. omega arith),
+  ) refl
 
-  pub codes_framed : IsFrame Code db next → content_in next ≡ record (content_in db) { codes = content_of nat_cmp code_entry (next 3) }
-  codes_framed f = rw (f Carrier (λ e. omega arith), f Lrn (λ e. omega arith), f Block (λ e. omega arith), f Broadcast (λ e. omega arith), f Wait (λ e. omega arith), f NextRouting (λ e. omega arith), f WindowSet (λ e. omega arith), f Version (λ e. omega arith), f Clock (λ e. omega arith)) refl
+  pub codes_framed : IsFrame Code db next → content_in next ≡ record (content_in db) {
+    codes =
+        content_of nat_cmp code_entry (next 3);
+  }
+  codes_framed f = rw (
+    f Carrier (λ e. omega arith),
+    f Lrn (λ e. omega arith),
+    f Block (λ e. omega arith),
+    f Broadcast (λ e. omega arith),
+    f Wait (λ e. omega arith),
+    f NextRouting (λ e. omega arith),
+    f WindowSet (λ e. omega arith),
+    f Version (λ e. omega arith),
+    f Clock (λ e. omega arith),
+  ) refl
 
-  pub blocks_framed : IsFrame Block db next → content_in next ≡ record (content_in db) { blocks = content_of nat_cmp block_entry (next 4) }
-  blocks_framed f = rw (f Carrier (λ e. omega arith), f Lrn (λ e. omega arith), f Code (λ e. omega arith), f Broadcast (λ e. omega arith), f Wait (λ e. omega arith), f NextRouting (λ e. omega arith), f WindowSet (λ e. omega arith), f Version (λ e. omega arith), f Clock (λ e. omega arith)) refl
+  pub blocks_framed : IsFrame Block db next → content_in next ≡ record (content_in db) {
+    blocks = content_of nat_cmp block_entry (next 4);
+  }
+  blocks_framed f = rw (
+    f Carrier (λ e. omega arith),
+    f Lrn (λ e. omega arith),
+    f Code (λ e. omega arith),
+    f Broadcast (λ e. omega arith),
+    f Wait (λ e. omega arith),
+    f NextRouting (λ e. omega arith),
+    f WindowSet (λ e. omega arith),
+    f Version (λ e. omega arith),
+    f Clock (λ e. omega arith),
+  ) refl
 
-  pub versions_framed : IsFrame Version db next → content_in next ≡ record (content_in db) { versions = both rerouted (content_of nat_cmp version_entry (next 18)) (nexts_in (db 16)) }
-  versions_framed f = rw (f Carrier (λ e. omega arith), f Lrn (λ e. omega arith), f Code (λ e. omega arith), f Block (λ e. omega arith), f Broadcast (λ e. omega arith), f Wait (λ e. omega arith), f NextRouting (λ e. omega arith), f WindowSet (λ e. omega arith), f Clock (λ e. omega arith)) refl
+  pub versions_framed : IsFrame Version db next → content_in next ≡ record (content_in db) {
+    versions = both rerouted (content_of nat_cmp version_entry (next 18)) (nexts_in (db 16));
+  }
+  versions_framed f = rw (
+    f Carrier (λ e. omega arith),
+    f Lrn (λ e. omega arith),
+    f Code (λ e. omega arith),
+    f Block (λ e. omega arith),
+    f Broadcast (λ e. omega arith),
+    f Wait (λ e. omega arith),
+    f NextRouting (λ e. omega arith),
+    f WindowSet (λ e. omega arith),
+    f Clock (λ e. omega arith),
+  ) refl
 
-  pub nexts_framed : IsFrame NextRouting db next → content_in next ≡ record (content_in db) { versions = both rerouted (versions_in (db 18)) (content_of nat_cmp next_entry (next 16)) }
-  nexts_framed f = rw (f Carrier (λ e. omega arith), f Lrn (λ e. omega arith), f Code (λ e. omega arith), f Block (λ e. omega arith), f Broadcast (λ e. omega arith), f Wait (λ e. omega arith), f WindowSet (λ e. omega arith), f Version (λ e. omega arith), f Clock (λ e. omega arith)) refl
+  pub nexts_framed : IsFrame NextRouting db next → content_in next ≡ record (content_in db) {
+    versions = both rerouted (versions_in (db 18)) (content_of nat_cmp next_entry (next 16));
+  }
+  nexts_framed f = rw (
+    f Carrier (λ e. omega arith),
+    f Lrn (λ e. omega arith),
+    f Code (λ e. omega arith),
+    f Block (λ e. omega arith),
+    f Broadcast (λ e. omega arith),
+    f Wait (λ e. omega arith),
+    f WindowSet (λ e. omega arith),
+    f Version (λ e. omega arith),
+    f Clock (λ e. omega arith),
+  ) refl
 
-  pub broadcasts_framed : IsFrame Broadcast db next → content_in next ≡ record (content_in db) { broadcasts = content_of broadcast_cmp broadcast_entry (next 8) }
-  broadcasts_framed f = rw (f Carrier (λ e. omega arith), f Lrn (λ e. omega arith), f Code (λ e. omega arith), f Block (λ e. omega arith), f Wait (λ e. omega arith), f NextRouting (λ e. omega arith), f WindowSet (λ e. omega arith), f Version (λ e. omega arith), f Clock (λ e. omega arith)) refl
+  pub broadcasts_framed : IsFrame Broadcast db next → content_in next ≡ record (content_in db) {
+    broadcasts = content_of broadcast_cmp broadcast_entry (next 8);
+  }
+  broadcasts_framed f = rw (
+    f Carrier (λ e. omega arith),
+    f Lrn (λ e. omega arith),
+    f Code (λ e. omega arith),
+    f Block (λ e. omega arith),
+    f Wait (λ e. omega arith),
+    f NextRouting (λ e. omega arith),
+    f WindowSet (λ e. omega arith),
+    f Version (λ e. omega arith),
+    f Clock (λ e. omega arith),
+  ) refl
 
-  pub waits_framed : IsFrame Wait db next → content_in next ≡ record (content_in db) { waits = content_of wait_cmp wait_entry (next 10) }
-  waits_framed f = rw (f Carrier (λ e. omega arith), f Lrn (λ e. omega arith), f Code (λ e. omega arith), f Block (λ e. omega arith), f Broadcast (λ e. omega arith), f NextRouting (λ e. omega arith), f WindowSet (λ e. omega arith), f Version (λ e. omega arith), f Clock (λ e. omega arith)) refl
+  pub waits_framed : IsFrame Wait db next → content_in next ≡ record (content_in db) {
+    waits = content_of wait_cmp wait_entry (next 10);
+  }
+  waits_framed f = rw (
+    f Carrier (λ e. omega arith),
+    f Lrn (λ e. omega arith),
+    f Code (λ e. omega arith),
+    f Block (λ e. omega arith),
+    f Broadcast (λ e. omega arith),
+    f NextRouting (λ e. omega arith),
+    f WindowSet (λ e. omega arith),
+    f Version (λ e. omega arith),
+    f Clock (λ e. omega arith),
+  ) refl
 
-  pub sets_framed : IsFrame WindowSet db next → content_in next ≡ record (content_in db) { sets = sets_in (next 17); clock = clock_from (sets_in (next 17)) (clocks_in (db 21)) }
-  sets_framed f = rw (f Carrier (λ e. omega arith), f Lrn (λ e. omega arith), f Code (λ e. omega arith), f Block (λ e. omega arith), f Broadcast (λ e. omega arith), f Wait (λ e. omega arith), f NextRouting (λ e. omega arith), f Version (λ e. omega arith), f Clock (λ e. omega arith)) refl
+  pub sets_framed : IsFrame WindowSet db next → content_in next ≡ record (content_in db) {
+    sets = sets_in (next 17);
+    clock = clock_from (sets_in (next 17)) (clocks_in (db 21));
+  }
+  sets_framed f = rw (
+    f Carrier (λ e. omega arith),
+    f Lrn (λ e. omega arith),
+    f Code (λ e. omega arith),
+    f Block (λ e. omega arith),
+    f Broadcast (λ e. omega arith),
+    f Wait (λ e. omega arith),
+    f NextRouting (λ e. omega arith),
+    f Version (λ e. omega arith),
+    f Clock (λ e. omega arith),
+  ) refl
 
-  pub clock_framed : IsFrame Clock db next → content_in next ≡ record (content_in db) { clock = clock_from (sets_in (db 17)) (content_of nat_cmp clock_entry (next 21)) }
-  clock_framed f = rw (f Carrier (λ e. omega arith), f Lrn (λ e. omega arith), f Code (λ e. omega arith), f Block (λ e. omega arith), f Broadcast (λ e. omega arith), f Wait (λ e. omega arith), f NextRouting (λ e. omega arith), f WindowSet (λ e. omega arith), f Version (λ e. omega arith)) refl
+  pub clock_framed : IsFrame Clock db next → content_in next ≡ record (content_in db) {
+    clock = clock_from (sets_in (db 17)) (content_of nat_cmp clock_entry (next 21));
+  }
+  clock_framed f = rw (
+    f Carrier (λ e. omega arith),
+    f Lrn (λ e. omega arith),
+    f Code (λ e. omega arith),
+    f Block (λ e. omega arith),
+    f Broadcast (λ e. omega arith),
+    f Wait (λ e. omega arith),
+    f NextRouting (λ e. omega arith),
+    f WindowSet (λ e. omega arith),
+    f Version (λ e. omega arith),
+  ) refl
 
   -- the tables of an earlier form are no part of it
   pub old_version_framed : IsFrame OldVersion db next → content_in next ≡ content_in db
-  old_version_framed f = rw (f Carrier (λ e. omega arith), f Lrn (λ e. omega arith), f Code (λ e. omega arith), f Block (λ e. omega arith), f Broadcast (λ e. omega arith), f Wait (λ e. omega arith), f NextRouting (λ e. omega arith), f WindowSet (λ e. omega arith), f Version (λ e. omega arith), f Clock (λ e. omega arith)) refl
+  old_version_framed f = rw (
+    f Carrier (λ e. omega arith),
+    f Lrn (λ e. omega arith),
+    f Code (λ e. omega arith),
+    f Block (λ e. omega arith),
+    f Broadcast (λ e. omega arith),
+    f Wait (λ e. omega arith),
+    f NextRouting (λ e. omega arith),
+    f WindowSet (λ e. omega arith),
+    f Version (λ e. omega arith),
+    f Clock (λ e. omega arith),
+  ) refl
 
   pub old_clock_framed : IsFrame OldClock db next → content_in next ≡ content_in db
-  old_clock_framed f = rw (f Carrier (λ e. omega arith), f Lrn (λ e. omega arith), f Code (λ e. omega arith), f Block (λ e. omega arith), f Broadcast (λ e. omega arith), f Wait (λ e. omega arith), f NextRouting (λ e. omega arith), f WindowSet (λ e. omega arith), f Version (λ e. omega arith), f Clock (λ e. omega arith)) refl
+  old_clock_framed f = rw (
+    f Carrier (λ e. omega arith),
+    f Lrn (λ e. omega arith),
+    f Code (λ e. omega arith),
+    f Block (λ e. omega arith),
+    f Broadcast (λ e. omega arith),
+    f Wait (λ e. omega arith),
+    f NextRouting (λ e. omega arith),
+    f WindowSet (λ e. omega arith),
+    f Version (λ e. omega arith),
+    f Clock (λ e. omega arith),
+  ) refl

@@ -18,7 +18,11 @@ abbrev pub clock_of : StoredCode → StoredClock
 clock_of c = record { minute = c.minute.number; next_id = c.next_id; present = c.present }
 
 abbrev pub clock_row : ℕ → ℕ → ℕ → Windows → ClockRow
-clock_row minute next_id present windows = record { minute = minute; next_id = next_id; present = record { number = present; windows = windows } }
+clock_row minute next_id present windows = record {
+  minute = minute;
+  next_id = next_id;
+  present = record { number = present; windows = windows };
+}
 
 -- the windows of an earlier form are set 1
 abbrev pub old_clock_of : OldClock → ClockRow

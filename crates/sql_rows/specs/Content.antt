@@ -1,4 +1,5 @@
--- The tables as finite maps: each row that reads as a key and a value is an entry, and at a key that stands twice the first row counts.
+-- The tables as finite maps: each row that reads as a key and a value is an entry, and at a key
+-- that stands twice the first row counts.
 use Rattle.std.specs.Prelude.{◌≡◌, ⊤, ℕ, ◌+◌, None, List, [], ◌∷◌, Some, Option, option_map, option_and_then}
 use Rattle.std.specs.declared.cmp.Ordering.{Ordering}
 use Rattle.std.specs.Ordering.{nat_cmp}
@@ -19,7 +20,8 @@ use Rattle.sql_rows.specs.Over.{over}
 use Rattle.sql_rows.specs.Versions.{version_entry, rerouted}
 use Rattle.sql_rows.specs.Clocks.{StoredClock, clock_row, with_windows}
 
-abbrev pub content_of : {K V : Type 0} (R : K → K → Ordering) → (Row → Option (K × V)) → List Row → FinMap R V
+abbrev pub content_of : {K V : Type 0} (R : K → K → Ordering) → (Row → Option (K × V)) → List Row
+    → FinMap R V
 content_of R read rows = from_entries (filter_map read rows)
 
 abbrev pub pair : {K V : Type 0} → K → V → K × V
@@ -38,7 +40,8 @@ carrier_entry r = carrier_in (carrier_shown r)
 
 -- a number, and whose it is: of the tables of routing numbers and of codes
 abbrev pub owner_by : (Value → Option ℕ) → Row → Option (ℕ × ℕ)
-owner_by key r = option_and_then (λ k. option_map (pair k) (spid_in (column r 1))) (key (column r 0))
+owner_by key r =
+    option_and_then (λ k. option_map (pair k) (spid_in (column r 1))) (key (column r 0))
 
 abbrev pub lrn_row_in : Row → Option (ℕ × ℕ)
 lrn_row_in r = owner_by lrn_in r
@@ -59,7 +62,10 @@ abbrev pub block_row : ℕ → Option ℕ → BlockRow
 block_row donor last = record { donor = donor; last = last }
 
 abbrev pub block_row_in : Row → Option (ℕ × BlockRow)
-block_row_in r = option_and_then (λ k. option_and_then (λ donor. option_map (λ last. pair k (block_row donor last)) (or_null_in number_in (column r 2))) (spid_in (column r 1))) (block_in (column r 0))
+block_row_in r =
+    option_and_then
+    (λ k. option_and_then (λ donor. option_map (λ last. pair k (block_row donor last))
+    (or_null_in number_in (column r 2))) (spid_in (column r 1))) (block_in (column r 0))
 
 abbrev pub block_shown : Row → Row
 block_shown r = column r 0 ∷ column r 2 ∷ column r 3 ∷ []
@@ -69,7 +75,9 @@ block_entry r = block_row_in (block_shown r)
 
 -- the routing that a version sends
 abbrev pub next_row_in : Row → Option (ℕ × Routing)
-next_row_in r = option_and_then (λ id. option_and_then (option_map (pair id)) (routing_in (column r 1) (column r 2))) (number_in (column r 0))
+next_row_in r =
+    option_and_then (λ id. option_and_then (option_map (pair id))
+    (routing_in (column r 1) (column r 2))) (number_in (column r 0))
 
 abbrev pub next_shown : Row → Row
 next_shown r = column r 0 ∷ column r 2 ∷ column r 3 ∷ []
@@ -82,23 +90,47 @@ broadcast_key id attempt = record { id = id; attempt = attempt }
 
 abbrev pub broadcast_in : Row → Option (BroadcastKey × BroadcastRow)
 broadcast_in r =
-    option_and_then (λ id. option_and_then (λ attempt. option_and_then (λ minute. option_and_then (λ subject. option_and_then (λ action. option_and_then (λ routing. option_and_then (λ is_open. option_map (λ any.
-    pair (broadcast_key id attempt) (record { minute = minute; subject = subject; action = action; routing = routing; is_open = is_open; any = any }))
-    (bool_in (column r 8))) (bool_in (column r 7))) (routing_in (column r 5) (column r 6))) (action_in (column r 4))) (subject_in (column r 3))) (minute_in (column r 2))) (number_in (column r 1))) (number_in (column r 0))
+    option_and_then
+    (λ id. option_and_then
+    (λ attempt. option_and_then
+    (λ minute. option_and_then
+    (λ subject. option_and_then
+    (λ action. option_and_then (λ routing. option_and_then (λ is_open. option_map (λ any.
+    pair (broadcast_key id attempt) (record {
+      minute = minute;
+      subject = subject;
+      action = action;
+      routing = routing;
+      is_open = is_open;
+      any = any;
+    }))
+    (bool_in (column r 8))) (bool_in (column r 7))) (routing_in (column r 5) (column r 6)))
+    (action_in (column r 4))) (subject_in (column r 3))) (minute_in (column r 2)))
+    (number_in (column r 1))) (number_in (column r 0))
 
 abbrev pub broadcast_shown : Row → Row
-broadcast_shown r = column r 1 ∷ column r 2 ∷ column r 3 ∷ column r 4 ∷ column r 5 ∷ column r 6 ∷ column r 7 ∷ column r 8 ∷ column r 9 ∷ []
+broadcast_shown r = column r 1 ∷ column r 2 ∷ column r 3 ∷ column r 4 ∷ column r 5 ∷ column r 6
+    ∷ column r 7 ∷ column r 8 ∷ column r 9 ∷ []
 
 abbrev pub broadcast_entry : Row → Option (BroadcastKey × BroadcastRow)
 broadcast_entry r = broadcast_in (broadcast_shown r)
 
 abbrev pub wait_key : ℕ → ℕ → ℕ → ℕ → WaitKey
-wait_key carrier minute id attempt = record { carrier = carrier; minute = minute; id = id; attempt = attempt }
+wait_key carrier minute id attempt = record {
+  carrier = carrier;
+  minute = minute;
+  id = id;
+  attempt = attempt;
+}
 
 abbrev pub wait_in : Row → Option (WaitKey × Subject)
 wait_in r =
-    option_and_then (λ carrier. option_and_then (λ minute. option_and_then (λ id. option_and_then (λ attempt. option_map (pair (wait_key carrier minute id attempt))
-    (subject_in (column r 4))) (number_in (column r 3))) (number_in (column r 2))) (minute_in (column r 1))) (spid_in (column r 0))
+    option_and_then
+    (λ carrier. option_and_then
+    (λ minute. option_and_then
+    (λ id. option_and_then (λ attempt. option_map (pair (wait_key carrier minute id attempt))
+    (subject_in (column r 4))) (number_in (column r 3))) (number_in (column r 2)))
+    (minute_in (column r 1))) (spid_in (column r 0))
 
 abbrev pub wait_shown : Row → Row
 wait_shown r = column r 1 ∷ column r 2 ∷ column r 3 ∷ column r 4 ∷ column r 5 ∷ []
@@ -109,7 +141,13 @@ wait_entry r = wait_in (wait_shown r)
 -- the nine windows in the columns from this one on
 abbrev pub windows_in : (first : ℕ) → Row → Option Windows
 windows_in first r =
-    option_and_then (λ a. option_and_then (λ b. option_and_then (λ c. option_and_then (λ d. option_and_then (λ e. option_and_then (λ f. option_and_then (λ g. option_and_then (λ h. option_map (λ i. record {
+    option_and_then
+    (λ a. option_and_then
+    (λ b. option_and_then
+    (λ c. option_and_then
+    (λ d. option_and_then
+    (λ e. option_and_then
+    (λ f. option_and_then (λ g. option_and_then (λ h. option_map (λ i. record {
       initial_concurrence = a;
       final_concurrence = b;
       conflict_restriction = c;
@@ -119,8 +157,11 @@ windows_in first r =
       cancellation_final = g;
       pending_retention = h;
       broadcast = i;
-    }) (window_in (column r (first + 8)))) (window_in (column r (first + 7)))) (window_in (column r (first + 6))))
-    (window_in (column r (first + 5)))) (window_in (column r (first + 4)))) (window_in (column r (first + 3)))) (window_in (column r (first + 2)))) (window_in (column r (first + 1)))) (window_in (column r first))
+    }) (window_in (column r (first + 8)))) (window_in (column r (first + 7))))
+    (window_in (column r (first + 6))))
+    (window_in (column r (first + 5)))) (window_in (column r (first + 4))))
+    (window_in (column r (first + 3)))) (window_in (column r (first + 2))))
+    (window_in (column r (first + 1)))) (window_in (column r first))
 
 -- a set of windows
 abbrev pub set_in : Row → Option (ℕ × Windows)
@@ -128,17 +169,26 @@ set_in r = option_and_then (λ n. option_map (pair n) (windows_in 1 r)) (set_num
 
 abbrev pub set_shown : Row → Row
 set_shown r =
-    column r 0 ∷ column r 2 ∷ column r 3 ∷ column r 4 ∷ column r 5 ∷ column r 6 ∷ column r 7 ∷ column r 8 ∷ column r 9 ∷ column r 10 ∷ []
+    column r 0 ∷ column r 2 ∷ column r 3 ∷ column r 4 ∷ column r 5 ∷ column r 6 ∷ column r 7
+    ∷ column r 8 ∷ column r 9 ∷ column r 10 ∷ []
 
 abbrev pub set_entry : Row → Option (ℕ × Windows)
 set_entry r = set_in (set_shown r)
 
 abbrev pub stored_clock : ℕ → ℕ → ℕ → StoredClock
-stored_clock minute next_id present = record { minute = minute; next_id = next_id; present = present }
+stored_clock minute next_id present = record {
+  minute = minute;
+  next_id = next_id;
+  present = present;
+}
 
 abbrev pub clock_in : Row → Option (ℕ × StoredClock)
 clock_in r =
-    option_and_then (λ k. option_and_then (λ minute. option_and_then (λ next_id. option_map (λ n. pair k (stored_clock minute next_id n)) (set_number_in (column r 3))) (number_in (column r 2))) (minute_in (column r 1))) (only_in (column r 0))
+    option_and_then
+    (λ k. option_and_then
+    (λ minute. option_and_then (λ next_id. option_map (λ n. pair k (stored_clock minute next_id n))
+    (set_number_in (column r 3))) (number_in (column r 2))) (minute_in (column r 1)))
+    (only_in (column r 0))
 
 abbrev pub clock_shown : Row → Row
 clock_shown r = column r 0 ∷ column r 2 ∷ column r 3 ∷ column r 4 ∷ []
@@ -149,11 +199,15 @@ clock_entry r = clock_in (clock_shown r)
 -- the clock's row of a file of an earlier form: its windows are set 1
 abbrev pub old_clock_in : Row → Option (ℕ × ClockRow)
 old_clock_in r =
-    option_and_then (λ k. option_and_then (λ minute. option_and_then (λ next_id. option_map (λ w. pair k (clock_row minute next_id 1 w)) (windows_in 3 r)) (number_in (column r 2))) (minute_in (column r 1))) (only_in (column r 0))
+    option_and_then
+    (λ k. option_and_then
+    (λ minute. option_and_then (λ next_id. option_map (λ w. pair k (clock_row minute next_id 1 w))
+    (windows_in 3 r)) (number_in (column r 2))) (minute_in (column r 1))) (only_in (column r 0))
 
 abbrev pub old_clock_shown : Row → Row
 old_clock_shown r =
-    column r 0 ∷ column r 2 ∷ column r 3 ∷ column r 4 ∷ column r 5 ∷ column r 6 ∷ column r 7 ∷ column r 8 ∷ column r 9 ∷ column r 10 ∷ column r 11 ∷ column r 12 ∷ []
+    column r 0 ∷ column r 2 ∷ column r 3 ∷ column r 4 ∷ column r 5 ∷ column r 6 ∷ column r 7
+    ∷ column r 8 ∷ column r 9 ∷ column r 10 ∷ column r 11 ∷ column r 12 ∷ []
 
 abbrev pub old_clock_entry : Row → Option (ℕ × ClockRow)
 old_clock_entry r = old_clock_in (old_clock_shown r)
@@ -192,11 +246,14 @@ bare_in db = record {
 
 -- what a file's trees are to the register
 abbrev pub content_in : Trees → Content
-content_in db = record (bare_in db) { versions = over rerouted (versions_in (db 18)) (nexts_in (db 16)) }
+content_in db = record (bare_in db) {
+  versions = over rerouted (versions_in (db 18)) (nexts_in (db 16));
+}
 
 -- the row found, with the routing that it sends, which stands elsewhere
 abbrev pub IsRoutedAs : Trees → (bare row : NumberedRow) → Type 0
-IsRoutedAs db bare row = (row.id ≡ bare.id) × (row.row ≡ rerouted (get (nexts_in (db 16)) bare.id) bare.row)
+IsRoutedAs db bare row =
+    (row.id ≡ bare.id) × (row.row ≡ rerouted (get (nexts_in (db 16)) bare.id) bare.row)
 
 abbrev pub IsFoundAs : Trees → (bare row : Option NumberedRow) → Type 0
 IsFoundAs db None None = ⊤
@@ -213,19 +270,23 @@ abbrev pub owner_params : ℕ → ℕ → Row
 owner_params number owner = number_value number ∷ spid_value owner ∷ []
 
 abbrev pub block_params : ℕ → BlockRow → Row
-block_params block row = number_value block ∷ spid_value row.donor ∷ or_null number_value row.last ∷ []
+block_params block row = number_value block ∷ spid_value row.donor ∷ or_null number_value row.last
+    ∷ []
 
 abbrev pub broadcast_params : BroadcastKey → BroadcastRow → Row
 broadcast_params k b =
-    number_value k.id ∷ number_value k.attempt ∷ number_value b.minute ∷ subject_value b.subject ∷ Text (action_word b.action) ∷ lrn_value b.routing ∷ cic_value b.routing
+    number_value k.id ∷ number_value k.attempt ∷ number_value b.minute ∷ subject_value b.subject
+    ∷ Text (action_word b.action) ∷ lrn_value b.routing ∷ cic_value b.routing
     ∷ bool_value b.is_open ∷ bool_value b.any ∷ []
 
 abbrev pub wait_params : WaitKey → Subject → Row
-wait_params k s = spid_value k.carrier ∷ number_value k.minute ∷ number_value k.id ∷ number_value k.attempt ∷ subject_value s ∷ []
+wait_params k s = spid_value k.carrier ∷ number_value k.minute ∷ number_value k.id ∷ number_value
+    k.attempt ∷ subject_value s ∷ []
 
 -- the columns of its key
 abbrev pub wait_key_params : WaitKey → Row
-wait_key_params k = spid_value k.carrier ∷ number_value k.minute ∷ number_value k.id ∷ number_value k.attempt ∷ []
+wait_key_params k = spid_value k.carrier ∷ number_value k.minute ∷ number_value k.id ∷ number_value
+    k.attempt ∷ []
 
 abbrev pub broadcast_key_params : BroadcastKey → Row
 broadcast_key_params k = number_value k.id ∷ number_value k.attempt ∷ []
@@ -235,13 +296,17 @@ next_params id r = number_value id ∷ lrn_value (Some r) ∷ cic_value (Some r)
 
 abbrev pub set_params : ℕ → Windows → Row
 set_params number w =
-    number_value number ∷ number_value w.initial_concurrence ∷ number_value w.final_concurrence ∷ number_value w.conflict_restriction ∷ number_value w.conflict_resolution
-    ∷ number_value w.conflict_expiration ∷ number_value w.cancellation_initial ∷ number_value w.cancellation_final ∷ number_value w.pending_retention ∷ number_value w.broadcast ∷ []
+    number_value number ∷ number_value w.initial_concurrence ∷ number_value w.final_concurrence
+    ∷ number_value w.conflict_restriction ∷ number_value w.conflict_resolution
+    ∷ number_value w.conflict_expiration ∷ number_value w.cancellation_initial ∷ number_value
+    w.cancellation_final ∷ number_value w.pending_retention ∷ number_value w.broadcast ∷ []
 
 abbrev pub clock_params : ℕ → StoredClock → Row
-clock_params number c = number_value number ∷ number_value c.minute ∷ number_value c.next_id ∷ number_value c.present ∷ []
+clock_params number c = number_value number ∷ number_value c.minute ∷ number_value c.next_id
+    ∷ number_value c.present ∷ []
 
--- ---- the rows as they are stored: a rowid that the statement gives is the first column, and its own place is NULL
+-- ---- the rows as they are stored: a rowid that the statement gives is the first column, and its
+-- own place is NULL
 
 abbrev pub stored : Row → Row
 stored [] = []

@@ -18,8 +18,10 @@ AreRead read rows xs = map read rows ≡ map Some xs
 
 -- the query is answered by no row, or by one that reads as this
 abbrev pub IsSoleAnswer : {X : Type 0} → Query → (Row → Option X) → Trees → Row → Option X → Type 0
-IsSoleAnswer query read db params o = (rows : List Row) × IsAnswer (query_of query) (overlay db []) params rows × IsSole read rows o
+IsSoleAnswer query read db params o =
+    (rows : List Row) × IsAnswer (query_of query) (overlay db []) params rows × IsSole read rows o
 
 -- the query is answered by rows that each read, as these in turn
 abbrev pub IsListAnswer : {X : Type 0} → Query → (Row → Option X) → Trees → Row → List X → Type 0
-IsListAnswer query read db params xs = (rows : List Row) × IsAnswer (query_of query) (overlay db []) params rows × AreRead read rows xs
+IsListAnswer query read db params xs =
+    (rows : List Row) × IsAnswer (query_of query) (overlay db []) params rows × AreRead read rows xs

@@ -28,10 +28,14 @@ schema_of Modify = modify_schema
 -- ---- the tables that are made
 
 abbrev pub create_text : NewTable → List ℕ
-create_text made.NextRouting = codes "CREATE TABLE next_routing (id INTEGER PRIMARY KEY, lrn INTEGER NOT NULL, cic INTEGER) STRICT"
-create_text made.WindowSet = codes "CREATE TABLE window_set (number INTEGER PRIMARY KEY, initial_concurrence INTEGER NOT NULL, final_concurrence INTEGER NOT NULL, conflict_restriction INTEGER NOT NULL, conflict_resolution INTEGER NOT NULL, conflict_expiration INTEGER NOT NULL, cancellation_initial INTEGER NOT NULL, cancellation_final INTEGER NOT NULL, pending_retention INTEGER NOT NULL, broadcast INTEGER NOT NULL) STRICT"
-create_text made.Version = codes "CREATE TABLE version2 (id INTEGER PRIMARY KEY, subject INTEGER NOT NULL, old TEXT NOT NULL, new TEXT NOT NULL, due INTEGER NOT NULL, lrn INTEGER, cic INTEGER, old_at INTEGER, new_at INTEGER, status TEXT NOT NULL, sends TEXT NOT NULL, since INTEGER NOT NULL, attempt INTEGER NOT NULL, release INTEGER, spent INTEGER NOT NULL, protective INTEGER NOT NULL, cancelled_by TEXT, deadline INTEGER, holds INTEGER NOT NULL UNIQUE, opens INTEGER NOT NULL UNIQUE, held INTEGER NOT NULL) STRICT"
-create_text made.Clock = codes "CREATE TABLE clock2 (one INTEGER PRIMARY KEY, now INTEGER NOT NULL, next_id INTEGER NOT NULL, present INTEGER NOT NULL) STRICT"
+create_text made.NextRouting =
+    codes "CREATE TABLE next_routing (id INTEGER PRIMARY KEY, lrn INTEGER NOT NULL, cic INTEGER) STRICT"
+create_text made.WindowSet =
+    codes "CREATE TABLE window_set (number INTEGER PRIMARY KEY, initial_concurrence INTEGER NOT NULL, final_concurrence INTEGER NOT NULL, conflict_restriction INTEGER NOT NULL, conflict_resolution INTEGER NOT NULL, conflict_expiration INTEGER NOT NULL, cancellation_initial INTEGER NOT NULL, cancellation_final INTEGER NOT NULL, pending_retention INTEGER NOT NULL, broadcast INTEGER NOT NULL) STRICT"
+create_text made.Version =
+    codes "CREATE TABLE version2 (id INTEGER PRIMARY KEY, subject INTEGER NOT NULL, old TEXT NOT NULL, new TEXT NOT NULL, due INTEGER NOT NULL, lrn INTEGER, cic INTEGER, old_at INTEGER, new_at INTEGER, status TEXT NOT NULL, sends TEXT NOT NULL, since INTEGER NOT NULL, attempt INTEGER NOT NULL, release INTEGER, spent INTEGER NOT NULL, protective INTEGER NOT NULL, cancelled_by TEXT, deadline INTEGER, holds INTEGER NOT NULL UNIQUE, opens INTEGER NOT NULL UNIQUE, held INTEGER NOT NULL) STRICT"
+create_text made.Clock =
+    codes "CREATE TABLE clock2 (one INTEGER PRIMARY KEY, now INTEGER NOT NULL, next_id INTEGER NOT NULL, present INTEGER NOT NULL) STRICT"
 
 abbrev pub made_table : NewTable → SqlTable
 made_table made.NextRouting = next_routing_table
@@ -40,13 +44,18 @@ made_table made.Version = version_table
 made_table made.Clock = clock_table
 
 abbrev pub schema_with : List SqlTable → List Index → Schema
-schema_with tables indexes = record { tables = tables_with tables; indexes = indexes_with indexes; views = [] }
+schema_with tables indexes = record {
+  tables = tables_with tables;
+  indexes = indexes_with indexes;
+  views = [];
+}
 
 abbrev pub schema_before : NewTable → Schema
 schema_before made.NextRouting = first_schema
 schema_before made.WindowSet = modify_schema
 schema_before made.Version = schema_with (next_routing_table ∷ window_set_table ∷ []) []
-schema_before made.Clock = schema_with (next_routing_table ∷ window_set_table ∷ version_table ∷ []) version_keys
+schema_before made.Clock = schema_with (next_routing_table ∷ window_set_table ∷ version_table ∷ [])
+    version_keys
 
 abbrev pub schema_after : NewTable → Schema
 schema_after made.NextRouting = modify_schema
@@ -92,7 +101,10 @@ clear_text former.Version = codes "DELETE FROM version"
 clear_text former.Clock = codes "DELETE FROM clock"
 
 abbrev pub clear_command : OldTable → Command
-clear_command t = Delete (slot_of (table_of_old t)) (record { lets = []; body = plain_query (tree_of (table_of_old t)) [] (col 1 0 ∷ []) })
+clear_command t = Delete (slot_of (table_of_old t)) (record {
+  lets = [];
+  body = plain_query (tree_of (table_of_old t)) [] (col 1 0 ∷ []);
+})
 
 -- a table of an earlier form has no row, and every other is as it was
 pub record IsCleared (t : OldTable) (old new : Database) : Type 0 where

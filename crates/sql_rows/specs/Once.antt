@@ -7,7 +7,8 @@ use Rattle.sql_rows.specs.Content.{broadcast_entry, carrier_entry, wait_entry}
 
 -- rows that read as one key are one row
 abbrev pub AreOnce : {K V : Type 0} → (Row → Option (K × V)) → List Row → Type 0
-AreOnce {K} {V} entry rows = (r s : Row) (k : K) (a b : V) → Has rows r → Has rows s → entry r ≡ Some (k, a) → entry s ≡ Some (k, b) → s ≡ r
+AreOnce {K} {V} entry rows = (r s : Row) (k : K) (a b : V) → Has rows r → Has rows s
+    → entry r ≡ Some (k, a) → entry s ≡ Some (k, b) → s ≡ r
 
 -- those of the tables whose keys are no rowids
 pub record AreKeysOnce (db : Trees) : Type 0 where

@@ -12,7 +12,14 @@ use Rattle.sqlite_schema.specs.declared.schema.Column.{Column}
 use Rattle.sqlite_schema.specs.declared.schema.Index.{Index}
 
 abbrev pub a_column : List ℕ → Kind → Bool → Column
-a_column name kind not_null = record { name = name; kind = kind; is_strict = true; not_null = not_null; default = Null; collation = Binary }
+a_column name kind not_null = record {
+  name = name;
+  kind = kind;
+  is_strict = true;
+  not_null = not_null;
+  default = Null;
+  collation = Binary;
+}
 
 abbrev pub number_column : List ℕ → Column
 number_column name = a_column name Integer true
@@ -27,7 +34,8 @@ abbrev pub text_or_null : List ℕ → Column
 text_or_null name = a_column name Text false
 
 -- a table with no rules but its keys
-abbrev pub a_table : ℕ → List ℕ → List Column → Option ℕ → List ℕ → List (List ℕ) → List Order → Table
+abbrev pub a_table : ℕ → List ℕ → List Column → Option ℕ → List ℕ → List (List ℕ) → List Order
+    → Table
 a_table tree name columns key primary uniques orders = record {
   name = name;
   tree = tree;
@@ -87,18 +95,28 @@ abbrev pub code_table : Table
 code_table = numbered_table 3 (codes "code") (codes "code") (text_column (codes "spid") ∷ [])
 
 abbrev pub block_table : Table
-block_table = numbered_table 4 (codes "block") (codes "block") (text_column (codes "donor") ∷ number_or_null (codes "last") ∷ [])
+block_table =
+    numbered_table 4 (codes "block") (codes "block") (text_column (codes "donor") ∷ number_or_null
+    (codes "last") ∷ [])
 
 abbrev pub version_columns : List Column → List Column
 version_columns more =
-    number_column (codes "subject") ∷ text_column (codes "old") ∷ text_column (codes "new") ∷ number_column (codes "due") ∷ number_or_null (codes "lrn") ∷ number_or_null (codes "cic")
-    ∷ number_or_null (codes "old_at") ∷ number_or_null (codes "new_at") ∷ text_column (codes "status") ∷ text_column (codes "sends") ∷ number_column (codes "since")
-    ∷ number_column (codes "attempt") ∷ number_or_null (codes "release") ∷ number_column (codes "spent") ∷ number_column (codes "protective") ∷ text_or_null (codes "cancelled_by")
-    ∷ number_or_null (codes "deadline") ∷ number_column (codes "holds") ∷ number_column (codes "opens") ∷ more
+    number_column (codes "subject") ∷ text_column (codes "old") ∷ text_column (codes "new")
+    ∷ number_column (codes "due") ∷ number_or_null (codes "lrn") ∷ number_or_null (codes "cic")
+    ∷ number_or_null (codes "old_at") ∷ number_or_null (codes "new_at") ∷ text_column
+    (codes "status") ∷ text_column (codes "sends") ∷ number_column (codes "since")
+    ∷ number_column (codes "attempt") ∷ number_or_null (codes "release") ∷ number_column
+    (codes "spent") ∷ number_column (codes "protective") ∷ text_or_null (codes "cancelled_by")
+    ∷ number_or_null (codes "deadline") ∷ number_column (codes "holds") ∷ number_column
+    (codes "opens") ∷ more
 
 -- a table of versions: two of its columns are unique
 abbrev pub a_version_table : ℕ → List ℕ → List Column → Table
-a_version_table tree name columns = record (numbered_table tree name (codes "id") columns) { uniques = (19 ∷ []) ∷ (20 ∷ []) ∷ []; orders = plain ∷ plain ∷ [] }
+a_version_table tree name columns =
+    record (numbered_table tree name (codes "id") columns) {
+      uniques = (19 ∷ []) ∷ (20 ∷ []) ∷ [];
+      orders = plain ∷ plain ∷ [];
+    }
 
 -- of the versions of files of an earlier form
 abbrev pub old_version_table : Table
@@ -106,19 +124,24 @@ old_version_table = a_version_table 5 (codes "version") (version_columns [])
 
 abbrev pub broadcast_table : Table
 broadcast_table = keyed_table 8 (codes "broadcast") (1 ∷ 2 ∷ [])
-    (number_column (codes "id") ∷ number_column (codes "attempt") ∷ number_column (codes "minute") ∷ number_column (codes "subject") ∷ text_column (codes "action")
-    ∷ number_or_null (codes "lrn") ∷ number_or_null (codes "cic") ∷ number_column (codes "open") ∷ number_column (codes "any") ∷ [])
+    (number_column (codes "id") ∷ number_column (codes "attempt") ∷ number_column (codes "minute")
+    ∷ number_column (codes "subject") ∷ text_column (codes "action")
+    ∷ number_or_null (codes "lrn") ∷ number_or_null (codes "cic") ∷ number_column (codes "open")
+    ∷ number_column (codes "any") ∷ [])
 
 abbrev pub wait_table : Table
 wait_table = keyed_table 10 (codes "wait") (1 ∷ 2 ∷ 3 ∷ 4 ∷ [])
-    (text_column (codes "spid") ∷ number_column (codes "minute") ∷ number_column (codes "id") ∷ number_column (codes "attempt") ∷ number_column (codes "subject") ∷ [])
+    (text_column (codes "spid") ∷ number_column (codes "minute") ∷ number_column (codes "id")
+    ∷ number_column (codes "attempt") ∷ number_column (codes "subject") ∷ [])
 
 -- the nine windows
 abbrev pub window_columns : List Column
 window_columns =
     number_column (codes "initial_concurrence") ∷ number_column (codes "final_concurrence")
-    ∷ number_column (codes "conflict_restriction") ∷ number_column (codes "conflict_resolution") ∷ number_column (codes "conflict_expiration") ∷ number_column (codes "cancellation_initial")
-    ∷ number_column (codes "cancellation_final") ∷ number_column (codes "pending_retention") ∷ number_column (codes "broadcast") ∷ []
+    ∷ number_column (codes "conflict_restriction") ∷ number_column (codes "conflict_resolution")
+    ∷ number_column (codes "conflict_expiration") ∷ number_column (codes "cancellation_initial")
+    ∷ number_column (codes "cancellation_final") ∷ number_column (codes "pending_retention")
+    ∷ number_column (codes "broadcast") ∷ []
 
 abbrev pub clock_settings : List Column
 clock_settings = number_column (codes "now") ∷ number_column (codes "next_id") ∷ window_columns
@@ -134,7 +157,9 @@ old_clock_table = numbered_table 12 (codes "clock") (codes "one") clock_settings
 
 -- where a version that sends a modify is to be routed
 abbrev pub next_routing_table : Table
-next_routing_table = numbered_table 16 (codes "next_routing") (codes "id") (number_column (codes "lrn") ∷ number_or_null (codes "cic") ∷ [])
+next_routing_table =
+    numbered_table 16 (codes "next_routing") (codes "id")
+    (number_column (codes "lrn") ∷ number_or_null (codes "cic") ∷ [])
 
 abbrev pub set_columns : List Column
 set_columns = number_or_null (codes "number") ∷ window_columns
@@ -143,19 +168,43 @@ abbrev pub window_set_table : Table
 window_set_table = numbered_table 17 (codes "window_set") (codes "number") window_columns
 
 abbrev pub version_table : Table
-version_table = a_version_table 18 (codes "version2") (version_columns (number_column (codes "held") ∷ []))
+version_table =
+    a_version_table 18 (codes "version2") (version_columns (number_column (codes "held") ∷ []))
 
 abbrev pub clock_table : Table
-clock_table = numbered_table 21 (codes "clock2") (codes "one") (number_column (codes "now") ∷ number_column (codes "next_id") ∷ number_column (codes "present") ∷ [])
+clock_table =
+    numbered_table 21 (codes "clock2") (codes "one") (number_column (codes "now") ∷ number_column
+    (codes "next_id") ∷ number_column (codes "present") ∷ [])
 
 abbrev pub an_index : List ℕ → ℕ → ℕ → List ℕ → Bool → Index
-an_index name tree table columns is_unique = record { name = name; tree = tree; table = table; columns = columns; order = plain; is_unique = is_unique }
+an_index name tree table columns is_unique = record {
+  name = name;
+  tree = tree;
+  table = table;
+  columns = columns;
+  order = plain;
+  is_unique = is_unique;
+}
 
 abbrev pub unique_index : List ℕ → ℕ → ℕ → List ℕ → Index
-unique_index name tree table columns = record { name = name; tree = tree; table = table; columns = columns; order = plain; is_unique = true }
+unique_index name tree table columns = record {
+  name = name;
+  tree = tree;
+  table = table;
+  columns = columns;
+  order = plain;
+  is_unique = true;
+}
 
 abbrev pub plain_index : List ℕ → ℕ → ℕ → List ℕ → Index
-plain_index name tree table columns = record { name = name; tree = tree; table = table; columns = columns; order = plain; is_unique = false }
+plain_index name tree table columns = record {
+  name = name;
+  tree = tree;
+  table = table;
+  columns = columns;
+  order = plain;
+  is_unique = false;
+}
 
 abbrev pub wait_key : Index
 wait_key = unique_index (codes "sqlite_autoindex_wait_1") 11 10 (1 ∷ 2 ∷ 3 ∷ 4 ∷ [])
@@ -174,7 +223,8 @@ version2_deadline = plain_index (codes "version2_deadline") 22 18 (18 ∷ [])
 
 -- the indexes of the tables that were made last
 abbrev pub version_keys : List Index
-version_keys = unique_index (codes "sqlite_autoindex_version2_1") 19 18 (19 ∷ []) ∷ unique_index (codes "sqlite_autoindex_version2_2") 20 18 (20 ∷ []) ∷ []
+version_keys = unique_index (codes "sqlite_autoindex_version2_1") 19 18 (19 ∷ []) ∷ unique_index
+    (codes "sqlite_autoindex_version2_2") 20 18 (20 ∷ []) ∷ []
 
 abbrev pub new_indexes : List Index
 new_indexes =
@@ -223,7 +273,11 @@ abbrev pub first_schema : Schema
 first_schema = record { tables = tables_with []; indexes = indexes_with []; views = [] }
 
 abbrev pub modify_schema : Schema
-modify_schema = record { tables = tables_with (next_routing_table ∷ []); indexes = indexes_with []; views = [] }
+modify_schema = record {
+  tables = tables_with (next_routing_table ∷ []);
+  indexes = indexes_with [];
+  views = [];
+}
 
 abbrev pub no_schema : Schema
 no_schema = record { tables = []; indexes = []; views = [] }

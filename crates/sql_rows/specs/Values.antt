@@ -30,14 +30,16 @@ lrn_in v = option_and_then (below 10000000000) (number_in v)
 
 -- the first six digits of a telephone number
 abbrev pub code_from : ℕ → Option ℕ
-code_from n = if nat_lt n 1000000 && (nat_le 2 (n / 100000) && nat_le 2 (n / 100 % 10)) then Some n else None
+code_from n = if nat_lt n 1000000 && (nat_le 2 (n / 100000) && nat_le 2 (n / 100 % 10)) then Some n
+    else None
 
 abbrev pub code_in : Value → Option ℕ
 code_in v = option_and_then code_from (number_in v)
 
 -- the first seven
 abbrev pub block_from : ℕ → Option ℕ
-block_from n = if nat_lt n 10000000 && (nat_le 2 (n / 1000000) && nat_le 2 (n / 1000 % 10)) then Some n else None
+block_from n = if nat_lt n 10000000 && (nat_le 2 (n / 1000000) && nat_le 2 (n / 1000 % 10))
+    then Some n else None
 
 abbrev pub block_in : Value → Option ℕ
 block_in v = option_and_then block_from (number_in v)
@@ -70,14 +72,16 @@ abbrev pub subject_from : ℕ → Option Subject
 subject_from n =
     if nat_lt n 10000000
     then (if nat_le 2 (n / 1000000) && nat_le 2 (n / 1000 % 10) then Some (Block n) else None)
-    else (if nat_lt n 10000000000 && (nat_le 2 (n / 1000000000) && nat_le 2 (n / 1000000 % 10)) then Some (Number n) else None)
+    else (if nat_lt n 10000000000 && (nat_le 2 (n / 1000000000) && nat_le 2 (n / 1000000 % 10))
+    then Some (Number n) else None)
 
 abbrev pub subject_in : Value → Option Subject
 subject_in v = option_and_then subject_from (number_in v)
 
 abbrev pub spid_from : List ℕ → Option ℕ
 spid_from (a ∷ b ∷ c ∷ d ∷ []) =
-    if is_spid_character a && (is_spid_character b && (is_spid_character c && is_spid_character d)) then Some (a * 16777216 + b * 65536 + c * 256 + d) else None
+    if is_spid_character a && (is_spid_character b && (is_spid_character c && is_spid_character d))
+    then Some (a * 16777216 + b * 65536 + c * 256 + d) else None
 spid_from _ = None
 
 abbrev pub spid_in : Value → Option ℕ
@@ -94,14 +98,19 @@ is_word w (Text t) = bytes_eq t w
 is_word w _ = false
 
 abbrev pub action_in : Value → Option Action
-action_in v = if is_word (codes "create") v then Some Create else (if is_word (codes "delete") v then Some Delete else (if is_word (codes "modify") v then Some Modify else None))
+action_in v = if is_word (codes "create") v then Some Create else (if is_word (codes "delete") v
+    then Some Delete else (if is_word (codes "modify") v then Some Modify else None))
 
--- what a version sends. Where it sends a modify, this is to the routing that it has: the one under way stands elsewhere
+-- what a version sends. Where it sends a modify, this is to the routing that it has: the one under
+-- way stands elsewhere
 abbrev pub send_in : (own : Option Routing) → Value → Option Send
-send_in own v = if is_word (codes "create") v then Some CreateSend else (if is_word (codes "delete") v then Some DeleteSend else (if is_word (codes "modify") v then option_map ModifySend own else None))
+send_in own v = if is_word (codes "create") v then Some CreateSend
+    else (if is_word (codes "delete") v then Some DeleteSend else (if is_word (codes "modify") v
+    then option_map ModifySend own else None))
 
 abbrev pub side_in : Value → Option Side
-side_in v = if is_word (codes "old") v then Some OldProvider else (if is_word (codes "new") v then Some NewProvider else None)
+side_in v = if is_word (codes "old") v then Some OldProvider else (if is_word (codes "new") v
+    then Some NewProvider else None)
 
 abbrev pub subject_number : Subject → ℕ
 subject_number (Number n) = n
@@ -115,7 +124,8 @@ is_int n _ = false
 abbrev pub only_in : Value → Option ℕ
 only_in v = if is_int (pos 0) v then Some 0 else None
 
--- a column by which the subject's row is found, and whether it is: the subject itself, or else -1 - id, which is no subject, and no other row's
+-- a column by which the subject's row is found, and whether it is: the subject itself, or else -1 -
+-- id, which is no subject, and no other row's
 abbrev pub found_in : (id : ℕ) → Subject → Value → Option Bool
 found_in id s v =
     if is_int (negsuc id) v then Some false else (
@@ -131,7 +141,8 @@ status_in own status sends release by =
     if is_word (codes "active") status then Some Active else (
     if is_word (codes "partial-failure") status then Some PartialFailure else (
     if is_word (codes "failed") status then Some Failed else (
-    if is_word (codes "disconnect-pending") status then option_map DisconnectPending (minute_in release) else (
+    if is_word (codes "disconnect-pending") status
+    then option_map DisconnectPending (minute_in release) else (
     if is_word (codes "old") status then Some Old else (
     if is_word (codes "canceled") status then Some Canceled else None)))))))))
 
@@ -141,7 +152,8 @@ routed l c = record { lrn = l; cic = c }
 -- where it is routed, if it has a routing number
 abbrev pub routing_in : (lrn cic : Value) → Option (Option Routing)
 routing_in Null cic = Some None
-routing_in lrn cic = option_and_then (λ l. option_map (λ c. Some (routed l c)) (or_null_in cic_in cic)) (lrn_in lrn)
+routing_in lrn cic =
+    option_and_then (λ l. option_map (λ c. Some (routed l c)) (or_null_in cic_in cic)) (lrn_in lrn)
 
 -- ---- values as they are stored
 

@@ -23,7 +23,8 @@ IsFrame t db next = (u : Table) → tree_of u ≢ tree_of t → next (tree_of u)
 -- the rows with a key were taken away
 pub record Removed (t : Table) (params : Row) (old new : Database) : Type 0 where
   pub schema : new.schema ≡ the_schema
-  pub rows : new.trees (tree_of t) ≡ filter (λ r. not (passes (key_test t) params r)) (old.trees (tree_of t))
+  pub rows : new.trees (tree_of t) ≡ filter (λ r. not (passes (key_test t) params r))
+      (old.trees (tree_of t))
   pub frame : IsFrame t old.trees new.trees
 
 -- a row was put in
@@ -35,11 +36,14 @@ pub record Added (t : Table) (row : Row) (old new : Database) : Type 0 where
 
 -- the row as the statement casts and numbers it
 abbrev pub cast_rows : Table → Row → Trees → List Row
-cast_rows t params db = (edit_of db (table_of t) [] Chosen 0 (value_rows (stamped (table_of t) params) (width_of t) (length (insert_terms t) / width_of t) (insert_terms t))).news
+cast_rows t params db =
+    (edit_of db (table_of t) [] Chosen 0 (value_rows (stamped (table_of t) params) (width_of t)
+    (length (insert_terms t) / width_of t) (insert_terms t))).news
 
 -- a row was put in that its parameters tell
 abbrev pub AddedBy : Table → Row → Database → Database → Type 0
-AddedBy t params old new = (row : Row) → cast_rows t params old.trees ≡ row ∷ [] → Added t row old new
+AddedBy t params old new = (row : Row) → cast_rows t params old.trees ≡ row ∷ []
+    → Added t row old new
 
 -- the rows with a key were taken away, and then one was put in
 pub record Replaced (t : Table) (key params : Row) (old new : Database) : Type 0 where

@@ -36,197 +36,314 @@ module _ (sql : List ℕ) (params : Row) (old new : State) where
   unfolding Shown
   shown_open rows h = go h.0.returning h.2
     where
-      go : (o : Option _) → ShowsRows old new sql h.0 (timed params h.0.formats h.1.now) rows o → IsTrue old.is_open
+      go : (o : Option _) → ShowsRows old new sql h.0 (timed params h.0.formats h.1.now) rows o
+          → IsTrue old.is_open
       go None it = it.3.0.was_open
       go (Some what) it = it.1.shown.was_open
 
-  pub shown_same : (rows : List Row) → IsPlain (understood old.now.schema sql) → Shown sql params old new rows → IsUnchanged old new
+  pub shown_same : (rows : List Row) → IsPlain (understood old.now.schema sql)
+      → Shown sql params old new rows → IsUnchanged old new
   unfolding Shown
-  shown_same rows plain h = (subst (ShowsRows old new sql h.0 (timed params h.0.formats h.1.now) rows) (subst IsPlain h.1.is plain).0 h.2).3
+  shown_same rows plain h =
+      (subst (ShowsRows old new sql h.0 (timed params h.0.formats h.1.now) rows)
+      (subst IsPlain h.1.is plain).0 h.2).3
 
   -- a text that begins with a query changes nothing, whatever tables there are
-  pub shown_unchanged : (rows : List Row) → Selects (first sql) → Shown sql params old new rows → IsUnchanged old new
+  pub shown_unchanged : (rows : List Row) → Selects (first sql) → Shown sql params old new rows
+      → IsUnchanged old new
   unfolding Shown
-  shown_unchanged rows selects h = (subst (ShowsRows old new sql h.0 (timed params h.0.formats h.1.now) rows) (subst ShowsNone h.1.is (understood_none old.now.schema sql selects)) h.2).3
+  shown_unchanged rows selects h =
+      (subst (ShowsRows old new sql h.0 (timed params h.0.formats h.1.now) rows)
+      (subst ShowsNone h.1.is (understood_none old.now.schema sql selects)) h.2).3
 
   -- a query that fails leaves all as it was, or rolls back
-  pub fails_as : (e : Error) → FailsToQuery sql params old new e → IsUnchanged old new ⊎ IsRolledBack old new
+  pub fails_as : (e : Error) → FailsToQuery sql params old new e → IsUnchanged old new
+      ⊎ IsRolledBack old new
   unfolding FailsToQuery IsNotRun
   fails_as e (inl (inl unrun)) = inl unrun.1
   fails_as e (inl (inr fails)) = inr fails.3
   fails_as e (inr h) = go h.0.returning h.2
     where
-      go : (o : Option _) → FailsToShow old new sql h.0 (timed params h.0.formats h.1.now) e o → IsUnchanged old new ⊎ IsRolledBack old new
+      go : (o : Option _) → FailsToShow old new sql h.0 (timed params h.0.formats h.1.now) e o
+          → IsUnchanged old new ⊎ IsRolledBack old new
       go None it = inl it.3
       go (Some what) (inl it) = inl it.1
       go (Some what) (inr it) = inr it.3
 
-  pub fails_open : (e : Error) → IsTrue new.is_open → FailsToQuery sql params old new e → IsTrue old.is_open
+  pub fails_open : (e : Error) → IsTrue new.is_open → FailsToQuery sql params old new e
+      → IsTrue old.is_open
   unfolding FailsToQuery IsNotRun
   fails_open e is_open (inl (inl unrun)) = unrun.1.0.was_open
   fails_open e is_open (inl (inr fails)) = fails.3.was_open is_open
   fails_open e is_open (inr h) = go h.0.returning h.2
     where
-      go : (o : Option _) → FailsToShow old new sql h.0 (timed params h.0.formats h.1.now) e o → IsTrue old.is_open
+      go : (o : Option _) → FailsToShow old new sql h.0 (timed params h.0.formats h.1.now) e o
+          → IsTrue old.is_open
       go None it = it.3.0.was_open
       go (Some what) (inl it) = it.1.0.was_open
       go (Some what) (inr it) = it.3.was_open is_open
 
-  pub fails_same : (e : Error) → IsPlain (understood old.now.schema sql) → FailsToQuery sql params old new e → IsUnchanged old new ⊎ IsRolledBack old new
+  pub fails_same : (e : Error) → IsPlain (understood old.now.schema sql)
+      → FailsToQuery sql params old new e → IsUnchanged old new ⊎ IsRolledBack old new
   unfolding FailsToQuery IsNotRun
   fails_same e plain (inl (inl unrun)) = inl unrun.1
   fails_same e plain (inl (inr fails)) = inr fails.3
-  fails_same e plain (inr h) = inl (subst (FailsToShow old new sql h.0 (timed params h.0.formats h.1.now) e) (subst IsPlain h.1.is plain).0 h.2).3
+  fails_same e plain (inr h) =
+      inl (subst (FailsToShow old new sql h.0 (timed params h.0.formats h.1.now) e)
+      (subst IsPlain h.1.is plain).0 h.2).3
 
-  same_of : IsTrue new.is_open → IsOurs old → IsUnchanged old new ⊎ IsRolledBack old new → IsSame old new
-  same_of is_open ours (inl it) = record { was_open = it.0.was_open; now = it.0.now_is; committed = it.0.committed_is }
-  same_of is_open ours (inr it) = record { was_open = it.was_open is_open; now = (it.undone is_open).0 ∙ sym (settled old ours); committed = (it.undone is_open).1 }
+  same_of : IsTrue new.is_open → IsOurs old → IsUnchanged old new ⊎ IsRolledBack old new
+      → IsSame old new
+  same_of is_open ours (inl it) = record {
+    was_open = it.0.was_open;
+    now = it.0.now_is;
+    committed = it.0.committed_is;
+  }
+  same_of is_open ours (inr it) = record {
+    was_open = it.was_open is_open;
+    now = (it.undone is_open).0 ∙ sym (settled old ours);
+    committed = (it.undone is_open).1;
+  }
 
-  module _ (ours : IsTrue old.is_open → IsOurs old) (plain : IsTrue old.is_open → IsPlain (understood old.now.schema sql)) where
+  module _ (ours : IsTrue old.is_open → IsOurs old) (plain : IsTrue old.is_open
+      → IsPlain (understood old.now.schema sql)) where
     -- a query leaves the store as it was, if it is open afterwards
-    pub query_leaves : (rows : List Row) → IsTrue new.is_open → Shown sql params old new rows → IsSame old new
-    query_leaves rows is_open h = let was = shown_open rows h in same_of is_open (ours was) (inl (shown_same rows (plain was) h))
+    pub query_leaves : (rows : List Row) → IsTrue new.is_open → Shown sql params old new rows
+        → IsSame old new
+    query_leaves rows is_open h = let was = shown_open rows h in
+        same_of is_open (ours was) (inl (shown_same rows (plain was) h))
 
-    pub query_err_leaves : (e : Error) → IsTrue new.is_open → FailsToQuery sql params old new e → IsSame old new
-    query_err_leaves e is_open h = let was = fails_open e is_open h in same_of is_open (ours was) (fails_same e (plain was) h)
+    pub query_err_leaves : (e : Error) → IsTrue new.is_open → FailsToQuery sql params old new e
+        → IsSame old new
+    query_err_leaves e is_open h = let was = fails_open e is_open h in
+        same_of is_open (ours was) (fails_same e (plain was) h)
 
-  pub query_commits_nothing : Selects (first sql) → Survives old new (CommitsShowing sql params old) → Survives old new (λ _. ⊥)
-  query_commits_nothing selects = survives_weaker old new _ _ (λ _ db. never_shows sql params old db selects)
+  pub query_commits_nothing : Selects (first sql) → Survives old new (CommitsShowing sql params old)
+      → Survives old new (λ _. ⊥)
+  query_commits_nothing selects =
+      survives_weaker old new _ _ (λ _ db. never_shows sql params old db selects)
 
 -- ---- queries
 
-module _ (query : Query) (params : Row) (old new : State) (ours : IsTrue old.is_open → IsOurs old) where
+module _ (query : Query) (params : Row) (old new : State) (ours : IsTrue old.is_open
+    → IsOurs old) where
   plain : IsTrue old.is_open → IsPlain (understood old.now.schema (query_text query))
-  plain was = subst (λ k. IsPlain (understood k (query_text query))) (sym (ours was).schema) (query_plain query)
+  plain was = subst (λ k. IsPlain (understood k (query_text query))) (sym (ours was).schema)
+      (query_plain query)
 
-  pub looked_ok : (rows : List Row) → (IsTrue new.is_open → HasCleanDisk new) → (HasCleanDisk new → Shown (query_text query) params old new rows) → Survives old new (CommitsShowing (query_text query) params old) → Looked old new true
+  pub looked_ok : (rows : List Row) → (IsTrue new.is_open → HasCleanDisk new)
+      → (HasCleanDisk new → Shown (query_text query) params old new rows)
+      → Survives old new (CommitsShowing (query_text query) params old) → Looked old new true
   looked_ok rows clean shown survives = record {
-    same = λ up. query_leaves (query_text query) params old new ours plain rows up (shown (clean up));
+    same = λ up. query_leaves (query_text query) params old new ours plain rows up
+        (shown (clean up));
     stays = λ ok done.
         let was = shown_open (query_text query) params old new rows (shown done) in
         (shown_same (query_text query) params old new rows (plain was) (shown done)).0.is_open;
     honest = λ done. omega (arith, survives.clean, done);
-    survives = query_commits_nothing (query_text query) params old new (query_selects query) survives;
+    survives = query_commits_nothing (query_text query) params old new (query_selects query)
+        survives;
   }
 
-  pub looked_err : (e : Error) → (IsTrue new.is_open → HasCleanDisk new) → (HasCleanDisk new → FailsToQuery (query_text query) params old new e) → Survives old new (CommitsShowing (query_text query) params old) → Looked old new false
+  pub looked_err : (e : Error) → (IsTrue new.is_open → HasCleanDisk new)
+      → (HasCleanDisk new → FailsToQuery (query_text query) params old new e)
+      → Survives old new (CommitsShowing (query_text query) params old) → Looked old new false
   looked_err e clean fails survives = record {
-    same = λ up. query_err_leaves (query_text query) params old new ours plain e up (fails (clean up));
+    same = λ up. query_err_leaves (query_text query) params old new ours plain e up
+        (fails (clean up));
     stays = λ no done. absurd (true≢false (sym no));
     honest = λ done. omega (arith, survives.clean, done);
-    survives = query_commits_nothing (query_text query) params old new (query_selects query) survives;
+    survives = query_commits_nothing (query_text query) params old new (query_selects query)
+        survives;
   }
 
-  pub answers : (rows : List Row) → IsTrue old.is_open → Shown (query_text query) params old new rows → IsAnswer (query_of query) (overlay old.now.trees []) params rows
-  answers rows was shown = (reads_as (query_text query) params old new the_schema (ours was).schema _ (query_is query) (query_plain query) (query_unlisted query) rows shown).answer Null
+  pub answers : (rows : List Row) → IsTrue old.is_open
+      → Shown (query_text query) params old new rows
+      → IsAnswer (query_of query) (overlay old.now.trees []) params rows
+  answers rows was shown =
+      (reads_as (query_text query) params old new the_schema (ours was).schema _ (query_is query)
+      (query_plain query) (query_unlisted query) rows shown).answer Null
 
 -- what was read is ours still
-pub looked_ours : (old new : State) (answered : Bool) → (IsTrue old.is_open → IsOurs old) → Looked old new answered → IsTrue new.is_open → IsOurs new
+pub looked_ours : (old new : State) (answered : Bool) → (IsTrue old.is_open → IsOurs old)
+    → Looked old new answered → IsTrue new.is_open → IsOurs new
 looked_ours old new answered ours looked up =
     let same = looked.same up in
     let our = ours same.was_open in
     record {
       schema = ap (λ (d : Database). d.schema) same.now ∙ our.schema;
       shaped = subst (λ (d : Database). AreShaped d.trees) (sym same.now) our.shaped;
-      same_schema = ap (λ (d : Database). d.schema) (same.now ∙ settled old our ∙ sym same.committed);
+      same_schema =
+          ap (λ (d : Database). d.schema) (same.now ∙ settled old our ∙ sym same.committed);
       same_trees = ap (λ (d : Database). d.trees) (same.now ∙ settled old our ∙ sym same.committed);
     }
 
 -- two reads, one after the other
-pub looked_then : (a b d : State) (answered : Bool) → Looked a b true → Looked b d answered → Looked a d answered
+pub looked_then : (a b d : State) (answered : Bool) → Looked a b true → Looked b d answered
+    → Looked a d answered
 looked_then a b d answered one two = record {
   same = λ up.
       let later = two.same up in
       let sooner = one.same later.was_open in
-      record { was_open = sooner.was_open; now = later.now ∙ sooner.now; committed = later.committed ∙ sooner.committed };
+      record {
+        was_open = sooner.was_open;
+        now = later.now ∙ sooner.now;
+        committed = later.committed ∙ sooner.committed;
+      };
   honest = λ done. one.honest (two.honest done);
   stays = two.stays;
-  survives = survives_then a b d _ _ _ (λ _ db none. none) (λ _ db none. none) one.survives two.survives;
+  survives = survives_then a b d _ _ _ (λ _ db none. none) (λ _ db none. none) one.survives
+      two.survives;
 }
 
 -- a call in a transaction that was made was made in one that had not ended
-pub not_ended : {X : Type 0} (inside : Bool) (r : Result ℕ Error) (n : ℕ) (e : Error) → r ≡ Ok n → (inside ≡ false → (r ≡ Err e) × X) → IsTrue inside
+pub not_ended : {X : Type 0} (inside : Bool) (r : Result ℕ Error) (n : ℕ) (e : Error) → r ≡ Ok n
+    → (inside ≡ false → (r ≡ Err e) × X) → IsTrue inside
 not_ended true r n e was ended = refl
 not_ended false r n e was ended = absurd (let h = (ended refl).0 in cc)
 
 -- ---- calls in a transaction
 
 -- an execution in a transaction keeps the last commit
-inside_keeps : (sql : List ℕ) (params : Row) (old new : State) (r : Result ℕ Error) → IsTrue new.is_open → ExecutesInside 0 sql params old new r → Kept old new
-inside_keeps sql params old new (Ok n) up h = record { was_open = h.1.was_open; committed = h.1.committed_is }
-inside_keeps sql params old new (Err e) up (inl (ran, inl it)) = record { was_open = it.0.was_open; committed = it.0.committed_is }
-inside_keeps sql params old new (Err e) up (inl (ran, inr it)) = record { was_open = it.was_open up; committed = (it.undone up).1 }
-inside_keeps sql params old new (Err e) up (inr it) = record { was_open = it.2.0.was_open; committed = it.2.0.committed_is }
+inside_keeps : (sql : List ℕ) (params : Row) (old new : State) (r : Result ℕ Error)
+    → IsTrue new.is_open → ExecutesInside 0 sql params old new r → Kept old new
+inside_keeps sql params old new (Ok n) up h = record {
+  was_open = h.1.was_open;
+  committed = h.1.committed_is;
+}
+inside_keeps sql params old new (Err e) up (inl (ran, inl it)) = record {
+  was_open = it.0.was_open;
+  committed = it.0.committed_is;
+}
+inside_keeps sql params old new (Err e) up (inl (ran, inr it)) = record {
+  was_open = it.was_open up;
+  committed = (it.undone up).1;
+}
+inside_keeps sql params old new (Err e) up (inr it) = record {
+  was_open = it.2.0.was_open;
+  committed = it.2.0.committed_is;
+}
 
-same_keeps : {S : Type 0} (g : Ghosts S) (old new : Held S) → new ≡ old → IsTrue (state g new).is_open → Kept (state g old) (state g new)
-same_keeps g old new e up = subst (λ h. IsTrue (state g h).is_open → Kept (state g old) (state g h)) (sym e) (λ u. record { was_open = u; committed = refl }) up
+same_keeps : {S : Type 0} (g : Ghosts S) (old new : Held S) → new ≡ old
+    → IsTrue (state g new).is_open → Kept (state g old) (state g new)
+same_keeps g old new e up = subst (λ h. IsTrue (state g h).is_open → Kept (state g old) (state g h))
+    (sym e) (λ u. record { was_open = u; committed = refl }) up
 
-pub call_keeps : {S A : Type 0} (g : Ghosts S) (old new : Held S) (sql : List ℕ) (params : Row) (r : Result ℕ Error) → IsTrue (state g new).is_open → ((state g old).in_transaction ≡ false → A × (new ≡ old))
-    → (IsTrue (state g old).in_transaction → ExecutesInside 0 sql params (state g old) (state g new) r) → Kept (state g old) (state g new)
+pub call_keeps : {S A : Type 0} (g : Ghosts S) (old new : Held S) (sql : List ℕ) (params : Row)
+    (r : Result ℕ Error) → IsTrue (state g new).is_open → ((state g old).in_transaction ≡ false
+    → A × (new ≡ old))
+    → (IsTrue (state g old).in_transaction → ExecutesInside 0 sql params (state g old) (state g new)
+    r) → Kept (state g old) (state g new)
 call_keeps {A = A} g old new sql params r up ended runs = go (state g old).in_transaction ended runs
   where
-    go : (b : Bool) → (b ≡ false → A × (new ≡ old)) → (IsTrue b → ExecutesInside 0 sql params (state g old) (state g new) r) → Kept (state g old) (state g new)
+    go : (b : Bool) → (b ≡ false → A × (new ≡ old))
+        → (IsTrue b → ExecutesInside 0 sql params (state g old) (state g new) r)
+        → Kept (state g old) (state g new)
     go true ended runs = inside_keeps sql params (state g old) (state g new) r up (runs refl)
     go false ended runs = same_keeps g old new (ended refl).1 up
 
 -- a statement in a transaction
-pub statement_writes : {S A : Type 0} (g : Ghosts S) (old new : Held S) (sql : List ℕ) (params : Row) (r : Result ℕ Error) (done : Bool) (Did : Database → Database → Type 0) → (IsTrue (state g new).is_open → HasCleanDisk (state g new))
-    → ((state g old).in_transaction ≡ false → A × (new ≡ old)) → (HasCleanDisk (state g new) → IsTrue (state g old).in_transaction → ExecutesInside 0 sql params (state g old) (state g new) r)
-    → Survives (state g old) (state g new) (λ _. ⊥) → (IsTrue done → (count : ℕ) × (r ≡ Ok count)) → ((count : ℕ) → IsInside (state g old) → Executes sql params (state g old) (state g new) (Ok count) → Did (state g old).now (state g new).now)
+pub statement_writes : {S A : Type 0} (g : Ghosts S) (old new : Held S) (sql : List ℕ)
+    (params : Row) (r : Result ℕ Error) (done : Bool) (Did : Database → Database → Type 0)
+    → (IsTrue (state g new).is_open → HasCleanDisk (state g new))
+    → ((state g old).in_transaction ≡ false → A × (new ≡ old))
+    → (HasCleanDisk (state g new) → IsTrue (state g old).in_transaction
+    → ExecutesInside 0 sql params (state g old) (state g new) r)
+    → Survives (state g old) (state g new) (λ _. ⊥) → (IsTrue done → (count : ℕ) × (r ≡ Ok count))
+    → ((count : ℕ) → IsInside (state g old)
+    → Executes sql params (state g old) (state g new) (Ok count)
+    → Did (state g old).now (state g new).now)
     → Writes (state g old) (state g new) done Did
-statement_writes g old new sql params r done Did clean_of ended runs survives counts means = record {
-  wrote = λ ok clean inside.
-      let n = counts ok in
-      let h = subst (ExecutesInside 0 sql params (state g old) (state g new)) n.1 (runs clean inside.inside) in
-      record { is_open = h.1.is_open; inside = h.1.mode; committed = h.1.committed_is; did = means n.0 inside h.0 };
-  kept = λ up. call_keeps g old new sql params r up ended (runs (clean_of up));
-  survives = survives;
-}
+statement_writes g old new sql params r done Did clean_of ended runs survives counts means =
+    record {
+      wrote = λ ok clean inside.
+          let n = counts ok in
+          let h = subst (ExecutesInside 0 sql params (state g old) (state g new)) n.1
+          (runs clean inside.inside) in
+          record {
+            is_open = h.1.is_open;
+            inside = h.1.mode;
+            committed = h.1.committed_is;
+            did = means n.0 inside h.0;
+          };
+      kept = λ up. call_keeps g old new sql params r up ended (runs (clean_of up));
+      survives = survives;
+    }
 
 -- ---- changes in turn
 
 module _ (a b c : State) where
-  pub kept_then : (IsTrue b.is_open → Kept a b) → (IsTrue c.is_open → Kept b c) → IsTrue c.is_open → Kept a c
-  kept_then first two up = let k = two up in let j = first k.was_open in record { was_open = j.was_open; committed = k.committed ∙ j.committed }
+  pub kept_then : (IsTrue b.is_open → Kept a b) → (IsTrue c.is_open → Kept b c) → IsTrue c.is_open
+      → Kept a c
+  kept_then first two up = let k = two up in let j = first k.was_open in record {
+    was_open = j.was_open;
+    committed = k.committed ∙ j.committed;
+  }
 
   pub both_survive : Survives a b (λ _. ⊥) → Survives b c (λ _. ⊥) → Survives a c (λ _. ⊥)
-  both_survive first two = survives_then a b c _ _ _ (λ clean db bad. bad) (λ clean db bad. bad) first two
+  both_survive first two = survives_then a b c _ _ _ (λ clean db bad. bad) (λ clean db bad. bad)
+      first two
 
   pub earlier : Survives b c (λ _. ⊥) → HasCleanDisk c → HasCleanDisk b
   earlier two clean = omega (arith, clean, two.clean)
 
-  pub makes_then : (done : Bool) (f g : Content → Content) → Makes a b true f → Makes b c done g → Makes a c done (λ m. g (f m))
+  pub makes_then : (done : Bool) (f g : Content → Content) → Makes a b true f → Makes b c done g
+      → Makes a c done (λ m. g (f m))
   makes_then done f g first two = record {
     made = λ ok clean inside.
         let one = first.made refl (earlier two.survives clean) inside in
         let more = two.made ok clean one.inside in
-        record { inside = more.inside; committed = more.committed ∙ one.committed; is = more.is ∙ ap g one.is };
+        record {
+          inside = more.inside;
+          committed = more.committed ∙ one.committed;
+          is = more.is ∙ ap g one.is;
+        };
     kept = kept_then first.kept two.kept;
     survives = both_survive first.survives two.survives;
   }
 
   -- two statements that make together this of the content
-  pub two_made : (done : Bool) (First Second : Database → Database → Type 0) (change : Content → Content) → Writes a b true First → Writes b c done Second → (AreShaped a.now.trees → First a.now b.now → (b.now.schema ≡ the_schema) × AreShaped b.now.trees)
-      → (AreShaped a.now.trees → First a.now b.now → Second b.now c.now → Became c.now (change (content_at a))) → Makes a c done change
+  pub two_made : (done : Bool) (First Second : Database → Database → Type 0) (change : Content
+      → Content) → Writes a b true First → Writes b c done Second
+      → (AreShaped a.now.trees → First a.now b.now → (b.now.schema ≡ the_schema)
+      × AreShaped b.now.trees)
+      → (AreShaped a.now.trees → First a.now b.now → Second b.now c.now
+      → Became c.now (change (content_at a))) → Makes a c done change
   two_made done First Second change first two between means = record {
     made = λ ok clean inside.
         let one = first.wrote refl (earlier two.survives clean) inside in
         let m = between inside.shaped one.did in
-        let then = two.wrote ok clean (record { is_open = one.is_open; inside = one.inside; schema = m.0; shaped = m.1 }) in
+        let then = two.wrote ok clean (record {
+          is_open = one.is_open;
+          inside = one.inside;
+          schema = m.0;
+          shaped = m.1;
+        }) in
         let w = means inside.shaped one.did then.did in
-        record { inside = record { is_open = then.is_open; inside = then.inside; schema = w.schema; shaped = w.shaped }; committed = then.committed ∙ one.committed; is = w.is };
+        record {
+          inside = record {
+            is_open = then.is_open;
+            inside = then.inside;
+            schema = w.schema;
+            shaped = w.shaped;
+          };
+          committed = then.committed ∙ one.committed;
+          is = w.is;
+        };
     kept = kept_then first.kept two.kept;
     survives = both_survive first.survives two.survives;
   }
 
-  pub two_stop : (First Second : Database → Database → Type 0) (change : Content → Content) → Writes a b true First → Writes b c false Second → Makes a c false change
+  pub two_stop : (First Second : Database → Database → Type 0) (change : Content → Content)
+      → Writes a b true First → Writes b c false Second → Makes a c false change
   two_stop First Second change first two = record {
     made = λ no. absurd (true≢false (sym no));
     kept = kept_then first.kept two.kept;
     survives = both_survive first.survives two.survives;
   }
 
-  pub stops_then : (f g h : Content → Content) → Makes a b true f → Makes b c false g → Makes a c false h
+  pub stops_then : (f g h : Content → Content) → Makes a b true f → Makes b c false g
+      → Makes a c false h
   stops_then f g h first two = record {
     made = λ no. absurd (true≢false (sym no));
     kept = kept_then first.kept two.kept;
@@ -234,17 +351,23 @@ module _ (a b c : State) where
   }
 
   -- one more of many
-  pub goes_then : (f left next whole : Content → Content) → Goes a b left whole → Makes b c true f → ((m : Content) → next (f m) ≡ left m) → Goes a c next whole
+  pub goes_then : (f left next whole : Content → Content) → Goes a b left whole → Makes b c true f
+      → ((m : Content) → next (f m) ≡ left m) → Goes a c next whole
   goes_then f left next whole first two same = record {
-    inside = λ clean inside. (two.made refl clean (first.inside (earlier two.survives clean) inside)).inside;
-    committed = λ clean inside. (two.made refl clean (first.inside (earlier two.survives clean) inside)).committed ∙ first.committed (earlier two.survives clean) inside;
+    inside = λ clean inside. (two.made refl clean (first.inside (earlier two.survives clean)
+        inside)).inside;
+    committed =
+        λ clean inside. (two.made refl clean (first.inside (earlier two.survives clean)
+        inside)).committed ∙ first.committed (earlier two.survives clean) inside;
     is = λ clean inside.
-        ap next (two.made refl clean (first.inside (earlier two.survives clean) inside)).is ∙ same (content_at b) ∙ first.is (earlier two.survives clean) inside;
+        ap next (two.made refl clean (first.inside (earlier two.survives clean) inside)).is
+        ∙ same (content_at b) ∙ first.is (earlier two.survives clean) inside;
     kept = kept_then first.kept two.kept;
     survives = both_survive first.survives two.survives;
   }
 
-  pub goes_stop : (f left whole h : Content → Content) → Goes a b left whole → Makes b c false f → Makes a c false h
+  pub goes_stop : (f left whole h : Content → Content) → Goes a b left whole → Makes b c false f
+      → Makes a c false h
   goes_stop f left whole h first two = record {
     made = λ no. absurd (true≢false (sym no));
     kept = kept_then first.kept two.kept;
@@ -253,62 +376,112 @@ module _ (a b c : State) where
 
 module _ (a b c : State) (t : Table) (key params : Row) where
   -- a row put in the place of another
-  pub replaces : (done : Bool) → Writes a b true (Removed t key) → Writes b c done (AddedBy t params) → Writes a c done (Replaced t key params)
+  pub replaces : (done : Bool) → Writes a b true (Removed t key)
+      → Writes b c done (AddedBy t params) → Writes a c done (Replaced t key params)
   replaces done first two = record {
     wrote = λ ok clean inside.
         let one = first.wrote refl (earlier a b c two.survives clean) inside in
-        let then = two.wrote ok clean (record { is_open = one.is_open; inside = one.inside; schema = one.did.schema; shaped = removed_shaped t key a.now b.now inside.shaped one.did }) in
-        record { is_open = then.is_open; inside = then.inside; committed = then.committed ∙ one.committed; did = record { mid = b.now; removed = one.did; added = then.did } };
+        let then = two.wrote ok clean (record {
+          is_open = one.is_open;
+          inside = one.inside;
+          schema = one.did.schema;
+          shaped = removed_shaped t key a.now b.now inside.shaped one.did;
+        }) in
+        record {
+          is_open = then.is_open;
+          inside = then.inside;
+          committed = then.committed ∙ one.committed;
+          did = record { mid = b.now; removed = one.did; added = then.did };
+        };
     kept = kept_then a b c first.kept two.kept;
     survives = both_survive a b c first.survives two.survives;
   }
 
 module _ (a b : State) where
   -- what failed made nothing
-  pub writes_nothing : (Did Would : Database → Database → Type 0) → Writes a b false Did → Writes a b false Would
-  writes_nothing Did Would it = record { wrote = λ bad. absurd (true≢false (sym bad)); kept = it.kept; survives = it.survives }
+  pub writes_nothing : (Did Would : Database → Database → Type 0) → Writes a b false Did
+      → Writes a b false Would
+  writes_nothing Did Would it = record {
+    wrote = λ bad. absurd (true≢false (sym bad));
+    kept = it.kept;
+    survives = it.survives;
+  }
 
-  pub writes_as : (done : Bool) (Did Would : Database → Database → Type 0) → (Did a.now b.now → Would a.now b.now) → Writes a b done Did → Writes a b done Would
+  pub writes_as : (done : Bool) (Did Would : Database → Database → Type 0)
+      → (Did a.now b.now → Would a.now b.now) → Writes a b done Did → Writes a b done Would
   writes_as done Did Would means it = record {
-    wrote = λ ok clean inside. let w = it.wrote ok clean inside in record { is_open = w.is_open; inside = w.inside; committed = w.committed; did = means w.did };
+    wrote = λ ok clean inside. let w = it.wrote ok clean inside in record {
+      is_open = w.is_open;
+      inside = w.inside;
+      committed = w.committed;
+      did = means w.did;
+    };
     kept = it.kept;
     survives = it.survives;
   }
 
   -- what was made of the tables, as a change of the content
-  pub makes : (done : Bool) (Did : Database → Database → Type 0) (change : Content → Content) → Writes a b done Did
-      → (IsInside a → Did a.now b.now → (b.now.schema ≡ the_schema) × AreShaped b.now.trees × (content_in b.now.trees ≡ change (content_in a.now.trees))) → Makes a b done change
+  pub makes : (done : Bool) (Did : Database → Database → Type 0) (change : Content → Content)
+      → Writes a b done Did
+      → (IsInside a → Did a.now b.now → (b.now.schema ≡ the_schema) × AreShaped b.now.trees
+      × (content_in b.now.trees ≡ change (content_in a.now.trees))) → Makes a b done change
   makes done Did change it means = record {
     made = λ ok clean inside.
         let w = it.wrote ok clean inside in
         let m = means inside w.did in
-        record { inside = record { is_open = w.is_open; inside = w.inside; schema = m.0; shaped = m.1 }; committed = w.committed; is = m.2 };
+        record {
+          inside = record { is_open = w.is_open; inside = w.inside; schema = m.0; shaped = m.1 };
+          committed = w.committed;
+          is = m.2;
+        };
     kept = it.kept;
     survives = it.survives;
   }
 
   pub stops : (f g : Content → Content) → Makes a b false f → Makes a b false g
-  stops f g it = record { made = λ no. absurd (true≢false (sym no)); kept = it.kept; survives = it.survives }
-
-  pub gone : (left whole change : Content → Content) → Goes a b left whole → ((m : Content) → left m ≡ m) → ((m : Content) → whole m ≡ change m) → Makes a b true change
-  gone left whole change it none same = record {
-    made = λ ok clean inside. record { inside = it.inside clean inside; committed = it.committed clean inside; is = sym (none (content_at b)) ∙ it.is clean inside ∙ same (content_at a) };
+  stops f g it = record {
+    made = λ no. absurd (true≢false (sym no));
     kept = it.kept;
     survives = it.survives;
   }
 
-  pub alike : (done : Bool) (f g : Content → Content) → ((m : Content) → f m ≡ g m) → Makes a b done f → Makes a b done g
+  pub gone : (left whole change : Content → Content) → Goes a b left whole
+      → ((m : Content) → left m ≡ m) → ((m : Content) → whole m ≡ change m) → Makes a b true change
+  gone left whole change it none same = record {
+    made = λ ok clean inside. record {
+      inside = it.inside clean inside;
+      committed = it.committed clean inside;
+      is = sym (none (content_at b)) ∙ it.is clean inside ∙ same (content_at a);
+    };
+    kept = it.kept;
+    survives = it.survives;
+  }
+
+  pub alike : (done : Bool) (f g : Content → Content) → ((m : Content) → f m ≡ g m)
+      → Makes a b done f → Makes a b done g
   alike done f g same it = record {
-    made = λ ok clean inside. let s = it.made ok clean inside in record { inside = s.inside; committed = s.committed; is = s.is ∙ same (content_at a) };
+    made = λ ok clean inside. let s = it.made ok clean inside in record {
+      inside = s.inside;
+      committed = s.committed;
+      is = s.is ∙ same (content_at a);
+    };
     kept = it.kept;
     survives = it.survives;
   }
 
 idle_survives : (a : State) → Survives a a (λ _. ⊥)
-idle_survives a = record { clean = omega arith; shield = λ s. s; counts = omega arith; limit = refl; closes = λ clean up. inl up; crash = λ clean db may. inl may }
+idle_survives a = record {
+  clean = omega arith;
+  shield = λ s. s;
+  counts = omega arith;
+  limit = refl;
+  closes = λ clean up. inl up;
+  crash = λ clean db may. inl may;
+}
 
 -- nothing is done yet
-pub goes_first : (a : State) (left whole : Content → Content) → ((m : Content) → left m ≡ whole m) → Goes a a left whole
+pub goes_first : (a : State) (left whole : Content → Content) → ((m : Content) → left m ≡ whole m)
+    → Goes a a left whole
 goes_first a left whole same = record {
   inside = λ clean it. it;
   committed = λ clean it. refl;
@@ -319,36 +492,60 @@ goes_first a left whole same = record {
 
 -- nothing was to be done, or nothing was
 pub makes_nothing : (a : State) → Makes a a true (λ m. m)
-makes_nothing a = record { made = λ ok clean it. record { inside = it; committed = refl; is = refl }; kept = λ up. record { was_open = up; committed = refl }; survives = idle_survives a }
+makes_nothing a = record {
+  made = λ ok clean it. record { inside = it; committed = refl; is = refl };
+  kept = λ up. record { was_open = up; committed = refl };
+  survives = idle_survives a;
+}
 
 pub stops_first : (a : State) (f : Content → Content) → Makes a a false f
-stops_first a f = record { made = λ no. absurd (true≢false (sym no)); kept = λ up. record { was_open = up; committed = refl }; survives = idle_survives a }
+stops_first a f = record {
+  made = λ no. absurd (true≢false (sym no));
+  kept = λ up. record { was_open = up; committed = refl };
+  survives = idle_survives a;
+}
 
 -- ---- a transaction, from its beginning to its end
 
 -- what a transaction made of the tables since it began
 pub record Begun (old new : State) (done : Bool) (change : Content → Content) : Type 0 where
-  pub made : IsTrue done → HasCleanDisk new → IsTrue old.is_open → Stepped old new (change (content_at old))
+  pub made : IsTrue done → HasCleanDisk new → IsTrue old.is_open
+      → Stepped old new (change (content_at old))
   pub kept : IsTrue new.is_open → Kept old new
   pub survives : Survives old new (λ _. ⊥)
 
 -- `transaction` does nothing to the store
-pub begun : {S : Type 0} (g : Ghosts S) (old mid : Held S) (new : State) (done : Bool) (change : Content → Content) → mid ≡ record old { in_transaction = true } → Makes (state g mid) new done change
+pub begun : {S : Type 0} (g : Ghosts S) (old mid : Held S) (new : State) (done : Bool)
+    (change : Content → Content) → mid ≡ record old { in_transaction = true }
+    → Makes (state g mid) new done change
     → (IsTrue (state g old).is_open → IsOurs (state g old)) → Begun (state g old) new done change
-begun g old mid new done change e makes ours = subst (λ h. Makes (state g h) new done change → Begun (state g old) new done change) (sym e) (λ m. record {
-  made = λ ok clean was.
-      let our = ours was in
-      let s = m.made ok clean (record { is_open = was; inside = refl; schema = our.schema; shaped = our.shaped }) in
-      record { inside = s.inside; committed = s.committed; is = s.is };
-  kept = λ up. let k = m.kept up in record { was_open = k.was_open; committed = k.committed };
-  survives = survives_begin g old new (λ _. ⊥) m.survives;
-}) makes
+begun g old mid new done change e makes ours = subst (λ h. Makes (state g h) new done change
+    → Begun (state g old) new done change) (sym e) (λ m. record {
+      made = λ ok clean was.
+          let our = ours was in
+          let s = m.made ok clean (record {
+            is_open = was;
+            inside = refl;
+            schema = our.schema;
+            shaped = our.shaped;
+          }) in
+          record { inside = s.inside; committed = s.committed; is = s.is };
+      kept = λ up. let k = m.kept up in record { was_open = k.was_open; committed = k.committed };
+      survives = survives_begin g old new (λ _. ⊥) m.survives;
+    }) makes
 
-module _ (old mid new : State) (change : Content → Content) (Becomes : Content → Content → Type 0) (ours : IsTrue old.is_open → IsOurs old) (clean_of : IsTrue new.is_open → HasCleanDisk new) where
-  undone : (done : Bool) → Begun old mid done change → IsRolledBack mid new → IsTrue new.is_open → IsSame old new
+module _ (old mid new : State) (change : Content → Content) (Becomes : Content → Content
+    → Type 0) (ours : IsTrue old.is_open → IsOurs old) (clean_of : IsTrue new.is_open
+    → HasCleanDisk new) where
+  undone : (done : Bool) → Begun old mid done change → IsRolledBack mid new → IsTrue new.is_open
+      → IsSame old new
   undone done b r up =
       let k = b.kept (r.was_open up) in
-      record { was_open = k.was_open; now = (r.undone up).0 ∙ k.committed ∙ sym (settled old (ours k.was_open)); committed = (r.undone up).1 ∙ k.committed }
+      record {
+        was_open = k.was_open;
+        now = (r.undone up).0 ∙ k.committed ∙ sym (settled old (ours k.was_open));
+        committed = (r.undone up).1 ∙ k.committed;
+      }
 
   ours_again : IsSame old new → IsOurs new
   ours_again same =
@@ -356,11 +553,16 @@ module _ (old mid new : State) (change : Content → Content) (Becomes : Content
       record {
         schema = ap (λ (d : Database). d.schema) same.now ∙ our.schema;
         shaped = subst (λ (d : Database). AreShaped d.trees) (sym same.now) our.shaped;
-        same_schema = ap (λ (d : Database). d.schema) (same.now ∙ settled old our ∙ sym same.committed);
-        same_trees = ap (λ (d : Database). d.trees) (same.now ∙ settled old our ∙ sym same.committed);
+        same_schema =
+            ap (λ (d : Database). d.schema) (same.now ∙ settled old our ∙ sym same.committed);
+        same_trees =
+            ap (λ (d : Database). d.trees) (same.now ∙ settled old our ∙ sym same.committed);
       }
 
-  unturned : (done : Bool) (P : Trees → Type 0) → done ≡ false → (IsTrue new.is_open → IsSame old new) → Survives old new P → (HasCleanDisk new → (db : Trees) → P db → IsTrue old.is_open → Becomes (content_at old) (content_in db)) → Turned old new done Becomes
+  unturned : (done : Bool) (P : Trees → Type 0) → done ≡ false
+      → (IsTrue new.is_open → IsSame old new) → Survives old new P
+      → (HasCleanDisk new → (db : Trees) → P db → IsTrue old.is_open
+      → Becomes (content_at old) (content_in db)) → Turned old new done Becomes
   unturned done P fails same survives after = record {
     becomes = λ ok. absurd (true≢false (sym ok ∙ fails));
     same = λ _. same;
@@ -372,34 +574,49 @@ module _ (old mid new : State) (change : Content → Content) (Becomes : Content
   }
 
   -- it was given up
-  pub rolled_back : Begun old mid false change → (HasCleanDisk new → IsRolledBack mid new) → Survives mid new (λ _. ⊥) → Turned old new false Becomes
+  pub rolled_back : Begun old mid false change → (HasCleanDisk new → IsRolledBack mid new)
+      → Survives mid new (λ _. ⊥) → Turned old new false Becomes
   rolled_back b r survives =
-      unturned false (λ _. ⊥) refl (λ up. undone false b (r (clean_of up)) up) (survives_then old mid new _ _ _ (λ clean db bad. bad) (λ clean db bad. bad) b.survives survives) (λ clean db none. absurd none)
+      unturned false (λ _. ⊥) refl (λ up. undone false b (r (clean_of up)) up)
+      (survives_then old mid new _ _ _ (λ clean db bad. bad) (λ clean db bad. bad) b.survives
+      survives) (λ clean db none. absurd none)
 
-  module _ (means : IsTrue old.is_open → Becomes (content_at old) (change (content_at old))) (b : Begun old mid true change) (survives : Survives mid new (λ db. db ≡ mid.now.trees)) where
+  module _ (means : IsTrue old.is_open → Becomes (content_at old) (change (content_at old)))
+      (b : Begun old mid true change) (survives : Survives mid new (λ db. db ≡ mid.now.trees)) where
     early : HasCleanDisk new → HasCleanDisk mid
     early clean = omega (arith, clean, survives.clean)
 
-    after : HasCleanDisk new → (db : Trees) → db ≡ mid.now.trees → IsTrue old.is_open → Becomes (content_at old) (content_in db)
-    after clean db is was = subst (Becomes (content_at old)) (sym (ap content_in is ∙ (b.made refl (early clean) was).is)) (means was)
+    after : HasCleanDisk new → (db : Trees) → db ≡ mid.now.trees → IsTrue old.is_open
+        → Becomes (content_at old) (content_in db)
+    after clean db is was =
+        subst (Becomes (content_at old))
+        (sym (ap content_in is ∙ (b.made refl (early clean) was).is)) (means was)
 
-    all_survives : Survives old new (λ db. IsTrue old.is_open → Becomes (content_at old) (content_in db))
-    all_survives = survives_then old mid new _ _ _ (λ clean db none. absurd none) after b.survives survives
+    all_survives : Survives old new (λ db. IsTrue old.is_open
+        → Becomes (content_at old) (content_in db))
+    all_survives = survives_then old mid new _ _ _ (λ clean db none. absurd none) after b.survives
+        survives
 
     -- it did not commit
-    pub uncommitted : (e : Error) → (HasCleanDisk new → FailsToCommit mid new e) → Turned old new false Becomes
-    uncommitted e fails = unturned false _ refl (λ up. go up (fails (clean_of up))) all_survives (λ clean db h. h)
+    pub uncommitted : (e : Error) → (HasCleanDisk new → FailsToCommit mid new e)
+        → Turned old new false Becomes
+    uncommitted e fails = unturned false _ refl (λ up. go up (fails (clean_of up))) all_survives
+        (λ clean db h. h)
       where
         go : IsTrue new.is_open → FailsToCommit mid new e → IsSame old new
         go up (inl it) = undone true b it.3 up
         go up (inr it) =
             let k = b.kept it.2.0.was_open in
-            absurd (true≢false (let inside : mid.in_transaction ≡ true = (b.made refl (early (clean_of up)) k.was_open).inside.inside in sym inside ∙ it.1))
+            absurd (true≢false (let inside : mid.in_transaction ≡ true =
+            (b.made refl (early (clean_of up)) k.was_open).inside.inside in sym inside ∙ it.1))
 
     -- it committed
-    pub committed : (HasCleanDisk new → Shows mid new mid.now mid.now false) → Turned old new true Becomes
+    pub committed : (HasCleanDisk new → Shows mid new mid.now mid.now false)
+        → Turned old new true Becomes
     committed ok = record {
-      becomes = λ _ up. let s = ok (clean_of up) in after (clean_of up) new.now.trees (ap (λ (d : Database). d.trees) s.now_is) (b.kept s.was_open).was_open;
+      becomes = λ _ up. let s = ok (clean_of up) in
+          after (clean_of up) new.now.trees (ap (λ (d : Database). d.trees) s.now_is)
+          (b.kept s.was_open).was_open;
       same = λ no. absurd (true≢false (sym no));
       was_open = λ up. (b.kept (ok (clean_of up)).was_open).was_open;
       honest = λ done. omega (arith, done, all_survives.clean);
@@ -422,14 +639,26 @@ looked_still a is_open = record {
   same = λ up. record { was_open = up; now = refl; committed = refl };
   honest = λ done. done;
   stays = λ ok done. is_open done;
-  survives = record { clean = omega arith; shield = λ s. s; counts = omega arith; limit = refl; closes = λ clean h. inl h; crash = λ clean db may. inl may };
+  survives = record {
+    clean = omega arith;
+    shield = λ s. s;
+    counts = omega arith;
+    limit = refl;
+    closes = λ clean h. inl h;
+    crash = λ clean db may. inl may;
+  };
 }
 
 -- ---- a read, and then a commit
 
-module _ (a b d : State) (Turns Becomes : Content → Content → Type 0) (one : Looked a b true) (means : IsTrue b.is_open → (after : Content) → Turns (content_at b) after → Becomes (content_at b) after) where
-  from_first : IsTrue b.is_open → (after : Content) → Turns (content_at b) after → Becomes (content_at a) after
-  from_first was after h = subst (λ (db : Database). Becomes (content_in db.trees) after) (one.same was).now (means was after h)
+module _ (a b d : State) (Turns Becomes : Content → Content → Type 0) (one : Looked a b true)
+    (means : IsTrue b.is_open → (after : Content) → Turns (content_at b) after
+    → Becomes (content_at b) after) where
+  from_first : IsTrue b.is_open → (after : Content) → Turns (content_at b) after
+      → Becomes (content_at a) after
+  from_first was after h =
+      subst (λ (db : Database). Becomes (content_in db.trees) after) (one.same was).now
+      (means was after h)
 
   pub looked_turned : (done : Bool) → Turned b d done Turns → Turned a d done Becomes
   looked_turned done two = record {
@@ -437,12 +666,18 @@ module _ (a b d : State) (Turns Becomes : Content → Content → Type 0) (one :
     same = λ no up.
         let later = two.same no up in
         let sooner = one.same later.was_open in
-        record { was_open = sooner.was_open; now = later.now ∙ sooner.now; committed = later.committed ∙ sooner.committed };
+        record {
+          was_open = sooner.was_open;
+          now = later.now ∙ sooner.now;
+          committed = later.committed ∙ sooner.committed;
+        };
     was_open = λ up. (one.same (two.was_open up)).was_open;
     honest = λ done. one.honest (two.honest done);
     stays = λ ok was clean. two.stays ok (one.stays refl (two.honest clean)) clean;
     ours = two.ours;
-    crash = survives_then a b d _ _ _ (λ clean db none. absurd none) (λ clean db h was. let up = one.stays refl (two.honest clean) in from_first up (content_in db) (h up)) one.survives two.crash;
+    crash = survives_then a b d _ _ _ (λ clean db none. absurd none) (λ clean db h was. let up =
+        one.stays refl (two.honest clean) in from_first up (content_in db) (h up)) one.survives
+        two.crash;
   }
 
   -- the read was answered, so that the connection was open
@@ -451,11 +686,15 @@ module _ (a b d : State) (Turns Becomes : Content → Content → Type 0) (one :
       let up = one.stays refl (two.honest clean) in
       elim (two.crash.crash clean db may) [
         | inr made ↦ inr (from_first up (content_in db) (made up))
-        | inl was ↦ elim (one.survives.crash (two.honest clean) db was) [ inl sooner ↦ inl sooner | inr none ↦ absurd none ]
+        | inl was ↦ elim (one.survives.crash (two.honest clean) db was) [
+          | inl sooner ↦ inl sooner
+          | inr none ↦ absurd none
+        ]
       ]
 
 -- a read that failed: nothing is committed
-pub looked_unturned : (a b : State) (Becomes : Content → Content → Type 0) → (IsTrue a.is_open → IsOurs a) → Looked a b false → Turned a b false Becomes
+pub looked_unturned : (a b : State) (Becomes : Content → Content → Type 0)
+    → (IsTrue a.is_open → IsOurs a) → Looked a b false → Turned a b false Becomes
 looked_unturned a b Becomes ours one = record {
   becomes = λ no. absurd (true≢false (sym no));
   same = λ _. one.same;
@@ -467,5 +706,7 @@ looked_unturned a b Becomes ours one = record {
 }
 
 -- nor may a crash leave more
-pub unread_leaves : (a b : State) (Becomes : Content → Content → Type 0) → Looked a b false → CommitLeaves a b Becomes
-unread_leaves a b Becomes one clean db may = elim (one.survives.crash clean db may) [ inl was ↦ inl was | inr none ↦ absurd none ]
+pub unread_leaves : (a b : State) (Becomes : Content → Content → Type 0) → Looked a b false
+    → CommitLeaves a b Becomes
+unread_leaves a b Becomes one clean db may =
+    elim (one.survives.crash clean db may) [ inl was ↦ inl was | inr none ↦ absurd none ]

@@ -51,34 +51,87 @@ module _ (db : Trees) (none : IsEmpty db) where
   empty_old_shaped : (f : Form) → AreOldShaped f db
   empty_old_shaped First = (
     empty_at 0 (omega arith),
-    (empty_at 2 (omega arith), (empty_at 3 (omega arith), (empty_at 4 (omega arith), (empty_at 5 (omega arith), (empty_at 8 (omega arith), (empty_at 10 (omega arith), (empty_at 12 (omega arith), tt))))))),
+    (
+      empty_at 2 (omega arith),
+      (
+        empty_at 3 (omega arith),
+        (
+          empty_at 4 (omega arith),
+          (
+            empty_at 5 (omega arith),
+            (
+              empty_at 8 (omega arith),
+              (empty_at 10 (omega arith), (empty_at 12 (omega arith), tt)),
+            ),
+          ),
+        ),
+      ),
+    ),
   )
   empty_old_shaped Modify = (
     empty_at 0 (omega arith),
-    (empty_at 2 (omega arith), (empty_at 3 (omega arith), (empty_at 4 (omega arith), (empty_at 5 (omega arith), (empty_at 8 (omega arith), (empty_at 10 (omega arith), (empty_at 12 (omega arith), (empty_at 16 (omega arith), tt)))))))),
+    (
+      empty_at 2 (omega arith),
+      (
+        empty_at 3 (omega arith),
+        (
+          empty_at 4 (omega arith),
+          (
+            empty_at 5 (omega arith),
+            (
+              empty_at 8 (omega arith),
+              (
+                empty_at 10 (omega arith),
+                (empty_at 12 (omega arith), (empty_at 16 (omega arith), tt)),
+              ),
+            ),
+          ),
+        ),
+      ),
+    ),
   )
 
 -- the laws of a store hold of what was found in a file
 module _ (image : Image) (v : View) where
-  by_laws : (A : Type 0) → IsProp A → AreFoundIn image v.trees → (IsEmpty v.trees → A) → ((w : View) → w.trees ≡ v.trees → IsListed (w.trees catalog_tree) w.shape w.reals → IsOrdered w.shape w.trees → A) → A
+  by_laws : (A : Type 0) → IsProp A → AreFoundIn image v.trees → (IsEmpty v.trees → A)
+      → ((w : View) → w.trees ≡ v.trees → IsListed (w.trees catalog_tree) w.shape w.reals
+      → IsOrdered w.shape w.trees → A) → A
   by_laws A prop (inr nothing) empty listed = empty nothing.1
   by_laws A prop (inl found) empty listed = ∥∥₁_elim found.4 prop (λ ours.
       let size = found.0 in
       let pages = found.1 in
       let wanted = found.2 in
-      let ordered : IsOrdered (all_shapes wanted) v.trees = subst (IsOrdered (all_shapes wanted)) (sym found.5) (all_ordered ours.file.db (version_in pages)) in
-      let rows : v.trees catalog_tree ≡ listed_from 0 wanted = ap (λ (t : Trees). t catalog_tree) found.5 ∙ catalog_rows size wanted (in_use size pages) in
-      let lists : IsListed (v.trees catalog_tree) (all_shapes wanted) (all_reals wanted) = subst (λ l. IsListed l (all_shapes wanted) (all_reals wanted)) (sym rows) (is_listed wanted) in
+      let ordered : IsOrdered (all_shapes wanted) v.trees =
+      subst (IsOrdered (all_shapes wanted)) (sym found.5)
+      (all_ordered ours.file.db (version_in pages)) in
+      let rows : v.trees catalog_tree ≡ listed_from 0 wanted =
+      ap (λ (t : Trees). t catalog_tree) found.5 ∙ catalog_rows size wanted (in_use size pages) in
+      let lists : IsListed (v.trees catalog_tree) (all_shapes wanted) (all_reals wanted) =
+      subst (λ l. IsListed l (all_shapes wanted) (all_reals wanted)) (sym rows)
+      (is_listed wanted) in
       listed (record v { shape = all_shapes wanted; reals = all_reals wanted }) refl lists ordered)
 
   shaped_in : AreFoundIn image v.trees → IsSound the_schema v.trees → AreShaped v.trees
-  shaped_in found sound = by_laws (AreShaped v.trees) (AreShaped-prop v.trees) found (empty_shaped v.trees) (λ w same listed ordered. subst AreShaped same (shaped_by_laws w listed ordered (subst (IsSound the_schema) (sym same) sound)))
+  shaped_in found sound =
+      by_laws (AreShaped v.trees) (AreShaped-prop v.trees) found (empty_shaped v.trees)
+      (λ w same listed ordered. subst AreShaped same (shaped_by_laws w listed ordered
+      (subst (IsSound the_schema) (sym same) sound)))
 
-  old_shaped_in : (f : Form) → AreFoundIn image v.trees → IsSound (schema_of f) v.trees → AreOldShaped f v.trees
-  old_shaped_in f found sound = by_laws (AreOldShaped f v.trees) (AreOldShaped-prop f v.trees) found (λ none. empty_old_shaped v.trees none f) (λ w same listed ordered. subst (AreOldShaped f) same (old_shaped_by_laws f w listed ordered (subst (IsSound (schema_of f)) (sym same) sound)))
+  old_shaped_in : (f : Form) → AreFoundIn image v.trees → IsSound (schema_of f) v.trees
+      → AreOldShaped f v.trees
+  old_shaped_in f found sound = by_laws (AreOldShaped f v.trees) (AreOldShaped-prop f v.trees) found
+      (λ none. empty_old_shaped v.trees none f) (λ w same listed ordered. subst (AreOldShaped f)
+      same (old_shaped_by_laws f w listed ordered (subst (IsSound (schema_of f)) (sym same) sound)))
 
 -- what was found in files is in order
-pub found_shaped : {D : Type 0} {g : Ghosts D} (image : Image) (c : Held (FileStore D g)) → IsOpened c → AreFoundIn image (file_state c).committed.trees → WasOpened (file_state c)
+pub found_shaped : {D : Type 0} {g : Ghosts D} (image : Image) (c : Held (FileStore D g))
+    → IsOpened c → AreFoundIn image (file_state c).committed.trees → WasOpened (file_state c)
 found_shaped image c opened found =
-    let here : AreFoundIn image (view c.store).trees = subst (AreFoundIn image) (sym (ap (λ (d : Database). d.trees) opened.0.clean)) found in
-    record { opens = opened.0; live = opened.1; shaped = shaped_in image (view c.store) here; old_shaped = λ f. old_shaped_in image (view c.store) f here }
+    let here : AreFoundIn image (view c.store).trees =
+    subst (AreFoundIn image) (sym (ap (λ (d : Database). d.trees) opened.0.clean)) found in
+    record {
+      opens = opened.0;
+      live = opened.1;
+      shaped = shaped_in image (view c.store) here;
+      old_shaped = λ f. old_shaped_in image (view c.store) f here;
+    }

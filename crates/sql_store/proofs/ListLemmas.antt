@@ -29,12 +29,14 @@ use Rattle.sql_rows.proofs.QueryLemmas.{map_twice}
 use Rattle.sql_rows.proofs.SortedLists.{by_key, entries_rise, entry_has, has_entry, never_both, same_sorted}
 use Rattle.sql_store.specs.Lists.{download_of}
 
-pub sorted_map : {X Y : Type 0} (f : X → Y) (D : Y → Y → Ordering) (xs : List X) → IsStrictlySortedBy (λ a b. D (f a) (f b)) xs → IsStrictlySortedBy D (map f xs)
+pub sorted_map : {X Y : Type 0} (f : X → Y) (D : Y → Y → Ordering) (xs : List X)
+    → IsStrictlySortedBy (λ a b. D (f a) (f b)) xs → IsStrictlySortedBy D (map f xs)
 unfolding IsStrictlySortedBy
 sorted_map f D [] up = tt
 sorted_map {X} f D (x ∷ xs) up = (above xs up.0, sorted_map f D xs up.1)
   where
-    above : (ys : List X) → AllByRecursion (λ y. D (f x) (f y) ≡ Less) ys → AllByRecursion (λ z. D (f x) z ≡ Less) (map f ys)
+    above : (ys : List X) → AllByRecursion (λ y. D (f x) (f y) ≡ Less) ys
+        → AllByRecursion (λ z. D (f x) z ≡ Less) (map f ys)
     above [] all = tt
     above (y ∷ ys) all = (all.0, above ys all.1)
 
@@ -49,9 +51,13 @@ filter_true [] = refl
 filter_true (x ∷ xs) = ap (λ l. x ∷ l) (filter_true xs)
 
 -- the items that were found, in order, are the entries that pass the test
-module _ {T K V : Type 0} {R : K → K → Ordering} (o : IsTotalOrder R) (exact : IsAntisymmetric R) (seen : T → K × V) (m : FinMap R V) (P : K → V → Type 0) (test : K × V → Bool) where
-  pub entries_are : ((k : K) (v : V) → (P k v → test (k, v) ≡ true) × (test (k, v) ≡ true → P k v)) → (found items : List T) → Picks seen m P found
-      → IsStrictlySortedBy (λ a b. R (seen a).0 (seen b).0) items → ((x : T) → Has items x → Has found x) → ((x : T) → Has found x → (y : T) × Has items y × (seen y ≡ seen x)) → map seen items ≡ filter test (entries m)
+module _ {T K V : Type 0} {R : K → K → Ordering} (o : IsTotalOrder R) (exact : IsAntisymmetric R)
+    (seen : T → K × V) (m : FinMap R V) (P : K → V → Type 0) (test : K × V → Bool) where
+  pub entries_are : ((k : K) (v : V) → (P k v → test (k, v) ≡ true) × (test (k, v) ≡ true → P k v))
+      → (found items : List T) → Picks seen m P found
+      → IsStrictlySortedBy (λ a b. R (seen a).0 (seen b).0) items
+      → ((x : T) → Has items x → Has found x) → ((x : T) → Has found x → (y : T) × Has items y
+      × (seen y ≡ seen x)) → map seen items ≡ filter test (entries m)
   entries_are says found items picks rises only each =
       same_sorted (by_key o exact) (never_both o exact) (map seen items) (filter test (entries m))
       (sorted_map seen (by_key o exact) items rises)
@@ -60,7 +66,8 @@ module _ {T K V : Type 0} {R : K → K → Ordering} (o : IsTotalOrder R) (exact
       let x = from_mapped seen items e at in
       let it = picks.only x.0 (only x.0 x.1) in
       subst (Has (filter test (entries m))) (sym x.2)
-      (has_kept test (entries m) (seen x.0) (entry_has o exact m (seen x.0).0 (seen x.0).1 it.0) ((says (seen x.0).0 (seen x.0).1).0 it.1)))
+      (has_kept test (entries m) (seen x.0) (entry_has o exact m (seen x.0).0 (seen x.0).1 it.0)
+      ((says (seen x.0).0 (seen x.0).1).0 it.1)))
       (λ e at.
       let f = has_filtered test (entries m) e at in
       let x = picks.each e.0 e.1 (has_entry o exact m e.0 e.1 f.0) ((says e.0 e.1).1 f.1) in
@@ -69,56 +76,98 @@ module _ {T K V : Type 0} {R : K → K → Ordering} (o : IsTotalOrder R) (exact
 
 -- ---- carriers
 
-pub carriers_are : (c : Content) (found items : List Spid) → Picks carrier_seen c.carriers (λ k v. Unit {0}) found → IsStrictlySortedBy (on spid_of nat_cmp) items
-    → ((x : Spid) → Has items x → Has found x) → ((x : Spid) → Has found x → (y : Spid) × Has items y × (on spid_of nat_cmp x y ≡ Equal)) → AreCarriers c items
+pub carriers_are : (c : Content) (found items : List Spid)
+    → Picks carrier_seen c.carriers (λ k v. Unit {0}) found
+    → IsStrictlySortedBy (on spid_of nat_cmp) items
+    → ((x : Spid) → Has items x → Has found x)
+    → ((x : Spid) → Has found x → (y : Spid) × Has items y × (on spid_of nat_cmp x y ≡ Equal))
+    → AreCarriers c items
 carriers_are c found items picks rises only each =
-    let all = entries_are nat_cmp_total nat_cmp-IsAntisymmetric carrier_seen c.carriers (λ k v. Unit {0}) (λ e. true) (λ k v. (λ h. refl, λ h. tt)) found items picks rises only
-    (λ x at. let y = each x at in (y.0, y.1, ap (λ k. (k, tt)) (sym (nat_cmp-IsAntisymmetric x.number y.0.number y.2))))
+    let all = entries_are nat_cmp_total nat_cmp-IsAntisymmetric carrier_seen c.carriers
+    (λ k v. Unit {0}) (λ e. true) (λ k v. (λ h. refl, λ h. tt)) found items picks rises only
+    (λ x at. let y = each x at in (
+      y.0,
+      y.1,
+      ap (λ k. (k, tt)) (sym (nat_cmp-IsAntisymmetric x.number y.0.number y.2)),
+    ))
     in
-    sym (map_twice (λ (e : ℕ × Unit {0}). e.0) carrier_seen items) ∙ ap (map (λ (e : ℕ × Unit {0}). e.0)) (all ∙ filter_true (entries c.carriers))
+    sym (map_twice (λ (e : ℕ × Unit {0}). e.0) carrier_seen items)
+    ∙ ap (map (λ (e : ℕ × Unit {0}). e.0)) (all ∙ filter_true (entries c.carriers))
 
 -- ---- what waits for a carrier
 
-pub download_tie : (a b : DownloadKey) → download_cmp a b ≡ Equal → (a.minute.number ≡ b.minute.number) × (a.id ≡ b.id) × (a.attempt ≡ b.attempt)
+pub download_tie : (a b : DownloadKey) → download_cmp a b ≡ Equal
+    → (a.minute.number ≡ b.minute.number) × (a.id ≡ b.id) × (a.attempt ≡ b.attempt)
 download_tie a b e =
-    let p = both_Equal (nat_cmp a.minute.number b.minute.number) (ordering_then (nat_cmp a.id b.id) (nat_cmp a.attempt b.attempt)) e in
-    let q = both_Equal (nat_cmp a.id b.id) (nat_cmp a.attempt b.attempt) p.1 in
-    (nat_cmp-IsAntisymmetric _ _ p.0, nat_cmp-IsAntisymmetric _ _ q.0, nat_cmp-IsAntisymmetric _ _ q.1)
+    let p = both_Equal (nat_cmp a.minute.number b.minute.number) (ordering_then (nat_cmp a.id b.id)
+    (nat_cmp a.attempt b.attempt)) e in
+    let q = both_Equal (nat_cmp a.id b.id) (nat_cmp a.attempt b.attempt) p.1 in (
+      nat_cmp-IsAntisymmetric _ _ p.0,
+      nat_cmp-IsAntisymmetric _ _ q.0,
+      nat_cmp-IsAntisymmetric _ _ q.1,
+    )
 
 abbrev key_at : ℕ → (minute id attempt : ℕ) → WaitKey
-key_at carrier minute id attempt = record { carrier = carrier; minute = minute; id = id; attempt = attempt }
+key_at carrier minute id attempt = record {
+  carrier = carrier;
+  minute = minute;
+  id = id;
+  attempt = attempt;
+}
 
-pub about_are : (c : Content) (spid : ℕ) (s : Subject) (found : List KeyedWait) (items : List DownloadKey) → Picks wait_seen c.waits (λ k v. (k.carrier ≡ spid) × (v ≡ s)) found → IsStrictlySortedBy download_cmp items
-    → ((x : DownloadKey) → Has items x → Has (map download_of found) x) → ((x : DownloadKey) → Has (map download_of found) x → (y : DownloadKey) × Has items y × (download_cmp x y ≡ Equal)) → AreWaitsAbout c spid s items
+pub about_are : (c : Content) (spid : ℕ) (s : Subject) (found : List KeyedWait)
+    (items : List DownloadKey) → Picks wait_seen c.waits (λ k v. (k.carrier ≡ spid) × (v ≡ s)) found
+    → IsStrictlySortedBy download_cmp items
+    → ((x : DownloadKey) → Has items x → Has (map download_of found) x)
+    → ((x : DownloadKey) → Has (map download_of found) x → (y : DownloadKey) × Has items y
+    × (download_cmp x y ≡ Equal)) → AreWaitsAbout c spid s items
 about_are c spid s found items picks rises only each = record {
   each = λ minute id attempt waits.
       let w = picks.each (key_at spid minute id attempt) s waits (refl, refl) in
       let y = each (download_of w.0) (has_mapped download_of found w.0 w.1) in
       let t = download_tie (download_of w.0) y.0 y.2 in
-      let key = ap (λ (e : WaitKey × Subject). e.0) w.2 in
-      (y.0, contains_had items y.0 y.1, sym t.0 ∙ ap (λ (k : WaitKey). k.minute) key, sym t.1 ∙ ap (λ (k : WaitKey). k.id) key, sym t.2 ∙ ap (λ (k : WaitKey). k.attempt) key);
-  only = all_there (λ (d : DownloadKey). IsWaiting c spid s d.minute.number d.id d.attempt) items (λ d at.
+      let key = ap (λ (e : WaitKey × Subject). e.0) w.2 in (
+        y.0,
+        contains_had items y.0 y.1,
+        sym t.0 ∙ ap (λ (k : WaitKey). k.minute) key,
+        sym t.1 ∙ ap (λ (k : WaitKey). k.id) key,
+        sym t.2 ∙ ap (λ (k : WaitKey). k.attempt) key,
+      );
+  only = all_there (λ (d : DownloadKey). IsWaiting c spid s d.minute.number d.id d.attempt) items
+      (λ d at.
       let w = from_mapped download_of found d (only d at) in
       let it = picks.only w.0 w.1 in
       subst (λ (d : DownloadKey). IsWaiting c spid s d.minute.number d.id d.attempt) (sym w.2)
-      (ap (λ k. get c.waits (key_at k w.0.key.minute.number w.0.key.id w.0.key.attempt)) (sym it.1.0) ∙ it.0 ∙ ap Some it.1.1));
+      (ap (λ k. get c.waits (key_at k w.0.key.minute.number w.0.key.id w.0.key.attempt))
+      (sym it.1.0) ∙ it.0 ∙ ap Some it.1.1));
   rises = rises;
 }
 
 abbrev pub subject_in_wait : KeyedWait → SubjectCode
 subject_in_wait w = w.subject
 
-pub awaited_are : (c : Content) (spid : ℕ) (found : List KeyedWait) (items : List SubjectCode) → Picks wait_seen c.waits (λ k v. k.carrier ≡ spid) found → IsStrictlySortedBy (on key_of nat_cmp) items
-    → ((x : SubjectCode) → Has items x → Has (map subject_in_wait found) x) → ((x : SubjectCode) → Has (map subject_in_wait found) x → (y : SubjectCode) × Has items y × (on key_of nat_cmp x y ≡ Equal)) → AreAwaited c spid items
+pub awaited_are : (c : Content) (spid : ℕ) (found : List KeyedWait) (items : List SubjectCode)
+    → Picks wait_seen c.waits (λ k v. k.carrier ≡ spid) found
+    → IsStrictlySortedBy (on key_of nat_cmp) items
+    → ((x : SubjectCode) → Has items x → Has (map subject_in_wait found) x)
+    → ((x : SubjectCode) → Has (map subject_in_wait found) x → (y : SubjectCode) × Has items y
+    × (on key_of nat_cmp x y ≡ Equal)) → AreAwaited c spid items
 awaited_are c spid found items picks rises only each = record {
   each = λ s awaited.
       let w = picks.each (key_at spid awaited.0 awaited.1 awaited.2) s awaited.3 refl in
       let y = each w.0.subject (has_mapped subject_in_wait found w.0 w.1) in
-      let same : subject_of w.0.subject ≡ subject_of y.0 = subject_key-exact (subject_of w.0.subject) (subject_of y.0) (nat_cmp-IsAntisymmetric _ _ y.2) in
+      let same : subject_of w.0.subject ≡ subject_of y.0 =
+      subject_key-exact (subject_of w.0.subject) (subject_of y.0)
+      (nat_cmp-IsAntisymmetric _ _ y.2) in
       (y.0, contains_had items y.0 y.1, sym same ∙ ap (λ (e : WaitKey × Subject). e.1) w.2);
   only = all_there (λ x. IsAwaitedBy c spid (subject_of x)) items (λ x at.
       let w = from_mapped subject_in_wait found x (only x at) in
-      let it = picks.only w.0 w.1 in
-      (w.0.key.minute.number, w.0.key.id, w.0.key.attempt, ap (λ k. get c.waits (key_at k w.0.key.minute.number w.0.key.id w.0.key.attempt)) (sym it.1) ∙ it.0 ∙ ap (λ s. Some (subject_of s)) (sym w.2)));
+      let it = picks.only w.0 w.1 in (
+        w.0.key.minute.number,
+        w.0.key.id,
+        w.0.key.attempt,
+        ap (λ k. get c.waits (key_at k w.0.key.minute.number w.0.key.id w.0.key.attempt)) (sym it.1)
+            ∙ it.0 ∙ ap (λ s. Some (subject_of s)) (sym w.2),
+      ));
   rises = rises;
 }

@@ -15,19 +15,33 @@ use Rattle.sql_rows.proofs.PutLemmas.{Became}
 use Rattle.sql_store.specs.Store.{content_at, Makes, Writes}
 use Rattle.sql_store.proofs.CallLemmas.{makes}
 
-pub two_bound : (r s : ValueRef) (v w : Value) → bound_value v ≡ v → bound_value w ≡ w → owned r ≡ v → owned s ≡ w → bound (r ∷ s ∷ []) ≡ v ∷ w ∷ []
-two_bound r s v w plain also one two = ap (λ x. bound_value x ∷ bound_value (owned s) ∷ []) one ∙ ap (λ x. bound_value v ∷ bound_value x ∷ []) two ∙ ap (λ x. x ∷ bound_value w ∷ []) plain ∙ ap (λ x. v ∷ x ∷ []) also
+pub two_bound : (r s : ValueRef) (v w : Value) → bound_value v ≡ v → bound_value w ≡ w → owned r ≡ v
+    → owned s ≡ w → bound (r ∷ s ∷ []) ≡ v ∷ w ∷ []
+two_bound r s v w plain also one two = ap (λ x. bound_value x ∷ bound_value (owned s) ∷ []) one
+    ∙ ap (λ x. bound_value v ∷ bound_value x ∷ []) two ∙ ap (λ x. x ∷ bound_value w ∷ []) plain
+    ∙ ap (λ x. v ∷ x ∷ []) also
 
 module _ (a b : State) where
-  pub failed : (Did : Database → Database → Type 0) (change : Content → Content) → Writes a b false Did → Makes a b false change
-  failed Did change it = record { made = λ bad. absurd (true≢false (sym bad)); kept = it.kept; survives = it.survives }
+  pub failed : (Did : Database → Database → Type 0) (change : Content → Content)
+      → Writes a b false Did → Makes a b false change
+  failed Did change it = record {
+    made = λ bad. absurd (true≢false (sym bad));
+    kept = it.kept;
+    survives = it.survives;
+  }
 
-  pub put_made : (t : Table) (key given_key row given : Row) (change : Content → Content) → given_key ≡ key → given ≡ row → Writes a b true (Replaced t given_key given)
-      → (AreShaped a.now.trees → Replaced t key row a.now b.now → Became b.now (change (content_at a))) → Makes a b true change
+  pub put_made : (t : Table) (key given_key row given : Row) (change : Content → Content)
+      → given_key ≡ key → given ≡ row → Writes a b true (Replaced t given_key given)
+      → (AreShaped a.now.trees → Replaced t key row a.now b.now
+      → Became b.now (change (content_at a))) → Makes a b true change
   put_made t key given_key row given change is also it means =
-      makes a b true (Replaced t key row) change (subst₂ (λ k r. Writes a b true (Replaced t k r)) is also it) (λ inside did. let m = means inside.shaped did in (m.schema, m.shaped, m.is))
+      makes a b true (Replaced t key row) change (subst₂ (λ k r. Writes a b true (Replaced t k r))
+      is also it) (λ inside did. let m = means inside.shaped did in (m.schema, m.shaped, m.is))
 
-  pub take_made : (t : Table) (key given_key : Row) (change : Content → Content) → given_key ≡ key → Writes a b true (Removed t given_key)
-      → (AreShaped a.now.trees → Removed t key a.now b.now → Became b.now (change (content_at a))) → Makes a b true change
+  pub take_made : (t : Table) (key given_key : Row) (change : Content → Content) → given_key ≡ key
+      → Writes a b true (Removed t given_key)
+      → (AreShaped a.now.trees → Removed t key a.now b.now → Became b.now (change (content_at a)))
+      → Makes a b true change
   take_made t key given_key change is it means =
-      makes a b true (Removed t key) change (subst (λ k. Writes a b true (Removed t k)) is it) (λ inside did. let m = means inside.shaped did in (m.schema, m.shaped, m.is))
+      makes a b true (Removed t key) change (subst (λ k. Writes a b true (Removed t k)) is it)
+      (λ inside did. let m = means inside.shaped did in (m.schema, m.shaped, m.is))

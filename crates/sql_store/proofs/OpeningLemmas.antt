@@ -46,41 +46,119 @@ use Rattle.sql_store.specs.Moving.{AreOldShaped, IsMovedFrom, IsOfForm, of_earli
 use Rattle.sql_store.specs.Store.{IsOurs}
 
 -- the laws of a store that is not broken give the shape of each table
-pub shaped_by_laws : (v : View) → IsListed (v.trees catalog_tree) v.shape v.reals → IsOrdered v.shape v.trees → IsSound the_schema v.trees → AreShaped v.trees
+pub shaped_by_laws : (v : View) → IsListed (v.trees catalog_tree) v.shape v.reals
+    → IsOrdered v.shape v.trees → IsSound the_schema v.trees → AreShaped v.trees
 shaped_by_laws v listed ordered sound = shaped
   where
     shaped : AreShaped v.trees
-    shaped Carrier = subst (λ s. IsShaped s (v.trees 0)) (laid_out listed (objects_rise v listed ordered) sound.lists.listed).tables.0 (ordered 0)
-    shaped Lrn = subst (λ s. IsShaped s (v.trees 2)) (laid_out listed (objects_rise v listed ordered) sound.lists.listed).tables.1.0 (ordered 2)
-    shaped Code = subst (λ s. IsShaped s (v.trees 3)) (laid_out listed (objects_rise v listed ordered) sound.lists.listed).tables.1.1.0 (ordered 3)
-    shaped Block = subst (λ s. IsShaped s (v.trees 4)) (laid_out listed (objects_rise v listed ordered) sound.lists.listed).tables.1.1.1.0 (ordered 4)
-    shaped OldVersion = subst (λ s. IsShaped s (v.trees 5)) (laid_out listed (objects_rise v listed ordered) sound.lists.listed).tables.1.1.1.1.0 (ordered 5)
-    shaped Broadcast = subst (λ s. IsShaped s (v.trees 8)) (laid_out listed (objects_rise v listed ordered) sound.lists.listed).tables.1.1.1.1.1.0 (ordered 8)
-    shaped Wait = subst (λ s. IsShaped s (v.trees 10)) (laid_out listed (objects_rise v listed ordered) sound.lists.listed).tables.1.1.1.1.1.1.0 (ordered 10)
-    shaped OldClock = subst (λ s. IsShaped s (v.trees 12)) (laid_out listed (objects_rise v listed ordered) sound.lists.listed).tables.1.1.1.1.1.1.1.0 (ordered 12)
-    shaped NextRouting = subst (λ s. IsShaped s (v.trees 16)) (laid_out listed (objects_rise v listed ordered) sound.lists.listed).tables.1.1.1.1.1.1.1.1.0 (ordered 16)
-    shaped WindowSet = subst (λ s. IsShaped s (v.trees 17)) (laid_out listed (objects_rise v listed ordered) sound.lists.listed).tables.1.1.1.1.1.1.1.1.1.0 (ordered 17)
-    shaped Version = subst (λ s. IsShaped s (v.trees 18)) (laid_out listed (objects_rise v listed ordered) sound.lists.listed).tables.1.1.1.1.1.1.1.1.1.1.0 (ordered 18)
-    shaped Clock = subst (λ s. IsShaped s (v.trees 21)) (laid_out listed (objects_rise v listed ordered) sound.lists.listed).tables.1.1.1.1.1.1.1.1.1.1.1.0 (ordered 21)
+    shaped Carrier =
+        subst (λ s. IsShaped s (v.trees 0)) (laid_out listed (objects_rise v listed ordered)
+        sound.lists.listed).tables.0 (ordered 0)
+    shaped Lrn =
+        subst (λ s. IsShaped s (v.trees 2)) (laid_out listed (objects_rise v listed ordered)
+        sound.lists.listed).tables.1.0 (ordered 2)
+    shaped Code =
+        subst (λ s. IsShaped s (v.trees 3)) (laid_out listed (objects_rise v listed ordered)
+        sound.lists.listed).tables.1.1.0 (ordered 3)
+    shaped Block =
+        subst (λ s. IsShaped s (v.trees 4)) (laid_out listed (objects_rise v listed ordered)
+        sound.lists.listed).tables.1.1.1.0 (ordered 4)
+    shaped OldVersion =
+        subst (λ s. IsShaped s (v.trees 5)) (laid_out listed (objects_rise v listed ordered)
+        sound.lists.listed).tables.1.1.1.1.0 (ordered 5)
+    shaped Broadcast =
+        subst (λ s. IsShaped s (v.trees 8)) (laid_out listed (objects_rise v listed ordered)
+        sound.lists.listed).tables.1.1.1.1.1.0 (ordered 8)
+    shaped Wait =
+        subst (λ s. IsShaped s (v.trees 10)) (laid_out listed (objects_rise v listed ordered)
+        sound.lists.listed).tables.1.1.1.1.1.1.0 (ordered 10)
+    shaped OldClock =
+        subst (λ s. IsShaped s (v.trees 12)) (laid_out listed (objects_rise v listed ordered)
+        sound.lists.listed).tables.1.1.1.1.1.1.1.0 (ordered 12)
+    shaped NextRouting =
+        subst (λ s. IsShaped s (v.trees 16)) (laid_out listed (objects_rise v listed ordered)
+        sound.lists.listed).tables.1.1.1.1.1.1.1.1.0 (ordered 16)
+    shaped WindowSet =
+        subst (λ s. IsShaped s (v.trees 17)) (laid_out listed (objects_rise v listed ordered)
+        sound.lists.listed).tables.1.1.1.1.1.1.1.1.1.0 (ordered 17)
+    shaped Version =
+        subst (λ s. IsShaped s (v.trees 18)) (laid_out listed (objects_rise v listed ordered)
+        sound.lists.listed).tables.1.1.1.1.1.1.1.1.1.1.0 (ordered 18)
+    shaped Clock =
+        subst (λ s. IsShaped s (v.trees 21)) (laid_out listed (objects_rise v listed ordered)
+        sound.lists.listed).tables.1.1.1.1.1.1.1.1.1.1.1.0 (ordered 21)
 
-pub old_shaped_by_laws : (f : Form) (v : View) → IsListed (v.trees catalog_tree) v.shape v.reals → IsOrdered v.shape v.trees → IsSound (schema_of f) v.trees → AreOldShaped f v.trees
-old_shaped_by_laws First v listed ordered sound = let l = (laid_out listed (objects_rise v listed ordered) sound.lists.listed).tables in (subst (λ s. IsShaped s (v.trees 0)) l.0 (ordered 0), (subst (λ s. IsShaped s (v.trees 2)) l.1.0 (ordered 2), (subst (λ s. IsShaped s (v.trees 3)) l.1.1.0 (ordered 3), (subst (λ s. IsShaped s (v.trees 4)) l.1.1.1.0 (ordered 4), (subst (λ s. IsShaped s (v.trees 5)) l.1.1.1.1.0 (ordered 5), (subst (λ s. IsShaped s (v.trees 8)) l.1.1.1.1.1.0 (ordered 8), (subst (λ s. IsShaped s (v.trees 10)) l.1.1.1.1.1.1.0 (ordered 10), (subst (λ s. IsShaped s (v.trees 12)) l.1.1.1.1.1.1.1.0 (ordered 12), tt))))))))
-old_shaped_by_laws Modify v listed ordered sound = let l = (laid_out listed (objects_rise v listed ordered) sound.lists.listed).tables in (subst (λ s. IsShaped s (v.trees 0)) l.0 (ordered 0), (subst (λ s. IsShaped s (v.trees 2)) l.1.0 (ordered 2), (subst (λ s. IsShaped s (v.trees 3)) l.1.1.0 (ordered 3), (subst (λ s. IsShaped s (v.trees 4)) l.1.1.1.0 (ordered 4), (subst (λ s. IsShaped s (v.trees 5)) l.1.1.1.1.0 (ordered 5), (subst (λ s. IsShaped s (v.trees 8)) l.1.1.1.1.1.0 (ordered 8), (subst (λ s. IsShaped s (v.trees 10)) l.1.1.1.1.1.1.0 (ordered 10), (subst (λ s. IsShaped s (v.trees 12)) l.1.1.1.1.1.1.1.0 (ordered 12), (subst (λ s. IsShaped s (v.trees 16)) l.1.1.1.1.1.1.1.1.0 (ordered 16), tt)))))))))
+pub old_shaped_by_laws : (f : Form) (v : View) → IsListed (v.trees catalog_tree) v.shape v.reals
+    → IsOrdered v.shape v.trees → IsSound (schema_of f) v.trees → AreOldShaped f v.trees
+old_shaped_by_laws First v listed ordered sound = let l =
+    (laid_out listed (objects_rise v listed ordered) sound.lists.listed).tables in (
+      subst (λ s. IsShaped s (v.trees 0)) l.0 (ordered 0),
+      (
+        subst (λ s. IsShaped s (v.trees 2)) l.1.0 (ordered 2),
+        (
+          subst (λ s. IsShaped s (v.trees 3)) l.1.1.0 (ordered 3),
+          (
+            subst (λ s. IsShaped s (v.trees 4)) l.1.1.1.0 (ordered 4),
+            (
+              subst (λ s. IsShaped s (v.trees 5)) l.1.1.1.1.0 (ordered 5),
+              (
+                subst (λ s. IsShaped s (v.trees 8)) l.1.1.1.1.1.0 (ordered 8),
+                (
+                  subst (λ s. IsShaped s (v.trees 10)) l.1.1.1.1.1.1.0 (ordered 10),
+                  (subst (λ s. IsShaped s (v.trees 12)) l.1.1.1.1.1.1.1.0 (ordered 12), tt),
+                ),
+              ),
+            ),
+          ),
+        ),
+      ),
+    )
+old_shaped_by_laws Modify v listed ordered sound = let l =
+    (laid_out listed (objects_rise v listed ordered) sound.lists.listed).tables in (
+      subst (λ s. IsShaped s (v.trees 0)) l.0 (ordered 0),
+      (
+        subst (λ s. IsShaped s (v.trees 2)) l.1.0 (ordered 2),
+        (
+          subst (λ s. IsShaped s (v.trees 3)) l.1.1.0 (ordered 3),
+          (
+            subst (λ s. IsShaped s (v.trees 4)) l.1.1.1.0 (ordered 4),
+            (
+              subst (λ s. IsShaped s (v.trees 5)) l.1.1.1.1.0 (ordered 5),
+              (
+                subst (λ s. IsShaped s (v.trees 8)) l.1.1.1.1.1.0 (ordered 8),
+                (
+                  subst (λ s. IsShaped s (v.trees 10)) l.1.1.1.1.1.1.0 (ordered 10),
+                  (
+                    subst (λ s. IsShaped s (v.trees 12)) l.1.1.1.1.1.1.1.0 (ordered 12),
+                    (subst (λ s. IsShaped s (v.trees 16)) l.1.1.1.1.1.1.1.1.0 (ordered 16), tt),
+                  ),
+                ),
+              ),
+            ),
+          ),
+        ),
+      ),
+    )
 
 pub AreOldShaped-prop : (f : Form) (db : Trees) → IsProp (AreOldShaped f db)
 AreOldShaped-prop f db = each (schema_of f).tables
   where
-    each : (ts : List Table) → IsProp (AllByRecursion (λ (t : Table). IsShaped AsTable (db t.tree)) ts)
+    each : (ts : List Table)
+        → IsProp (AllByRecursion (λ (t : Table). IsShaped AsTable (db t.tree)) ts)
     each [] a b = refl
     each (t ∷ ts) a b = ×_prop (IsShaped-prop AsTable _) (each ts) a b
 
 -- what was opened over a store that is not broken is as an open of files leaves it
-pub was_opened : (v : View) (s : State) → IsListed (v.trees catalog_tree) v.shape v.reals → IsOrdered v.shape v.trees → s.now.trees ≡ v.trees → Opens s → IsLive s → WasOpened s
+pub was_opened : (v : View) (s : State) → IsListed (v.trees catalog_tree) v.shape v.reals
+    → IsOrdered v.shape v.trees → s.now.trees ≡ v.trees → Opens s → IsLive s → WasOpened s
 was_opened v s listed ordered same opens live = record {
   opens = opens;
   live = live;
-  shaped = λ ours. subst AreShaped (sym same) (shaped_by_laws v listed ordered (subst (IsSound the_schema) same ours));
-  old_shaped = λ f old. subst (AreOldShaped f) (sym same) (old_shaped_by_laws f v listed ordered (subst (IsSound (schema_of f)) same old));
+  shaped = λ ours. subst AreShaped (sym same) (shaped_by_laws v listed ordered
+      (subst (IsSound the_schema) same ours));
+  old_shaped =
+      λ f old. subst (AreOldShaped f) (sym same) (old_shaped_by_laws f v listed ordered
+      (subst (IsSound (schema_of f)) same old));
 }
 
 module _ (s : State) (was : WasOpened s) where
@@ -110,7 +188,8 @@ falls old new honest = only_falls old new (λ clean. clean_of old (honest (no_do
 
 -- ---- which tables a database lists
 
-zipped : {A B C : Type 0} (P : A → B → Type 0) (Q : A → C → Type 0) (xs : List A) (ys : List B) (zs : List C) → AllZip P xs ys → AllZip Q xs zs → length ys ≡ length zs
+zipped : {A B C : Type 0} (P : A → B → Type 0) (Q : A → C → Type 0) (xs : List A) (ys : List B)
+    (zs : List C) → AllZip P xs ys → AllZip Q xs zs → length ys ≡ length zs
 zipped P Q [] [] [] a b = refl
 zipped P Q [] [] (z ∷ zs) a b = absurd b
 zipped P Q [] (y ∷ ys) zs a b = absurd a
@@ -119,36 +198,49 @@ zipped P Q (x ∷ xs) (y ∷ ys) [] a b = absurd b
 zipped P Q (x ∷ xs) (y ∷ ys) (z ∷ zs) a b = ap suc (zipped P Q xs ys zs a.1 b.1)
 
 -- all schemas of a database have as many tables
-as_many : (db : Trees) (k l : Schema) → IsSound k db → IsSound l db → length k.tables ≡ length l.tables
-as_many db k l a b = zipped IsTableRow IsTableRow (filter is_table_row (db catalog_tree)) k.tables l.tables a.lists.listed.tables b.lists.listed.tables
+as_many : (db : Trees) (k l : Schema) → IsSound k db → IsSound l db
+    → length k.tables ≡ length l.tables
+as_many db k l a b = zipped IsTableRow IsTableRow (filter is_table_row (db catalog_tree)) k.tables
+    l.tables a.lists.listed.tables b.lists.listed.tables
 
 -- where no object is listed, the schema has none
 unlisted : (k : Schema) → AreListed [] k → k ≡ no_schema
 unlisted k listed = tables k.tables k.indexes k.views listed.tables listed.indexes listed.views
   where
-    tables : (ts : List Table) (is : List Index) (vs : List Stored) → AllZip IsTableRow [] ts → AllZip (IsIndexRow k.tables) [] is → AllZip IsViewRow [] vs → record { tables = ts; indexes = is; views = vs } ≡ no_schema
+    tables : (ts : List Table) (is : List Index) (vs : List Stored) → AllZip IsTableRow [] ts
+        → AllZip (IsIndexRow k.tables) [] is → AllZip IsViewRow [] vs → record {
+          tables = ts;
+          indexes = is;
+          views = vs;
+        } ≡ no_schema
     tables [] [] [] a b c = refl
     tables [] [] (v ∷ vs) a b c = absurd c
     tables [] (i ∷ is) vs a b c = absurd b
     tables (t ∷ ts) is vs a b c = absurd a
 
-pub empty_is_unlisted : (d : Database) → IsDatabase d → d.trees catalog_tree ≡ [] → d.schema ≡ no_schema
-empty_is_unlisted d sound none = unlisted d.schema (subst (λ objects. AreListed objects d.schema) none sound.lists.listed)
+pub empty_is_unlisted : (d : Database) → IsDatabase d → d.trees catalog_tree ≡ []
+    → d.schema ≡ no_schema
+empty_is_unlisted d sound none =
+    unlisted d.schema (subst (λ objects. AreListed objects d.schema) none sound.lists.listed)
 
 -- an open of an empty file finds nothing
-pub empty_finds_none : (image : Image) (s : State) → image.db ≡ [] → FindsIn image s → s.committed.trees catalog_tree ≡ []
+pub empty_finds_none : (image : Image) (s : State) → image.db ≡ [] → FindsIn image s
+    → s.committed.trees catalog_tree ≡ []
 empty_finds_none image s none finds = elim finds.reads [
-  | inl found ↦ absurd (let e = found.3.found.present in let f = ap length none in omega (arith, e, f))
+  | inl found ↦ absurd (let e = found.3.found.present in let f = ap length none in
+      omega (arith, e, f))
   | inr nothing ↦ nothing.1.1
 ]
 
 -- ---- what is taken
 
 module _ (w : Windows) (db now : Trees) where
-  pub taken_new : IsSound no_schema db → content_in now ≡ empty_content → IsWhole now → IsTakenAs w db now
+  pub taken_new : IsSound no_schema db → content_in now ≡ empty_content → IsWhole now
+      → IsTakenAs w db now
   taken_new sound empty whole = record {
     new = λ _. empty;
-    found = λ ours. absurd (let same = as_many db no_schema the_schema sound ours in omega (arith, same));
+    found = λ ours. absurd (let same = as_many db no_schema the_schema sound ours in
+        omega (arith, same));
     moved = λ f old. absurd (never f (as_many db no_schema (schema_of f) sound old));
     whole = λ _. whole;
     schema = no_schema;
@@ -162,7 +254,8 @@ module _ (w : Windows) (db now : Trees) where
 
   pub taken_found : IsSound the_schema db → now ≡ db → IsWhole now → IsTakenAs w db now
   taken_found sound same whole = record {
-    new = λ none. absurd (let same = as_many db the_schema no_schema sound none in omega (arith, same));
+    new = λ none. absurd (let same = as_many db the_schema no_schema sound none in
+        omega (arith, same));
     found = λ _. ap content_in same;
     moved = λ f old. absurd (never f (as_many db the_schema (schema_of f) sound old));
     whole = λ _. whole;
@@ -175,11 +268,13 @@ module _ (w : Windows) (db now : Trees) where
       never First same = omega (arith, same)
       never Modify same = omega (arith, same)
 
-  pub taken_moved : (f : Form) → IsSound (schema_of f) db → IsMovedFrom f w db now → IsTakenAs w db now
+  pub taken_moved : (f : Form) → IsSound (schema_of f) db → IsMovedFrom f w db now
+      → IsTakenAs w db now
   taken_moved f sound it = record {
     new = λ none. absurd (no_table f (as_many db (schema_of f) no_schema sound none));
     found = λ ours. absurd (not_ours f (as_many db (schema_of f) the_schema sound ours));
-    moved = λ g old. subst (λ h. IsMovedFrom h w db now) (same_form f g (as_many db (schema_of f) (schema_of g) sound old)) it;
+    moved = λ g old. subst (λ h. IsMovedFrom h w db now)
+        (same_form f g (as_many db (schema_of f) (schema_of g) sound old)) it;
     whole = λ never. absurd (never f sound);
     schema = schema_of f;
     sound = sound;
@@ -202,7 +297,8 @@ module _ (w : Windows) (db now : Trees) where
 
 -- ---- what is refused
 
-pub stands_clean : {S : Type 0} (g : Ghosts S) (left : Refused S) → StandsYet g left → IsCleanYet g left
+pub stands_clean : {S : Type 0} (g : Ghosts S) (left : Refused S) → StandsYet g left
+    → IsCleanYet g left
 stands_clean g (Connection conn) it = it.0
 stands_clean g (Store store) it = it.0
 
@@ -212,7 +308,9 @@ never_windows told.Storage e = cc
 never_windows told.NoMemory e = cc
 
 -- the same of the database that was found, once it is known to be clean
-pub refused_of : {S : Type 0} (g : Ghosts S) (w : Windows) (db found : Trees) (fault : FileFault) (left : Refused S) → (IsCleanYet g left → found ≡ db) → (IsCleanYet g left → IsRefusedAs g w found fault left) → IsRefusedAs g w db fault left
+pub refused_of : {S : Type 0} (g : Ghosts S) (w : Windows) (db found : Trees) (fault : FileFault)
+    (left : Refused S) → (IsCleanYet g left → found ≡ db)
+    → (IsCleanYet g left → IsRefusedAs g w found fault left) → IsRefusedAs g w db fault left
 refused_of g w db found fault left same it = record {
   kept = λ lists stands. (here (stands_clean g left stands)).kept lists stands;
   crash = λ lists clean. (here clean).crash lists clean;

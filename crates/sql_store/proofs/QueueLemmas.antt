@@ -25,7 +25,12 @@ use Rattle.sql_store.proofs.ListLemmas.{all_there, download_tie}
 use Rattle.numbers.proofs.Small.{some_there}
 
 abbrev key_at : ℕ → (minute id attempt : ℕ) → WaitKey
-key_at carrier minute id attempt = record { carrier = carrier; minute = minute; id = id; attempt = attempt }
+key_at carrier minute id attempt = record {
+  carrier = carrier;
+  minute = minute;
+  id = id;
+  attempt = attempt;
+}
 
 -- ---- lists
 
@@ -36,11 +41,13 @@ module _ {X : Type 0} where
   has_taken (suc n) (y ∷ ys) x (inl same) = inl same
   has_taken (suc n) (y ∷ ys) x (inr at) = inr (has_taken n ys x at)
 
-  pub taken_or_left : (n : ℕ) (xs : List X) (x : X) → Has xs x → Has (take n xs) x ⊎ Has (drop n xs) x
+  pub taken_or_left : (n : ℕ) (xs : List X) (x : X) → Has xs x → Has (take n xs) x
+      ⊎ Has (drop n xs) x
   taken_or_left zero xs x at = inr at
   taken_or_left (suc n) [] x at = absurd at
   taken_or_left (suc n) (y ∷ ys) x (inl same) = inl (inl same)
-  taken_or_left (suc n) (y ∷ ys) x (inr at) = elim (taken_or_left n ys x at) [ inl first ↦ inl (inr first) | inr rest ↦ inr rest ]
+  taken_or_left (suc n) (y ∷ ys) x (inr at) =
+      elim (taken_or_left n ys x at) [ inl first ↦ inl (inr first) | inr rest ↦ inr rest ]
 
   none_left : (n : ℕ) (xs : List X) (x : X) → length xs ≤ n → Has (drop n xs) x → ⊥
   none_left zero [] x all at = at
@@ -54,53 +61,83 @@ module _ {X : Type 0} where
   has_dropped (suc n) (y ∷ ys) x at = inr (has_dropped n ys x at)
 
   module _ (cmp : X → X → Ordering) where
-    before : (n : ℕ) (xs : List X) → IsStrictlySortedBy cmp xs → (x y : X) → Has (take n xs) x → Has (drop n xs) y → cmp x y ≡ Less
+    before : (n : ℕ) (xs : List X) → IsStrictlySortedBy cmp xs → (x y : X) → Has (take n xs) x
+        → Has (drop n xs) y → cmp x y ≡ Less
     unfolding IsStrictlySortedBy
     before zero xs up x y first rest = absurd first
     before (suc n) [] up x y first rest = absurd first
-    before (suc n) (z ∷ zs) up x y (inl same) rest = subst (λ x. cmp x y ≡ Less) (sym same) (all_has (λ y. cmp z y ≡ Less) zs y up.0 (has_dropped n zs y rest))
+    before (suc n) (z ∷ zs) up x y (inl same) rest =
+        subst (λ x. cmp x y ≡ Less) (sym same) (all_has (λ y. cmp z y ≡ Less) zs y up.0
+        (has_dropped n zs y rest))
     before (suc n) (z ∷ zs) up x y (inr first) rest = before n zs up.1 x y first rest
 
-    sorted_take : (n : ℕ) (xs : List X) → IsStrictlySortedBy cmp xs → IsStrictlySortedBy cmp (take n xs)
+    sorted_take : (n : ℕ) (xs : List X) → IsStrictlySortedBy cmp xs
+        → IsStrictlySortedBy cmp (take n xs)
     unfolding IsStrictlySortedBy
     sorted_take zero xs up = tt
     sorted_take (suc n) [] up = tt
-    sorted_take (suc n) (x ∷ xs) up = (all_from (λ y. cmp x y ≡ Less) (take n xs) (λ y at. all_has (λ y. cmp x y ≡ Less) xs y up.0 (has_taken n xs y at)), sorted_take n xs up.1)
+    sorted_take (suc n) (x ∷ xs) up = (
+      all_from (λ y. cmp x y ≡ Less) (take n xs) (λ y at. all_has (λ y. cmp x y ≡ Less) xs y up.0
+          (has_taken n xs y at)),
+      sorted_take n xs up.1,
+    )
 
-sorted_unmap : {X Y : Type 0} (f : X → Y) (cmp : Y → Y → Ordering) (xs : List X) → IsStrictlySortedBy cmp (map f xs) → IsStrictlySortedBy (λ a b. cmp (f a) (f b)) xs
+sorted_unmap : {X Y : Type 0} (f : X → Y) (cmp : Y → Y → Ordering) (xs : List X)
+    → IsStrictlySortedBy cmp (map f xs) → IsStrictlySortedBy (λ a b. cmp (f a) (f b)) xs
 unfolding IsStrictlySortedBy
 sorted_unmap f cmp [] up = tt
-sorted_unmap f cmp (x ∷ xs) up = (all_from (λ y. cmp (f x) (f y) ≡ Less) xs (λ y at. all_has (λ z. cmp (f x) z ≡ Less) (map f xs) (f y) up.0 (has_mapped f xs y at)), sorted_unmap f cmp xs up.1)
+sorted_unmap f cmp (x ∷ xs) up = (
+  all_from (λ y. cmp (f x) (f y) ≡ Less) xs (λ y at. all_has (λ z. cmp (f x) z ≡ Less) (map f xs)
+      (f y) up.0 (has_mapped f xs y at)),
+  sorted_unmap f cmp xs up.1,
+)
 
 -- ---- what waits for the carrier
 
-module _ (c : Content) (spid : ℕ) (found : List KeyedWait) (items : List DownloadKey) (rises : IsStrictlySortedBy download_cmp items)
-    (only : (x : DownloadKey) → Has items x → Has (map download_of found) x) (each : (x : DownloadKey) → Has (map download_of found) x → (y : DownloadKey) × Has items y × (download_cmp x y ≡ Equal)) where
-  one_of_them : (k : WaitKey) (w : KeyedWait) → Has found w → (wait_seen w).0 ≡ k → (d : DownloadKey) × Has items d × (d.minute.number ≡ k.minute) × (d.id ≡ k.id) × (d.attempt ≡ k.attempt)
+module _ (c : Content) (spid : ℕ) (found : List KeyedWait) (items : List DownloadKey)
+    (rises : IsStrictlySortedBy download_cmp items)
+    (only : (x : DownloadKey) → Has items x → Has (map download_of found) x)
+    (each : (x : DownloadKey) → Has (map download_of found) x → (y : DownloadKey) × Has items y
+    × (download_cmp x y ≡ Equal)) where
+  one_of_them : (k : WaitKey) (w : KeyedWait) → Has found w → (wait_seen w).0 ≡ k
+      → (d : DownloadKey) × Has items d × (d.minute.number ≡ k.minute) × (d.id ≡ k.id)
+      × (d.attempt ≡ k.attempt)
   one_of_them k w at key =
       let y = each (download_of w) (has_mapped download_of found w at) in
-      let t = download_tie (download_of w) y.0 y.2 in
-      (y.0, y.1, sym t.0 ∙ ap (λ (k : WaitKey). k.minute) key, sym t.1 ∙ ap (λ (k : WaitKey). k.id) key, sym t.2 ∙ ap (λ (k : WaitKey). k.attempt) key)
+      let t = download_tie (download_of w) y.0 y.2 in (
+        y.0,
+        y.1,
+        sym t.0 ∙ ap (λ (k : WaitKey). k.minute) key,
+        sym t.1 ∙ ap (λ (k : WaitKey). k.id) key,
+        sym t.2 ∙ ap (λ (k : WaitKey). k.attempt) key,
+      )
 
-  waits_there : ((x : KeyedWait) → Has found x → (get c.waits (wait_seen x).0 ≡ Some (wait_seen x).1) × ((wait_seen x).0.carrier ≡ spid))
-      → (d : DownloadKey) → Has items d → is_some (get c.waits (key_at spid d.minute.number d.id d.attempt)) ≡ true
+  waits_there : ((x : KeyedWait) → Has found x
+      → (get c.waits (wait_seen x).0 ≡ Some (wait_seen x).1) × ((wait_seen x).0.carrier ≡ spid))
+      → (d : DownloadKey) → Has items d
+      → is_some (get c.waits (key_at spid d.minute.number d.id d.attempt)) ≡ true
   waits_there its d at =
       let w = from_mapped download_of found d (only d at) in
       let it = its w.0 w.1 in
-      subst (λ (d : DownloadKey). is_some (get c.waits (key_at spid d.minute.number d.id d.attempt)) ≡ true) (sym w.2)
-      (ap (λ k. is_some (get c.waits (key_at k w.0.key.minute.number w.0.key.id w.0.key.attempt))) (sym it.1) ∙ ap is_some it.0)
+      subst (λ (d : DownloadKey). is_some (get c.waits (key_at spid d.minute.number d.id d.attempt))
+      ≡ true) (sym w.2)
+      (ap (λ k. is_some (get c.waits (key_at k w.0.key.minute.number w.0.key.id w.0.key.attempt)))
+      (sym it.1) ∙ ap is_some it.0)
 
-  pub queued_are : Picks wait_seen c.waits (λ k v. k.carrier ≡ spid) found → AreQueued c spid ⊥ items
+  pub queued_are : Picks wait_seen c.waits (λ k v. k.carrier ≡ spid) found
+      → AreQueued c spid ⊥ items
   queued_are picks = record {
     each = λ minute id attempt waits.
         let s = some_there (get c.waits (key_at spid minute id attempt)) waits in
         let w = picks.each (key_at spid minute id attempt) s.0 s.1 refl in
-        inl (one_of_them (key_at spid minute id attempt) w.0 w.1 (ap (λ (e : WaitKey × Subject). e.0) w.2));
+        inl (one_of_them (key_at spid minute id attempt) w.0 w.1
+        (ap (λ (e : WaitKey × Subject). e.0) w.2));
     only = waits_there picks.only;
     rises = rises;
   }
 
-  pub front_queued : (n : ℕ) (Left : Type 0) → (n ≤ length found → Left) → AreFront c spid n found → AreQueued c spid Left items
+  pub front_queued : (n : ℕ) (Left : Type 0) → (n ≤ length found → Left) → AreFront c spid n found
+      → AreQueued c spid Left items
   front_queued n Left full front = record {
     each = λ minute id attempt waits.
         let k = key_at spid minute id attempt in
@@ -111,7 +148,8 @@ module _ (c : Content) (spid : ℕ) (found : List KeyedWait) (items : List Downl
             full left.0,
             λ d at.
                 let w = from_mapped download_of found d (only d at) in
-                subst (λ (d : DownloadKey). queue_order d minute id attempt ≡ Less) (sym w.2) (left.1 w.0 w.1),
+                subst (λ (d : DownloadKey). queue_order d minute id attempt ≡ Less) (sym w.2)
+                (left.1 w.0 w.1),
           )
         ];
     only = waits_there front.only;
@@ -120,71 +158,112 @@ module _ (c : Content) (spid : ℕ) (found : List KeyedWait) (items : List Downl
 
 -- ---- those that have a broadcast
 
-module _ (c : Content) (waits : List DownloadKey) (i : ℕ) (wait : DownloadKey) (inside : i < length waits) (item : wait ≡ get_or waits i wait) (downloads : List Download) (told : AreTold c (take i waits) downloads) where
-  kept_more : filter (is_told c) (take (i + 1) waits) ≡ filter (is_told c) (take i waits) ++ cond (is_told c wait) (wait ∷ []) []
-  kept_more = filter_more (is_told c) waits i wait inside ∙ ap (λ w. filter (is_told c) (take i waits) ++ cond (is_told c w) (w ∷ []) []) (sym item)
+module _ (c : Content) (waits : List DownloadKey) (i : ℕ) (wait : DownloadKey)
+    (inside : i < length waits) (item : wait ≡ get_or waits i wait) (downloads : List Download)
+    (told : AreTold c (take i waits) downloads) where
+  kept_more : filter (is_told c) (take (i + 1) waits) ≡ filter (is_told c) (take i waits) ++ cond
+      (is_told c wait) (wait ∷ []) []
+  kept_more = filter_more (is_told c) waits i wait inside
+      ∙ ap (λ w. filter (is_told c) (take i waits) ++ cond (is_told c w) (w ∷ []) []) (sym item)
 
-  told_more : (d : Download) → IsNext c wait (Some d) → AreTold c (take (i + 1) waits) (downloads ++ d ∷ [])
+  told_more : (d : Download) → IsNext c wait (Some d)
+      → AreTold c (take (i + 1) waits) (downloads ++ d ∷ [])
   told_more d is =
       let has : is_told c wait ≡ true = ap (is_told c) (sym is.0) ∙ ap is_some is.1.1 in
       record {
-        keys = map-append key_in downloads (d ∷ []) ∙ ap (λ l. l ++ key_in d ∷ []) told.keys ∙ ap (λ k. filter (is_told c) (take i waits) ++ k ∷ []) is.0
-            ∙ ap (λ b. filter (is_told c) (take i waits) ++ cond b (wait ∷ []) []) (sym has) ∙ sym kept_more;
+        keys = map-append key_in downloads (d ∷ []) ∙ ap (λ l. l ++ key_in d ∷ []) told.keys
+            ∙ ap (λ k. filter (is_told c) (take i waits) ++ k ∷ []) is.0
+            ∙ ap (λ b. filter (is_told c) (take i waits) ++ cond b (wait ∷ []) []) (sym has)
+            ∙ sym kept_more;
         told = All-push (IsTold c) downloads d told.told is.1;
       }
 
   told_none : IsNext c wait None → AreTold c (take (i + 1) waits) downloads
   told_none none = record {
-    keys = told.keys ∙ sym (kept_more ∙ ap (λ b. filter (is_told c) (take i waits) ++ cond b (wait ∷ []) []) (ap is_some none) ∙ append-nil (filter (is_told c) (take i waits)));
+    keys = told.keys
+        ∙ sym (kept_more ∙ ap (λ b. filter (is_told c) (take i waits) ++ cond b (wait ∷ []) [])
+        (ap is_some none) ∙ append-nil (filter (is_told c) (take i waits)));
     told = told.told;
   }
 
-  pub told_next : (o : Option Download) → IsNext c wait o → AreTold c (take (i + 1) waits) (downloads ++ option_to_list o)
+  pub told_next : (o : Option Download) → IsNext c wait o
+      → AreTold c (take (i + 1) waits) (downloads ++ option_to_list o)
   told_next (Some d) is = told_more d is
-  told_next None none = subst (AreTold c (take (i + 1) waits)) (sym (append-nil downloads)) (told_none none)
+  told_next None none = subst (AreTold c (take (i + 1) waits)) (sym (append-nil downloads))
+      (told_none none)
 
-pub one_more_fits : (downloads : List Download) (o : Option Download) (many : ℕ) → length downloads < many → length (downloads ++ option_to_list o) ≤ many
+pub one_more_fits : (downloads : List Download) (o : Option Download) (many : ℕ)
+    → length downloads < many → length (downloads ++ option_to_list o) ≤ many
 one_more_fits downloads (Some d) many low = simp length-append (omega (arith, low))
 one_more_fits downloads None many low = simp length-append (omega (arith, low))
 
 -- ---- the first of them
 
 abbrev behind : (minute id attempt : ℕ) → Download → Ordering
-behind minute id attempt e = ordering_then (nat_cmp e.minute.number minute) (ordering_then (nat_cmp e.id id) (nat_cmp e.attempt attempt))
+behind minute id attempt e =
+    ordering_then (nat_cmp e.minute.number minute) (ordering_then (nat_cmp e.id id)
+    (nat_cmp e.attempt attempt))
 
-pub first_are : (c : Content) (spid many : ℕ) (Left : Type 0) (waits : List DownloadKey) (downloads : List Download) → AreQueued c spid Left waits → AreFirstTold c many waits downloads → (Left → length downloads ≡ many)
+pub first_are : (c : Content) (spid many : ℕ) (Left : Type 0) (waits : List DownloadKey)
+    (downloads : List Download) → AreQueued c spid Left waits → AreFirstTold c many waits downloads
+    → (Left → length downloads ≡ many)
     → AreFirst c spid many downloads
 first_are c spid many Left waits downloads queued first enough = record {
   each = λ minute id attempt row at. elim (queued.each minute id attempt at.0) [
-    | inr left ↦ inr (enough left.0, all_there (λ (e : Download). behind minute id attempt e ≡ Less) downloads (λ e has. left.1 (key_in e) (has_taken first.passed waits (key_in e) (passed e has))))
+    | inr left ↦ inr (
+      enough left.0,
+      all_there (λ (e : Download). behind minute id attempt e ≡ Less) downloads
+          (λ e has. left.1 (key_in e) (has_taken first.passed waits (key_in e) (passed e has))),
+    )
     | inl d ↦
         elim (taken_or_left first.passed waits d.0 d.1) [
           | inl taken ↦ inl (
-              let has : is_told c d.0 ≡ true = ap (λ i. is_some (get c.broadcasts (record { id = i; attempt = d.0.attempt }))) d.3 ∙ ap (λ a. is_some (get c.broadcasts (record { id = id; attempt = a }))) d.4 ∙ ap is_some at.1 in
-              let x = from_mapped key_in downloads d.0 (subst (λ l. Has l d.0) (sym first.told.keys) (has_kept (is_told c) (take first.passed waits) d.0 taken has)) in
-              (x.0, contains_had downloads x.0 x.1, ap (λ (k : DownloadKey). k.minute.number) (sym x.2) ∙ d.2, ap (λ (k : DownloadKey). k.id) (sym x.2) ∙ d.3, ap (λ (k : DownloadKey). k.attempt) (sym x.2) ∙ d.4))
+              let has : is_told c d.0 ≡ true =
+              ap (λ i. is_some (get c.broadcasts (record { id = i; attempt = d.0.attempt }))) d.3
+              ∙ ap (λ a. is_some (get c.broadcasts (record { id = id; attempt = a }))) d.4
+              ∙ ap is_some at.1 in
+              let x = from_mapped key_in downloads d.0 (subst (λ l. Has l d.0) (sym first.told.keys)
+              (has_kept (is_told c) (take first.passed waits) d.0 taken has)) in (
+                x.0,
+                contains_had downloads x.0 x.1,
+                ap (λ (k : DownloadKey). k.minute.number) (sym x.2) ∙ d.2,
+                ap (λ (k : DownloadKey). k.id) (sym x.2) ∙ d.3,
+                ap (λ (k : DownloadKey). k.attempt) (sym x.2) ∙ d.4,
+              ))
           | inr left ↦ elim first.whole [
             | inl all ↦ absurd (none_left first.passed waits d.0 all left)
             | inr full ↦ inr (
               full,
               all_there (λ (e : Download). behind minute id attempt e ≡ Less) downloads (λ e has.
-                  ap (λ m. ordering_then (nat_cmp e.minute.number m) (ordering_then (nat_cmp e.id id) (nat_cmp e.attempt attempt))) (sym d.2)
-                  ∙ ap (λ i. ordering_then (nat_cmp e.minute.number d.0.minute.number) (ordering_then (nat_cmp e.id i) (nat_cmp e.attempt attempt))) (sym d.3)
-                  ∙ ap (λ a. ordering_then (nat_cmp e.minute.number d.0.minute.number) (ordering_then (nat_cmp e.id d.0.id) (nat_cmp e.attempt a))) (sym d.4)
-                  ∙ before download_cmp first.passed waits queued.rises (key_in e) d.0 (passed e has) left),
+                  ap (λ m. ordering_then (nat_cmp e.minute.number m)
+                  (ordering_then (nat_cmp e.id id) (nat_cmp e.attempt attempt))) (sym d.2)
+                  ∙ ap (λ i. ordering_then (nat_cmp e.minute.number d.0.minute.number)
+                  (ordering_then (nat_cmp e.id i) (nat_cmp e.attempt attempt))) (sym d.3)
+                  ∙ ap (λ a. ordering_then (nat_cmp e.minute.number d.0.minute.number)
+                  (ordering_then (nat_cmp e.id d.0.id) (nat_cmp e.attempt a))) (sym d.4)
+                  ∙ before download_cmp first.passed waits queued.rises (key_in e) d.0
+                  (passed e has) left),
             )
           ]
         ]
   ];
   only = all_there (Waits c spid) downloads (λ d has.
-      let told = all_had d has in
-      (told.0, (queued.only (key_in d) (has_taken first.passed waits (key_in d) (passed d has)), told.1), told.2));
-  rises = sorted_unmap key_in download_cmp downloads (subst (IsStrictlySortedBy download_cmp) (sym first.told.keys) (IsStrictlySortedBy-filter download_cmp (is_told c) (take first.passed waits) (sorted_take download_cmp first.passed waits queued.rises)));
+      let told = all_had d has in (
+        told.0,
+        (queued.only (key_in d) (has_taken first.passed waits (key_in d) (passed d has)), told.1),
+        told.2,
+      ));
+  rises = sorted_unmap key_in download_cmp downloads (subst (IsStrictlySortedBy download_cmp)
+      (sym first.told.keys) (IsStrictlySortedBy-filter download_cmp (is_told c)
+      (take first.passed waits) (sorted_take download_cmp first.passed waits queued.rises)));
   most = first.most;
 }
   where
     passed : (d : Download) → Has downloads d → Has (take first.passed waits) (key_in d)
-    passed d has = (has_filtered (is_told c) (take first.passed waits) (key_in d) (subst (λ l. Has l (key_in d)) first.told.keys (has_mapped key_in downloads d has))).0
+    passed d has =
+        (has_filtered (is_told c) (take first.passed waits) (key_in d)
+        (subst (λ l. Has l (key_in d)) first.told.keys (has_mapped key_in downloads d has))).0
 
     all_had : (d : Download) → Has downloads d → IsTold c d
-    all_had d has = All-contains (IsTold c) downloads d first.told.told (contains_had downloads d has)
+    all_had d has =
+        All-contains (IsTold c) downloads d first.told.told (contains_had downloads d has)

@@ -37,29 +37,39 @@ use Rattle.sql_store.proofs.MappedLemmas.{from_filter_mapped, has_filter_mapped}
 
 -- ---- one row
 
-routes : (v : VersionRow) (s : Subject) (r : Routing) → v.holds ≡ Some s → v.routing ≡ Some r → routed_in v ≡ Some (s, r)
+routes : (v : VersionRow) (s : Subject) (r : Routing) → v.holds ≡ Some s → v.routing ≡ Some r
+    → routed_in v ≡ Some (s, r)
 routes v s r holds routing = rw (holds, routing) refl
 
-routes_from : (v : VersionRow) (s : Subject) (r : Routing) → routed_in v ≡ Some (s, r) → (v.holds ≡ Some s) × (v.routing ≡ Some r)
+routes_from : (v : VersionRow) (s : Subject) (r : Routing) → routed_in v ≡ Some (s, r)
+    → (v.holds ≡ Some s) × (v.routing ≡ Some r)
 routes_from v s r is =
     let a = bind_some _ v.holds (s, r) is in
-    let b = map_some _ v.routing (s, r) a.2 in
-    (a.1 ∙ ap (λ (e : Subject × Routing). Some e.0) b.2, b.1 ∙ ap (λ (e : Subject × Routing). Some e.1) b.2)
+    let b = map_some _ v.routing (s, r) a.2 in (
+      a.1 ∙ ap (λ (e : Subject × Routing). Some e.0) b.2,
+      b.1 ∙ ap (λ (e : Subject × Routing). Some e.1) b.2,
+    )
 
 -- a subject that a row holds is a number of its column
 small : (n : ℕ) → nat_lt n 9223372036854775808 ≡ true → n ≤ 9223372036854775807
 small n h = grind (arith, nat_tests)
 
-holds_small : (db : Trees) (id : ℕ) (row : VersionRow) (s : Subject) → get (bare_in db).versions id ≡ Some row → row.holds ≡ Some s → subject_number s ≤ 9223372036854775807
+holds_small : (db : Trees) (id : ℕ) (row : VersionRow) (s : Subject)
+    → get (bare_in db).versions id ≡ Some row → row.holds ≡ Some s
+    → subject_number s ≤ 9223372036854775807
 holds_small db id row s got holds =
     let f = entry_from nat_cmp nat_cmp_total version_in shown_of same_number (db 18) id row got in
     let it = reads (shown_of f.row) (id, row) f.reads in
     let n = bind_some subject_from (number_in (column f.row 2)) row.subject it.subject in
-    let own : subject_number row.subject ≤ 9223372036854775807 = subst (λ n. n ≤ 9223372036854775807) (subject_same n.0 row.subject n.2) (small n.0 (number_small (column f.row 2) n.0 n.1)) in
+    let own : subject_number row.subject ≤ 9223372036854775807 =
+    subst (λ n. n ≤ 9223372036854775807) (subject_same n.0 row.subject n.2)
+    (small n.0 (number_small (column f.row 2) n.0 n.1)) in
     same it.is_in_force (sym it.holds ∙ holds) own
   where
-    same : (b : Bool) → subject_if b row.subject ≡ Some s → subject_number row.subject ≤ 9223372036854775807 → subject_number s ≤ 9223372036854775807
-    same true e own = let is : row.subject ≡ s = cc in subst (λ t. subject_number t ≤ 9223372036854775807) is own
+    same : (b : Bool) → subject_if b row.subject ≡ Some s
+        → subject_number row.subject ≤ 9223372036854775807 → subject_number s ≤ 9223372036854775807
+    same true e own = let is : row.subject ≡ s = cc in
+        subst (λ t. subject_number t ≤ 9223372036854775807) is own
     same false e own = absurd cc
 
 -- ---- the list
@@ -68,43 +78,72 @@ abbrev pub Rises : List RoutedRow → Type 0
 Rises = IsStrictlySortedBy (on (λ (r : RoutedRow). key_of r.subject) nat_cmp)
 
 pub rows_rise : (rs : List RoutedRow) (n : ℕ) → length rs ≤ n
-    → ((k : ℕ) (d : RoutedRow) → k + 1 < n → nat_cmp (key_of (slice_index_or rs k d).subject) (key_of (slice_index_or rs (k + 1) d).subject) ≡ Less) → Rises rs
+    → ((k : ℕ) (d : RoutedRow) → k + 1 < n
+    → nat_cmp (key_of (slice_index_or rs k d).subject)
+    (key_of (slice_index_or rs (k + 1) d).subject) ≡ Less) → Rises rs
 unfolding IsStrictlySortedBy
 rows_rise [] n whole each = tt
-rows_rise (r ∷ rs) n whole each = sorted_from_all_adjacent (on_total (λ (r : RoutedRow). key_of r.subject) nat_cmp_total) (r ∷ rs) r (λ k inside. each k r (omega (arith, inside, whole)))
+rows_rise (r ∷ rs) n whole each =
+    sorted_from_all_adjacent (on_total (λ (r : RoutedRow). key_of r.subject) nat_cmp_total) (r ∷ rs)
+    r (λ k inside. each k r (omega (arith, inside, whole)))
 
 abbrev in_row : NumberedRow → Option (Subject × Routing)
 in_row v = routed_in v.row
 
-bare_routed : (db : Trees) (found : List NumberedRow) (rows items : List RoutedRow) → Picks version_seen (bare_in db).versions (λ id v. IsAmong 0 9223372036854775807 v.holds) found
-    → map routed_seen rows ≡ filter_map in_row found → IsPermutation rows items → Rises items → AreInForce (bare_in db) items
+bare_routed : (db : Trees) (found : List NumberedRow) (rows items : List RoutedRow)
+    → Picks version_seen (bare_in db).versions (λ id v. IsAmong 0 9223372036854775807 v.holds) found
+    → map routed_seen rows ≡ filter_map in_row found → IsPermutation rows items → Rises items
+    → AreInForce (bare_in db) items
 bare_routed db found rows items picks are same rises = record {
   each = λ s routing routed.
-      let among : IsAmong 0 9223372036854775807 routed.1.holds = subst (IsAmong 0 9223372036854775807) (sym routed.3) (omega arith, holds_small db routed.0 routed.1 s routed.2 routed.3) in
+      let among : IsAmong 0 9223372036854775807 routed.1.holds =
+      subst (IsAmong 0 9223372036854775807) (sym routed.3) (
+        omega arith,
+        holds_small db routed.0
+            routed.1 s routed.2 routed.3,
+      ) in
       let x = picks.each routed.0 routed.1 routed.2 among in
-      let told : in_row x.0 ≡ Some (s, routing) = ap (λ (e : ℕ × VersionRow). routed_in e.1) x.2 ∙ routes routed.1 s routing routed.3 routed.4 in
+      let told : in_row x.0 ≡ Some (s, routing) = ap (λ (e : ℕ × VersionRow). routed_in e.1) x.2
+      ∙ routes routed.1 s routing routed.3 routed.4 in
       let at = has_filter_mapped in_row found x.0 (s, routing) x.1 told in
-      let r = from_mapped routed_seen rows (s, routing) (subst (λ l. Has l (s, routing)) (sym are) at) in
-      (r.0, contains_had items r.0 (has_permuted rows items r.0 same r.1), ap (λ (e : Subject × Routing). e.0) (sym r.2), ap (λ (e : Subject × Routing). e.1) (sym r.2));
-  only = all_there (λ (r : RoutedRow). IsRouted (bare_in db) (subject_of r.subject) (routing_of r.routing)) items (λ r at.
+      let r = from_mapped routed_seen rows (s, routing) (subst (λ l. Has l (s, routing)) (sym are)
+      at) in (
+        r.0,
+        contains_had items r.0 (has_permuted rows items r.0 same r.1),
+        ap (λ (e : Subject × Routing). e.0) (sym r.2),
+        ap (λ (e : Subject × Routing). e.1) (sym r.2),
+      );
+  only = all_there (λ (r : RoutedRow). IsRouted (bare_in db) (subject_of r.subject)
+      (routing_of r.routing)) items (λ r at.
       let before = has_permuted items rows r (IsPermutation-sym rows items same) at in
-      let x = from_filter_mapped in_row found (routed_seen r) (subst (λ l. Has l (routed_seen r)) are (has_mapped routed_seen rows r before)) in
+      let x = from_filter_mapped in_row found (routed_seen r) (subst (λ l. Has l (routed_seen r))
+      are (has_mapped routed_seen rows r before)) in
       let told = routes_from x.0.row (subject_of r.subject) (routing_of r.routing) x.2 in
       (x.0.id, x.0.row, (picks.only x.0 x.1).0, told.0, told.1));
   rises = λ once. rises;
 }
 
 -- a row that sends a modify is in force with the routing that it has
-pub routed_are : (db : Trees) (found : List NumberedRow) (rows items : List RoutedRow) → Picks version_seen (bare_in db).versions (λ id v. IsAmong 0 9223372036854775807 v.holds) found
-    → map routed_seen rows ≡ filter_map in_row found → IsPermutation rows items → Rises items → AreInForce (content_in db) items
+pub routed_are : (db : Trees) (found : List NumberedRow) (rows items : List RoutedRow)
+    → Picks version_seen (bare_in db).versions (λ id v. IsAmong 0 9223372036854775807 v.holds) found
+    → map routed_seen rows ≡ filter_map in_row found → IsPermutation rows items → Rises items
+    → AreInForce (content_in db) items
 routed_are db found rows items picks are same rises =
     let bare = bare_routed db found rows items picks are same rises in
     record {
       each = λ s routing routed.
           let b = bare-of db routed.0 routed.1 routed.2 in
-          bare.each s routing (routed.0, b.0, b.1, ap (λ (v : VersionRow). v.holds) b.2 ∙ routed.3, ap (λ (v : VersionRow). v.routing) b.2 ∙ routed.4);
-      only = all_there (λ (r : RoutedRow). IsRouted (content_in db) (subject_of r.subject) (routing_of r.routing)) items (λ r at.
-          let b = all_had (λ (r : RoutedRow). IsRouted (bare_in db) (subject_of r.subject) (routing_of r.routing)) items bare.only r at in
+          bare.each s routing (
+            routed.0,
+            b.0,
+            b.1,
+            ap (λ (v : VersionRow). v.holds) b.2 ∙ routed.3,
+            ap (λ (v : VersionRow). v.routing) b.2 ∙ routed.4,
+          );
+      only = all_there (λ (r : RoutedRow). IsRouted (content_in db) (subject_of r.subject)
+          (routing_of r.routing)) items (λ r at.
+          let b = all_had (λ (r : RoutedRow). IsRouted (bare_in db) (subject_of r.subject)
+          (routing_of r.routing)) items bare.only r at in
           (b.0, rerouted (get (nexts_in (db 16)) b.0) b.1, whole-of db b.0 b.1 b.2, b.3, b.4));
       rises = λ once. rises;
     }

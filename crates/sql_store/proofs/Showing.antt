@@ -26,33 +26,43 @@ abbrev MeansNone : Checked (Command × Option Returning) → Type 0
 MeansNone (Ok found) = found.1 ≡ None
 MeansNone (Err e) = Unit {0}
 
-meant : (schema : Schema) (base : ℕ) (s : Statement) (c : Checked Command) → IsSelect s → MeansNone (and_then (returning schema base s) (λ shown. and_then c (λ k. Ok (k, shown))))
+meant : (schema : Schema) (base : ℕ) (s : Statement) (c : Checked Command) → IsSelect s
+    → MeansNone (and_then (returning schema base s) (λ shown. and_then c (λ k. Ok (k, shown))))
 unfolding returning
 meant schema base (written.Select q) (Ok k) is = refl
 meant schema base (written.Select q) (Err e) is = tt
 meant schema base _ c bad = absurd bad
 
-planned_none : (p : Parsed) (formats : List (List ℕ)) (found : Checked (Command × Option Returning)) → MeansNone found → ShowsNone (and_then (and_then found (λ f. Ok (formats, f))) (λ plan. Ok (with_command p plan)))
+planned_none : (p : Parsed) (formats : List (List ℕ)) (found : Checked (Command × Option Returning))
+    → MeansNone found
+    → ShowsNone (and_then (and_then found (λ f. Ok (formats, f)))
+    (λ plan. Ok (with_command p plan)))
 planned_none p formats (Ok found) none = none
 planned_none p formats (Err e) none = tt
 
-shown_none : (schema : Schema) (p : Parsed) → IsSelect p.statement → ShowsNone (and_then (planned schema p) (λ plan. Ok (with_command p plan)))
+shown_none : (schema : Schema) (p : Parsed) → IsSelect p.statement
+    → ShowsNone (and_then (planned schema p) (λ plan. Ok (with_command p plan)))
 unfolding planned meaning
 shown_none schema p is = planned_none p _ _ (meant schema _ p.statement _ is)
 
-compiled_none : (schema : Schema) (text : List ℕ) → Selects (first text) → ShowsNone (compiled schema text)
+compiled_none : (schema : Schema) (text : List ℕ) → Selects (first text)
+    → ShowsNone (compiled schema text)
 unfolding compiled
 compiled_none schema text selects = go (first text) selects
   where
-    go : (r : Checked Parsed) → Selects r → ShowsNone (and_then r (λ p. and_then (planned schema p) (λ plan. Ok (with_command p plan))))
+    go : (r : Checked Parsed) → Selects r
+        → ShowsNone
+        (and_then r (λ p. and_then (planned schema p) (λ plan. Ok (with_command p plan))))
     go (Ok p) is = shown_none schema p is
     go (Err e) is = tt
 
-pub understood_none : (schema : Schema) (text : List ℕ) → Selects (first text) → ShowsNone (understood schema text)
+pub understood_none : (schema : Schema) (text : List ℕ) → Selects (first text)
+    → ShowsNone (understood schema text)
 unfolding understood
 understood_none schema text selects = go (reads_listing schema text)
   where
-    chosen : (b : Bool) (c : Compiled) → ShowsNone (Ok c) → ShowsNone (if b then Ok c else Err NoSuchTable)
+    chosen : (b : Bool) (c : Compiled) → ShowsNone (Ok c)
+        → ShowsNone (if b then Ok c else Err NoSuchTable)
     chosen true c none = none
     chosen false c none = tt
 
@@ -60,10 +70,14 @@ understood_none schema text selects = go (reads_listing schema text)
     listed (Ok c) none = chosen (is_select c.command) c none
     listed (Err e) none = tt
 
-    go : (b : Bool) → ShowsNone (if b then if_select (compiled listing_schema text) else compiled schema text)
+    go : (b : Bool) → ShowsNone (if b then if_select (compiled listing_schema text)
+        else compiled schema text)
     go true = listed (compiled listing_schema text) (compiled_none listing_schema text selects)
     go false = compiled_none schema text selects
 
-pub never_shows : (text : List ℕ) (params : Row) (s : State) (db : Trees) → Selects (first text) → ¬ CommitsShowing text params s db
+pub never_shows : (text : List ℕ) (params : Row) (s : State) (db : Trees) → Selects (first text)
+    → ¬ CommitsShowing text params s db
 unfolding CommitsShowing
-never_shows text params s db selects h = let none : h.0.returning ≡ None = subst ShowsNone h.1.is (understood_none s.now.schema text selects) in absurd (true≢false (sym (subst IsSome none h.2)))
+never_shows text params s db selects h = let none : h.0.returning ≡ None =
+    subst ShowsNone h.1.is (understood_none s.now.schema text selects) in
+    absurd (true≢false (sym (subst IsSome none h.2)))

@@ -31,41 +31,65 @@ use Rattle.sql_store.proofs.MovingLemmas.{old_answers}
 use Rattle.sql_store.proofs.CallLemmas.{answers, shown_open, shown_same}
 
 -- a query that begins was asked of a connection that was open
-begun_open : {S : Type 0} (g : Ghosts S) (sql : List ℕ) (params : Row) (old new : Held S) → HasBegun g sql params old new → IsTrue (state g old).is_open
+begun_open : {S : Type 0} (g : Ghosts S) (sql : List ℕ) (params : Row) (old new : Held S)
+    → HasBegun g sql params old new → IsTrue (state g old).is_open
 begun_open g sql params old new (inl h) = h.1.0.was_open
 begun_open g sql params old new (inr h) = shown_open sql params (state g old) (state g new) _ h.1
 
-pub begins : {S : Type 0} (g : Ghosts S) (sql : List ℕ) (old new : Held S) → (IsTrue (state g old).is_open → IsPlain (understood old.schema sql)) → HasBegun g sql [] old new
+pub begins : {S : Type 0} (g : Ghosts S) (sql : List ℕ) (old new : Held S)
+    → (IsTrue (state g old).is_open → IsPlain (understood old.schema sql))
+    → HasBegun g sql [] old new
     → HasGiven g sql [] new [] × IsUnchanged (state g old) (state g new)
-begins g sql old new plain h = begun_plain g sql [] old new (plain (begun_open g sql [] old new h)) h
+begins g sql old new plain h = begun_plain g sql [] old new (plain (begun_open g sql [] old new h))
+    h
 
 -- one more row was read
-pub one_more : {X : Type 0} (read : Row → Option X) (rows : List Row) (xs : List X) (r : Row) (x : X) → AreRead read rows xs → read r ≡ Some x → AreRead read (rows ++ r ∷ []) (xs ++ x ∷ [])
-one_more read rows xs r x are is = map-append read rows (r ∷ []) ∙ ap₂ ◌++◌ are (ap (λ o. o ∷ []) is) ∙ sym (map-append Some xs (x ∷ []))
+pub one_more : {X : Type 0} (read : Row → Option X) (rows : List Row) (xs : List X) (r : Row)
+    (x : X) → AreRead read rows xs → read r ≡ Some x → AreRead read (rows ++ r ∷ []) (xs ++ x ∷ [])
+one_more read rows xs r x are is =
+    map-append read rows (r ∷ []) ∙ ap₂ ◌++◌ are (ap (λ o. o ∷ []) is)
+    ∙ sym (map-append Some xs (x ∷ []))
 
 module _ (sql : List ℕ) (params : Row) where
   -- the answer of a query that left all as it was is that of the query at its start
-  pub shown_from : (first old new : State) (rows : List Row) → IsPlain (understood first.now.schema sql) → IsUnchanged first old → Shown sql params old new rows → Shown sql params first new rows
+  pub shown_from : (first old new : State) (rows : List Row)
+      → IsPlain (understood first.now.schema sql) → IsUnchanged first old
+      → Shown sql params old new rows → Shown sql params first new rows
   unfolding Shown
   shown_from first old new rows plain same h =
       let here = same.0.now_is in
-      let none = (subst IsPlain h.1.is (subst (λ (d : Database). IsPlain (understood d.schema sql)) (sym here) plain)).0 in
+      let none = (subst IsPlain h.1.is (subst (λ (d : Database). IsPlain (understood d.schema sql))
+      (sym here) plain)).0 in
       let full = timed params h.0.formats h.1.now in
       let it = subst (ShowsRows old new sql h.0 full rows) none h.2 in (
         h.0,
-        record { is = subst (λ (d : Database). understood d.schema sql ≡ Ok h.0) here h.1.is; whole = h.1.whole; given = h.1.given; now = h.1.now },
-        subst (ShowsRows first new sql h.0 full rows) (sym none) (it.0, subst (λ (d : Database). IsSourceOf (reads_listing d.schema sql) d it.0) here it.1, it.2, unchanged_then first old new same it.3),
+        record {
+          is = subst (λ (d : Database). understood d.schema sql ≡ Ok h.0) here h.1.is;
+          whole = h.1.whole;
+          given = h.1.given;
+          now = h.1.now;
+        },
+        subst (ShowsRows first new sql h.0 full rows) (sym none) (
+          it.0,
+          subst (λ (d : Database). IsSourceOf (reads_listing d.schema sql) d it.0) here it.1,
+          it.2,
+          unchanged_then first old new same it.3,
+        ),
       )
 
 -- what was unchanged and then rolled back was rolled back
-pub rolled_from : (first old new : State) → IsUnchanged first old → IsUnchanged old new ⊎ IsRolledBack old new → IsUnchanged first new ⊎ IsRolledBack first new
+pub rolled_from : (first old new : State) → IsUnchanged first old → IsUnchanged old new
+    ⊎ IsRolledBack old new → IsUnchanged first new ⊎ IsRolledBack first new
 rolled_from first old new same (inl it) = inl (unchanged_then first old new same it)
 rolled_from first old new same (inr it) = inr (record {
   was_open = λ up. same.0.was_open;
   undone = λ up. let u = it.undone up in (u.0 ∙ same.0.committed_is, u.1 ∙ same.0.committed_is);
   autocommit = it.autocommit;
   unmarked = it.unmarked;
-  counts = record { changes = it.counts.changes ∙ same.1.changes; last_rowid = it.counts.last_rowid ∙ same.1.last_rowid };
+  counts = record {
+    changes = it.counts.changes ∙ same.1.changes;
+    last_rowid = it.counts.last_rowid ∙ same.1.last_rowid;
+  };
 })
 
 module _ {S : Type 0} (g : Ghosts S) (first here new : Held S) (so : Unmoved g first here) where
@@ -75,53 +99,94 @@ module _ {S : Type 0} (g : Ghosts S) (first here new : Held S) (so : Unmoved g f
     | inr was ↦ inr (unchanged_then (state g first) (state g here) (state g new) was it)
   ]
 
-  pub rolled_on : IsUnchanged (state g here) (state g new) ⊎ IsRolledBack (state g here) (state g new) → Unmoved g first new ⊎ IsRolledBack (state g first) (state g new)
+  pub rolled_on : IsUnchanged (state g here) (state g new)
+      ⊎ IsRolledBack (state g here) (state g new) → Unmoved g first new
+      ⊎ IsRolledBack (state g first) (state g new)
   rolled_on it = elim so [
-    | inl same ↦ widened (subst (λ h. IsUnchanged (state g h) (state g new) ⊎ IsRolledBack (state g h) (state g new)) same it)
+    | inl same ↦ widened (subst (λ h. IsUnchanged (state g h) (state g new)
+        ⊎ IsRolledBack (state g h) (state g new)) same it)
     | inr was ↦ widened (rolled_from (state g first) (state g here) (state g new) was it)
   ]
     where
-      widened : IsUnchanged (state g first) (state g new) ⊎ IsRolledBack (state g first) (state g new) → Unmoved g first new ⊎ IsRolledBack (state g first) (state g new)
+      widened : IsUnchanged (state g first) (state g new)
+          ⊎ IsRolledBack (state g first) (state g new) → Unmoved g first new
+          ⊎ IsRolledBack (state g first) (state g new)
       widened (inl it) = inl (inr it)
       widened (inr it) = inr it
 
-  pub shown_on : (sql : List ℕ) (rows : List Row) → IsPlain (understood (state g first).now.schema sql) → Shown sql [] (state g here) (state g new) rows → Shown sql [] (state g first) (state g new) rows
+  pub shown_on : (sql : List ℕ) (rows : List Row)
+      → IsPlain (understood (state g first).now.schema sql)
+      → Shown sql [] (state g here) (state g new) rows
+      → Shown sql [] (state g first) (state g new) rows
   shown_on sql rows plain it = elim so [
     | inl same ↦ subst (λ h. Shown sql [] (state g h) (state g new) rows) same it
     | inr was ↦ shown_from sql [] (state g first) (state g here) (state g new) rows plain was it
   ]
 
 -- and so it is from where the query was asked
-module _ {S : Type 0} (g : Ghosts S) (first here new : Held S) (was : IsUnchanged (state g first) (state g here)) where
-  pub left_from : Unmoved g here new ⊎ IsRolledBack (state g here) (state g new) → IsUnchanged (state g first) (state g new) ⊎ IsRolledBack (state g first) (state g new)
-  left_from (inl (inl same)) = inl (subst (λ h. IsUnchanged (state g first) (state g h)) (sym same) was)
+module _ {S : Type 0} (g : Ghosts S) (first here new : Held S) (was : IsUnchanged (state g first)
+    (state g here)) where
+  pub left_from : Unmoved g here new ⊎ IsRolledBack (state g here) (state g new)
+      → IsUnchanged (state g first) (state g new) ⊎ IsRolledBack (state g first) (state g new)
+  left_from (inl (inl same)) =
+      inl (subst (λ h. IsUnchanged (state g first) (state g h)) (sym same) was)
   left_from (inl (inr it)) = rolled_from (state g first) (state g here) (state g new) was (inl it)
   left_from (inr it) = rolled_from (state g first) (state g here) (state g new) was (inr it)
 
-module _ {S R : Type 0} (g : Ghosts S) (sql : List ℕ) (first here new : Held S) (plain : IsTrue (state g first).is_open → IsPlain (understood first.schema sql)) (begun : HasBegun g sql [] first here) where
+module _ {S R : Type 0} (g : Ghosts S) (sql : List ℕ) (first here new : Held S)
+    (plain : IsTrue (state g first).is_open → IsPlain (understood first.schema sql))
+    (begun : HasBegun g sql [] first here) where
   -- what was read of a query from its start
-  pub read_from : {X : Type 0} (read : Row → Option X) (P : R → List X → Type 0) (r : Result R Fault)
-      → IfOk r (λ a. (sql : List ℕ) → IsPlain (understood (state g here).now.schema sql) → HasGiven g sql [] here [] → HasReadAll read sql (state g here) (state g new) (P a)) → IfOk r (λ a. HasReadAll read sql (state g first) (state g new) (P a))
+  pub read_from : {X : Type 0} (read : Row → Option X) (P : R → List X
+      → Type 0) (r : Result R Fault)
+      → IfOk r (λ a. (sql : List ℕ) → IsPlain (understood (state g here).now.schema sql)
+      → HasGiven g sql [] here [] → HasReadAll read sql (state g here) (state g new) (P a))
+      → IfOk r (λ a. HasReadAll read sql (state g first) (state g new) (P a))
   read_from read P (Err e) it = tt
   read_from read P (Ok a) it =
       let (given, was) = begins g sql first here plain begun in
       let known = plain was.0.was_open in
-      let (rows, xs, shown, are, so) = it sql (subst (λ (d : Database). IsPlain (understood d.schema sql)) (sym was.0.now_is) known) given in
-      (rows, xs, shown_from sql [] (state g first) (state g here) (state g new) rows known was shown, are, so)
+      let (rows, xs, shown, are, so) =
+      it sql (subst (λ (d : Database). IsPlain (understood d.schema sql)) (sym was.0.now_is) known)
+      given in (
+        rows,
+        xs,
+        shown_from sql [] (state g first) (state g here) (state g new) rows known was shown,
+        are,
+        so,
+      )
 
-  pub err_from : (r : Result R Fault) → OnErr r (Unmoved g here new ⊎ IsRolledBack (state g here) (state g new)) → OnErr r (IsUnchanged (state g first) (state g new) ⊎ IsRolledBack (state g first) (state g new))
+  pub err_from : (r : Result R Fault)
+      → OnErr r (Unmoved g here new ⊎ IsRolledBack (state g here) (state g new))
+      → OnErr r (IsUnchanged (state g first) (state g new)
+      ⊎ IsRolledBack (state g first) (state g new))
   err_from (Ok a) it = tt
   err_from (Err e) it = left_from g first here new (begins g sql first here plain begun).1 it
 
 -- ---- what a table's rows say
 
-same_left : (old new : State) → (IsTrue old.is_open → old.now ≡ old.committed) → IsTrue new.is_open → IsUnchanged old new ⊎ IsRolledBack old new → IsSame old new
-same_left old new settled up (inl it) = record { was_open = it.0.was_open; now = it.0.now_is; committed = it.0.committed_is }
-same_left old new settled up (inr it) = record { was_open = it.was_open up; now = (it.undone up).0 ∙ sym (settled (it.was_open up)); committed = (it.undone up).1 }
+same_left : (old new : State) → (IsTrue old.is_open → old.now ≡ old.committed) → IsTrue new.is_open
+    → IsUnchanged old new ⊎ IsRolledBack old new → IsSame old new
+same_left old new settled up (inl it) = record {
+  was_open = it.0.was_open;
+  now = it.0.now_is;
+  committed = it.0.committed_is;
+}
+same_left old new settled up (inr it) = record {
+  was_open = it.was_open up;
+  now = (it.undone up).0 ∙ sym (settled (it.was_open up));
+  committed = (it.undone up).1;
+}
 
 -- a read of all rows looked, and changed nothing
-pub table_looked : {X R : Type 0} (read : Row → Option X) (P : R → List X → Type 0) (sql : List ℕ) (old new : State) (r : Result R Fault) → (IsTrue old.is_open → IsPlain (understood old.now.schema sql)) → (IsTrue old.is_open → old.now ≡ old.committed)
-    → (IsTrue new.is_open → HasCleanDisk new) → (HasCleanDisk new → IfOk r (λ a. HasReadAll read sql old new (P a))) → (HasCleanDisk new → OnErr r (IsUnchanged old new ⊎ IsRolledBack old new)) → Survives old new (λ _. ⊥) → Looked old new (is_ok r)
+pub table_looked : {X R : Type 0} (read : Row → Option X) (P : R → List X → Type 0) (sql : List ℕ)
+    (old new : State) (r : Result R Fault)
+    → (IsTrue old.is_open → IsPlain (understood old.now.schema sql))
+    → (IsTrue old.is_open → old.now ≡ old.committed)
+    → (IsTrue new.is_open → HasCleanDisk new)
+    → (HasCleanDisk new → IfOk r (λ a. HasReadAll read sql old new (P a)))
+    → (HasCleanDisk new → OnErr r (IsUnchanged old new ⊎ IsRolledBack old new))
+    → Survives old new (λ _. ⊥) → Looked old new (is_ok r)
 table_looked read P sql old new (Ok a) plain settled clean_of all err survives = record {
   same = λ up. same_left old new settled up (inl (unchanged (clean_of up)));
   stays = λ ok clean. (unchanged clean).0.is_open;
@@ -130,7 +195,8 @@ table_looked read P sql old new (Ok a) plain settled clean_of all err survives =
 }
   where
     unchanged : HasCleanDisk new → IsUnchanged old new
-    unchanged clean = let h = all clean in shown_same sql [] old new h.0 (plain (shown_open sql [] old new h.0 h.2)) h.2
+    unchanged clean = let h = all clean in
+        shown_same sql [] old new h.0 (plain (shown_open sql [] old new h.0 h.2)) h.2
 table_looked read P sql old new (Err e) plain settled clean_of all err survives = record {
   same = λ up. same_left old new settled up (err (clean_of up));
   stays = λ no. absurd (true≢false (sym no));
@@ -139,31 +205,72 @@ table_looked read P sql old new (Err e) plain settled clean_of all err survives 
 }
 
 module _ {X : Type 0} (read : Row → Option X) (table : Table) (old new : State) where
-  pub ours_plain : (IsTrue old.is_open → IsOurs old) → IsTrue old.is_open → IsPlain (understood old.now.schema (all_text table))
-  ours_plain ours was = subst (λ k. IsPlain (understood k (all_text table))) (sym (ours was).schema) (query_plain (All table))
+  pub ours_plain : (IsTrue old.is_open → IsOurs old) → IsTrue old.is_open
+      → IsPlain (understood old.now.schema (all_text table))
+  ours_plain ours was = subst (λ k. IsPlain (understood k (all_text table))) (sym (ours was).schema)
+      (query_plain (All table))
 
-  pub old_plain : (f : Form) → IsTableOf table f → (IsTrue old.is_open → IsOfForm f old) → IsTrue old.is_open → IsPlain (understood old.now.schema (all_text table))
-  old_plain f has ours was = subst (λ k. IsPlain (understood k (all_text table))) (sym (ours was).schema) (old_query_plain f table has)
+  pub old_plain : (f : Form) → IsTableOf table f → (IsTrue old.is_open → IsOfForm f old)
+      → IsTrue old.is_open → IsPlain (understood old.now.schema (all_text table))
+  old_plain f has ours was =
+      subst (λ k. IsPlain (understood k (all_text table))) (sym (ours was).schema)
+      (old_query_plain f table has)
 
-  pub ours_read : (IsTrue old.is_open → IsOurs old) → (r : Result Bool Fault) → IfOk r (λ blank. HasReadAll read (all_text table) old new (TellsNone blank)) → IfOk r (IsRead table read old.now.trees)
+  pub ours_read : (IsTrue old.is_open → IsOurs old) → (r : Result Bool Fault)
+      → IfOk r (λ blank. HasReadAll read (all_text table) old new (TellsNone blank))
+      → IfOk r (IsRead table read old.now.trees)
   ours_read ours (Err e) it = tt
-  ours_read ours (Ok blank) (rows, xs, shown, are, none) = (xs, (rows, answers (All table) [] old new ours rows (shown_open (all_text table) [] old new rows shown) shown, are), none)
+  ours_read ours (Ok blank) (rows, xs, shown, are, none) = (
+    xs,
+    (
+      rows,
+      answers (All table) [] old new ours rows (shown_open (all_text table) [] old new rows shown)
+          shown,
+      are,
+    ),
+    none,
+  )
 
-  pub old_read : (f : Form) → IsTableOf table f → (IsTrue old.is_open → IsOfForm f old) → (r : Result Bool Fault) → IfOk r (λ blank. HasReadAll read (all_text table) old new (TellsNone blank)) → OnOk r (IsRead table read old.now.trees false)
+  pub old_read : (f : Form) → IsTableOf table f → (IsTrue old.is_open → IsOfForm f old)
+      → (r : Result Bool Fault)
+      → IfOk r (λ blank. HasReadAll read (all_text table) old new (TellsNone blank))
+      → OnOk r (IsRead table read old.now.trees false)
   old_read f has ours (Err e) it = tt
-  old_read f has ours (Ok blank) (rows, xs, shown, are, none) = (xs, (rows, old_answers f table has old new ours rows (shown_open (all_text table) [] old new rows shown) shown, are), λ no. absurd (true≢false (sym no)))
+  old_read f has ours (Ok blank) (rows, xs, shown, are, none) = (
+    xs,
+    (
+      rows,
+      old_answers f table has old new ours rows (shown_open (all_text table) [] old new rows shown)
+          shown,
+      are,
+    ),
+    λ no. absurd (true≢false (sym no)),
+  )
 
 -- ---- the ids of the versions of a file of an earlier form
 
 -- one more version was read
-pub more_ids : (ids : List ℕ) (seen : List (ℕ × VersionRow)) (x : OldVersion) (more : List ℕ) → more ≡ ids ++ x.version.id ∷ [] → AreIdsOf ids seen → AreIdsOf more (seen ++ (x.version.id, x.version.row) ∷ [])
+pub more_ids : (ids : List ℕ) (seen : List (ℕ × VersionRow)) (x : OldVersion) (more : List ℕ)
+    → more ≡ ids ++ x.version.id ∷ [] → AreIdsOf ids seen
+    → AreIdsOf more (seen ++ (x.version.id, x.version.row) ∷ [])
 more_ids ids seen x more is (xs, same, own) = (
   xs ++ x ∷ [],
   ap (λ l. l ++ (x.version.id, x.version.row) ∷ []) same ∙ sym (map-append _ xs (x ∷ [])),
   is ∙ ap (λ l. l ++ x.version.id ∷ []) own ∙ sym (map-append _ xs (x ∷ [])),
 )
 
-pub ids_read : (f : Form) (old new : State) → (IsTrue old.is_open → IsOfForm f old) → {R : Type 0} (items : R → List ℕ) (r : Result R Fault) → IfOk r (λ ids. HasReadAll old_version_in (all_text OldTable) old new (AreIdsOf (items ids))) → IfOk r (λ ids. HasIds (items ids) old.now.trees)
+pub ids_read : (f : Form) (old new : State) → (IsTrue old.is_open → IsOfForm f old)
+    → {R : Type 0} (items : R → List ℕ) (r : Result R Fault)
+    → IfOk r (λ ids. HasReadAll old_version_in (all_text OldTable) old new (AreIdsOf (items ids)))
+    → IfOk r (λ ids. HasIds (items ids) old.now.trees)
 ids_read f old new ours items (Err e) it = tt
-ids_read f old new ours items (Ok ids) (rows, seen, shown, are, (xs, same, own)) =
-    (xs, (rows, old_answers f OldTable tt old new ours rows (shown_open (all_text OldTable) [] old new rows shown) shown, subst (AreRead old_version_in rows) same are), own)
+ids_read f old new ours items (Ok ids) (rows, seen, shown, are, (xs, same, own)) = (
+  xs,
+  (
+    rows,
+    old_answers f OldTable tt old new ours rows (shown_open (all_text OldTable) [] old new rows
+        shown) shown,
+    subst (AreRead old_version_in rows) same are,
+  ),
+  own,
+)

@@ -25,25 +25,38 @@ use Rattle.sql_store.specs.Lists.{is_waiting}
 use Rattle.numbers.proofs.Small.{and_both, true_both, equal_number, some_there}
 
 abbrev pub key_at : ℕ → (minute id attempt : ℕ) → WaitKey
-key_at carrier minute id attempt = record { carrier = carrier; minute = minute; id = id; attempt = attempt }
+key_at carrier minute id attempt = record {
+  carrier = carrier;
+  minute = minute;
+  id = id;
+  attempt = attempt;
+}
 
-filter-map : {A B : Type 0} (f : A → B) (p : A → Bool) (q : B → Bool) → ((x : A) → q (f x) ≡ p x) → (xs : List A) → map f (filter p xs) ≡ filter q (map f xs)
+filter-map : {A B : Type 0} (f : A → B) (p : A → Bool) (q : B → Bool) → ((x : A) → q (f x) ≡ p x)
+    → (xs : List A) → map f (filter p xs) ≡ filter q (map f xs)
 filter-map f p q same [] = refl
-filter-map f p q same (x ∷ xs) = go (filter-map f p q same xs) (p x) ∙ ap (λ b. cond b (f x ∷ filter q (map f xs)) (filter q (map f xs))) (sym (same x))
+filter-map f p q same (x ∷ xs) =
+    go (filter-map f p q same xs) (p x)
+    ∙ ap (λ b. cond b (f x ∷ filter q (map f xs)) (filter q (map f xs))) (sym (same x))
   where
-    go : map f (filter p xs) ≡ filter q (map f xs) → (b : Bool) → map f (cond b (x ∷ filter p xs) (filter p xs)) ≡ cond b (f x ∷ filter q (map f xs)) (filter q (map f xs))
+    go : map f (filter p xs) ≡ filter q (map f xs) → (b : Bool)
+        → map f (cond b (x ∷ filter p xs) (filter p xs)) ≡ cond b (f x ∷ filter q (map f xs))
+        (filter q (map f xs))
     go more true = ap (λ ys. f x ∷ ys) more
     go more false = more
 
-all-map : {A B : Type 0} (f : A → B) (q : B → Bool) (xs : List A) → list_all (λ x. q (f x)) xs ≡ list_all q (map f xs)
+all-map : {A B : Type 0} (f : A → B) (q : B → Bool) (xs : List A)
+    → list_all (λ x. q (f x)) xs ≡ list_all q (map f xs)
 all-map f q [] = refl
 all-map f q (x ∷ xs) = ap (λ b. q (f x) && b) (all-map f q xs)
 
 none_kept : {A : Type 0} (q : A → Bool) → ((x : A) → q x ≡ false) → (xs : List A) → filter q xs ≡ []
 none_kept q none [] = refl
-none_kept q none (x ∷ xs) = ap (λ b. cond b (x ∷ filter q xs) (filter q xs)) (none x) ∙ none_kept q none xs
+none_kept q none (x ∷ xs) = ap (λ b. cond b (x ∷ filter q xs) (filter q xs)) (none x)
+    ∙ none_kept q none xs
 
-pub has_any : {A : Type 0} (p : A → Bool) (xs : List A) (x : A) → Has xs x → p x ≡ true → list_any p xs ≡ true
+pub has_any : {A : Type 0} (p : A → Bool) (xs : List A) (x : A) → Has xs x → p x ≡ true
+    → list_any p xs ≡ true
 has_any p [] x at is = absurd at
 has_any p (y ∷ ys) x (inl same) is = ap (λ b. b || list_any p ys) (ap p (sym same) ∙ is)
 has_any p (y ∷ ys) x (inr at) is = or_true (p y) (has_any p ys x at is)
@@ -59,36 +72,52 @@ module _ (c : Content) (minute id attempt : ℕ) where
   abbrev waits_there : ℕ → Bool
   waits_there k = is_some (get c.waits (key_at k minute id attempt))
 
-  module _ (waits : List KeyedWait) (picks : Picks wait_seen c.waits (λ k v. (k.id ≡ id) × (k.attempt ≡ attempt)) waits) where
+  module _ (waits : List KeyedWait) (picks : Picks wait_seen c.waits (λ k v. (k.id ≡ id)
+      × (k.attempt ≡ attempt)) waits) where
     waiting_is : (carrier : Spid) → waits_there carrier.number ≡ is_waiting waits minute carrier
     waiting_is carrier = same_truth (waits_there carrier.number) (is_waiting waits minute carrier)
         (λ e.
         let s = some_there (get c.waits (key_at carrier.number minute id attempt)) e in
         let w = picks.each (key_at carrier.number minute id attempt) s.0 s.1 (refl, refl) in
         let key = ap (λ (e : WaitKey × Subject). e.0) w.2 in
-        has_any (λ (w : KeyedWait). (w.key.minute.number == minute) && (w.key.carrier.number == carrier.number)) waits w.0 w.1
-        (true_both _ _ (same_is w.0.key.minute.number minute (ap (λ (k : WaitKey). k.minute) key)) (same_is w.0.key.carrier.number carrier.number (ap (λ (k : WaitKey). k.carrier) key))))
+        has_any (λ (w : KeyedWait). (w.key.minute.number == minute)
+        && (w.key.carrier.number == carrier.number)) waits w.0 w.1
+        (true_both _ _ (same_is w.0.key.minute.number minute (ap (λ (k : WaitKey). k.minute) key))
+        (same_is w.0.key.carrier.number carrier.number (ap (λ (k : WaitKey). k.carrier) key))))
         (λ e.
-        let w = some_has (λ (w : KeyedWait). (w.key.minute.number == minute) && (w.key.carrier.number == carrier.number)) waits e in
+        let w = some_has (λ (w : KeyedWait). (w.key.minute.number == minute)
+        && (w.key.carrier.number == carrier.number)) waits e in
         let test = and_both _ _ w.2 in
         let it = picks.only w.0 w.1 in
-        ap (λ k. is_some (get c.waits (key_at k minute id attempt))) (sym (equal_number w.0.key.carrier.number carrier.number test.1))
-        ∙ ap (λ k. is_some (get c.waits (key_at w.0.key.carrier.number k id attempt))) (sym (equal_number w.0.key.minute.number minute test.0))
-        ∙ ap (λ k. is_some (get c.waits (key_at w.0.key.carrier.number w.0.key.minute.number k attempt))) (sym it.1.0)
-        ∙ ap (λ k. is_some (get c.waits (key_at w.0.key.carrier.number w.0.key.minute.number w.0.key.id k))) (sym it.1.1)
+        ap (λ k. is_some (get c.waits (key_at k minute id attempt)))
+        (sym (equal_number w.0.key.carrier.number carrier.number test.1))
+        ∙ ap (λ k. is_some (get c.waits (key_at w.0.key.carrier.number k id attempt)))
+        (sym (equal_number w.0.key.minute.number minute test.0))
+        ∙ ap (λ k. is_some (get c.waits (key_at w.0.key.carrier.number w.0.key.minute.number k
+        attempt))) (sym it.1.0)
+        ∙ ap (λ k. is_some (get c.waits (key_at w.0.key.carrier.number w.0.key.minute.number
+        w.0.key.id k))) (sym it.1.1)
         ∙ ap is_some it.0)
 
-    pub waiters_are : (carriers : List Spid) → AreCarriers c carriers → AreWaiters c minute id attempt (filter (is_waiting waits minute) carriers)
-    waiters_are carriers are = filter-map spid_of (is_waiting waits minute) waits_there waiting_is carriers ∙ ap (filter waits_there) are
+    pub waiters_are : (carriers : List Spid) → AreCarriers c carriers
+        → AreWaiters c minute id attempt (filter (is_waiting waits minute) carriers)
+    waiters_are carriers are = filter-map spid_of (is_waiting waits minute) waits_there waiting_is
+        carriers ∙ ap (filter waits_there) are
 
-  pub no_waiters : ((k : ℕ) → get c.waits (key_at k minute id attempt) ≡ None) → AreWaiters c minute id attempt []
+  pub no_waiters : ((k : ℕ) → get c.waits (key_at k minute id attempt) ≡ None)
+      → AreWaiters c minute id attempt []
   no_waiters none = sym (none_kept waits_there (λ k. ap is_some (none k)) (keys c.carriers))
 
-pub last_is : (c : Content) (wait : WaitKey) (waiters : List Spid) → AreWaiters c wait.minute wait.id wait.attempt waiters → list_all (λ (k : Spid). k.number == wait.carrier) waiters ≡ is_last_wait c wait
-last_is c wait waiters are = all-map spid_of (λ k. k == wait.carrier) waiters ∙ ap (list_all (λ k. k == wait.carrier)) are
+pub last_is : (c : Content) (wait : WaitKey) (waiters : List Spid)
+    → AreWaiters c wait.minute wait.id wait.attempt waiters
+    → list_all (λ (k : Spid). k.number == wait.carrier) waiters ≡ is_last_wait c wait
+last_is c wait waiters are = all-map spid_of (λ k. k == wait.carrier) waiters
+    ∙ ap (list_all (λ k. k == wait.carrier)) are
 
 -- no key is as great as this
-pub no_great_wait : (db : Trees) (k : WaitKey) → (nat_lt k.id 9223372036854775808 && nat_lt k.attempt 9223372036854775808) ≡ false → get (content_in db).waits k ≡ None
+pub no_great_wait : (db : Trees) (k : WaitKey)
+    → (nat_lt k.id 9223372036854775808 && nat_lt k.attempt 9223372036854775808) ≡ false
+    → get (content_in db).waits k ≡ None
 no_great_wait db k great = go (get (content_in db).waits k) refl
   where
     go : (o : Option Subject) → get (content_in db).waits k ≡ o → o ≡ None
@@ -96,4 +125,6 @@ no_great_wait db k great = go (get (content_in db).waits k) refl
     go (Some s) e =
         let f = entry_from wait_cmp wait_total wait_in wait_shown same_wait (db 10) k s e in
         let r = wait_reads f.row (k, s) f.reads in
-        absurd (true≢false (sym (true_both _ _ (number_small (column f.row 3) k.id r.id) (number_small (column f.row 4) k.attempt r.attempt)) ∙ great))
+        absurd (true≢false
+        (sym (true_both _ _ (number_small (column f.row 3) k.id r.id)
+        (number_small (column f.row 4) k.attempt r.attempt)) ∙ great))

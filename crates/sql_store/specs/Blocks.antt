@@ -35,7 +35,8 @@ number_by by v = option_and_then number_if (subject_by by v)
 
 -- a version of the number is in force, or open
 abbrev pub Stands : Content → Standing → (number : ℕ) → Type 0
-Stands c by n = (id : ℕ) × (row : VersionRow) × (get c.versions id ≡ Some row) × (subject_by by row ≡ Some (Number n))
+Stands c by n = (id : ℕ) × (row : VersionRow) × (get c.versions id ≡ Some row)
+    × (subject_by by row ≡ Some (Number n))
 
 -- the numbers of the block of which it is so
 pub record AreNumbers (c : Content) (by : Standing) (block : ℕ) (tns : List Tn) : Type 0 where
@@ -48,4 +49,8 @@ abbrev pub is_listed : List Tn → Tn → Bool
 is_listed tns tn = list_any (λ (t : Tn). t.number == tn.number) tns
 
 abbrev pub number_in_use : (in_force opened : List Tn) → Tn → NumberInUse
-number_in_use in_force opened tn = record { tn = tn; is_in_force = is_listed in_force tn; is_open = is_listed opened tn }
+number_in_use in_force opened tn = record {
+  tn = tn;
+  is_in_force = is_listed in_force tn;
+  is_open = is_listed opened tn;
+}

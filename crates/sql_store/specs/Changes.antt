@@ -34,7 +34,10 @@ with_clock v c = record c { clock = with_windows c.sets v }
 
 -- a set of windows, which is the present one from then on
 abbrev pub with_set : StoredClock → Windows → Content → Content
-with_set v w c = record c { sets = insert c.sets v.present w; clock = Some (clock_row v.minute v.next_id v.present w) }
+with_set v w c = record c {
+  sets = insert c.sets v.present w;
+  clock = Some (clock_row v.minute v.next_id v.present w);
+}
 
 abbrev pub with_version : ℕ → VersionRow → Content → Content
 with_version k v c = record c { versions = insert c.versions k v }
@@ -69,26 +72,35 @@ if_some change (Some x) c = change x c
 abbrev pub replaced : List (ℕ × VersionRow) → Content → Content
 replaced ps c = all_made (λ p. with_version p.0 p.1) ps (all_made (λ p. without_version p.0) ps c)
 
--- the clock moved, and a set put, over the clock's row as it was. A set with no row to go by is never put
+-- the clock moved, and a set put, over the clock's row as it was. A set with no row to go by is
+-- never put
 abbrev pub clock_made : Option ClockMove → Option WindowSet → Option ClockRow → Content → Content
 clock_made None None row c = c
 clock_made (Some m) None None c = c
-clock_made (Some m) None (Some row) c = with_clock (stored_clock m.minute.number m.next_id row.present.number) c
-clock_made (Some m) (Some s) row c = with_set (stored_clock m.minute.number m.next_id s.number) (windows_of s.windows) c
-clock_made None (Some s) (Some row) c = with_set (stored_clock row.minute.number row.next_id s.number) (windows_of s.windows) c
+clock_made (Some m) None (Some row) c =
+    with_clock (stored_clock m.minute.number m.next_id row.present.number) c
+clock_made (Some m) (Some s) row c =
+    with_set (stored_clock m.minute.number m.next_id s.number) (windows_of s.windows) c
+clock_made None (Some s) (Some row) c =
+    with_set (stored_clock row.minute.number row.next_id s.number) (windows_of s.windows) c
 clock_made None (Some s) None c = record c { sets = insert c.sets s.number (windows_of s.windows) }
 
 -- the rows of which there is at most one
 abbrev pub singles : Changes → Option ClockRow → Content → Content
 singles ch row c =
-    clock_made ch.clock ch.set row (if_some (λ e. with_block (block_of e.0) (block_row_of e.1)) ch.block (if_some (λ e. with_code (code_of e.0) (spid_of e.1)) ch.code
-    (if_some (λ e. with_lrn (lrn_of e.0) (spid_of e.1)) ch.lrn (if_some (λ k. with_carrier (spid_of k)) ch.carrier c))))
+    clock_made ch.clock ch.set row (if_some (λ e. with_block (block_of e.0) (block_row_of e.1))
+    ch.block (if_some (λ e. with_code (code_of e.0) (spid_of e.1)) ch.code
+    (if_some (λ e. with_lrn (lrn_of e.0) (spid_of e.1)) ch.lrn
+    (if_some (λ k. with_carrier (spid_of k)) ch.carrier c))))
 
 -- all others: rows are put, and then rows are taken away
 abbrev pub lists : Changes → Content → Content
 lists ch c =
-    all_made (λ k. without_wait (wait_key_of k)) (items_of ch.taken_waits) (all_made (λ k. without_broadcast (broadcast_key_of k)) (items_of ch.taken_broadcasts)
-    (all_made (λ e. with_wait (wait_key_of e.0) (subject_of e.1)) ch.waits.items (all_made (λ e. with_broadcast (broadcast_key_of e.0) (broadcast_row_of e.1)) (items_of ch.broadcasts) (replaced (items_of ch.versions) c))))
+    all_made (λ k. without_wait (wait_key_of k)) (items_of ch.taken_waits)
+    (all_made (λ k. without_broadcast (broadcast_key_of k)) (items_of ch.taken_broadcasts)
+    (all_made (λ e. with_wait (wait_key_of e.0) (subject_of e.1)) ch.waits.items
+    (all_made (λ e. with_broadcast (broadcast_key_of e.0) (broadcast_row_of e.1))
+    (items_of ch.broadcasts) (replaced (items_of ch.versions) c))))
 
 abbrev pub made : Changes → Option ClockRow → Content → Content
 made ch row c = lists ch (singles ch row c)
@@ -99,4 +111,5 @@ go_by_clock ch = is_some ch.clock || is_some ch.set
 
 -- the changes, where this is the clock's row before them if they go by it
 abbrev pub IsChangedOver : Changes → Option ClockRow → Content → Content → Type 0
-IsChangedOver ch row old new = (IsTrue (go_by_clock ch) → option_map clock_row_of row ≡ old.clock) → IsChanged (changes_of ch) old new
+IsChangedOver ch row old new = (IsTrue (go_by_clock ch) → option_map clock_row_of row ≡ old.clock)
+    → IsChanged (changes_of ch) old new

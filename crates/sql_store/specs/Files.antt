@@ -9,7 +9,9 @@ use Rattle.sql_store.specs.declared.file.Unopened.TheVariants.{Files, Database}
 use Rattle.sql_store.specs.declared.file_fault.FileFault.{FileFault}
 use Rattle.sql_store.specs.declared.file_fault.FileFault.TheVariants.{WindowsDiffer}
 
--- the database that the file holds was refused as one, or the file was not opened, which no windows cause
-abbrev pub IsRefusedAt : {S L : Type 0} → Ghosts S → Windows → Trees → FileFault → Unopened S L → Type 0
+-- the database that the file holds was refused as one, or the file was not opened, which no windows
+-- cause
+abbrev pub IsRefusedAt : {S L : Type 0} → Ghosts S → Windows → Trees → FileFault → Unopened S L
+    → Type 0
 IsRefusedAt g w db fault (Files left) = fault ≢ WindowsDiffer
 IsRefusedAt g w db fault (Database refused) = IsRefusedAs g w db fault refused

@@ -14,4 +14,5 @@ version_seen v = (v.id, v.row)
 
 -- the query is answered by no row or by one, and this is that row with its routing
 abbrev pub IsVersionFound : Query → Trees → Row → Option NumberedRow → Type 0
-IsVersionFound query db params o = (bare : Option NumberedRow) × IsSoleAnswer query version_in db params (option_map version_seen bare) × IsFoundAs db bare o
+IsVersionFound query db params o = (bare : Option NumberedRow)
+    × IsSoleAnswer query version_in db params (option_map version_seen bare) × IsFoundAs db bare o

@@ -14,7 +14,9 @@ download_of w = record { minute = w.key.minute; id = w.key.id; attempt = w.key.a
 
 -- a download of that minute is among these for the carrier
 abbrev pub is_waiting : List KeyedWait → (minute : ℕ) → Spid → Bool
-is_waiting waits minute carrier = list_any (λ (w : KeyedWait). (w.key.minute.number == minute) && (w.key.carrier.number == carrier.number)) waits
+is_waiting waits minute carrier =
+    list_any (λ (w : KeyedWait). (w.key.minute.number == minute)
+    && (w.key.carrier.number == carrier.number)) waits
 
 abbrev pub pair_of : KeyedBroadcast → BroadcastKey × Broadcast
 pair_of b = (b.key, b.broadcast)

@@ -34,7 +34,8 @@ use Rattle.sql_store.specs.Whole.{AreRegistryRead, EachReads, IsMoved}
 
 -- each table of the form has rowids that rise
 abbrev pub AreOldShaped : Form → Trees → Type 0
-AreOldShaped f db = AllByRecursion (λ (t : SqlTable). IsShaped AsTable (db t.tree)) (schema_of f).tables
+AreOldShaped f db =
+    AllByRecursion (λ (t : SqlTable). IsShaped AsTable (db t.tree)) (schema_of f).tables
 
 -- the tables are those of the form, and nothing is pending
 pub record IsOfForm (f : Form) (s : State) : Type 0 where
@@ -45,7 +46,8 @@ pub record IsOfForm (f : Form) (s : State) : Type 0 where
 
 -- ---- the contract
 
--- the file is one of this form: its content is the old one, with its windows as set 1, and the tables of the earlier form are empty
+-- the file is one of this form: its content is the old one, with its windows as set 1, and the
+-- tables of the earlier form are empty
 pub record IsCarriedOver (f : Form) (old new : Trees) : Type 0 where
   pub content : content_in new ≡ old_content_in f old
   pub moved : IsMoved new
@@ -85,13 +87,15 @@ WereItsWindows w db = (c : ClockRow) → old_clock (db 12) ≡ Some c → c.pres
 abbrev pub WereOtherWindows : Windows → Trees → Type 0
 WereOtherWindows w db = (c : ClockRow) × (old_clock (db 12) ≡ Some c) × (c.present.windows ≢ w)
 
--- a file of the form was made one of this form: these windows are its own, and every row of it was read
+-- a file of the form was made one of this form: these windows are its own, and every row of it was
+-- read
 pub record IsMovedFrom (f : Form) (w : Windows) (old new : Trees) : Type 0 where
   pub staying : AreStayingRead f old
   pub windows : WereItsWindows w old
   pub carried : IsCarried f old new
 
--- a call made this of a file of an earlier form, which is one of this form then, or left it as it was; and so does a crash
+-- a call made this of a file of an earlier form, which is one of this form then, or left it as it
+-- was; and so does a crash
 pub record Moves (Becomes : Trees → Trees → Type 0) (old new : State) (done : Bool) : Type 0 where
   pub becomes : IsTrue done → IsTrue new.is_open → Becomes old.now.trees new.now.trees
   pub ours : IsTrue done → IsTrue new.is_open → IsOurs new
@@ -120,7 +124,8 @@ pub record IsBegunAs (f : Form) (s : State) : Type 0 where
   pub shaped : AreOldShaped f s.now.trees
 
 -- a call in a transaction makes this of the database, where it does not fail
-pub record Alters (P : State → Type 0) (old new : State) (done : Bool) (Did : Database → Database → Type 0) : Type 0 where
+pub record Alters (P : State → Type 0) (old new : State) (done : Bool) (Did : Database → Database
+    → Type 0) : Type 0 where
   pub altered : IsTrue done → HasCleanDisk new → P old → Wrote old new Did
   pub kept : IsTrue new.is_open → Kept old new
   pub survives : Survives old new (λ _. ⊥)
@@ -140,7 +145,8 @@ pub record IsGrown (f : Form) (old new : Database) : Type 0 where
 
 -- a version's row was put as its table has it: the routing that it sends stays where it stood
 abbrev pub IsBarePut : ℕ → VersionRow → Database → Database → Type 0
-IsBarePut id v old new = Replaced Version (Int (pos id) ∷ []) (version_params id v) old new × (version_entry (version_row id v) ≡ Some (id, bare v))
+IsBarePut id v old new = Replaced Version (Int (pos id) ∷ []) (version_params id v) old new
+    × (version_entry (version_row id v) ≡ Some (id, bare v))
 
 abbrev pub seen_of : List OldVersion → List (ℕ × VersionRow)
 seen_of xs = map (λ (x : OldVersion). (x.version.id, x.version.row)) xs
@@ -154,18 +160,21 @@ AreIdsOf ids seen = (xs : List OldVersion) × (seen ≡ seen_of xs) × (ids ≡ 
 
 -- of all versions of a file of an earlier form, each of which reads
 abbrev pub HasIds : List ℕ → Trees → Type 0
-HasIds ids db = (xs : List OldVersion) × IsListAnswer (All OldTable) old_version_in db [] (seen_of xs) × (ids ≡ ids_in xs)
+HasIds ids db = (xs : List OldVersion) × IsListAnswer (All OldTable) old_version_in db []
+    (seen_of xs) × (ids ≡ ids_in xs)
 
 -- the version with an id was put as it stands there
 abbrev pub IsOldPut : ℕ → Database → Database → Type 0
-IsOldPut id old new = (v : VersionRow) × (get (old_versions_in (old.trees 5)) id ≡ Some v) × IsBarePut id v old new
+IsOldPut id old new = (v : VersionRow) × (get (old_versions_in (old.trees 5)) id ≡ Some v)
+    × IsBarePut id v old new
 
 -- the versions with these ids, each of which stands in the first of two maps, put into the other
 abbrev pub put_if : ℕ → Option VersionRow → FinMap nat_cmp VersionRow → FinMap nat_cmp VersionRow
 put_if id None m = m
 put_if id (Some v) m = insert m id (bare v)
 
-abbrev pub all_of : FinMap nat_cmp VersionRow → List ℕ → FinMap nat_cmp VersionRow → FinMap nat_cmp VersionRow
+abbrev pub all_of : FinMap nat_cmp VersionRow → List ℕ → FinMap nat_cmp VersionRow
+    → FinMap nat_cmp VersionRow
 all_of from [] m = m
 all_of from (id ∷ ids) m = all_of from ids (put_if id (get from id) m)
 
@@ -177,7 +186,8 @@ all_old db = all_of (old_versions_in (db 5))
 pub record ArePutBut (left whole : List ℕ) (old new : Database) : Type 0 where
   pub schema : old.schema ≡ the_schema → new.schema ≡ the_schema
   pub shaped : AreShaped old.trees → AreShaped new.trees
-  pub versions : AreShaped old.trees → all_old old.trees left (versions_in (new.trees 18)) ≡ all_old old.trees whole (versions_in (old.trees 18))
+  pub versions : AreShaped old.trees → all_old old.trees left (versions_in (new.trees 18))
+      ≡ all_old old.trees whole (versions_in (old.trees 18))
   pub frame : IsFrame Version old.trees new.trees
 
 -- the version with an id was taken away from the table of the earlier forms
@@ -195,16 +205,22 @@ pub record IsFilled (ids : List ℕ) (clock : Option OldClock) (old new : Databa
   pub schema : new.schema ≡ the_schema
   pub shaped : AreShaped new.trees
   pub moved : IsMoved new.trees
-  pub content : old.trees 17 ≡ [] → old.trees 18 ≡ [] → old.trees 21 ≡ [] → content_in new.trees ≡ content_with Modify (all_old old.trees ids empty) (option_map old_clock_of clock) old.trees
+  pub content : old.trees 17 ≡ [] → old.trees 18 ≡ [] → old.trees 21 ≡ []
+      → content_in new.trees ≡ content_with Modify (all_old old.trees ids empty)
+      (option_map old_clock_of clock) old.trees
 
 -- both
-pub record IsRebuilt (f : Form) (ids : List ℕ) (clock : Option OldClock) (old new : Database) : Type 0 where
+pub record IsRebuilt (f : Form) (ids : List ℕ) (clock : Option OldClock)
+    (old new : Database) : Type 0 where
   pub schema : new.schema ≡ the_schema
   pub shaped : AreShaped new.trees
   pub moved : IsMoved new.trees
-  pub content : content_in new.trees ≡ content_with f (all_old old.trees ids empty) (option_map old_clock_of clock) old.trees
+  pub content : content_in new.trees ≡ content_with f (all_old old.trees ids empty)
+      (option_map old_clock_of clock) old.trees
 
 -- the trees alone
-pub record IsRebuiltAs (f : Form) (ids : List ℕ) (clock : Option OldClock) (old new : Trees) : Type 0 where
-  pub content : content_in new ≡ content_with f (all_old old ids empty) (option_map old_clock_of clock) old
+pub record IsRebuiltAs (f : Form) (ids : List ℕ) (clock : Option OldClock)
+    (old new : Trees) : Type 0 where
+  pub content : content_in new ≡ content_with f (all_old old ids empty)
+      (option_map old_clock_of clock) old
   pub moved : IsMoved new

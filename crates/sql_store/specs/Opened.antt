@@ -19,7 +19,8 @@ use Rattle.sql_store.specs.declared.file_fault.FileFault.{FileFault}
 use Rattle.sql_store.specs.declared.file_fault.FileFault.TheVariants.{WindowsDiffer}
 use Rattle.sql_store.specs.declared.refused.Refused.{Refused}
 
--- a connection as an open leaves it: its tables, where they are ours or of an earlier form, have rows in order
+-- a connection as an open leaves it: its tables, where they are ours or of an earlier form, have
+-- rows in order
 pub record WasOpened (s : State) : Type 0 where
   pub opens : Opens s
   pub live : IsLive s
@@ -34,7 +35,8 @@ pub record HadOtherWindows (w : Windows) (db : Trees) : Type 0 where
 
 -- ---- what is taken
 
--- what a database is once it is taken: one that lists nothing is empty, one of our tables has what it had, one of an earlier form is moved
+-- what a database is once it is taken: one that lists nothing is empty, one of our tables has what
+-- it had, one of an earlier form is moved
 pub record IsTakenAs (w : Windows) (db now : Trees) : Type 0 where
   pub new : IsSound no_schema db → content_in now ≡ empty_content
   pub found : IsSound the_schema db → content_in now ≡ content_in db
@@ -46,12 +48,16 @@ pub record IsTakenAs (w : Windows) (db now : Trees) : Type 0 where
 
 -- ---- what is refused
 
--- what a crash may leave of a database that is opened: what it is, or what one of an earlier form is moved to
+-- what a crash may leave of a database that is opened: what it is, or what one of an earlier form
+-- is moved to
 abbrev pub MayLeave : Windows → (db left : Trees) → Type 0
 MayLeave w db left = (left ≡ db) ⊎ ((f : Form) × IsSound (schema_of f) db × IsMovedFrom f w db left)
 
--- a database is refused: if it lists tables it is as it was, a crash leaves no more than it might, and its windows were others if that is told
-pub record IsRefusedAs {S : Type 0} (g : Ghosts S) (w : Windows) (db : Trees) (fault : FileFault) (left : Refused S) : Type 0 where
+-- a database is refused: if it lists tables it is as it was, a crash leaves no more than it might,
+-- and its windows were others if that is told
+pub record IsRefusedAs {S : Type 0} (g : Ghosts S) (w : Windows) (db : Trees) (fault : FileFault)
+    (left : Refused S) : Type 0 where
   pub kept : ¬ IsSound no_schema db → StandsYet g left → trees_of g left ≡ db
-  pub crash : ¬ IsSound no_schema db → IsCleanYet g left → (trees : Trees) → may_leave_of g left trees → MayLeave w db trees
+  pub crash : ¬ IsSound no_schema db → IsCleanYet g left → (trees : Trees)
+      → may_leave_of g left trees → MayLeave w db trees
   pub differ : fault ≡ WindowsDiffer → StandsYet g left → HadOtherWindows w db

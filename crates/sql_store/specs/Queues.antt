@@ -24,7 +24,8 @@ is_told c wait = is_some (get c.broadcasts (record { id = wait.id; attempt = wai
 
 -- the download is as its broadcast's row tells it
 abbrev pub IsTold : Content → Download → Type 0
-IsTold c d = (row : BroadcastRow) × (get c.broadcasts (record { id = d.id; attempt = d.attempt }) ≡ Some row) × IsToldBy row d
+IsTold c d = (row : BroadcastRow) × (get c.broadcasts (record { id = d.id; attempt = d.attempt })
+    ≡ Some row) × IsToldBy row d
 
 -- what waits as a download, or nothing where it has no broadcast
 abbrev pub IsNext : Content → DownloadKey → Option Download → Type 0
@@ -32,12 +33,14 @@ IsNext c wait None = get c.broadcasts (record { id = wait.id; attempt = wait.att
 IsNext c wait (Some d) = (key_in d ≡ wait) × IsTold c d
 
 -- all that waits and has a broadcast, in its order
-pub record AreTold (c : Content) (waits : List DownloadKey) (downloads : List Download) : Type 0 where
+pub record AreTold (c : Content) (waits : List DownloadKey)
+    (downloads : List Download) : Type 0 where
   pub keys : map key_in downloads ≡ filter (is_told c) waits
   pub told : All (IsTold c) downloads
 
 -- the first of them: so many, or all where there are fewer
-pub record AreFirstTold (c : Content) (many : ℕ) (waits : List DownloadKey) (downloads : List Download) : Type 0 where
+pub record AreFirstTold (c : Content) (many : ℕ) (waits : List DownloadKey)
+    (downloads : List Download) : Type 0 where
   pub passed : ℕ
   pub told : AreTold c (take passed waits) downloads
   pub whole : (length waits ≤ passed) ⊎ (length downloads ≡ many)
@@ -45,14 +48,29 @@ pub record AreFirstTold (c : Content) (many : ℕ) (waits : List DownloadKey) (d
 
 -- in the order of a queue
 abbrev pub queue_order : DownloadKey → (minute id attempt : ℕ) → Ordering
-queue_order d minute id attempt = ordering_then (nat_cmp d.minute.number minute) (ordering_then (nat_cmp d.id id) (nat_cmp d.attempt attempt))
+queue_order d minute id attempt =
+    ordering_then (nat_cmp d.minute.number minute) (ordering_then (nat_cmp d.id id)
+    (nat_cmp d.attempt attempt))
 
--- what waits for the carrier: each once, in the order of its queue; all of it, unless `Left`, and then what is left is behind these
-pub record AreQueued (c : Content) (carrier : ℕ) (Left : Type 0) (waits : List DownloadKey) : Type 0 where
-  pub each : (minute id attempt : ℕ) → is_some (get c.waits (record { carrier = carrier; minute = minute; id = id; attempt = attempt })) ≡ true
-      → ((d : DownloadKey) × Has waits d × (d.minute.number ≡ minute) × (d.id ≡ id) × (d.attempt ≡ attempt))
+-- what waits for the carrier: each once, in the order of its queue; all of it, unless `Left`, and
+-- then what is left is behind these
+pub record AreQueued (c : Content) (carrier : ℕ) (Left : Type 0)
+    (waits : List DownloadKey) : Type 0 where
+  pub each : (minute id attempt : ℕ) → is_some (get c.waits (record {
+    carrier = carrier;
+    minute = minute;
+    id = id;
+    attempt = attempt;
+  })) ≡ true
+      → ((d : DownloadKey) × Has waits d × (d.minute.number ≡ minute) × (d.id ≡ id)
+      × (d.attempt ≡ attempt))
       ⊎ (Left × ((d : DownloadKey) → Has waits d → queue_order d minute id attempt ≡ Less))
-  pub only : (d : DownloadKey) → Has waits d → is_some (get c.waits (record { carrier = carrier; minute = d.minute.number; id = d.id; attempt = d.attempt })) ≡ true
+  pub only : (d : DownloadKey) → Has waits d → is_some (get c.waits (record {
+    carrier = carrier;
+    minute = d.minute.number;
+    id = d.id;
+    attempt = d.attempt;
+  })) ≡ true
   pub rises : IsStrictlySortedBy download_cmp waits
 
 -- ---- rows of the table
@@ -62,10 +80,15 @@ seen_wait w = (wait_key_of w.key, subject_of w.subject)
 
 -- in the order of a queue
 abbrev pub wait_order : WaitKey → WaitKey → Ordering
-wait_order a b = ordering_then (nat_cmp a.minute b.minute) (ordering_then (nat_cmp a.id b.id) (nat_cmp a.attempt b.attempt))
+wait_order a b =
+    ordering_then (nat_cmp a.minute b.minute) (ordering_then (nat_cmp a.id b.id)
+    (nat_cmp a.attempt b.attempt))
 
--- the items wait for the carrier, and what else waits for it is behind all of them, if they are so many
+-- the items wait for the carrier, and what else waits for it is behind all of them, if they are so
+-- many
 pub record AreFront (c : Content) (spid n : ℕ) (items : List KeyedWait) : Type 0 where
-  pub only : (x : KeyedWait) → Has items x → (get c.waits (seen_wait x).0 ≡ Some (seen_wait x).1) × ((seen_wait x).0.carrier ≡ spid)
+  pub only : (x : KeyedWait) → Has items x → (get c.waits (seen_wait x).0 ≡ Some (seen_wait x).1)
+      × ((seen_wait x).0.carrier ≡ spid)
   pub each : (k : WaitKey) (v : Subject) → get c.waits k ≡ Some v → k.carrier ≡ spid
-      → ((x : KeyedWait) × Has items x × (seen_wait x ≡ (k, v))) ⊎ ((n ≤ length items) × ((x : KeyedWait) → Has items x → wait_order (seen_wait x).0 k ≡ Less))
+      → ((x : KeyedWait) × Has items x × (seen_wait x ≡ (k, v)))
+      ⊎ ((n ≤ length items) × ((x : KeyedWait) → Has items x → wait_order (seen_wait x).0 k ≡ Less))

@@ -71,7 +71,8 @@ pub record Looked (old new : State) (answered : Bool) : Type 0 where
   pub survives : Survives old new (λ _. ⊥)
 
 -- a call committed this, or nothing
-pub record Turned (old new : State) (done : Bool) (Becomes : Content → Content → Type 0) : Type 0 where
+pub record Turned (old new : State) (done : Bool) (Becomes : Content → Content
+    → Type 0) : Type 0 where
   pub becomes : IsTrue done → IsTrue new.is_open → Becomes (content_at old) (content_at new)
   pub same : IsTrue (not done) → IsTrue new.is_open → IsSame old new
   pub was_open : IsTrue new.is_open → IsTrue old.is_open
@@ -80,9 +81,11 @@ pub record Turned (old new : State) (done : Bool) (Becomes : Content → Content
   pub ours : IsTrue new.is_open → IsOurs new
   pub crash : Survives old new (λ db. IsTrue old.is_open → Becomes (content_at old) (content_in db))
 
--- a crash leaves what it could leave before, or what the call made, also of a connection that is shut
+-- a crash leaves what it could leave before, or what the call made, also of a connection that is
+-- shut
 abbrev pub CommitLeaves : (old new : State) → (Content → Content → Type 0) → Type 0
-CommitLeaves old new Becomes = HasCleanDisk new → (db : Trees) → new.may_leave db → old.may_leave db ⊎ Becomes (content_at old) (content_in db)
+CommitLeaves old new Becomes = HasCleanDisk new → (db : Trees) → new.may_leave db → old.may_leave db
+    ⊎ Becomes (content_at old) (content_in db)
 
 -- ---- in a transaction
 
@@ -112,7 +115,8 @@ pub record Wrote (old new : State) (Did : Database → Database → Type 0) : Ty
   pub did : Did old.now new.now
 
 -- a call in a transaction makes this of the tables, where it does not fail
-pub record Writes (old new : State) (done : Bool) (Did : Database → Database → Type 0) : Type 0 where
+pub record Writes (old new : State) (done : Bool) (Did : Database → Database
+    → Type 0) : Type 0 where
   pub wrote : IsTrue done → HasCleanDisk new → IsInside old → Wrote old new Did
   pub kept : IsTrue new.is_open → Kept old new
   pub survives : Survives old new (λ _. ⊥)
@@ -120,11 +124,13 @@ pub record Writes (old new : State) (done : Bool) (Did : Database → Database �
 -- the routing that a version sends was put, or what stood there was taken away
 abbrev pub IsNextPut : ℕ → Option Routing → Database → Database → Type 0
 IsNextPut id None old new = Removed NextRouting (Int (pos id) ∷ []) old new
-IsNextPut id (Some r) old new = Replaced NextRouting (Int (pos id) ∷ []) (next_params id r) old new × (next_entry (stored (next_params id r)) ≡ Some (id, r))
+IsNextPut id (Some r) old new = Replaced NextRouting (Int (pos id) ∷ []) (next_params id r) old new
+    × (next_entry (stored (next_params id r)) ≡ Some (id, r))
 
 -- a call in a transaction makes this change of the content, where it does not fail
 pub record Makes (old new : State) (done : Bool) (change : Content → Content) : Type 0 where
-  pub made : IsTrue done → HasCleanDisk new → IsInside old → Stepped old new (change (content_at old))
+  pub made : IsTrue done → HasCleanDisk new → IsInside old
+      → Stepped old new (change (content_at old))
   pub kept : IsTrue new.is_open → Kept old new
   pub survives : Survives old new (λ _. ⊥)
 
@@ -143,10 +149,13 @@ abbrev pub left_by : {S : Type 0} → Ghosts S → Held S → Content → Type 0
 left_by g h m = (db : Trees) × (state g h).may_leave db × (m ≡ content_in db)
 
 -- what is open is clean
-pub clean_if_open : (clean is_open : Bool) → (clean ≡ false → is_open ≡ false) → IsTrue is_open → doubt clean ≡ 0
+pub clean_if_open : (clean is_open : Bool) → (clean ≡ false → is_open ≡ false) → IsTrue is_open
+    → doubt clean ≡ 0
 clean_if_open true is_open law h = no_doubt true refl
-clean_if_open false is_open law h = absurd (let e = law refl in let f : is_open ≡ true = h in true≢false (sym f ∙ e))
+clean_if_open false is_open law h = absurd (let e = law refl in let f : is_open ≡ true = h in
+    true≢false (sym f ∙ e))
 
 -- where a crash leaves one database, it leaves one content
-pub left_one : (m : Content) (db committed now : Trees) → m ≡ content_in db → db ≡ committed → now ≡ committed → m ≡ content_in now
+pub left_one : (m : Content) (db committed now : Trees) → m ≡ content_in db → db ≡ committed
+    → now ≡ committed → m ≡ content_in now
 left_one m db committed now is left same = is ∙ ap content_in (left ∙ sym same)

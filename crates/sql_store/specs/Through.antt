@@ -8,13 +8,17 @@ use Rattle.sqlite.specs.Store.{Ghosts}
 use Rattle.sql_rows.specs.Found.{AreRead}
 
 -- one more row is given, and reads as this, or those so far are the answer
-abbrev pub ReadsOn : {S X : Type 0} → Ghosts S → (Row → Option X) → List ℕ → (old new : Held S) → (given : List Row) → Option X → Type 0
-ReadsOn g read sql old new given (Some x) = (row : Row) × HasGiven g sql [] new (given ++ row ∷ []) × (read row ≡ Some x)
+abbrev pub ReadsOn : {S X : Type 0} → Ghosts S → (Row → Option X) → List ℕ → (old new : Held S)
+    → (given : List Row) → Option X → Type 0
+ReadsOn g read sql old new given (Some x) = (row : Row) × HasGiven g sql [] new (given ++ row ∷ [])
+    × (read row ≡ Some x)
 ReadsOn g read sql old new given None = Shown sql [] (state g old) (state g new) given
 
 -- rows are the answer, and each reads, as these in turn, of which this holds
-abbrev pub HasReadAll : {X : Type 0} → (Row → Option X) → List ℕ → (old new : State) → (List X → Type 0) → Type 0
-HasReadAll {X} read sql old new P = (rows : List Row) × (xs : List X) × Shown sql [] old new rows × AreRead read rows xs × P xs
+abbrev pub HasReadAll : {X : Type 0} → (Row → Option X) → List ℕ → (old new : State)
+    → (List X → Type 0) → Type 0
+HasReadAll {X} read sql old new P = (rows : List Row) × (xs : List X) × Shown sql [] old new rows
+    × AreRead read rows xs × P xs
 
 -- `blank` tells that there is none
 abbrev pub TellsNone : {X : Type 0} → Bool → List X → Type 0

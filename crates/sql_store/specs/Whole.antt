@@ -12,7 +12,8 @@ use Rattle.sql_rows.specs.declared.statement.Table.{Table}
 
 -- all rows of the table read, and `blank` tells that there is none
 abbrev pub IsRead : {X : Type 0} → Table → (Row → Option X) → Trees → (blank : Bool) → Type 0
-IsRead {X} t read db blank = (xs : List X) × IsListAnswer (All t) read db [] xs × (blank ≡ true → xs ≡ [])
+IsRead {X} t read db blank = (xs : List X) × IsListAnswer (All t) read db [] xs
+    × (blank ≡ true → xs ≡ [])
 
 -- each row is a key with its value
 abbrev pub EachReads : {X : Type 0} → (Row → Option X) → List Row → Type 0

@@ -7,7 +7,7 @@ use crate::files::{
 use crate::said::{Said, Story, is_accepted, is_unavailable};
 use crate::stories::{
     ACKNOWLEDGEMENT, ACTIVATION, ASSIGNMENT, DISCONNECT, DONATION, FAILED_DELETE, JUMP,
-    LATE_ACKNOWLEDGEMENT, MODIFIED, MODIFY, NEWCOMER, NEW_WINDOWS, PLANNED_DELETE, PLANNED_RELEASE,
+    LATE_ACKNOWLEDGEMENT, MODIFIED, MODIFY, NEW_WINDOWS, NEWCOMER, PLANNED_DELETE, PLANNED_RELEASE,
     PORTED_AGAIN, Trial,
 };
 use sqlite::{Files, Options};
@@ -371,7 +371,13 @@ fn first_wrong_stop(
     judged: &mut Vec<Judged>,
 ) -> Option<u64> {
     for count in stops.count(told.opened)..stops.count(told.answered) {
-        let Some(left) = stop_asked(alloc, &told.held, &trial.request, options, stops.after(count)) else {
+        let Some(left) = stop_asked(
+            alloc,
+            &told.held,
+            &trial.request,
+            options,
+            stops.after(count),
+        ) else {
             return Some(count);
         };
         if are_whole(alloc, told, trial, &left, judged) != Some(true) {

@@ -306,7 +306,11 @@ pub static PLANNED_DELETE: Trial<'static> = Trial {
         OPENING,
         CREATED,
         SENT,
-        &[ACKNOWLEDGED, PLANNED, ("NPAC", "/clock", r#"{"minute":401}"#)],
+        &[
+            ACKNOWLEDGED,
+            PLANNED,
+            ("NPAC", "/clock", r#"{"minute":401}"#),
+        ],
     ],
     steps: &[],
     request: ASKED,
@@ -342,7 +346,14 @@ pub static DISCONNECT: Trial<'static> = Trial {
 
 /// A released number is ported again, while a carrier has not heard of its release.
 pub static PORTED_AGAIN: Trial<'static> = Trial {
-    stories: &[OPENING, CREATED, SENT, &[ACKNOWLEDGED], RELEASED, CREATED_AGAIN],
+    stories: &[
+        OPENING,
+        CREATED,
+        SENT,
+        &[ACKNOWLEDGED],
+        RELEASED,
+        CREATED_AGAIN,
+    ],
     steps: &[],
     request: ACTIVATED_AGAIN,
     again: ACTIVATED_AGAIN,

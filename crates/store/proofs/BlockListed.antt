@@ -47,25 +47,32 @@ or-assoc true b c = refl
 or-assoc false b c = refl
 
 module _ (mark : Option Standing → Standing) where
-  with-get : (o : Option ℕ) (m : FinMap nat_cmp Standing) (n : ℕ) → get (with_number mark o m) n ≡ cond (is_number n o) (Some (mark (get m n))) (get m n)
+  with-get : (o : Option ℕ) (m : FinMap nat_cmp Standing) (n : ℕ)
+      → get (with_number mark o m) n ≡ cond (is_number n o) (Some (mark (get m n))) (get m n)
   with-get None m n = refl
-  with-get (Some k) m n = get-set nat_cmp_total nat_cmp-IsAntisymmetric m k (Some (mark (get m k))) n ∙ go (eq_by_cmp nat_cmp k n) refl
+  with-get (Some k) m n = get-set nat_cmp_total nat_cmp-IsAntisymmetric m k (Some (mark (get m k)))
+      n ∙ go (eq_by_cmp nat_cmp k n) refl
     where
-      go : (b : Bool) → eq_by_cmp nat_cmp k n ≡ b → cond b (Some (mark (get m k))) (get m n) ≡ cond b (Some (mark (get m n))) (get m n)
-      go true same = ap (λ q. Some (mark (get m q))) (nat_cmp-IsAntisymmetric k n (tied (nat_cmp k n) same))
+      go : (b : Bool) → eq_by_cmp nat_cmp k n ≡ b → cond b (Some (mark (get m k))) (get m n)
+          ≡ cond b (Some (mark (get m n))) (get m n)
+      go true same =
+          ap (λ q. Some (mark (get m q))) (nat_cmp-IsAntisymmetric k n (tied (nat_cmp k n) same))
       go false other = refl
 
-  module _ (column : VersionRow → Option Subject) (block : ℕ) (versions : FinMap nat_cmp VersionRow) (n : ℕ) where
+  module _ (column : VersionRow → Option Subject) (block : ℕ) (versions : FinMap nat_cmp VersionRow)
+      (n : ℕ) where
     abbrev names : SubjectVersionCode × Unit {0} → Bool
     names e = is_number n (number_at column block (get versions e.0.id))
 
     -- what a mark says of each number that is met
-    met : (see : Option Standing → Bool) → ((o : Option Standing) → see (Some (mark o)) ≡ true) → (es : List (SubjectVersionCode × Unit {0})) (m : FinMap nat_cmp Standing) →
+    met : (see : Option Standing → Bool) → ((o : Option Standing) → see (Some (mark o)) ≡ true)
+        → (es : List (SubjectVersionCode × Unit {0})) (m : FinMap nat_cmp Standing) →
         see (get (marked mark column block versions es m) n) ≡ (see (get m n) || list_any names es)
     met see says [] m = sym (or-false (see (get m n)))
     met see says (e ∷ es) m =
         met see says es (with_number mark (number_at column block (get versions e.0.id)) m)
-        ∙ ap (λ b. b || list_any names es) (ap see (with-get (number_at column block (get versions e.0.id)) m n) ∙ go (names e))
+        ∙ ap (λ b. b || list_any names es)
+        (ap see (with-get (number_at column block (get versions e.0.id)) m n) ∙ go (names e))
         ∙ or-assoc (see (get m n)) (names e) (list_any names es)
       where
         go : (b : Bool) → see (cond b (Some (mark (get m n))) (get m n)) ≡ (see (get m n) || b)
@@ -73,7 +80,8 @@ module _ (mark : Option Standing → Standing) where
         go false = sym (or-false (see (get m n)))
 
     -- what it leaves as it is
-    kept : (see : Option Standing → Bool) → ((o : Option Standing) → see (Some (mark o)) ≡ see o) → (es : List (SubjectVersionCode × Unit {0})) (m : FinMap nat_cmp Standing) →
+    kept : (see : Option Standing → Bool) → ((o : Option Standing) → see (Some (mark o)) ≡ see o)
+        → (es : List (SubjectVersionCode × Unit {0})) (m : FinMap nat_cmp Standing) →
         see (get (marked mark column block versions es m) n) ≡ see (get m n)
     kept see says [] m = refl
     kept see says (e ∷ es) m =
@@ -85,7 +93,8 @@ module _ (mark : Option Standing → Standing) where
         go false = refl
 
     -- what it says of none
-    never : (see : Option Standing → Bool) → ((o : Option Standing) → see (Some (mark o)) ≡ false) → (es : List (SubjectVersionCode × Unit {0})) (m : FinMap nat_cmp Standing) →
+    never : (see : Option Standing → Bool) → ((o : Option Standing) → see (Some (mark o)) ≡ false)
+        → (es : List (SubjectVersionCode × Unit {0})) (m : FinMap nat_cmp Standing) →
         see (get m n) ≡ false → see (get (marked mark column block versions es m) n) ≡ false
     never see says [] m none = none
     never see says (e ∷ es) m none =
@@ -98,83 +107,121 @@ module _ (mark : Option Standing → Standing) where
 
 -- ---- the block's part of an index
 
-from_first : (b n i : ℕ) → block_of n ≡ b → is_le (ordering_then (nat_cmp (subject_key (Number (number_in b 0))) (subject_key (Number n))) (nat_cmp 0 i)) ≡ true
-from_first b n i own = first (subject_key (Number (number_in b 0))) (subject_key (Number n)) i (omega (arith, own))
+from_first : (b n i : ℕ) → block_of n ≡ b
+    → is_le (ordering_then (nat_cmp (subject_key (Number (number_in b 0))) (subject_key (Number n)))
+    (nat_cmp 0 i)) ≡ true
+from_first b n i own = first (subject_key (Number (number_in b 0))) (subject_key (Number n)) i
+    (omega (arith, own))
   where
     first : (x y j : ℕ) → x ≤ y → is_le (ordering_then (nat_cmp x y) (nat_cmp 0 j)) ≡ true
     first x y j below = grind (arith, nat_tests)
 
 to_last : (b n i : ℕ) → block_of n ≡ b → i < 18446744073709551616 →
-    not (is_lt (ordering_then (nat_cmp (subject_key (Number (number_in b 999))) (subject_key (Number n))) (nat_cmp 18446744073709551615 i))) ≡ true
-to_last b n i own small = last (subject_key (Number (number_in b 999))) (subject_key (Number n)) i (omega (arith, own)) small
+    not (is_lt (ordering_then (nat_cmp (subject_key (Number (number_in b 999)))
+    (subject_key (Number n))) (nat_cmp 18446744073709551615 i))) ≡ true
+to_last b n i own small = last (subject_key (Number (number_in b 999))) (subject_key (Number n)) i
+    (omega (arith, own)) small
   where
-    last : (x y j : ℕ) → y ≤ x → j < 18446744073709551616 → not (is_lt (ordering_then (nat_cmp x y) (nat_cmp 18446744073709551615 j))) ≡ true
+    last : (x y j : ℕ) → y ≤ x → j < 18446744073709551616
+        → not (is_lt (ordering_then (nat_cmp x y) (nat_cmp 18446744073709551615 j))) ≡ true
     last x y j above fits = grind (arith, nat_tests)
 
 abbrev is_between : (lo hi : SubjectVersionCode) → SubjectVersionCode → Bool
-is_between lo hi k = range_contains (on subject_version_of subject_version_cmp) (Included lo) (Included hi) k
+is_between lo hi k = range_contains (on subject_version_of subject_version_cmp) (Included lo)
+    (Included hi) k
 
-module _ (block : ℕ) (lo hi : SubjectVersionCode) (low : subject_version_of lo ≡ lowest block) (high : subject_version_of hi ≡ highest block) where
-  within : (k : SubjectVersionCode) (n id : ℕ) → subject_version_of k ≡ record { subject = Number n; id = id } → block_of n ≡ block → id < 18446744073709551616 → is_between lo hi k ≡ true
+module _ (block : ℕ) (lo hi : SubjectVersionCode) (low : subject_version_of lo ≡ lowest block)
+    (high : subject_version_of hi ≡ highest block) where
+  within : (k : SubjectVersionCode) (n id : ℕ) → subject_version_of k ≡ record {
+    subject = Number n;
+    id = id;
+  } → block_of n ≡ block → id < 18446744073709551616 → is_between lo hi k ≡ true
   within k n id same own small =
-      (λ i. is_le (subject_version_cmp (low i) (same i)) && not (is_lt (subject_version_cmp (high i) (same i))))
+      (λ i. is_le (subject_version_cmp (low i) (same i)) && not
+      (is_lt (subject_version_cmp (high i) (same i))))
       ∙ true_both _ _ (from_first block n id own) (to_last block n id own small)
 
   -- ---- what the part says of the number's rows
 
-  module _ (column : VersionRow → Option Subject) (versions : FinMap nat_cmp VersionRow) (index : BTreeMap SubjectVersionCode (Unit {0}))
-      (indexed : AreVersionsIndexed subject_version_cmp subject_version_of (λ id row. option_map (subject_version id) (column row)) versions index)
-      (part : List (SubjectVersionCode × Unit {0})) (is_part : part ≡ entries_between (on subject_version_of subject_version_cmp) (Included lo) (Included hi) index.entries) (n : ℕ) where
+  module _ (column : VersionRow → Option Subject) (versions : FinMap nat_cmp VersionRow)
+      (index : BTreeMap SubjectVersionCode (Unit {0}))
+      (indexed : AreVersionsIndexed subject_version_cmp subject_version_of
+      (λ id row. option_map (subject_version id) (column row)) versions index)
+      (part : List (SubjectVersionCode × Unit {0})) (is_part : part ≡ entries_between
+      (on subject_version_of subject_version_cmp) (Included lo) (Included hi) index.entries)
+      (n : ℕ) where
     -- a row has the number in the column
     abbrev Has : Type 0
-    Has = (id : ℕ) × (row : VersionRow) × (get versions id ≡ Some row) × (column row ≡ Some (Number n))
+    Has = (id : ℕ) × (row : VersionRow) × (get versions id ≡ Some row)
+        × (column row ≡ Some (Number n))
 
     abbrev is_met : SubjectVersionCode × Unit {0} → Bool
     is_met e = is_number n (number_at column block (get versions e.0.id))
 
-    own-is : (s : Subject) → is_number n (own_number block s) ≡ true → (block_of n ≡ block) × (s ≡ Number n)
+    own-is : (s : Subject) → is_number n (own_number block s) ≡ true → (block_of n ≡ block)
+        × (s ≡ Number n)
     own-is (Block b) e = let f : false ≡ true = e in cc
     own-is (Number k) e = go (block_of k == block) refl e
       where
-        go : (t : Bool) → (block_of k == block) ≡ t → is_number n (cond t (Some k) None) ≡ true → (block_of n ≡ block) × (Number k ≡ Number n)
+        go : (t : Bool) → (block_of k == block) ≡ t → is_number n (cond t (Some k) None) ≡ true
+            → (block_of n ≡ block) × (Number k ≡ Number n)
         go true own same =
-            let number : k ≡ n = nat_cmp-IsAntisymmetric k n (tied (nat_cmp k n) same) in
-            (ap block_of (sym number) ∙ equal_number (block_of k) block own, ap (λ q. Number q) number)
+            let number : k ≡ n = nat_cmp-IsAntisymmetric k n (tied (nat_cmp k n) same) in (
+              ap block_of (sym number) ∙ equal_number (block_of k) block own,
+              ap (λ q. Number q) number,
+            )
         go false own same = let f : false ≡ true = same in cc
 
-    number-is : (id : ℕ) (o : Option VersionRow) → get versions id ≡ o → is_number n (number_at column block o) ≡ true → (block_of n ≡ block) × Has
+    number-is : (id : ℕ) (o : Option VersionRow) → get versions id ≡ o
+        → is_number n (number_at column block o) ≡ true → (block_of n ≡ block) × Has
     number-is id None at e = let f : false ≡ true = e in cc
     number-is id (Some row) at e = go (column row) refl e
       where
-        go : (o : Option Subject) → column row ≡ o → is_number n (number_of block o) ≡ true → (block_of n ≡ block) × Has
+        go : (o : Option Subject) → column row ≡ o → is_number n (number_of block o) ≡ true
+            → (block_of n ≡ block) × Has
         go None has f = let no : false ≡ true = f in cc
         go (Some s) has f = let p = own-is s f in (p.0, (id, row, at, has ∙ ap (λ q. Some q) p.1))
 
-    met-from : (es : List (SubjectVersionCode × Unit {0})) → list_any is_met es ≡ true → (block_of n ≡ block) × Has
+    met-from : (es : List (SubjectVersionCode × Unit {0})) → list_any is_met es ≡ true
+        → (block_of n ≡ block) × Has
     met-from [] e = let f : false ≡ true = e in cc
     met-from (x ∷ xs) e = go (met-from xs) (is_met x) refl e
       where
-        go : (list_any is_met xs ≡ true → (block_of n ≡ block) × Has) → (t : Bool) → is_met x ≡ t → (t || list_any is_met xs) ≡ true → (block_of n ≡ block) × Has
+        go : (list_any is_met xs ≡ true → (block_of n ≡ block) × Has) → (t : Bool) → is_met x ≡ t
+            → (t || list_any is_met xs) ≡ true → (block_of n ≡ block) × Has
         go later true same f = number-is x.0.id (get versions x.0.id) refl same
         go later false other f = later f
 
-    among-met : (es : List (SubjectVersionCode × Unit {0})) (e : SubjectVersionCode × Unit {0}) → Among e es → is_met e ≡ true → list_any is_met es ≡ true
+    among-met : (es : List (SubjectVersionCode × Unit {0})) (e : SubjectVersionCode × Unit {0})
+        → Among e es → is_met e ≡ true → list_any is_met es ≡ true
     unfolding Among
     among-met [] e there is = absurd there
     among-met (x ∷ xs) e (inl same) is = ap (λ b. b || list_any is_met xs) (ap is_met same ∙ is)
-    among-met (x ∷ xs) e (inr there) is = ap (λ b. is_met x || b) (among-met xs e there is) ∙ or_true (is_met x)
+    among-met (x ∷ xs) e (inr there) is = ap (λ b. is_met x || b) (among-met xs e there is)
+        ∙ or_true (is_met x)
 
     has-met : block_of n ≡ block → Has → list_any is_met part ≡ true
     has-met own has =
-        let there : HasVersion index (Number n) has.0 = indexed has.0 has.1 (subject_version has.0 (Number n)) has.2 (ap (option_map (subject_version has.0)) has.3) in
-        let q = entry-of subject_version_of (λ (u : Unit {0}). u) subject_version_total subject_version_exact index (record { subject = Number n; id = has.0 }) there.1 in
-        let e = found-entry (is_at (on subject_version_of subject_version_cmp q.0)) index.entries q.2 in
-        let same : subject_version_of e.0.0 ≡ record { subject = Number n; id = has.0 } = sym (subject_version_exact (subject_version_of q.0) (subject_version_of e.0.0) (tied _ e.2)) ∙ q.1 in
-        let inside : Among e.0 part = subst (Among e.0) (sym is_part) (filtered-among (λ (d : SubjectVersionCode × Unit {0}). is_between lo hi d.0) e.0 index.entries e.1 (within e.0.0 n has.0 same own there.0)) in
+        let there : HasVersion index (Number n) has.0 =
+        indexed has.0 has.1 (subject_version has.0 (Number n)) has.2
+        (ap (option_map (subject_version has.0)) has.3) in
+        let q = entry-of subject_version_of (λ (u : Unit {0}). u) subject_version_total
+        subject_version_exact index (record { subject = Number n; id = has.0 }) there.1 in
+        let e = found-entry (is_at (on subject_version_of subject_version_cmp q.0)) index.entries
+        q.2 in
+        let same : subject_version_of e.0.0 ≡ record { subject = Number n; id = has.0 } =
+        sym (subject_version_exact (subject_version_of q.0) (subject_version_of e.0.0) (tied _ e.2))
+        ∙ q.1 in
+        let inside : Among e.0 part =
+        subst (Among e.0) (sym is_part)
+        (filtered-among (λ (d : SubjectVersionCode × Unit {0}). is_between lo hi d.0) e.0
+        index.entries e.1 (within e.0.0 n has.0 same own there.0)) in
         let here : is_met e.0 ≡ true =
         ap (λ (v : SubjectVersion). is_number n (number_at column block (get versions v.id))) same
-        ∙ ap (λ o. is_number n (number_at column block o)) has.2 ∙ ap (λ o. is_number n (number_of block o)) has.3
-        ∙ ap (λ b. is_number n (cond b (Some n) None)) (ap (λ b. b == block) own ∙ same_number block) ∙ (eq_by_cmp_equiv nat_cmp_total).refl n in
+        ∙ ap (λ o. is_number n (number_at column block o)) has.2
+        ∙ ap (λ o. is_number n (number_of block o)) has.3
+        ∙ ap (λ b. is_number n (cond b (Some n) None)) (ap (λ b. b == block) own
+        ∙ same_number block) ∙ (eq_by_cmp_equiv nat_cmp_total).refl n in
         among-met part e.0 inside here
 
     -- a mark that was given to each number that was met tells whether a row has it
@@ -185,11 +232,15 @@ module _ (block : ℕ) (lo hi : SubjectVersionCode) (low : subject_version_of lo
 -- ---- which versions stand
 
 module _ (t : Tables) (block : ℕ) (indexed : AreIndexed t)
-    (low high : SubjectVersionCode) (is_low : subject_version_of low ≡ lowest block) (is_high : subject_version_of high ≡ highest block)
-    (first last : SubjectVersionCode) (is_first : subject_version_of first ≡ lowest block) (is_last : subject_version_of last ≡ highest block)
+    (low high : SubjectVersionCode) (is_low : subject_version_of low ≡ lowest block)
+    (is_high : subject_version_of high ≡ highest block)
+    (first last : SubjectVersionCode) (is_first : subject_version_of first ≡ lowest block)
+    (is_last : subject_version_of last ≡ highest block)
     (held opened : List (SubjectVersionCode × Unit {0}))
-    (are_held : held ≡ entries_between (on subject_version_of subject_version_cmp) (Included low) (Included high) t.holds.entries)
-    (are_opened : opened ≡ entries_between (on subject_version_of subject_version_cmp) (Included first) (Included last) t.opens.entries) where
+    (are_held : held ≡ entries_between (on subject_version_of subject_version_cmp) (Included low)
+    (Included high) t.holds.entries)
+    (are_opened : opened ≡ entries_between (on subject_version_of subject_version_cmp)
+    (Included first) (Included last) t.opens.entries) where
   abbrev before : FinMap nat_cmp Standing
   before = marked only_held (λ row. row.holds) block t.versions held empty
 
@@ -202,39 +253,55 @@ module _ (t : Tables) (block : ℕ) (indexed : AreIndexed t)
   abbrev any_opened : ℕ → Bool
   any_opened n = list_any (names and_open (λ row. row.opens) block t.versions n) opened
 
-  first-held : (n : ℕ) (see : Option Standing → Bool) → ((o : Option Standing) → see (Some (only_held o)) ≡ true) → see None ≡ false → see (get before n) ≡ any_held n
+  first-held : (n : ℕ) (see : Option Standing → Bool)
+      → ((o : Option Standing) → see (Some (only_held o)) ≡ true) → see None ≡ false
+      → see (get before n) ≡ any_held n
   first-held n see says none =
       met only_held (λ row. row.holds) block t.versions n see says held empty
       ∙ ap (λ b. b || any_held n) (ap see (get-empty nat_cmp n) ∙ none)
 
   has-held : (n : ℕ) → has_held (get after n) ≡ any_held n
-  has-held n = kept and_open (λ row. row.opens) block t.versions n has_held (λ o. refl) opened before ∙ first-held n has_held (λ o. refl) refl
+  has-held n = kept and_open (λ row. row.opens) block t.versions n has_held (λ o. refl) opened
+      before ∙ first-held n has_held (λ o. refl) refl
 
   has-opened : (n : ℕ) → has_opened (get after n) ≡ any_opened n
   has-opened n =
       met and_open (λ row. row.opens) block t.versions n has_opened (λ o. refl) opened before
-      ∙ ap (λ b. b || any_opened n) (never only_held (λ row. row.holds) block t.versions n has_opened (λ o. refl) held empty (ap has_opened (get-empty nat_cmp n)))
+      ∙ ap (λ b. b || any_opened n) (never only_held (λ row. row.holds) block t.versions n
+      has_opened (λ o. refl) held empty (ap has_opened (get-empty nat_cmp n)))
 
   has-some : (n : ℕ) → is_some (get after n) ≡ (any_held n || any_opened n)
   has-some n =
       met and_open (λ row. row.opens) block t.versions n is_some (λ o. refl) opened before
       ∙ ap (λ b. b || any_opened n) (first-held n is_some (λ o. refl) refl)
 
-  pub standings-are : (m : FinMap nat_cmp Standing) → m ≡ after → AreStandings (content_of t) block m
+  pub standings-are : (m : FinMap nat_cmp Standing) → m ≡ after
+      → AreStandings (content_of t) block m
   standings-are m is = subst (AreStandings (content_of t) block) (sym is) record {
-    held = λ n. told block low high is_low is_high (λ row. row.holds) t.versions t.holds indexed.0 held are_held n (has_held (get after n)) (has-held n);
-    opened = λ n. told block first last is_first is_last (λ row. row.opens) t.versions t.opens indexed.1 opened are_opened n (has_opened (get after n)) (has-opened n);
+    held = λ n. told block low high is_low is_high (λ row. row.holds) t.versions t.holds indexed.0
+        held are_held n (has_held (get after n)) (has-held n);
+    opened = λ n. told block first last is_first is_last (λ row. row.opens) t.versions t.opens
+        indexed.1 opened are_opened n (has_opened (get after n)) (has-opened n);
     in_use = λ n. has-some n ∙ (λ i. sym (has-held n) i || sym (has-opened n) i);
   }
 
 -- a number passed
-pub marked-step : (mark : Option Standing → Standing) (column : VersionRow → Option Subject) (block : ℕ) (versions : FinMap nat_cmp VersionRow) (e : SubjectVersionCode × Unit {0}) (rest : List (SubjectVersionCode × Unit {0})) (old new : BTreeMap Tn Standing) (tn : Tn) (standing : Standing) →
-    Some (tn_of tn) ≡ number_at column block (get versions e.0.id) → standing ≡ mark (tree.get (on tn_of nat_cmp) old tn) → IsSet (on tn_of nat_cmp) old new tn (Some standing) →
-    marked mark column block versions rest (standings_of new) ≡ marked mark column block versions (e ∷ rest) (standings_of old)
+pub marked-step : (mark : Option Standing → Standing) (column : VersionRow
+    → Option Subject) (block : ℕ) (versions : FinMap nat_cmp VersionRow) (e : SubjectVersionCode
+    × Unit {0}) (rest : List (SubjectVersionCode × Unit {0})) (old new : BTreeMap Tn Standing)
+    (tn : Tn) (standing : Standing) →
+    Some (tn_of tn) ≡ number_at column block (get versions e.0.id)
+    → standing ≡ mark (tree.get (on tn_of nat_cmp) old tn)
+    → IsSet (on tn_of nat_cmp) old new tn (Some standing) →
+    marked mark column block versions rest (standings_of new) ≡ marked mark column block versions
+    (e ∷ rest) (standings_of old)
 marked-step mark column block versions e rest old new tn standing is marks written =
     ap (marked mark column block versions rest)
-    (set_map_of tn_of (λ (s : Standing). s) nat_cmp_total nat_cmp-IsAntisymmetric old new tn (Some standing) written
-    ∙ ap (λ s. set (standings_of old) (tn_of tn) (Some s)) (marks ∙ ap mark (seen (tree.get (on tn_of nat_cmp) old tn) ∙ sym (get-map_of tn_of (λ (s : Standing). s) nat_cmp_total nat_cmp-IsAntisymmetric old tn))))
+    (set_map_of tn_of (λ (s : Standing). s) nat_cmp_total nat_cmp-IsAntisymmetric old new tn
+    (Some standing) written
+    ∙ ap (λ s. set (standings_of old) (tn_of tn) (Some s)) (marks
+    ∙ ap mark (seen (tree.get (on tn_of nat_cmp) old tn)
+    ∙ sym (get-map_of tn_of (λ (s : Standing). s) nat_cmp_total nat_cmp-IsAntisymmetric old tn))))
     ∙ ap (λ o. marked mark column block versions rest (with_number mark o (standings_of old))) is
   where
     seen : (o : Option Standing) → o ≡ option_map (λ (s : Standing). s) o
@@ -242,9 +309,13 @@ marked-step mark column block versions e rest old new tn standing is marks writt
     seen (Some s) = refl
 
 -- a key passed whose row has no number of the block
-pub marked-pass : (mark : Option Standing → Standing) (column : VersionRow → Option Subject) (block : ℕ) (versions : FinMap nat_cmp VersionRow) (e : SubjectVersionCode × Unit {0}) (rest : List (SubjectVersionCode × Unit {0})) (m : FinMap nat_cmp Standing) →
-    None ≡ number_at column block (get versions e.0.id) → marked mark column block versions rest m ≡ marked mark column block versions (e ∷ rest) m
-marked-pass mark column block versions e rest m is = ap (λ o. marked mark column block versions rest (with_number mark o m)) is
+pub marked-pass : (mark : Option Standing → Standing) (column : VersionRow
+    → Option Subject) (block : ℕ) (versions : FinMap nat_cmp VersionRow) (e : SubjectVersionCode
+    × Unit {0}) (rest : List (SubjectVersionCode × Unit {0})) (m : FinMap nat_cmp Standing) →
+    None ≡ number_at column block (get versions e.0.id) → marked mark column block versions rest m
+    ≡ marked mark column block versions (e ∷ rest) m
+marked-pass mark column block versions e rest m is =
+    ap (λ o. marked mark column block versions rest (with_number mark o m)) is
 
 -- ---- the list
 
@@ -261,23 +332,28 @@ own-of P Q R true b e one other = one.0
 own-of P Q R false true e one other = other.0
 own-of P Q R false false e one other = let f : false ≡ true = e in cc
 
-among-told : (e : Tn × Standing) (es : List (Tn × Standing)) → Among e es → Among (number_told e) (map number_told es)
+among-told : (e : Tn × Standing) (es : List (Tn × Standing)) → Among e es
+    → Among (number_told e) (map number_told es)
 unfolding Among
 among-told e [] is = absurd is
 among-told e (x ∷ xs) (inl same) = inl (ap number_told same)
 among-told e (x ∷ xs) (inr there) = inr (among-told e xs there)
 
 -- the list is in the order of the entries' keys
-sorted-told : (es : List (Tn × Standing)) → IsStrictlySortedBy (on tn_of nat_cmp) (keys_of es) → IsStrictlySortedBy (on (λ (x : NumberInUse). x.tn.number) nat_cmp) (map number_told es)
+sorted-told : (es : List (Tn × Standing)) → IsStrictlySortedBy (on tn_of nat_cmp) (keys_of es)
+    → IsStrictlySortedBy (on (λ (x : NumberInUse). x.tn.number) nat_cmp) (map number_told es)
 unfolding IsStrictlySortedBy
 sorted-told [] sorted = tt
 sorted-told (e ∷ es) sorted = (above es sorted.0, sorted-told es sorted.1)
   where
-    above : (xs : List (Tn × Standing)) → AllByRecursion (λ k. nat_cmp (tn_of e.0) (tn_of k) ≡ Less) (keys_of xs) → AllByRecursion (λ (x : NumberInUse). nat_cmp (tn_of e.0) x.tn.number ≡ Less) (map number_told xs)
+    above : (xs : List (Tn × Standing)) → AllByRecursion (λ k. nat_cmp (tn_of e.0) (tn_of k) ≡ Less)
+        (keys_of xs) → AllByRecursion (λ (x : NumberInUse). nat_cmp (tn_of e.0) x.tn.number ≡ Less)
+        (map number_told xs)
     above [] all = tt
     above (x ∷ xs) all = (all.0, above xs all.1)
 
-picked : (P : Tn → Type 0) (es : List (Tn × Standing)) (e : Tn × Standing) → AllByRecursion P (keys_of es) → Among e es → P e.0
+picked : (P : Tn → Type 0) (es : List (Tn × Standing)) (e : Tn × Standing)
+    → AllByRecursion P (keys_of es) → Among e es → P e.0
 unfolding Among
 picked P [] e all there = absurd there
 picked P (x ∷ xs) e all (inl same) = subst (λ (y : Tn × Standing). P y.0) same all.0
@@ -287,57 +363,85 @@ not-at : (a b : ℕ) → nat_cmp a b ≡ Less → is_eq (nat_cmp b a) ≡ false
 not-at a b e = grind (arith, nat_tests)
 
 -- an entry is what a look-up of its key finds
-own-value : (es : List (Tn × Standing)) (e : Tn × Standing) → IsStrictlySortedBy (on tn_of nat_cmp) (keys_of es) → Among e es → lookup (is_at (on tn_of nat_cmp e.0)) es ≡ Some e.1
+own-value : (es : List (Tn × Standing)) (e : Tn × Standing)
+    → IsStrictlySortedBy (on tn_of nat_cmp) (keys_of es) → Among e es
+    → lookup (is_at (on tn_of nat_cmp e.0)) es ≡ Some e.1
 unfolding Among IsStrictlySortedBy
 own-value [] e sorted there = absurd there
 own-value (x ∷ xs) e sorted (inl same) =
-    ap (λ (y : Tn × Standing). cond (is_at (on tn_of nat_cmp e.0) y.0) (Some y.1) (lookup (is_at (on tn_of nat_cmp e.0)) xs)) same
-    ∙ ap (λ b. cond b (Some e.1) (lookup (is_at (on tn_of nat_cmp e.0)) xs)) ((eq_by_cmp_equiv nat_cmp_total).refl (tn_of e.0))
+    ap (λ (y : Tn × Standing). cond (is_at (on tn_of nat_cmp e.0) y.0) (Some y.1)
+    (lookup (is_at (on tn_of nat_cmp e.0)) xs)) same
+    ∙ ap (λ b. cond b (Some e.1) (lookup (is_at (on tn_of nat_cmp e.0)) xs))
+    ((eq_by_cmp_equiv nat_cmp_total).refl (tn_of e.0))
 own-value (x ∷ xs) e sorted (inr there) =
-    ap (λ b. cond b (Some x.1) (lookup (is_at (on tn_of nat_cmp e.0)) xs)) (not-at (tn_of x.0) (tn_of e.0) (picked (λ k. nat_cmp (tn_of x.0) (tn_of k) ≡ Less) xs e sorted.0 there))
+    ap (λ b. cond b (Some x.1) (lookup (is_at (on tn_of nat_cmp e.0)) xs))
+    (not-at (tn_of x.0) (tn_of e.0) (picked (λ k. nat_cmp (tn_of x.0) (tn_of k) ≡ Less) xs e
+    sorted.0 there))
     ∙ own-value xs e sorted.1 there
 
-module _ (c : Content) (block : ℕ) (numbers : BTreeMap Tn Standing) (ordered : tree.IsOrdered (on tn_of nat_cmp) numbers) (known : AreStandings c block (standings_of numbers)) where
+module _ (c : Content) (block : ℕ) (numbers : BTreeMap Tn Standing)
+    (ordered : tree.IsOrdered (on tn_of nat_cmp) numbers)
+    (known : AreStandings c block (standings_of numbers)) where
   abbrev at : ℕ → Option Standing
   at n = get (standings_of numbers) n
 
   in-block-is : (e : Tn × Standing) → Among e numbers.entries → IsInBlock c block (number_told e)
   in-block-is e there = record {
     own = own;
-    is_in_force = narrowed (block_of (tn_of e.0) ≡ block) (Holds c (Number (tn_of e.0))) e.1.is_in_force held own;
-    is_open = narrowed (block_of (tn_of e.0) ≡ block) (Opens c (Number (tn_of e.0))) e.1.is_open opened own;
+    is_in_force = narrowed (block_of (tn_of e.0) ≡ block) (Holds c (Number (tn_of e.0)))
+        e.1.is_in_force held own;
+    is_open = narrowed (block_of (tn_of e.0) ≡ block) (Opens c (Number (tn_of e.0))) e.1.is_open
+        opened own;
     in_use = in_use;
   }
     where
       found : at (tn_of e.0) ≡ Some e.1
-      found = get-map_of tn_of (λ (s : Standing). s) nat_cmp_total nat_cmp-IsAntisymmetric numbers e.0 ∙ ap (option_map (λ (s : Standing). s)) (own-value numbers.entries e ordered there)
+      found = get-map_of tn_of (λ (s : Standing). s) nat_cmp_total nat_cmp-IsAntisymmetric numbers
+          e.0 ∙ ap (option_map (λ (s : Standing). s)) (own-value numbers.entries e ordered there)
 
       held : IsTold e.1.is_in_force ((block_of (tn_of e.0) ≡ block) × Holds c (Number (tn_of e.0)))
-      held = subst (λ o. IsTold (has_held o) ((block_of (tn_of e.0) ≡ block) × Holds c (Number (tn_of e.0)))) found (known.held (tn_of e.0))
+      held = subst (λ o. IsTold (has_held o) ((block_of (tn_of e.0) ≡ block)
+          × Holds c (Number (tn_of e.0)))) found (known.held (tn_of e.0))
 
       opened : IsTold e.1.is_open ((block_of (tn_of e.0) ≡ block) × Opens c (Number (tn_of e.0)))
-      opened = subst (λ o. IsTold (has_opened o) ((block_of (tn_of e.0) ≡ block) × Opens c (Number (tn_of e.0)))) found (known.opened (tn_of e.0))
+      opened = subst (λ o. IsTold (has_opened o) ((block_of (tn_of e.0) ≡ block)
+          × Opens c (Number (tn_of e.0)))) found (known.opened (tn_of e.0))
 
       in_use : (e.1.is_in_force || e.1.is_open) ≡ true
-      in_use = sym (subst (λ o. is_some o ≡ (has_held o || has_opened o)) found (known.in_use (tn_of e.0)))
+      in_use = sym (subst (λ o. is_some o ≡ (has_held o || has_opened o)) found
+          (known.in_use (tn_of e.0)))
 
       own : block_of (tn_of e.0) ≡ block
-      own = own-of (block_of (tn_of e.0) ≡ block) (Holds c (Number (tn_of e.0))) (Opens c (Number (tn_of e.0))) e.1.is_in_force e.1.is_open in_use held opened
+      own = own-of (block_of (tn_of e.0) ≡ block) (Holds c (Number (tn_of e.0)))
+          (Opens c (Number (tn_of e.0))) e.1.is_in_force e.1.is_open in_use held opened
 
-  pub in-block-are : (found : List NumberInUse) → found ≡ map number_told numbers.entries → AreInBlock c block found
+  pub in-block-are : (found : List NumberInUse) → found ≡ map number_told numbers.entries
+      → AreInBlock c block found
   in-block-are found is = record {
     each = λ n own used.
         let there : is_some (at n) ≡ true = known.in_use n ∙ stands n own used in
-        let q = entry-of tn_of (λ (s : Standing). s) nat_cmp_total nat_cmp-IsAntisymmetric numbers n there in
+        let q = entry-of tn_of (λ (s : Standing). s) nat_cmp_total nat_cmp-IsAntisymmetric numbers n
+        there in
         let e = found-entry (is_at (on tn_of nat_cmp q.0)) numbers.entries q.2 in
-        let same : tn_of e.0.0 ≡ n = sym (nat_cmp-IsAntisymmetric (tn_of q.0) (tn_of e.0.0) (tied _ e.2)) ∙ q.1 in
-        (number_told e.0, contained (number_told e.0) found (subst (Among (number_told e.0)) (sym is) (among-told e.0 numbers.entries e.1)), same);
+        let same : tn_of e.0.0 ≡ n =
+        sym (nat_cmp-IsAntisymmetric (tn_of q.0) (tn_of e.0.0) (tied _ e.2)) ∙ q.1 in (
+          number_told e.0,
+          contained (number_told e.0) found (subst (Among (number_told e.0)) (sym is)
+              (among-told e.0 numbers.entries e.1)),
+          same,
+        );
     only = all-places (IsInBlock c block) found (all-of (IsInBlock c block) found (λ x there.
         let e = among-mapped number_told x numbers.entries (subst (Among x) is there) in
         subst (IsInBlock c block) e.2 (in-block-is e.0 e.1)));
-    rises = subst (IsStrictlySortedBy (on (λ (x : NumberInUse). x.tn.number) nat_cmp)) (sym is) (sorted-told numbers.entries ordered);
+    rises = subst (IsStrictlySortedBy (on (λ (x : NumberInUse). x.tn.number) nat_cmp)) (sym is)
+        (sorted-told numbers.entries ordered);
   }
     where
-      stands : (n : ℕ) → block_of n ≡ block → Holds c (Number n) ⊎ Opens c (Number n) → (has_held (at n) || has_opened (at n)) ≡ true
-      stands n own (inl holds) = ap (λ b. b || has_opened (at n)) (sure ((block_of n ≡ block) × Holds c (Number n)) (has_held (at n)) (known.held n) (own, holds))
-      stands n own (inr opens) = ap (λ b. has_held (at n) || b) (sure ((block_of n ≡ block) × Opens c (Number n)) (has_opened (at n)) (known.opened n) (own, opens)) ∙ or_true (has_held (at n))
+      stands : (n : ℕ) → block_of n ≡ block → Holds c (Number n) ⊎ Opens c (Number n)
+          → (has_held (at n) || has_opened (at n)) ≡ true
+      stands n own (inl holds) =
+          ap (λ b. b || has_opened (at n)) (sure ((block_of n ≡ block) × Holds c (Number n))
+          (has_held (at n)) (known.held n) (own, holds))
+      stands n own (inr opens) =
+          ap (λ b. has_held (at n) || b) (sure ((block_of n ≡ block) × Opens c (Number n))
+          (has_opened (at n)) (known.opened n) (own, opens)) ∙ or_true (has_held (at n))

@@ -22,20 +22,26 @@ use Rattle.numbers.proofs.Small.{or_right, same_number, numbers_turned, equal_nu
 -- ---- lists of numbers
 
 -- a number that passes is among them
-passing : (p : ℕ → Bool) (xs : List ℕ) → list_any p xs ≡ true → (x : ℕ) × (is_among x xs ≡ true) × (p x ≡ true)
+passing : (p : ℕ → Bool) (xs : List ℕ) → list_any p xs ≡ true → (x : ℕ) × (is_among x xs ≡ true)
+    × (p x ≡ true)
 passing p [] e = let no : false ≡ true = e in cc
 passing p (x ∷ xs) e = go (passing p xs) (p x) refl e
   where
-    go : (list_any p xs ≡ true → (k : ℕ) × (is_among k xs ≡ true) × (p k ≡ true)) → (b : Bool) → p x ≡ b → (b || list_any p xs) ≡ true → (k : ℕ) × (is_among k (x ∷ xs) ≡ true) × (p k ≡ true)
+    go : (list_any p xs ≡ true → (k : ℕ) × (is_among k xs ≡ true) × (p k ≡ true)) → (b : Bool)
+        → p x ≡ b → (b || list_any p xs) ≡ true → (k : ℕ) × (is_among k (x ∷ xs) ≡ true)
+        × (p k ≡ true)
     go later true is f = (x, ap (λ b. b || is_among x xs) (same_number x), is)
-    go later false is f = let more = later f in (more.0, or_right (x == more.0) (is_among more.0 xs) more.1, more.2)
+    go later false is f = let more = later f in
+        (more.0, or_right (x == more.0) (is_among more.0 xs) more.1, more.2)
 
 -- a number among them passes
-passes : (p : ℕ → Bool) (xs : List ℕ) (k : ℕ) → is_among k xs ≡ true → p k ≡ true → list_any p xs ≡ true
+passes : (p : ℕ → Bool) (xs : List ℕ) (k : ℕ) → is_among k xs ≡ true → p k ≡ true
+    → list_any p xs ≡ true
 passes p [] k e is = e
 passes p (x ∷ xs) k e is = go (λ f. passes p xs k f is) (x == k) refl e
   where
-    go : (is_among k xs ≡ true → list_any p xs ≡ true) → (b : Bool) → (x == k) ≡ b → (b || is_among k xs) ≡ true → list_any p (x ∷ xs) ≡ true
+    go : (is_among k xs ≡ true → list_any p xs ≡ true) → (b : Bool) → (x == k) ≡ b
+        → (b || is_among k xs) ≡ true → list_any p (x ∷ xs) ≡ true
     go later true at f = ap (λ b. b || list_any p xs) (ap p (equal_number x k at) ∙ is)
     go later false at f = or_right (p x) (list_any p xs) (later f)
 
@@ -47,50 +53,70 @@ all-not p (x ∷ xs) = ap (λ b. p x && b) (all-not p xs) ∙ go (p x) (list_any
     go true b = refl
     go false b = refl
 
-any-seen : (p : ℕ → Bool) (q : Spid → Bool) → ((c : Spid) → p c.number ≡ q c) → (cs : List Spid) → list_any p (map spid_of cs) ≡ list_any q cs
+any-seen : (p : ℕ → Bool) (q : Spid → Bool) → ((c : Spid) → p c.number ≡ q c) → (cs : List Spid)
+    → list_any p (map spid_of cs) ≡ list_any q cs
 any-seen p q same [] = refl
-any-seen p q same (c ∷ cs) = ap (λ b. b || list_any p (map spid_of cs)) (same c) ∙ ap (λ b. q c || b) (any-seen p q same cs)
+any-seen p q same (c ∷ cs) = ap (λ b. b || list_any p (map spid_of cs)) (same c)
+    ∙ ap (λ b. q c || b) (any-seen p q same cs)
 
-among-seen : (k : ℕ) (cs : List Spid) → list_any (λ (c : Spid). k == c.number) cs ≡ is_among k (map spid_of cs)
-among-seen k cs = sym (any-seen (λ d. d == k) (λ c. k == c.number) (λ c. numbers_turned c.number k) cs)
+among-seen : (k : ℕ) (cs : List Spid) → list_any (λ (c : Spid). k == c.number) cs
+    ≡ is_among k (map spid_of cs)
+among-seen k cs =
+    sym (any-seen (λ d. d == k) (λ c. k == c.number) (λ c. numbers_turned c.number k) cs)
 
 -- ---- a broadcast's row
 
 -- those of some numbers that wait are all one, unless another of those that wait is among them
-alone : (own : ℕ) (waits registered : ℕ → Bool) (ks cs : List ℕ) → ((k : ℕ) → is_among k ks ≡ registered k) → ((k : ℕ) → waits k ≡ is_among k cs) →
-    list_all (λ k. k == own) (filter waits ks) ≡ not (list_any (λ k. not (k == own) && registered k) cs)
+alone : (own : ℕ) (waits registered : ℕ → Bool) (ks cs : List ℕ)
+    → ((k : ℕ) → is_among k ks ≡ registered k) → ((k : ℕ) → waits k ≡ is_among k cs) →
+    list_all (λ k. k == own) (filter waits ks) ≡ not (list_any (λ k. not (k == own) && registered k)
+    cs)
 alone own waits registered ks cs are wait =
     all-not (λ k. k == own) (filter waits ks)
-    ∙ ap not (same_truth (list_any (λ k. not (k == own)) (filter waits ks)) (list_any (λ k. not (k == own) && registered k) cs) there back)
+    ∙ ap not (same_truth (list_any (λ k. not (k == own)) (filter waits ks))
+    (list_any (λ k. not (k == own) && registered k) cs) there back)
   where
     both : (a b : Bool) → a ≡ true → b ≡ true → (a && b) ≡ true
     both true b e f = f
     both false b e f = e
 
-    there : list_any (λ k. not (k == own)) (filter waits ks) ≡ true → list_any (λ k. not (k == own) && registered k) cs ≡ true
+    there : list_any (λ k. not (k == own)) (filter waits ks) ≡ true
+        → list_any (λ k. not (k == own) && registered k) cs ≡ true
     there e =
         let found = passing (λ k. not (k == own)) (filter waits ks) e in
-        let is = and_both (is_among found.0 ks) (waits found.0) (sym (among-filtered waits found.0 ks) ∙ found.1) in
+        let is = and_both (is_among found.0 ks) (waits found.0)
+        (sym (among-filtered waits found.0 ks) ∙ found.1) in
         passes (λ k. not (k == own) && registered k) cs found.0 (sym (wait found.0) ∙ is.1)
         (both (not (found.0 == own)) (registered found.0) found.2 (sym (are found.0) ∙ is.0))
 
-    back : list_any (λ k. not (k == own) && registered k) cs ≡ true → list_any (λ k. not (k == own)) (filter waits ks) ≡ true
+    back : list_any (λ k. not (k == own) && registered k) cs ≡ true
+        → list_any (λ k. not (k == own)) (filter waits ks) ≡ true
     back e =
         let found = passing (λ k. not (k == own) && registered k) cs e in
         let is = and_both (not (found.0 == own)) (registered found.0) found.2 in
         passes (λ k. not (k == own)) (filter waits ks) found.0
-        (among-filtered waits found.0 ks ∙ both (is_among found.0 ks) (waits found.0) (are found.0 ∙ is.1) (wait found.0 ∙ found.1))
+        (among-filtered waits found.0 ks ∙ both (is_among found.0 ks) (waits found.0) (are found.0
+        ∙ is.1) (wait found.0 ∙ found.1))
         is.0
 
 pub last-is : (t : Tables) (wait : WaitKey) (cs : List Spid) →
-    ((k : ℕ) → is_some (get t.waits (wait_for (download_of (wait_key_of wait)) k)) ≡ list_any (λ (c : Spid). k == c.number) cs) →
+    ((k : ℕ) → is_some (get t.waits (wait_for (download_of (wait_key_of wait)) k))
+    ≡ list_any (λ (c : Spid). k == c.number) cs) →
     not (list_any (is_another t wait.carrier) cs) ≡ is_last_wait (content_of t) (wait_key_of wait)
 last-is t wait cs waits =
-    ap not (sym (any-seen (λ k. not (k == wait.carrier.number) && is_some (get (content_of t).carriers k)) (is_another t wait.carrier) another cs))
-    ∙ sym (alone wait.carrier.number (λ k. is_some (get t.waits (wait_for (download_of (wait_key_of wait)) k))) (λ k. is_some (get (content_of t).carriers k)) (keys (content_of t).carriers) (map spid_of cs)
+    ap not (sym
+    (any-seen (λ k. not (k == wait.carrier.number) && is_some (get (content_of t).carriers k))
+    (is_another t wait.carrier) another cs))
+    ∙ sym (alone wait.carrier.number
+    (λ k. is_some (get t.waits (wait_for (download_of (wait_key_of wait)) k)))
+    (λ k. is_some (get (content_of t).carriers k)) (keys (content_of t).carriers) (map spid_of cs)
     (among_keys (content_of t).carriers)
     (λ k. waits k ∙ among-seen k cs))
   where
-    another : (c : Spid) → (not (c.number == wait.carrier.number) && is_some (get (content_of t).carriers c.number)) ≡ is_another t wait.carrier c
+    another : (c : Spid)
+        → (not (c.number == wait.carrier.number) && is_some (get (content_of t).carriers c.number))
+        ≡ is_another t wait.carrier c
     another c = ap (λ b. not (c.number == wait.carrier.number) && b)
-        (ap is_some (get-map_of spid_of (λ (u : Unit {0}). u) nat_cmp_total nat_cmp-IsAntisymmetric t.carriers c) ∙ is_some-option_map (λ (u : Unit {0}). u) (tree.get (on spid_of nat_cmp) t.carriers c))
+        (ap is_some (get-map_of spid_of (λ (u : Unit {0}). u) nat_cmp_total nat_cmp-IsAntisymmetric
+        t.carriers c) ∙ is_some-option_map (λ (u : Unit {0}). u)
+        (tree.get (on spid_of nat_cmp) t.carriers c))

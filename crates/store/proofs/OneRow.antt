@@ -8,25 +8,31 @@ use Rattle.numbers.specs.declared.spid.Spid.{Spid}
 use Rattle.settle.specs.Views.{spid_of}
 use Rattle.store.specs.WaitRows.{IsAdded, IsWithout}
 
-pub any-seen : (c : ℕ) (ks : List Spid) → list_any (λ k. c == k) (map spid_of ks) ≡ list_any (λ (k : Spid). c == k.number) ks
+pub any-seen : (c : ℕ) (ks : List Spid) → list_any (λ k. c == k) (map spid_of ks)
+    ≡ list_any (λ (k : Spid). c == k.number) ks
 any-seen c [] = refl
 any-seen c (k ∷ ks) = ap (λ b. (c == k.number) || b) (any-seen c ks)
 
 -- one more at the end
-any-more : (c d : ℕ) (ks : List Spid) (k : Spid) → k.number ≡ d → list_any (λ x. c == x) (map spid_of (ks ++ k ∷ [])) ≡ ((c == d) || list_any (λ x. c == x) (map spid_of ks))
+any-more : (c d : ℕ) (ks : List Spid) (k : Spid) → k.number ≡ d
+    → list_any (λ x. c == x) (map spid_of (ks ++ k ∷ []))
+    ≡ ((c == d) || list_any (λ x. c == x) (map spid_of ks))
 any-more c d [] k e = ap (λ n. (c == n) || false) e
-any-more c d (x ∷ ks) k e = ap (λ b. (c == x.number) || b) (any-more c d ks k e) ∙ swap (c == x.number) (c == d) (list_any (λ y. c == y) (map spid_of ks))
+any-more c d (x ∷ ks) k e = ap (λ b. (c == x.number) || b) (any-more c d ks k e)
+    ∙ swap (c == x.number) (c == d) (list_any (λ y. c == y) (map spid_of ks))
   where
     swap : (a b y : Bool) → (a || (b || y)) ≡ (b || (a || y))
     swap true true y = refl
     swap true false y = refl
     swap false b y = refl
 
-pub added : (s : Subject) (d : ℕ) (ks : List Spid) (k : Spid) (old : Subject) → k.number ≡ d → old ≡ s → IsAdded d s (old, map spid_of ks) (old, map spid_of (ks ++ k ∷ []))
+pub added : (s : Subject) (d : ℕ) (ks : List Spid) (k : Spid) (old : Subject) → k.number ≡ d
+    → old ≡ s → IsAdded d s (old, map spid_of ks) (old, map spid_of (ks ++ k ∷ []))
 added s d ks k old e same = record {
   subject = same;
   same = same;
-  each = λ c. ap (λ b. cond b (Some old) None) (any-more c d ks k e) ∙ go (c == d) (list_any (λ x. c == x) (map spid_of ks));
+  each = λ c. ap (λ b. cond b (Some old) None) (any-more c d ks k e)
+      ∙ go (c == d) (list_any (λ x. c == x) (map spid_of ks));
 }
   where
     go : (a b : Bool) → cond (a || b) (Some old) None ≡ cond a (Some s) (cond b (Some old) None)
@@ -43,7 +49,9 @@ other : (c d n : ℕ) → (c == d) ≡ false → (d == n) ≡ true → (c == n) 
 other c d n p q = grind (arith, nat_tests)
 
 -- all of one number are left out
-any-less : (c d : ℕ) (ks : List Spid) → list_any (λ x. c == x) (map spid_of (filter (λ (k : Spid). not (d == k.number)) ks)) ≡ cond (c == d) false (list_any (λ x. c == x) (map spid_of ks))
+any-less : (c d : ℕ) (ks : List Spid)
+    → list_any (λ x. c == x) (map spid_of (filter (λ (k : Spid). not (d == k.number)) ks))
+    ≡ cond (c == d) false (list_any (λ x. c == x) (map spid_of ks))
 any-less c d [] = go (c == d)
   where
     go : (b : Bool) → false ≡ cond b false false
@@ -54,17 +62,28 @@ any-less c d (k ∷ ks) = go (d == k.number) refl (c == d) refl (any-less c d ks
     rest : List ℕ
     rest = map spid_of (filter (λ (x : Spid). not (d == x.number)) ks)
 
-    go : (a : Bool) → (d == k.number) ≡ a → (b : Bool) → (c == d) ≡ b → list_any (λ x. c == x) rest ≡ cond b false (list_any (λ x. c == x) (map spid_of ks)) →
-        list_any (λ x. c == x) (map spid_of (cond (not a) (k ∷ filter (λ (x : Spid). not (d == x.number)) ks) (filter (λ (x : Spid). not (d == x.number)) ks))) ≡ cond b false ((c == k.number) || list_any (λ x. c == x) (map spid_of ks))
+    go : (a : Bool) → (d == k.number) ≡ a → (b : Bool) → (c == d) ≡ b
+        → list_any (λ x. c == x) rest ≡ cond b false (list_any (λ x. c == x) (map spid_of ks)) →
+        list_any (λ x. c == x)
+        (map spid_of (cond (not a) (k ∷ filter (λ (x : Spid). not (d == x.number)) ks)
+        (filter (λ (x : Spid). not (d == x.number)) ks))) ≡ cond b false
+        ((c == k.number) || list_any (λ x. c == x) (map spid_of ks))
     go true p true q later = later
-    go true p false q later = later ∙ ap (λ b. b || list_any (λ x. c == x) (map spid_of ks)) (sym (other c d k.number q p))
-    go false p true q later = ap (λ b. b || list_any (λ x. c == x) rest) (equals c d k.number q p) ∙ later
+    go true p false q later =
+        later ∙ ap (λ b. b || list_any (λ x. c == x) (map spid_of ks))
+        (sym (other c d k.number q p))
+    go false p true q later = ap (λ b. b || list_any (λ x. c == x) rest) (equals c d k.number q p)
+        ∙ later
     go false p false q later = ap (λ b. (c == k.number) || b) later
 
-pub without : (d : ℕ) (ks rest : List Spid) (s : Subject) → rest ≡ filter (λ (k : Spid). not (d == k.number)) ks → IsWithout d (s, map spid_of ks) (s, map spid_of rest)
+pub without : (d : ℕ) (ks rest : List Spid) (s : Subject)
+    → rest ≡ filter (λ (k : Spid). not (d == k.number)) ks
+    → IsWithout d (s, map spid_of ks) (s, map spid_of rest)
 without d ks rest s e = record {
   same = refl;
-  each = λ c. ap (λ xs. cond (list_any (λ x. c == x) (map spid_of xs)) (Some s) None) e ∙ ap (λ b. cond b (Some s) None) (any-less c d ks) ∙ go (c == d) (list_any (λ x. c == x) (map spid_of ks));
+  each = λ c. ap (λ xs. cond (list_any (λ x. c == x) (map spid_of xs)) (Some s) None) e
+      ∙ ap (λ b. cond b (Some s) None) (any-less c d ks)
+      ∙ go (c == d) (list_any (λ x. c == x) (map spid_of ks));
 }
   where
     go : (a b : Bool) → cond (cond a false b) (Some s) None ≡ cond a None (cond b (Some s) None)

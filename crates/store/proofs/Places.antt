@@ -32,78 +32,135 @@ on-err (Ok v) p = tt
 on-err (Err e) p = p
 
 -- the table is its map in the content, and nothing else changes with it
-pub record IsPlace {K X L Y : Type 0} {R : L → L → Ordering} (place : Place K X L Y R) : Type 0 where
+pub record IsPlace {K X L Y : Type 0} {R : L → L
+    → Ordering} (place : Place K X L Y R) : Type 0 where
   pub total : IsTotalOrder R
   pub exact : IsAntisymmetric R
-  pub seen : (t : Tables) → place.column (content_of t) ≡ map_of {R = R} place.key place.row (place.table t)
-  pub writes : (t : Tables) (m : BTreeMap K X) → content_of (place.with_table t m) ≡ place.with_column (content_of t) (map_of {R = R} place.key place.row m)
+  pub seen : (t : Tables) → place.column (content_of t) ≡ map_of {R =
+      R} place.key place.row (place.table t)
+  pub writes : (t : Tables) (m : BTreeMap K X)
+      → content_of (place.with_table t m) ≡ place.with_column (content_of t) (map_of {R =
+      R} place.key place.row m)
   pub holds : (t : Tables) (m : BTreeMap K X) → place.table (place.with_table t m) ≡ m
   pub same : (c : Content) → place.with_column c (place.column c) ≡ c
-  pub again : (c : Content) (a b : FinMap R Y) → place.with_column (place.with_column c a) b ≡ place.with_column c b
-  pub keeps : (t : Tables) (m : BTreeMap K X) → KeepIndexes t (place.with_table t m) × KeepIndexes (place.with_table t m) t
+  pub again : (c : Content) (a b : FinMap R Y) → place.with_column (place.with_column c a) b
+      ≡ place.with_column c b
+  pub keeps : (t : Tables) (m : BTreeMap K X) → KeepIndexes t (place.with_table t m)
+      × KeepIndexes (place.with_table t m) t
   pub spares : (t : Tables) (m : BTreeMap K X) → AddNoSpare t (place.with_table t m)
 
 keeps-then : (a b c : Tables) → KeepIndexes a b → KeepIndexes b c → KeepIndexes a c
-keeps-then a b c p q = (λ k had. q.0 k (p.0 k had), λ k had. q.1 k (p.1 k had), λ k had. q.2 k (p.2 k had))
+keeps-then a b c p q = (
+  λ k had. q.0 k (p.0 k had),
+  λ k had. q.1 k (p.1 k had),
+  λ k had. q.2 k (p.2 k had),
+)
 
-module _ {K X L Y : Type 0} {R : L → L → Ordering} (place : Place K X L Y R) (is : IsPlace place) where
+module _ {K X L Y : Type 0} {R : L → L → Ordering} (place : Place K X L Y R)
+    (is : IsPlace place) where
   abbrev shown : BTreeMap K X → FinMap R Y
   shown m = map_of {R = R} place.key place.row m
 
   -- a put that was refused
-  pub kept : (old : Tables) (m : BTreeMap K X) → IsSame (on place.key R) (place.table old) m → IsKept old (place.with_table old m)
+  pub kept : (old : Tables) (m : BTreeMap K X) → IsSame (on place.key R) (place.table old) m
+      → IsKept old (place.with_table old m)
   kept old m same = record {
-    content = is.writes old m ∙ ap (place.with_column (content_of old)) (same_map_of place.key place.row is.total is.exact (place.table old) m same ∙ sym (is.seen old)) ∙ is.same (content_of old);
+    content = is.writes old m ∙ ap (place.with_column (content_of old))
+        (same_map_of place.key place.row is.total is.exact (place.table old) m same
+        ∙ sym (is.seen old)) ∙ is.same (content_of old);
     keeps = (is.keeps old m).0;
     adds = (is.keeps old m).1;
   }
 
-  pub put-shown : (old : Tables) (m : BTreeMap K X) (key : K) (row : X) → IsSet (on place.key R) (place.table old) m key (Some row) →
-      content_of (place.with_table old m) ≡ place.with_column (content_of old) (set (place.column (content_of old)) (place.key key) (Some (place.row row)))
+  pub put-shown : (old : Tables) (m : BTreeMap K X) (key : K) (row : X)
+      → IsSet (on place.key R) (place.table old) m key (Some row) →
+      content_of (place.with_table old m) ≡ place.with_column (content_of old)
+      (set (place.column (content_of old)) (place.key key) (Some (place.row row)))
   put-shown old m key row put =
       is.writes old m
-      ∙ ap (place.with_column (content_of old)) (set_map_of place.key place.row is.total is.exact (place.table old) m key (Some row) put ∙ ap (λ x. set x (place.key key) (Some (place.row row))) (sym (is.seen old)))
+      ∙ ap (place.with_column (content_of old)) (set_map_of place.key place.row is.total is.exact
+      (place.table old) m key (Some row) put
+      ∙ ap (λ x. set x (place.key key) (Some (place.row row))) (sym (is.seen old)))
 
   -- the table is still what it was put to
-  still : (start mid now : Tables) (m : BTreeMap K X) → mid ≡ place.with_table start m → IsKept mid now → shown (place.table now) ≡ shown m
-  still start mid now m e later = sym (is.seen now) ∙ ap place.column (later.content ∙ ap content_of e) ∙ is.seen (place.with_table start m) ∙ ap shown (is.holds start m)
+  still : (start mid now : Tables) (m : BTreeMap K X) → mid ≡ place.with_table start m
+      → IsKept mid now → shown (place.table now) ≡ shown m
+  still start mid now m e later =
+      sym (is.seen now) ∙ ap place.column (later.content ∙ ap content_of e)
+      ∙ is.seen (place.with_table start m) ∙ ap shown (is.holds start m)
 
-  pub there : (key : K) (before : Option X) (start mid now : Tables) → IsPutAt place key before start mid → IsKept mid now → IsSome (tree.get (on place.key R) (place.table now) key)
-  there key before start mid now put later = still_there place.key place.row is.total is.exact (place.table start) put.0 (place.table now) key put.2.0 put.2.2 (still start mid now put.0 put.1 later)
+  pub there : (key : K) (before : Option X) (start mid now : Tables)
+      → IsPutAt place key before start mid → IsKept mid now
+      → IsSome (tree.get (on place.key R) (place.table now) key)
+  there key before start mid now put later =
+      still_there place.key place.row is.total is.exact (place.table start) put.0 (place.table now)
+      key put.2.0 put.2.2 (still start mid now put.0 put.1 later)
 
-  pub undone : (key : K) (before : Option X) (start mid now : Tables) (n : BTreeMap K X) → IsPutAt place key before start mid → IsKept mid now → IsSet (on place.key R) (place.table now) n key before → IsKept start (place.with_table now n)
+  pub undone : (key : K) (before : Option X) (start mid now : Tables) (n : BTreeMap K X)
+      → IsPutAt place key before start mid → IsKept mid now
+      → IsSet (on place.key R) (place.table now) n key before
+      → IsKept start (place.with_table now n)
   undone key before start mid now n put later again =
-      let mine : shown n ≡ place.column (content_of start) = back place.key place.row is.total is.exact (place.table start) put.0 (place.table now) n key (Some put.2.0) before put.2.1 put.2.2 (still start mid now put.0 put.1 later) again ∙ sym (is.seen start) in
+      let mine : shown n ≡ place.column (content_of start) =
+      back place.key place.row is.total is.exact (place.table start) put.0 (place.table now) n key
+      (Some put.2.0) before put.2.1 put.2.2 (still start mid now put.0 put.1 later) again
+      ∙ sym (is.seen start) in
       record {
         content = is.writes now n
-            ∙ (λ i. place.with_column ((later.content ∙ ap content_of put.1 ∙ is.writes start put.0) i) (mine i))
-            ∙ is.again (content_of start) (shown put.0) (place.column (content_of start)) ∙ is.same (content_of start);
-        keeps = keeps-then start mid (place.with_table now n) (subst (KeepIndexes start) (sym put.1) (is.keeps start put.0).0) (keeps-then mid now (place.with_table now n) later.keeps (is.keeps now n).0);
-        adds = keeps-then (place.with_table now n) now start (is.keeps now n).1 (keeps-then now mid start later.adds (subst (λ t. KeepIndexes t start) (sym put.1) (is.keeps start put.0).1));
+            ∙ (λ i. place.with_column ((later.content ∙ ap content_of put.1 ∙ is.writes start put.0)
+            i) (mine i))
+            ∙ is.again (content_of start) (shown put.0) (place.column (content_of start))
+            ∙ is.same (content_of start);
+        keeps = keeps-then start mid (place.with_table now n) (subst (KeepIndexes start) (sym put.1)
+            (is.keeps start put.0).0) (keeps-then mid now (place.with_table now n) later.keeps
+            (is.keeps now n).0);
+        adds = keeps-then (place.with_table now n) now start (is.keeps now n).1
+            (keeps-then now mid start later.adds (subst (λ t. KeepIndexes t start) (sym put.1)
+            (is.keeps start put.0).1));
       }
 
   -- no key goes with it, so none is to be forgotten
-  pub unindexed : (key : K) (before : Option X) (start mid now : Tables) → IsPutAt place key before start mid → AddNoSpare mid now → AddNoSpare start now
-  unindexed key before start mid now put later k spare = is.spares start put.0 k (subst (λ t. IsSpare t k) put.1 (later k spare))
+  pub unindexed : (key : K) (before : Option X) (start mid now : Tables)
+      → IsPutAt place key before start mid → AddNoSpare mid now → AddNoSpare start now
+  unindexed key before start mid now put later k spare =
+      is.spares start put.0 k (subst (λ t. IsSpare t k) put.1 (later k spare))
 
 -- ---- each of the tables
 
 -- other rows in tables that no index goes with make no key spare
-beside_indexes : (t : Tables) (a : BTreeMap Spid (Unit {0})) (b : BTreeMap Lrn Spid) (c : BTreeMap CodeId Spid) (d : BTreeMap BlockId BlockRow) (e : BTreeMap BroadcastKey Broadcast) (f : BTreeMap ℕ Windows) →
-    AddNoSpare t (record t { carriers = a; lrns = b; codes = c; blocks = d; broadcasts = e; sets = f })
+beside_indexes : (t : Tables) (a : BTreeMap Spid (Unit {0})) (b : BTreeMap Lrn Spid)
+    (c : BTreeMap CodeId Spid) (d : BTreeMap BlockId BlockRow) (e : BTreeMap BroadcastKey Broadcast)
+    (f : BTreeMap ℕ Windows) →
+    AddNoSpare t (record t {
+      carriers = a;
+      lrns = b;
+      codes = c;
+      blocks = d;
+      broadcasts = e;
+      sets = f;
+    })
 beside_indexes t a b c d e f (Held k) spare = spare
 beside_indexes t a b c d e f (Opened k) spare = spare
 beside_indexes t a b c d e f (Due k) spare = spare
 
 -- nor do another clock, and other downloads
-pub beside_taken : (t : Tables) (clock : Option ClockRow) (e : BTreeMap BroadcastKey Broadcast) (w : FinMap wait_cmp Subject) → AddNoSpare t (record t { clock = clock; broadcasts = e; waits = w })
+pub beside_taken : (t : Tables) (clock : Option ClockRow) (e : BTreeMap BroadcastKey Broadcast)
+    (w : FinMap wait_cmp Subject) → AddNoSpare t (record t {
+      clock = clock;
+      broadcasts = e;
+      waits =
+          w;
+    })
 beside_taken t clock e w (Held k) spare = spare
 beside_taken t clock e w (Opened k) spare = spare
 beside_taken t clock e w (Due k) spare = spare
 
 -- a download that was put
-pub wait-unindexed : (start mid now : Tables) (w : FinMap wait_cmp Subject) → mid ≡ record start { waits = w } → AddNoSpare mid now → AddNoSpare start now
-wait-unindexed start mid now w put later k spare = beside_taken start start.clock start.broadcasts w k (subst (λ t. IsSpare t k) put (later k spare))
+pub wait-unindexed : (start mid now : Tables) (w : FinMap wait_cmp Subject)
+    → mid ≡ record start { waits = w } → AddNoSpare mid now → AddNoSpare start now
+wait-unindexed start mid now w put later k spare =
+    beside_taken start start.clock start.broadcasts w k
+    (subst (λ t. IsSpare t k) put (later k spare))
 
 pub carriers-is : IsPlace carriers
 carriers-is = record {

@@ -19,36 +19,52 @@ use Rattle.numbers.proofs.Small.{numbers_turned}
 pub subject_download_total : IsTotalOrder subject_download_cmp
 subject_download_total =
     then_total (on_total (λ (k : SubjectDownload). subject_key k.subject) nat_cmp_total)
-    (then_total (on_total (λ (k : SubjectDownload). k.minute) nat_cmp_total) (then_total (on_total (λ (k : SubjectDownload). k.id) nat_cmp_total) (on_total (λ (k : SubjectDownload). k.attempt) nat_cmp_total)))
+    (then_total (on_total (λ (k : SubjectDownload). k.minute) nat_cmp_total)
+    (then_total (on_total (λ (k : SubjectDownload). k.id) nat_cmp_total)
+    (on_total (λ (k : SubjectDownload). k.attempt) nat_cmp_total)))
 
 pub subject_download_exact : IsAntisymmetric subject_download_cmp
 subject_download_exact a b e =
-    let p = both_equal (nat_cmp (subject_key a.subject) (subject_key b.subject)) (ordering_then (nat_cmp a.minute b.minute) (ordering_then (nat_cmp a.id b.id) (nat_cmp a.attempt b.attempt))) e in
-    let q = both_equal (nat_cmp a.minute b.minute) (ordering_then (nat_cmp a.id b.id) (nat_cmp a.attempt b.attempt)) p.1 in
+    let p = both_equal (nat_cmp (subject_key a.subject) (subject_key b.subject))
+    (ordering_then (nat_cmp a.minute b.minute) (ordering_then (nat_cmp a.id b.id)
+    (nat_cmp a.attempt b.attempt))) e in
+    let q = both_equal (nat_cmp a.minute b.minute) (ordering_then (nat_cmp a.id b.id)
+    (nat_cmp a.attempt b.attempt)) p.1 in
     let r = both_equal (nat_cmp a.id b.id) (nat_cmp a.attempt b.attempt) q.1 in
     λ i. record {
-      subject = subject_key-exact a.subject b.subject (nat_cmp-IsAntisymmetric (subject_key a.subject) (subject_key b.subject) p.0) i;
+      subject = subject_key-exact a.subject b.subject
+          (nat_cmp-IsAntisymmetric (subject_key a.subject) (subject_key b.subject) p.0) i;
       minute = nat_cmp-IsAntisymmetric a.minute b.minute q.0 i;
       id = nat_cmp-IsAntisymmetric a.id b.id r.0 i;
       attempt = nat_cmp-IsAntisymmetric a.attempt b.attempt r.1 i;
     }
 
 -- the row of one broadcast is w now
-abbrev pub IsRow : FinMap download_cmp Waiting → FinMap download_cmp Waiting → Download → Option Waiting → Type 0
+abbrev pub IsRow : FinMap download_cmp Waiting → FinMap download_cmp Waiting → Download
+    → Option Waiting → Type 0
 IsRow old new d w = (q : Download) → get new q ≡ cond (eq_by_cmp download_cmp d q) w (get old q)
 
 -- where the row says v of one carrier, and of each other one what it said, one download is set
-pub row-changed : (old new : FinMap download_cmp Waiting) (k : WaitKey) (w : Option Waiting) (v : Option Subject) → IsRow old new (download_of k) w →
-    ((c : ℕ) → awaited w c ≡ cond (c == k.carrier) v (awaited (get old (download_of k)) c)) → waits_of new ≡ set (waits_of old) k v
-row-changed old new k w v row each = same_map wait_total wait_exact (waits_of new) (set (waits_of old) k v) (λ q.
-    get-waits_of new q ∙ ap (λ o. awaited o q.carrier) (row (download_of q)) ∙ go q (eq_by_cmp download_cmp (download_of k) (download_of q)) refl
-    ∙ (λ i. cond (sym (wait-ties k (download_of q) q.carrier) i) v (sym (get-waits_of old q) i)) ∙ sym (get-set wait_total wait_exact (waits_of old) k v q))
+pub row-changed : (old new : FinMap download_cmp Waiting) (k : WaitKey) (w : Option Waiting)
+    (v : Option Subject) → IsRow old new (download_of k) w →
+    ((c : ℕ) → awaited w c ≡ cond (c == k.carrier) v (awaited (get old (download_of k)) c))
+    → waits_of new ≡ set (waits_of old) k v
+row-changed old new k w v row each =
+    same_map wait_total wait_exact (waits_of new) (set (waits_of old) k v) (λ q.
+    get-waits_of new q ∙ ap (λ o. awaited o q.carrier) (row (download_of q))
+    ∙ go q (eq_by_cmp download_cmp (download_of k) (download_of q)) refl
+    ∙ (λ i. cond (sym (wait-ties k (download_of q) q.carrier) i) v (sym (get-waits_of old q) i))
+    ∙ sym (get-set wait_total wait_exact (waits_of old) k v q))
   where
     go : (q : WaitKey) (b : Bool) → eq_by_cmp download_cmp (download_of k) (download_of q) ≡ b →
-        awaited (cond b w (get old (download_of q))) q.carrier ≡ cond ((k.carrier == q.carrier) && b) v (awaited (get old (download_of q)) q.carrier)
+        awaited (cond b w (get old (download_of q))) q.carrier
+        ≡ cond ((k.carrier == q.carrier) && b) v (awaited (get old (download_of q)) q.carrier)
     go q true t =
-        let d : download_of k ≡ download_of q = download_exact (download_of k) (download_of q) (tied _ t) in
-        each q.carrier ∙ (λ i. cond (numbers_turned q.carrier k.carrier i) v (awaited (get old (d i)) q.carrier)) ∙ last (k.carrier == q.carrier) (awaited (get old (download_of q)) q.carrier)
+        let d : download_of k ≡ download_of q =
+        download_exact (download_of k) (download_of q) (tied _ t) in
+        each q.carrier
+        ∙ (λ i. cond (numbers_turned q.carrier k.carrier i) v (awaited (get old (d i)) q.carrier))
+        ∙ last (k.carrier == q.carrier) (awaited (get old (download_of q)) q.carrier)
       where
         last : (b : Bool) (x : Option Subject) → cond b v x ≡ cond (b && true) v x
         last true x = refl
@@ -60,11 +76,14 @@ row-changed old new k w v row each = same_map wait_total wait_exact (waits_of ne
         rest false x = refl
 
 -- where it says of each carrier what it said, nothing changes
-pub row-same : (old new : FinMap download_cmp Waiting) (d : Download) (w : Option Waiting) → IsRow old new d w → w ≡ get old d → waits_of new ≡ waits_of old
+pub row-same : (old new : FinMap download_cmp Waiting) (d : Download) (w : Option Waiting)
+    → IsRow old new d w → w ≡ get old d → waits_of new ≡ waits_of old
 row-same old new d w row same = same_map wait_total wait_exact (waits_of new) (waits_of old) (λ q.
-    get-waits_of new q ∙ ap (λ o. awaited o q.carrier) (row (download_of q) ∙ go q (eq_by_cmp download_cmp d (download_of q)) refl) ∙ sym (get-waits_of old q))
+    get-waits_of new q ∙ ap (λ o. awaited o q.carrier) (row (download_of q)
+    ∙ go q (eq_by_cmp download_cmp d (download_of q)) refl) ∙ sym (get-waits_of old q))
   where
-    go : (q : WaitKey) (b : Bool) → eq_by_cmp download_cmp d (download_of q) ≡ b → cond b w (get old (download_of q)) ≡ get old (download_of q)
+    go : (q : WaitKey) (b : Bool) → eq_by_cmp download_cmp d (download_of q) ≡ b
+        → cond b w (get old (download_of q)) ≡ get old (download_of q)
     go q true t = same ∙ ap (get old) (download_exact d (download_of q) (tied _ t))
     go q false t = refl
 
@@ -75,7 +94,8 @@ Index = FinMap subject_download_cmp (Unit {0})
 
 -- one key of the index is there, or is not
 abbrev pub IsKey : Index → Index → SubjectDownload → Option (Unit {0}) → Type 0
-IsKey old new k v = (q : SubjectDownload) → get new q ≡ cond (eq_by_cmp subject_download_cmp k q) v (get old q)
+IsKey old new k v = (q : SubjectDownload) → get new q ≡ cond (eq_by_cmp subject_download_cmp k q) v
+    (get old q)
 
 -- the index agrees with the rows
 abbrev pub Agrees : FinMap download_cmp Waiting → Index → Type 0
@@ -85,93 +105,172 @@ here : (d : Download) → eq_by_cmp download_cmp d d ≡ true
 here d = ap is_eq (tied_itself download_total d)
 
 -- a row whose subject stays
-pub agrees-kept : (old new : FinMap download_cmp Waiting) (about : Index) (d : Download) (was now : Waiting) → IsRow old new d (Some now) → get old d ≡ Some was → now.0 ≡ was.0 → Agrees old about → Agrees new about
-agrees-kept old new about d was now row there same agrees = (λ q w at. first q w (eq_by_cmp download_cmp d q) refl (sym (row q) ∙ at), λ k stands. ap (option_map (λ (x : Waiting). x.0)) (row (download_about k)) ∙ second k (eq_by_cmp download_cmp d (download_about k)) refl ∙ agrees.1 k stands)
+pub agrees-kept : (old new : FinMap download_cmp Waiting) (about : Index) (d : Download)
+    (was now : Waiting) → IsRow old new d (Some now) → get old d ≡ Some was → now.0 ≡ was.0
+    → Agrees old about → Agrees new about
+agrees-kept old new about d was now row there same agrees = (
+  λ q w at. first q w (eq_by_cmp download_cmp d q) refl (sym (row q) ∙ at),
+  λ k stands. ap (option_map (λ (x : Waiting). x.0)) (row (download_about k))
+      ∙ second k (eq_by_cmp download_cmp d (download_about k)) refl ∙ agrees.1 k stands,
+)
   where
-    first : (q : Download) (w : Waiting) (b : Bool) → eq_by_cmp download_cmp d q ≡ b → cond b (Some now) (get old q) ≡ Some w → IsDownload q × (is_some (get about (key_about w.0 q)) ≡ true)
+    first : (q : Download) (w : Waiting) (b : Bool) → eq_by_cmp download_cmp d q ≡ b
+        → cond b (Some now) (get old q) ≡ Some w → IsDownload q
+        × (is_some (get about (key_about w.0 q)) ≡ true)
     first q w true t at =
         let own : now ≡ w = (let f : Some now ≡ Some w = at in cc) in
-        let before = agrees.0 q was (ap (get old) (sym (download_exact d q (tied _ t))) ∙ there) in
-        (before.0, ap (λ s. is_some (get about (key_about s q))) (sym (ap (λ (x : Waiting). x.0) own) ∙ same) ∙ before.1)
+        let before = agrees.0 q was (ap (get old) (sym (download_exact d q (tied _ t))) ∙ there) in (
+          before.0,
+          ap (λ s. is_some (get about (key_about s q))) (sym (ap (λ (x : Waiting). x.0) own) ∙ same)
+              ∙ before.1,
+        )
     first q w false t at = agrees.0 q w at
 
-    second : (k : SubjectDownload) (b : Bool) → eq_by_cmp download_cmp d (download_about k) ≡ b → option_map (λ (x : Waiting). x.0) (cond b (Some now) (get old (download_about k))) ≡ option_map (λ (x : Waiting). x.0) (get old (download_about k))
-    second k true t = ap (λ s. Some s) same ∙ ap (option_map (λ (x : Waiting). x.0)) (sym there ∙ ap (get old) (download_exact d (download_about k) (tied _ t)))
+    second : (k : SubjectDownload) (b : Bool) → eq_by_cmp download_cmp d (download_about k) ≡ b
+        → option_map (λ (x : Waiting). x.0) (cond b (Some now) (get old (download_about k)))
+        ≡ option_map (λ (x : Waiting). x.0) (get old (download_about k))
+    second k true t = ap (λ s. Some s) same ∙ ap (option_map (λ (x : Waiting). x.0)) (sym there
+        ∙ ap (get old) (download_exact d (download_about k) (tied _ t)))
     second k false t = refl
 
-away : (s : Subject) (d : Download) (k : SubjectDownload) → eq_by_cmp download_cmp d (download_about k) ≡ false → eq_by_cmp subject_download_cmp (key_about s d) k ≡ false
+away : (s : Subject) (d : Download) (k : SubjectDownload)
+    → eq_by_cmp download_cmp d (download_about k) ≡ false
+    → eq_by_cmp subject_download_cmp (key_about s d) k ≡ false
 away s d k t = go (eq_by_cmp subject_download_cmp (key_about s d) k) refl
   where
     go : (b : Bool) → eq_by_cmp subject_download_cmp (key_about s d) k ≡ b → b ≡ false
     go false e = refl
     go true e =
         let same : key_about s d ≡ k = subject_download_exact (key_about s d) k (tied _ e) in
-        let f : true ≡ false = sym (here d) ∙ ap (λ (x : SubjectDownload). eq_by_cmp download_cmp d (download_about x)) same ∙ t in
+        let f : true ≡ false =
+        sym (here d) ∙ ap (λ (x : SubjectDownload). eq_by_cmp download_cmp d (download_about x))
+        same ∙ t in
         cc
 
 -- a row and its key that are new
-pub agrees-new : (old new : FinMap download_cmp Waiting) (about next : Index) (d : Download) (now : Waiting) → IsRow old new d (Some now) → get old d ≡ None → IsDownload d → IsKey about next (key_about now.0 d) (Some tt) → Agrees old about → Agrees new next
-agrees-new old new about next d now row none small key agrees = (λ q w at. first q w (eq_by_cmp download_cmp d q) refl (sym (row q) ∙ at), λ k stands. second k (eq_by_cmp download_cmp d (download_about k)) refl (eq_by_cmp subject_download_cmp (key_about now.0 d) k) refl (sym (ap is_some (key k)) ∙ stands))
+pub agrees-new : (old new : FinMap download_cmp Waiting) (about next : Index) (d : Download)
+    (now : Waiting) → IsRow old new d (Some now) → get old d ≡ None → IsDownload d
+    → IsKey about next (key_about now.0 d) (Some tt) → Agrees old about → Agrees new next
+agrees-new old new about next d now row none small key agrees = (
+  λ q w at. first q w (eq_by_cmp download_cmp d q) refl (sym (row q) ∙ at),
+  λ k stands. second k (eq_by_cmp download_cmp d (download_about k)) refl
+      (eq_by_cmp subject_download_cmp (key_about now.0 d) k) refl (sym (ap is_some (key k))
+      ∙ stands),
+)
   where
     own : is_some (get next (key_about now.0 d)) ≡ true
-    own = ap is_some (key (key_about now.0 d) ∙ ap (λ b. cond b (Some tt) (get about (key_about now.0 d))) (ap is_eq (tied_itself subject_download_total (key_about now.0 d))))
+    own = ap is_some (key (key_about now.0 d)
+        ∙ ap (λ b. cond b (Some tt) (get about (key_about now.0 d)))
+        (ap is_eq (tied_itself subject_download_total (key_about now.0 d))))
 
-    first : (q : Download) (w : Waiting) (b : Bool) → eq_by_cmp download_cmp d q ≡ b → cond b (Some now) (get old q) ≡ Some w → IsDownload q × (is_some (get next (key_about w.0 q)) ≡ true)
+    first : (q : Download) (w : Waiting) (b : Bool) → eq_by_cmp download_cmp d q ≡ b
+        → cond b (Some now) (get old q) ≡ Some w → IsDownload q
+        × (is_some (get next (key_about w.0 q)) ≡ true)
     first q w true t at =
-        let mine : now ≡ w = (let f : Some now ≡ Some w = at in cc) in
-        (subst IsDownload (download_exact d q (tied _ t)) small, (λ i. is_some (get next (key_about (sym (ap (λ (x : Waiting). x.0) mine) i) (sym (download_exact d q (tied _ t)) i)))) ∙ own)
+        let mine : now ≡ w = (let f : Some now ≡ Some w = at in cc) in (
+          subst IsDownload (download_exact d q (tied _ t)) small,
+          (λ i. is_some
+              (get next (key_about (sym (ap (λ (x : Waiting). x.0) mine) i)
+              (sym (download_exact d q (tied _ t)) i)))) ∙ own,
+        )
     first q w false t at =
-        let before = agrees.0 q w at in
-        (before.0, ap is_some (key (key_about w.0 q) ∙ ap (λ b. cond b (Some tt) (get about (key_about w.0 q))) (away now.0 d (key_about w.0 q) t)) ∙ before.1)
+        let before = agrees.0 q w at in (
+          before.0,
+          ap is_some (key (key_about w.0 q)
+              ∙ ap (λ b. cond b (Some tt) (get about (key_about w.0 q)))
+              (away now.0 d (key_about w.0 q) t)) ∙ before.1,
+        )
 
-    second : (k : SubjectDownload) (b : Bool) → eq_by_cmp download_cmp d (download_about k) ≡ b → (x : Bool) → eq_by_cmp subject_download_cmp (key_about now.0 d) k ≡ x → is_some (cond x (Some tt) (get about k)) ≡ true →
+    second : (k : SubjectDownload) (b : Bool) → eq_by_cmp download_cmp d (download_about k) ≡ b
+        → (x : Bool) → eq_by_cmp subject_download_cmp (key_about now.0 d) k ≡ x
+        → is_some (cond x (Some tt) (get about k)) ≡ true →
         option_map (λ (w : Waiting). w.0) (get new (download_about k)) ≡ Some k.subject
     second k b t true e stands =
-        let same : key_about now.0 d ≡ k = subject_download_exact (key_about now.0 d) k (tied _ e) in
-        ap (option_map (λ (w : Waiting). w.0)) (row (download_about k) ∙ ap (λ (x : SubjectDownload). cond (eq_by_cmp download_cmp d (download_about x)) (Some now) (get old (download_about k))) (sym same) ∙ ap (λ y. cond y (Some now) (get old (download_about k))) (here d))
+        let same : key_about now.0 d ≡ k =
+        subject_download_exact (key_about now.0 d) k (tied _ e) in
+        ap (option_map (λ (w : Waiting). w.0)) (row (download_about k)
+        ∙ ap (λ (x : SubjectDownload). cond (eq_by_cmp download_cmp d (download_about x)) (Some now)
+        (get old (download_about k))) (sym same)
+        ∙ ap (λ y. cond y (Some now) (get old (download_about k))) (here d))
         ∙ ap (λ (x : SubjectDownload). Some x.subject) same
     second k true t false e stands =
-        let f : None ≡ Some k.subject = sym (ap (option_map (λ (w : Waiting). w.0)) (ap (get old) (sym (download_exact d (download_about k) (tied _ t))) ∙ none)) ∙ agrees.1 k stands in
+        let f : None ≡ Some k.subject =
+        sym (ap (option_map (λ (w : Waiting). w.0))
+        (ap (get old) (sym (download_exact d (download_about k) (tied _ t))) ∙ none))
+        ∙ agrees.1 k stands in
         cc
-    second k false t false e stands = ap (option_map (λ (w : Waiting). w.0)) (row (download_about k) ∙ ap (λ y. cond y (Some now) (get old (download_about k))) t) ∙ agrees.1 k stands
+    second k false t false e stands =
+        ap (option_map (λ (w : Waiting). w.0)) (row (download_about k)
+        ∙ ap (λ y. cond y (Some now) (get old (download_about k))) t) ∙ agrees.1 k stands
 
 -- a row and its key that are gone
-pub agrees-gone : (old new : FinMap download_cmp Waiting) (about next : Index) (d : Download) (was : Waiting) → IsRow old new d None → get old d ≡ Some was → IsKey about next (key_about was.0 d) None → Agrees old about → Agrees new next
-agrees-gone old new about next d was row there key agrees = (λ q w at. first q w (eq_by_cmp download_cmp d q) refl (sym (row q) ∙ at), λ k stands. second k (eq_by_cmp download_cmp d (download_about k)) refl (eq_by_cmp subject_download_cmp (key_about was.0 d) k) refl (sym (ap is_some (key k)) ∙ stands))
+pub agrees-gone : (old new : FinMap download_cmp Waiting) (about next : Index) (d : Download)
+    (was : Waiting) → IsRow old new d None → get old d ≡ Some was
+    → IsKey about next (key_about was.0 d) None → Agrees old about → Agrees new next
+agrees-gone old new about next d was row there key agrees = (
+  λ q w at. first q w (eq_by_cmp download_cmp d q) refl (sym (row q) ∙ at),
+  λ k stands. second k (eq_by_cmp download_cmp d (download_about k)) refl
+      (eq_by_cmp subject_download_cmp (key_about was.0 d) k) refl (sym (ap is_some (key k))
+      ∙ stands),
+)
   where
-    first : (q : Download) (w : Waiting) (b : Bool) → eq_by_cmp download_cmp d q ≡ b → cond b None (get old q) ≡ Some w → IsDownload q × (is_some (get next (key_about w.0 q)) ≡ true)
+    first : (q : Download) (w : Waiting) (b : Bool) → eq_by_cmp download_cmp d q ≡ b
+        → cond b None (get old q) ≡ Some w → IsDownload q
+        × (is_some (get next (key_about w.0 q)) ≡ true)
     first q w true t at = let f : None ≡ Some w = at in cc
     first q w false t at =
-        let before = agrees.0 q w at in
-        (before.0, ap is_some (key (key_about w.0 q) ∙ ap (λ b. cond b None (get about (key_about w.0 q))) (away was.0 d (key_about w.0 q) t)) ∙ before.1)
+        let before = agrees.0 q w at in (
+          before.0,
+          ap is_some (key (key_about w.0 q) ∙ ap (λ b. cond b None (get about (key_about w.0 q)))
+              (away was.0 d (key_about w.0 q) t)) ∙ before.1,
+        )
 
-    second : (k : SubjectDownload) (b : Bool) → eq_by_cmp download_cmp d (download_about k) ≡ b → (x : Bool) → eq_by_cmp subject_download_cmp (key_about was.0 d) k ≡ x → is_some (cond x None (get about k)) ≡ true →
+    second : (k : SubjectDownload) (b : Bool) → eq_by_cmp download_cmp d (download_about k) ≡ b
+        → (x : Bool) → eq_by_cmp subject_download_cmp (key_about was.0 d) k ≡ x
+        → is_some (cond x None (get about k)) ≡ true →
         option_map (λ (w : Waiting). w.0) (get new (download_about k)) ≡ Some k.subject
     second k b t true e stands = let f : false ≡ true = stands in cc
     second k true t false e stands =
         let same : d ≡ download_about k = download_exact d (download_about k) (tied _ t) in
-        let subject : was.0 ≡ k.subject = (let f : Some was.0 ≡ Some k.subject = sym (ap (option_map (λ (w : Waiting). w.0)) (ap (get old) (sym same) ∙ there)) ∙ agrees.1 k stands in cc) in
+        let subject : was.0 ≡ k.subject = (let f : Some was.0 ≡ Some k.subject =
+        sym (ap (option_map (λ (w : Waiting). w.0)) (ap (get old) (sym same) ∙ there))
+        ∙ agrees.1 k stands in cc) in
         let key_is : key_about was.0 d ≡ k = (λ i. key_about (subject i) (same i)) in
-        let f : true ≡ false = sym (ap is_eq (tied_itself subject_download_total (key_about was.0 d))) ∙ ap (eq_by_cmp subject_download_cmp (key_about was.0 d)) key_is ∙ e in
+        let f : true ≡ false =
+        sym (ap is_eq (tied_itself subject_download_total (key_about was.0 d)))
+        ∙ ap (eq_by_cmp subject_download_cmp (key_about was.0 d)) key_is ∙ e in
         cc
-    second k false t false e stands = ap (option_map (λ (w : Waiting). w.0)) (row (download_about k) ∙ ap (λ y. cond y None (get old (download_about k))) t) ∙ agrees.1 k stands
+    second k false t false e stands =
+        ap (option_map (λ (w : Waiting). w.0)) (row (download_about k)
+        ∙ ap (λ y. cond y None (get old (download_about k))) t) ∙ agrees.1 k stands
 
 -- a key of a broadcast that has no row was put, and is taken away
-pub agrees-back : (rows : FinMap download_cmp Waiting) (about mid next : Index) (d : Download) (s : Subject) → get rows d ≡ None → IsKey about mid (key_about s d) (Some tt) → IsKey mid next (key_about s d) None → Agrees rows about → Agrees rows next
+pub agrees-back : (rows : FinMap download_cmp Waiting) (about mid next : Index) (d : Download)
+    (s : Subject) → get rows d ≡ None → IsKey about mid (key_about s d) (Some tt)
+    → IsKey mid next (key_about s d) None → Agrees rows about → Agrees rows next
 agrees-back rows about mid next d s none put taken agrees = (
   λ q w at. first q w (eq_by_cmp download_cmp d q) refl at,
-  λ k stands. second k (eq_by_cmp subject_download_cmp (key_about s d) k) refl (sym (ap is_some (taken k)) ∙ stands),
+  λ k stands. second k (eq_by_cmp subject_download_cmp (key_about s d) k) refl
+      (sym (ap is_some (taken k)) ∙ stands),
 )
   where
-    first : (q : Download) (w : Waiting) (b : Bool) → eq_by_cmp download_cmp d q ≡ b → get rows q ≡ Some w → IsDownload q × (is_some (get next (key_about w.0 q)) ≡ true)
-    first q w true t at = let f : None ≡ Some w = sym none ∙ ap (get rows) (download_exact d q (tied _ t)) ∙ at in cc
+    first : (q : Download) (w : Waiting) (b : Bool) → eq_by_cmp download_cmp d q ≡ b
+        → get rows q ≡ Some w → IsDownload q × (is_some (get next (key_about w.0 q)) ≡ true)
+    first q w true t at = let f : None ≡ Some w =
+        sym none ∙ ap (get rows) (download_exact d q (tied _ t)) ∙ at in cc
     first q w false t at =
         let before = agrees.0 q w at in (
           before.0,
-          ap is_some (taken (key_about w.0 q) ∙ ap (λ b. cond b None (get mid (key_about w.0 q))) (away s d (key_about w.0 q) t) ∙ put (key_about w.0 q) ∙ ap (λ b. cond b (Some tt) (get about (key_about w.0 q))) (away s d (key_about w.0 q) t))
+          ap is_some (taken (key_about w.0 q) ∙ ap (λ b. cond b None (get mid (key_about w.0 q)))
+              (away s d (key_about w.0 q) t) ∙ put (key_about w.0 q)
+              ∙ ap (λ b. cond b (Some tt) (get about (key_about w.0 q)))
+              (away s d (key_about w.0 q) t))
               ∙ before.1,
         )
 
-    second : (k : SubjectDownload) (x : Bool) → eq_by_cmp subject_download_cmp (key_about s d) k ≡ x → is_some (cond x None (get mid k)) ≡ true → option_map (λ (w : Waiting). w.0) (get rows (download_about k)) ≡ Some k.subject
+    second : (k : SubjectDownload) (x : Bool) → eq_by_cmp subject_download_cmp (key_about s d) k ≡ x
+        → is_some (cond x None (get mid k)) ≡ true
+        → option_map (λ (w : Waiting). w.0) (get rows (download_about k)) ≡ Some k.subject
     second k true e stands = let f : false ≡ true = stands in cc
-    second k false e stands = agrees.1 k (sym (ap is_some (put k ∙ ap (λ b. cond b (Some tt) (get about k)) e)) ∙ stands)
+    second k false e stands =
+        agrees.1 k (sym (ap is_some (put k ∙ ap (λ b. cond b (Some tt) (get about k)) e)) ∙ stands)

@@ -16,68 +16,99 @@ use Rattle.store.proofs.Orders.{both_equal, wait_total}
 use Rattle.numbers.proofs.Small.{tied, and_second, and_first, truth}
 
 pub download_total : IsTotalOrder download_cmp
-download_total = then_total (on_total (λ (d : Download). d.minute) nat_cmp_total) (then_total (on_total (λ (d : Download). d.id) nat_cmp_total) (on_total (λ (d : Download). d.attempt) nat_cmp_total))
+download_total =
+    then_total (on_total (λ (d : Download). d.minute) nat_cmp_total)
+    (then_total (on_total (λ (d : Download). d.id) nat_cmp_total)
+    (on_total (λ (d : Download). d.attempt) nat_cmp_total))
 
 pub download_exact : IsAntisymmetric download_cmp
 download_exact a b e =
-    let p = both_equal (nat_cmp a.minute b.minute) (ordering_then (nat_cmp a.id b.id) (nat_cmp a.attempt b.attempt)) e in
+    let p = both_equal (nat_cmp a.minute b.minute) (ordering_then (nat_cmp a.id b.id)
+    (nat_cmp a.attempt b.attempt)) e in
     let q = both_equal (nat_cmp a.id b.id) (nat_cmp a.attempt b.attempt) p.1 in
-    λ i. record { minute = nat_cmp-IsAntisymmetric a.minute b.minute p.0 i; id = nat_cmp-IsAntisymmetric a.id b.id q.0 i; attempt = nat_cmp-IsAntisymmetric a.attempt b.attempt q.1 i }
+    λ i. record {
+      minute = nat_cmp-IsAntisymmetric a.minute b.minute p.0 i;
+      id = nat_cmp-IsAntisymmetric a.id b.id q.0 i;
+      attempt = nat_cmp-IsAntisymmetric a.attempt b.attempt q.1 i;
+    }
 
 -- a download's key ties where its carrier and its broadcast do
-pub wait-ties : (k : WaitKey) (d : Download) (c : ℕ) → eq_by_cmp wait_cmp k (wait_for d c) ≡ ((k.carrier == c) && eq_by_cmp download_cmp (download_of k) d)
-wait-ties k d c = sym (tied_then (nat_cmp k.carrier c) (download_cmp (download_of k) d)) ∙ ap (λ b. b && eq_by_cmp download_cmp (download_of k) d) (unsigned_tied k.carrier c)
+pub wait-ties : (k : WaitKey) (d : Download) (c : ℕ)
+    → eq_by_cmp wait_cmp k (wait_for d c) ≡ ((k.carrier == c) && eq_by_cmp download_cmp
+    (download_of k) d)
+wait-ties k d c = sym (tied_then (nat_cmp k.carrier c) (download_cmp (download_of k) d))
+    ∙ ap (λ b. b && eq_by_cmp download_cmp (download_of k) d) (unsigned_tied k.carrier c)
 
 -- in a row
-find-row : (k : WaitKey) (d : Download) (s : Subject) (cs : List ℕ) (rest : List (WaitKey × Subject)) →
-    find wait_cmp k (waits_of_row d (s, cs) ++ rest) ≡ cond (eq_by_cmp download_cmp (download_of k) d && list_any (λ c. k.carrier == c) cs) (Some s) (find wait_cmp k rest)
+find-row : (k : WaitKey) (d : Download) (s : Subject) (cs : List ℕ)
+    (rest : List (WaitKey × Subject)) →
+    find wait_cmp k (waits_of_row d (s, cs) ++ rest) ≡ cond (eq_by_cmp download_cmp (download_of k)
+    d && list_any (λ c. k.carrier == c) cs) (Some s) (find wait_cmp k rest)
 find-row k d s [] rest = go (eq_by_cmp download_cmp (download_of k) d)
   where
     go : (b : Bool) → find wait_cmp k rest ≡ cond (b && false) (Some s) (find wait_cmp k rest)
     go true = refl
     go false = refl
 find-row k d s (c ∷ cs) rest =
-    (λ i. cond (wait-ties k d c i) (Some s) (find-row k d s cs rest i)) ∙ go (k.carrier == c) (eq_by_cmp download_cmp (download_of k) d) (list_any (λ c. k.carrier == c) cs)
+    (λ i. cond (wait-ties k d c i) (Some s) (find-row k d s cs rest i))
+    ∙ go (k.carrier == c) (eq_by_cmp download_cmp (download_of k) d) (list_any (λ c. k.carrier == c)
+    cs)
   where
-    go : (x b y : Bool) → cond (x && b) (Some s) (cond (b && y) (Some s) (find wait_cmp k rest)) ≡ cond (b && (x || y)) (Some s) (find wait_cmp k rest)
+    go : (x b y : Bool) → cond (x && b) (Some s) (cond (b && y) (Some s) (find wait_cmp k rest))
+        ≡ cond (b && (x || y)) (Some s) (find wait_cmp k rest)
     go true true y = refl
     go true false y = refl
     go false true y = refl
     go false false y = refl
 
 -- what ties with a key below all others is none of them
-below : (d : Download) (es : List (Download × Waiting)) → below_all download_cmp d es ≡ true → find download_cmp d es ≡ None
+below : (d : Download) (es : List (Download × Waiting)) → below_all download_cmp d es ≡ true
+    → find download_cmp d es ≡ None
 below d [] is = refl
 below d (e ∷ es) is = go (download_cmp d e.0) (below d es) is
   where
-    go : (r : Ordering) → (below_all download_cmp d es ≡ true → find download_cmp d es ≡ None) → (is_lt r && below_all download_cmp d es) ≡ true → cond (is_eq r) (Some e.1) (find download_cmp d es) ≡ None
+    go : (r : Ordering) → (below_all download_cmp d es ≡ true → find download_cmp d es ≡ None)
+        → (is_lt r && below_all download_cmp d es) ≡ true
+        → cond (is_eq r) (Some e.1) (find download_cmp d es) ≡ None
     go Less later more = later more
     go Equal later more = let no : false ≡ true = more in cc
     go Greater later more = let no : false ≡ true = more in cc
 
-find-rows : (k : WaitKey) (es : List (Download × Waiting)) → is_sorted download_cmp es ≡ true → find wait_cmp k (waits_of_rows es) ≡ awaited (find download_cmp (download_of k) es) k.carrier
+find-rows : (k : WaitKey) (es : List (Download × Waiting)) → is_sorted download_cmp es ≡ true
+    → find wait_cmp k (waits_of_rows es) ≡ awaited (find download_cmp (download_of k) es) k.carrier
 unfolding waits_of_rows
 find-rows k [] is = refl
 find-rows k (e ∷ es) is =
     find-row k e.0 e.1.0 e.1.1 (waits_of_rows es)
-    ∙ go (find-rows k es (and_second (below_all download_cmp e.0 es) (is_sorted download_cmp es) is)) (eq_by_cmp download_cmp (download_of k) e.0) refl
+    ∙ go (find-rows k es (and_second (below_all download_cmp e.0 es) (is_sorted download_cmp es)
+    is)) (eq_by_cmp download_cmp (download_of k) e.0) refl
   where
-    none : eq_by_cmp download_cmp (download_of k) e.0 ≡ true → find download_cmp (download_of k) es ≡ None
+    none : eq_by_cmp download_cmp (download_of k) e.0 ≡ true
+        → find download_cmp (download_of k) es ≡ None
     none tie =
-        ap (λ d. find download_cmp d es) (download_exact (download_of k) e.0 (tied (download_cmp (download_of k) e.0) tie))
+        ap (λ d. find download_cmp d es) (download_exact (download_of k) e.0
+        (tied (download_cmp (download_of k) e.0) tie))
         ∙ below e.0 es (and_first (below_all download_cmp e.0 es) (is_sorted download_cmp es) is)
 
-    here : find wait_cmp k (waits_of_rows es) ≡ awaited (find download_cmp (download_of k) es) k.carrier → find download_cmp (download_of k) es ≡ None →
-        (y : Bool) → cond y (Some e.1.0) (find wait_cmp k (waits_of_rows es)) ≡ cond y (Some e.1.0) None
+    here : find wait_cmp k (waits_of_rows es) ≡ awaited (find download_cmp (download_of k) es)
+        k.carrier → find download_cmp (download_of k) es ≡ None →
+        (y : Bool) → cond y (Some e.1.0) (find wait_cmp k (waits_of_rows es)) ≡ cond y (Some e.1.0)
+        None
     here later not true = refl
     here later not false = later ∙ ap (λ o. awaited o k.carrier) not
 
-    go : find wait_cmp k (waits_of_rows es) ≡ awaited (find download_cmp (download_of k) es) k.carrier → (b : Bool) → eq_by_cmp download_cmp (download_of k) e.0 ≡ b →
-        cond (b && list_any (λ c. k.carrier == c) e.1.1) (Some e.1.0) (find wait_cmp k (waits_of_rows es)) ≡ awaited (cond b (Some e.1) (find download_cmp (download_of k) es)) k.carrier
+    go : find wait_cmp k (waits_of_rows es) ≡ awaited (find download_cmp (download_of k) es)
+        k.carrier → (b : Bool) → eq_by_cmp download_cmp (download_of k) e.0 ≡ b →
+        cond (b && list_any (λ c. k.carrier == c) e.1.1) (Some e.1.0)
+        (find wait_cmp k (waits_of_rows es))
+        ≡ awaited (cond b (Some e.1) (find download_cmp (download_of k) es)) k.carrier
     go later true tie = here later (none tie) (list_any (λ c. k.carrier == c) e.1.1)
     go later false tie = later
 
-pub get-waits_of : (m : FinMap download_cmp Waiting) (k : WaitKey) → get (waits_of m) k ≡ awaited (get m (download_of k)) k.carrier
+pub get-waits_of : (m : FinMap download_cmp Waiting) (k : WaitKey)
+    → get (waits_of m) k ≡ awaited (get m (download_of k)) k.carrier
 unfolding waits_of
 get-waits_of m k =
-    get-from_entries wait_total (waits_of_rows (entries m)) k ∙ find-rows k (entries m) (truth _ (entries_sorted m)) ∙ ap (λ o. awaited o k.carrier) (sym (get-entries m (download_of k)))
+    get-from_entries wait_total (waits_of_rows (entries m)) k
+    ∙ find-rows k (entries m) (truth _ (entries_sorted m)) ∙ ap (λ o. awaited o k.carrier)
+    (sym (get-entries m (download_of k)))

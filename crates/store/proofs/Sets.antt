@@ -24,7 +24,8 @@ use Rattle.numbers.proofs.Small.{equal_number}
 -- where the set is there already, the sets are as if it was put once more
 pub sets-there : (named : Option WindowSetCode) (t : Tables) → IsSetThere named t → (k : ℕ)
     → get (content_of t).sets k
-    ≡ put_row ◌==◌ (option_map (λ (s : WindowSet). (s.number, s.windows)) (option_map set_of named)) k
+    ≡ put_row ◌==◌ (option_map (λ (s : WindowSet). (s.number, s.windows)) (option_map set_of named))
+    k
     (get (content_of t).sets k)
 sets-there None t there k = refl
 sets-there (Some s) t there k = go (s.number == k) refl
@@ -40,7 +41,10 @@ module _ (t : Tables) (m : BTreeMap ℕ WindowsCode) (number : ℕ) (windows : W
   shown put = put-shown sets sets-is t m number windows put
 
   pub put-with_set : IsSet nat_cmp t.sets m number (Some windows)
-      → IsPutWithSet (Some (record { number = number; windows = windows })) t (record t { sets = m })
+      → IsPutWithSet (Some (record { number = number; windows = windows })) t (record t {
+        sets =
+            m;
+      })
   put-with_set put c last named was =
       set_first c (content_of t) (content_of (record t { sets = m })) last number
       (windows_of windows) (shown put) named was

@@ -27,8 +27,13 @@ use Rattle.store.proofs.Spare.{spares-after, spares-with_version, stands-beside}
 use Rattle.store.proofs.Undone.{indexed-kept, indexed-with_version}
 
 -- what such changes are
-sole-changes : (c : ChangesCode) → PutsNoOthers c → (vs : List (ℕ × VersionRow)) (bs : List (BroadcastKeyCode × Broadcast)) → items_of c.versions ≡ vs → items_of c.broadcasts ≡ bs →
-    changes_of c ≡ record (from_waits [] c) { versions = vs; broadcasts = map (λ e. (broadcast_key_of e.0, broadcast_row_of e.1)) bs }
+sole-changes : (c : ChangesCode) → PutsNoOthers c
+    → (vs : List (ℕ × VersionRow)) (bs : List (BroadcastKeyCode × Broadcast))
+    → items_of c.versions ≡ vs → items_of c.broadcasts ≡ bs →
+    changes_of c ≡ record (from_waits [] c) {
+      versions = vs;
+      broadcasts = map (λ e. (broadcast_key_of e.0, broadcast_row_of e.1)) bs;
+    }
 sole-changes c others vs bs versions sent = λ i. record {
   carrier = option_map spid_of (others.carrier i);
   lrn = option_map (λ e. (lrn_of e.0, spid_of e.1)) (others.lrn i);
@@ -43,18 +48,28 @@ sole-changes c others vs bs versions sent = λ i. record {
   taken_waits = map wait_key_of (items_of c.taken_waits);
 }
 
-pub sole-version : (c : ChangesCode) (e : ℕ × VersionRow) (old new : Tables) → PutsNoOthers c → items_of c.versions ≡ e ∷ [] → items_of c.broadcasts ≡ [] → content_of new ≡ with_version (content_of old) e.0 (Some e.1) →
-    (last : Content) → IsChanged (from_waits [] c) (content_of new) last → IsChanged (changes_of c) (content_of old) last
+pub sole-version : (c : ChangesCode) (e : ℕ × VersionRow) (old new : Tables) → PutsNoOthers c
+    → items_of c.versions ≡ e ∷ [] → items_of c.broadcasts ≡ []
+    → content_of new ≡ with_version (content_of old) e.0 (Some e.1) →
+    (last : Content) → IsChanged (from_waits [] c) (content_of new) last
+    → IsChanged (changes_of c) (content_of old) last
 sole-version c e old new others one none put last was =
-    subst (λ (x : Changes). IsChanged x (content_of old) last) (sym (sole-changes c others (e ∷ []) [] one none))
+    subst (λ (x : Changes). IsChanged x (content_of old) last)
+    (sym (sole-changes c others (e ∷ []) [] one none))
     (version_first (from_waits [] c) (content_of old) (content_of new) last e.0 e.1 put was)
 
-pub sole-broadcast : (c : ChangesCode) (e : BroadcastKeyCode × Broadcast) (old : Tables) (m : BTreeMap BroadcastKeyCode Broadcast) → PutsNoOthers c → items_of c.versions ≡ [] → items_of c.broadcasts ≡ e ∷ [] →
+pub sole-broadcast : (c : ChangesCode) (e : BroadcastKeyCode × Broadcast) (old : Tables)
+    (m : BTreeMap BroadcastKeyCode Broadcast) → PutsNoOthers c → items_of c.versions ≡ []
+    → items_of c.broadcasts ≡ e ∷ [] →
     IsSet (on broadcast_key_of broadcast_cmp) old.broadcasts m e.0 (Some e.1) →
-    (last : Content) → IsChanged (from_waits [] c) (content_of (record old { broadcasts = m })) last → IsChanged (changes_of c) (content_of old) last
+    (last : Content) → IsChanged (from_waits [] c) (content_of (record old { broadcasts = m })) last
+    → IsChanged (changes_of c) (content_of old) last
 sole-broadcast c e old m others none one put last was =
-    subst (λ (x : Changes). IsChanged x (content_of old) last) (sym (sole-changes c others [] (e ∷ []) none one))
-    (broadcast_first (from_waits [] c) (content_of old) (content_of (record old { broadcasts = m })) last (broadcast_key_of e.0) (broadcast_row_of e.1) (put-shown broadcasts broadcasts-is old m e.0 e.1 put) was)
+    subst (λ (x : Changes). IsChanged x (content_of old) last)
+    (sym (sole-changes c others [] (e ∷ []) none one))
+    (broadcast_first (from_waits [] c) (content_of old) (content_of (record old { broadcasts = m }))
+    last (broadcast_key_of e.0) (broadcast_row_of e.1) (put-shown broadcasts broadcasts-is old m e.0
+    e.1 put) was)
 
 -- ---- short lists
 
@@ -70,39 +85,59 @@ one-there (x ∷ xs) e len is =
 
 -- ---- a version's row, put in the place of the one that was there
 
-pub sole-indexed : (old mid : Tables) (id : ℕ) (row : VersionRow) (keys : VersionKeys) (versions : FinMap nat_cmp VersionRow) → id < 18446744073709551616 → content_of mid ≡ content_of old → KeepIndexes old mid →
-    versions ≡ set (content_of mid).versions id (Some row) → AreKeysOf id row keys → HaveKeys keys mid → AreIndexed old → AreIndexed (record mid { versions = versions })
-sole-indexed old mid id row keys versions small same keeps put of there indexed = indexed-with_version mid id row keys versions small put of there (indexed-kept old mid same keeps indexed)
+pub sole-indexed : (old mid : Tables) (id : ℕ) (row : VersionRow) (keys : VersionKeys)
+    (versions : FinMap nat_cmp VersionRow) → id < 18446744073709551616
+    → content_of mid ≡ content_of old → KeepIndexes old mid →
+    versions ≡ set (content_of mid).versions id (Some row) → AreKeysOf id row keys
+    → HaveKeys keys mid → AreIndexed old → AreIndexed (record mid { versions = versions })
+sole-indexed old mid id row keys versions small same keeps put of there indexed =
+    indexed-with_version mid id row keys versions small put of there
+    (indexed-kept old mid same keeps indexed)
 
 -- no key is spare that was not, but for those of the row before
-pub sole-spares : (old new : Tables) (id : ℕ) (row : VersionRow) (keys : VersionKeys) → AreKeysOf id row keys → KeepOtherVersions keys new old → content_of new ≡ with_version (content_of old) id (Some row) →
+pub sole-spares : (old new : Tables) (id : ℕ) (row : VersionRow) (keys : VersionKeys)
+    → AreKeysOf id row keys → KeepOtherVersions keys new old
+    → content_of new ≡ with_version (content_of old) id (Some row) →
     AddSpareOnly (WasKeyOf id (get (content_of old).versions id)) old new
-sole-spares old new id row keys of adds put = spares-with_version old new id row (get (content_of old).versions id) refl put (stands-beside new old id row keys of adds)
+sole-spares old new id row keys of adds put =
+    spares-with_version old new id row (get (content_of old).versions id) refl put
+    (stands-beside new old id row keys of adds)
 
 -- the keys are those of the row that is there now
-pub keys-there : (versions written : FinMap nat_cmp VersionRow) (id : ℕ) (row : VersionRow) (keys : VersionKeys) → written ≡ set versions id (Some row) → AreKeysOf id row keys → (r : VersionRow) → get written id ≡ Some r → AreKeysOf id r keys
+pub keys-there : (versions written : FinMap nat_cmp VersionRow) (id : ℕ) (row : VersionRow)
+    (keys : VersionKeys) → written ≡ set versions id (Some row) → AreKeysOf id row keys
+    → (r : VersionRow) → get written id ≡ Some r → AreKeysOf id r keys
 keys-there versions written id row keys put of r at =
-    let e : Some row ≡ Some r = sym (get-set_here nat_cmp_total nat_cmp-IsAntisymmetric versions id (Some row)) ∙ ap (λ m. get m id) (sym put) ∙ at in
+    let e : Some row ≡ Some r =
+    sym (get-set_here nat_cmp_total nat_cmp-IsAntisymmetric versions id (Some row))
+    ∙ ap (λ m. get m id) (sym put) ∙ at in
     let same : row ≡ r = cc in
     subst (λ x. AreKeysOf id x keys) same of
 
-pub some-there : {P : Type 0} (versions written : FinMap nat_cmp VersionRow) (id : ℕ) (row : VersionRow) → written ≡ set versions id (Some row) → get written id ≡ None → P
+pub some-there : {P : Type 0} (versions written : FinMap nat_cmp VersionRow) (id : ℕ)
+    (row : VersionRow) → written ≡ set versions id (Some row) → get written id ≡ None → P
 some-there versions written id row put none =
-    let no : Some row ≡ None = sym (get-set_here nat_cmp_total nat_cmp-IsAntisymmetric versions id (Some row)) ∙ ap (λ m. get m id) (sym put) ∙ none in
+    let no : Some row ≡ None =
+    sym (get-set_here nat_cmp_total nat_cmp-IsAntisymmetric versions id (Some row))
+    ∙ ap (λ m. get m id) (sym put) ∙ none in
     cc
 
 -- what follows from the row that stood there
-pub of-stood : {P : Type 0} (before : Option VersionRow) → is_some before ≡ true → ((r : VersionRow) → before ≡ Some r → P) → P
+pub of-stood : {P : Type 0} (before : Option VersionRow) → is_some before ≡ true
+    → ((r : VersionRow) → before ≡ Some r → P) → P
 of-stood None e f = let no : false ≡ true = e in cc
 of-stood (Some r) e f = f r refl
 
 -- its keys are taken away, but for those that are needed
-pub sole-forgotten : (id : ℕ) (before : Option VersionRow) (old mid new : Tables) → is_some before ≡ true → ((r : VersionRow) → before ≡ Some r → NoneSpare (IsKeyOf id r) new) →
+pub sole-forgotten : (id : ℕ) (before : Option VersionRow) (old mid new : Tables)
+    → is_some before ≡ true → ((r : VersionRow) → before ≡ Some r → NoneSpare (IsKeyOf id r) new) →
     AddSpareOnly (WasKeyOf id before) old mid → AddNoSpare mid new → AddNoSpare old new
 sole-forgotten id None old mid new e none put later = let no : false ≡ true = e in cc
-sole-forgotten id (Some r) old mid new e none put later = spares-after (WasKeyOf id (Some r)) old mid mid new put (λ k spare. spare) later (none r refl)
+sole-forgotten id (Some r) old mid new e none put later =
+    spares-after (WasKeyOf id (Some r)) old mid mid new put (λ k spare. spare) later (none r refl)
 
 -- none stood there, so that none is to be taken away
-pub sole-new : (id : ℕ) (before : Option VersionRow) (old new : Tables) → is_some before ≡ false → AddSpareOnly (WasKeyOf id before) old new → AddNoSpare old new
+pub sole-new : (id : ℕ) (before : Option VersionRow) (old new : Tables) → is_some before ≡ false
+    → AddSpareOnly (WasKeyOf id before) old new → AddNoSpare old new
 sole-new id None old new e put k spare = put k (λ was. was) spare
 sole-new id (Some r) old new e put k spare = let no : true ≡ false = e in cc

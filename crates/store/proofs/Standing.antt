@@ -16,16 +16,21 @@ use Rattle.store.specs.declared.tables.Tables.{Tables}
 use Rattle.store.proofs.Maps.{entry-of}
 use Rattle.store.proofs.Orders.{subject_version_total, subject_version_exact, due_version_total, due_version_exact}
 
-module _ {K L : Type 0} {R : L → L → Ordering} (f : K → L) (o : IsTotalOrder R) (exact : IsAntisymmetric R) where
+module _ {K L : Type 0} {R : L → L → Ordering} (f : K → L) (o : IsTotalOrder R)
+    (exact : IsAntisymmetric R) where
   -- the map has a key of the code where it has what the key stands for
-  pub has-standing : (m : BTreeMap K (Unit {0})) (q : K) → is_some (get (map_of {R = R} f (λ u. u) m) (f q)) ≡ true → ContainsKey (on f R) m q
+  pub has-standing : (m : BTreeMap K (Unit {0})) (q : K)
+      → is_some (get (map_of {R = R} f (λ u. u) m) (f q)) ≡ true → ContainsKey (on f R) m q
   has-standing m q had =
       let e = entry-of f (λ u. u) o exact m (f q) had in
       subst (λ l. is_some (tree.get_by (λ x. R l (f x)) m) ≡ true) e.1 e.2
 
   -- the index has the key of the row at an id
-  pub has-row_key : (key : ℕ → VersionRow → Option L) (versions : FinMap nat_cmp VersionRow) (index : BTreeMap K (Unit {0})) (id : ℕ) (own : Option K) →
-      AreVersionsIndexed R f key versions index → ((row : VersionRow) → get versions id ≡ Some row → option_map f own ≡ key id row) → (get versions id ≡ None → own ≡ None) → Has (on f R) index own
+  pub has-row_key : (key : ℕ → VersionRow → Option L) (versions : FinMap nat_cmp VersionRow)
+      (index : BTreeMap K (Unit {0})) (id : ℕ) (own : Option K) →
+      AreVersionsIndexed R f key versions index → ((row : VersionRow) → get versions id ≡ Some row
+      → option_map f own ≡ key id row) → (get versions id ≡ None → own ≡ None)
+      → Has (on f R) index own
   has-row_key key versions index id None indexed with without = tt
   has-row_key key versions index id (Some q) indexed with without = go (get versions id) refl
     where
@@ -34,24 +39,39 @@ module _ {K L : Type 0} {R : L → L → Ordering} (f : K → L) (o : IsTotalOrd
       go (Some row) at = has-standing index q (indexed id row (f q) at (sym (with row at))).1
 
   -- a key is there, as one that was put, or as the one that stood there
-  pub has-either : (old new : BTreeMap K (Unit {0})) (own standing put : Option K) → IfSome put (λ t. own ≡ Some t) → IfNone put (IfSome own (λ t. IsSomeAnd standing (λ q. R (f t) (f q) ≡ Equal))) →
-      Has (on f R) new put → Has (on f R) old standing → Keeps (on f R) old new → Has (on f R) new own
-  has-either old new own standing (Some t) from rest there stood keeps = subst (Has (on f R) new) (sym from) there
+  pub has-either : (old new : BTreeMap K (Unit {0})) (own standing put : Option K)
+      → IfSome put (λ t. own ≡ Some t)
+      → IfNone put (IfSome own (λ t. IsSomeAnd standing (λ q. R (f t) (f q) ≡ Equal))) →
+      Has (on f R) new put → Has (on f R) old standing → Keeps (on f R) old new
+      → Has (on f R) new own
+  has-either old new own standing (Some t) from rest there stood keeps =
+      subst (Has (on f R) new) (sym from) there
   has-either old new None standing None from rest there stood keeps = tt
   has-either old new (Some t) None None from rest there stood keeps = absurd rest
   has-either old new (Some t) (Some q) None from rest there stood keeps =
-      subst (λ l. is_some (tree.get_by (λ x. R l (f x)) new) ≡ true) (sym (exact (f t) (f q) rest)) (keeps q stood)
+      subst (λ l. is_some (tree.get_by (λ x. R l (f x)) new) ≡ true) (sym (exact (f t) (f q) rest))
+      (keeps q stood)
 
   -- what is kept beside the keys that were put is kept beside all
-  pub beside-all : (old new : BTreeMap K (Unit {0})) (own put : Option K) → IfSome put (λ t. own ≡ Some t) → KeepsOthers (on f R) old new put → KeepsOthers (on f R) old new own
+  pub beside-all : (old new : BTreeMap K (Unit {0})) (own put : Option K)
+      → IfSome put (λ t. own ≡ Some t) → KeepsOthers (on f R) old new put
+      → KeepsOthers (on f R) old new own
   beside-all old new own None from keeps q had other = keeps q had tt
-  beside-all old new own (Some t) from keeps q had other = keeps q had (subst (λ w. IfSome w (λ k. R (f k) (f q) ≢ Equal)) from other)
+  beside-all old new own (Some t) from keeps q had other =
+      keeps q had (subst (λ w. IfSome w (λ k. R (f k) (f q) ≢ Equal)) from other)
 
 -- the keys of the row at an id are there
-pub have-standing : (t : Tables) (id : ℕ) (keys : VersionKeys) → AreIndexed t → ((row : VersionRow) → get (content_of t).versions id ≡ Some row → AreKeysOf id row keys) →
+pub have-standing : (t : Tables) (id : ℕ) (keys : VersionKeys) → AreIndexed t
+    → ((row : VersionRow) → get (content_of t).versions id ≡ Some row → AreKeysOf id row keys) →
     (get (content_of t).versions id ≡ None → AreNoKeys keys) → HaveKeys keys t
 have-standing t id keys indexed with without = record {
-  held = has-row_key subject_version_of subject_version_total subject_version_exact held_key (content_of t).versions t.holds id keys.held indexed.0 (λ row at. (with row at).held) (λ at. (without at).held);
-  opened = has-row_key subject_version_of subject_version_total subject_version_exact opened_key (content_of t).versions t.opens id keys.opened indexed.1 (λ row at. (with row at).opened) (λ at. (without at).opened);
-  due = has-row_key due_version_of due_version_total due_version_exact due_key (content_of t).versions t.deadlines id keys.due indexed.2 (λ row at. (with row at).due) (λ at. (without at).due);
+  held = has-row_key subject_version_of subject_version_total subject_version_exact held_key
+      (content_of t).versions t.holds id keys.held indexed.0 (λ row at. (with row at).held)
+      (λ at. (without at).held);
+  opened = has-row_key subject_version_of subject_version_total subject_version_exact opened_key
+      (content_of t).versions t.opens id keys.opened indexed.1 (λ row at. (with row at).opened)
+      (λ at. (without at).opened);
+  due = has-row_key due_version_of due_version_total due_version_exact due_key
+      (content_of t).versions t.deadlines id keys.due indexed.2 (λ row at. (with row at).due)
+      (λ at. (without at).due);
 }

@@ -35,20 +35,33 @@ use Rattle.numbers.proofs.Small.{tied}
 abbrev Gathered : Type 0
 Gathered = FinMap nat_cmp (Unit {0})
 
-with-keeps : (o : Option Subject) (m : Gathered) (k : ℕ) → is_some (get m k) ≡ true → is_some (get (with_subject o m) k) ≡ true
+with-keeps : (o : Option Subject) (m : Gathered) (k : ℕ) → is_some (get m k) ≡ true
+    → is_some (get (with_subject o m) k) ≡ true
 with-keeps None m k is = is
-with-keeps (Some s) m k is = ap is_some (get-set nat_cmp_total nat_cmp-IsAntisymmetric m (subject_key s) (Some tt) k) ∙ go (eq_by_cmp nat_cmp (subject_key s) k)
+with-keeps (Some s) m k is =
+    ap is_some (get-set nat_cmp_total nat_cmp-IsAntisymmetric m (subject_key s) (Some tt) k)
+    ∙ go (eq_by_cmp nat_cmp (subject_key s) k)
   where
     go : (b : Bool) → is_some (cond b (Some tt) (get m k)) ≡ true
     go true = refl
     go false = is
 
-with-from : (o : Option Subject) (m : Gathered) (k : ℕ) → is_some (get (with_subject o m) k) ≡ true → (is_some (get m k) ≡ true) ⊎ ((s : Subject) × (o ≡ Some s) × (subject_key s ≡ k))
+with-from : (o : Option Subject) (m : Gathered) (k : ℕ) → is_some (get (with_subject o m) k) ≡ true
+    → (is_some (get m k) ≡ true) ⊎ ((s : Subject) × (o ≡ Some s) × (subject_key s ≡ k))
 with-from None m k is = inl is
-with-from (Some s) m k is = go (eq_by_cmp nat_cmp (subject_key s) k) refl (sym (ap is_some (get-set nat_cmp_total nat_cmp-IsAntisymmetric m (subject_key s) (Some tt) k)) ∙ is)
+with-from (Some s) m k is =
+    go (eq_by_cmp nat_cmp (subject_key s) k) refl
+    (sym (ap is_some (get-set nat_cmp_total nat_cmp-IsAntisymmetric m (subject_key s) (Some tt) k))
+    ∙ is)
   where
-    go : (b : Bool) → eq_by_cmp nat_cmp (subject_key s) k ≡ b → is_some (cond b (Some tt) (get m k)) ≡ true → (is_some (get m k) ≡ true) ⊎ ((t : Subject) × (Some s ≡ Some t) × (subject_key t ≡ k))
-    go true same there = inr (s, refl, nat_cmp-IsAntisymmetric (subject_key s) k (tied (nat_cmp (subject_key s) k) same))
+    go : (b : Bool) → eq_by_cmp nat_cmp (subject_key s) k ≡ b
+        → is_some (cond b (Some tt) (get m k)) ≡ true → (is_some (get m k) ≡ true)
+        ⊎ ((t : Subject) × (Some s ≡ Some t) × (subject_key t ≡ k))
+    go true same there = inr (
+      s,
+      refl,
+      nat_cmp-IsAntisymmetric (subject_key s) k (tied (nat_cmp (subject_key s) k) same),
+    )
     go false same there = inl there
 
 module _ (waits : FinMap wait_cmp Subject) where
@@ -57,36 +70,46 @@ module _ (waits : FinMap wait_cmp Subject) where
 
   -- one of these places has the subject with this key
   abbrev IsPassed : List (WaitKeyCode × Unit {0}) → ℕ → Type 0
-  IsPassed es k = (e : WaitKeyCode × Unit {0}) × Among e es × (s : Subject) × (at e ≡ Some s) × (subject_key s ≡ k)
+  IsPassed es k = (e : WaitKeyCode × Unit {0}) × Among e es × (s : Subject) × (at e ≡ Some s)
+      × (subject_key s ≡ k)
 
-  gathered-keeps : (es : List (WaitKeyCode × Unit {0})) (m : Gathered) (k : ℕ) → is_some (get m k) ≡ true → is_some (get (gathered waits es m) k) ≡ true
+  gathered-keeps : (es : List (WaitKeyCode × Unit {0})) (m : Gathered) (k : ℕ)
+      → is_some (get m k) ≡ true → is_some (get (gathered waits es m) k) ≡ true
   gathered-keeps [] m k is = is
-  gathered-keeps (e ∷ es) m k is = gathered-keeps es (with_subject (at e) m) k (with-keeps (at e) m k is)
+  gathered-keeps (e ∷ es) m k is =
+      gathered-keeps es (with_subject (at e) m) k (with-keeps (at e) m k is)
 
-  gathered-has : (es : List (WaitKeyCode × Unit {0})) (m : Gathered) (e : WaitKeyCode × Unit {0}) → Among e es → (s : Subject) → at e ≡ Some s → is_some (get (gathered waits es m) (subject_key s)) ≡ true
+  gathered-has : (es : List (WaitKeyCode × Unit {0})) (m : Gathered) (e : WaitKeyCode × Unit {0})
+      → Among e es → (s : Subject) → at e ≡ Some s
+      → is_some (get (gathered waits es m) (subject_key s)) ≡ true
   unfolding Among
   gathered-has [] m e there s is = absurd there
   gathered-has (x ∷ xs) m e (inl same) s is =
       gathered-keeps xs (with_subject (at x) m) (subject_key s)
-      (ap (λ o. is_some (get (with_subject o m) (subject_key s))) (ap at same ∙ is) ∙ ap is_some (get-set_here nat_cmp_total nat_cmp-IsAntisymmetric m (subject_key s) (Some tt)))
+      (ap (λ o. is_some (get (with_subject o m) (subject_key s))) (ap at same ∙ is)
+      ∙ ap is_some (get-set_here nat_cmp_total nat_cmp-IsAntisymmetric m (subject_key s) (Some tt)))
   gathered-has (x ∷ xs) m e (inr there) s is = gathered-has xs (with_subject (at x) m) e there s is
 
-  gathered-from : (es : List (WaitKeyCode × Unit {0})) (m : Gathered) (k : ℕ) → is_some (get (gathered waits es m) k) ≡ true → (is_some (get m k) ≡ true) ⊎ IsPassed es k
+  gathered-from : (es : List (WaitKeyCode × Unit {0})) (m : Gathered) (k : ℕ)
+      → is_some (get (gathered waits es m) k) ≡ true → (is_some (get m k) ≡ true) ⊎ IsPassed es k
   unfolding Among
   gathered-from [] m k is = inl is
   gathered-from (x ∷ xs) m k is = go (gathered-from xs (with_subject (at x) m) k is)
     where
-      own : (is_some (get m k) ≡ true) ⊎ ((s : Subject) × (at x ≡ Some s) × (subject_key s ≡ k)) → (is_some (get m k) ≡ true) ⊎ IsPassed (x ∷ xs) k
+      own : (is_some (get m k) ≡ true) ⊎ ((s : Subject) × (at x ≡ Some s) × (subject_key s ≡ k))
+          → (is_some (get m k) ≡ true) ⊎ IsPassed (x ∷ xs) k
       own (inl there) = inl there
       own (inr p) = inr (x, inl refl, p.0, p.1, p.2)
 
-      go : (is_some (get (with_subject (at x) m) k) ≡ true) ⊎ IsPassed xs k → (is_some (get m k) ≡ true) ⊎ IsPassed (x ∷ xs) k
+      go : (is_some (get (with_subject (at x) m) k) ≡ true) ⊎ IsPassed xs k
+          → (is_some (get m k) ≡ true) ⊎ IsPassed (x ∷ xs) k
       go (inl there) = own (with-from (at x) m k there)
       go (inr p) = inr (p.0, inr p.1, p.2, p.3, p.4)
 
 -- ---- lists
 
-among-filtered : {A : Type 0} (b : A → Bool) (x : A) (xs : List A) → Among x (filter b xs) → Among x xs × (b x ≡ true)
+among-filtered : {A : Type 0} (b : A → Bool) (x : A) (xs : List A) → Among x (filter b xs)
+    → Among x xs × (b x ≡ true)
 unfolding Among
 among-filtered b x [] is = absurd is
 among-filtered b x (y ∷ ys) is = go (among-filtered b x ys) (b y) refl is
@@ -94,15 +117,18 @@ among-filtered b x (y ∷ ys) is = go (among-filtered b x ys) (b y) refl is
     later : Among x ys × (b x ≡ true) → Among x (y ∷ ys) × (b x ≡ true)
     later p = (inr p.0, p.1)
 
-    go : (Among x (filter b ys) → Among x ys × (b x ≡ true)) → (t : Bool) → b y ≡ t → Among x (cond t (y ∷ filter b ys) (filter b ys)) → Among x (y ∷ ys) × (b x ≡ true)
+    go : (Among x (filter b ys) → Among x ys × (b x ≡ true)) → (t : Bool) → b y ≡ t
+        → Among x (cond t (y ∷ filter b ys) (filter b ys)) → Among x (y ∷ ys) × (b x ≡ true)
     go more true e (inl same) = (inl same, sym (ap b same) ∙ e)
     go more true e (inr there) = later (more there)
     go more false e there = later (more there)
 
-pub filtered-among : {A : Type 0} (b : A → Bool) (x : A) (xs : List A) → Among x xs → b x ≡ true → Among x (filter b xs)
+pub filtered-among : {A : Type 0} (b : A → Bool) (x : A) (xs : List A) → Among x xs → b x ≡ true
+    → Among x (filter b xs)
 unfolding Among
 filtered-among b x [] there t = absurd there
-filtered-among b x (y ∷ ys) (inl same) t = subst (λ c. Among x (cond c (y ∷ filter b ys) (filter b ys))) (sym (ap b same ∙ t)) (inl same)
+filtered-among b x (y ∷ ys) (inl same) t =
+    subst (λ c. Among x (cond c (y ∷ filter b ys) (filter b ys))) (sym (ap b same ∙ t)) (inl same)
 filtered-among b x (y ∷ ys) (inr there) t = go (filtered-among b x ys there t) (b y)
   where
     go : Among x (filter b ys) → (c : Bool) → Among x (cond c (y ∷ filter b ys) (filter b ys))
@@ -110,16 +136,20 @@ filtered-among b x (y ∷ ys) (inr there) t = go (filtered-among b x ys there t)
     go more false = more
 
 -- an entry that a look-up finds
-pub found-entry : {K X : Type 0} (is_it : K → Bool) (es : List (K × X)) → IsSome (lookup is_it es) → (e : K × X) × Among e es × (is_it e.0 ≡ true)
+pub found-entry : {K X : Type 0} (is_it : K → Bool) (es : List (K × X)) → IsSome (lookup is_it es)
+    → (e : K × X) × Among e es × (is_it e.0 ≡ true)
 unfolding Among
 found-entry is_it [] there = let f : false ≡ true = there in cc
 found-entry {K} {X} is_it (e ∷ es) there = go (found-entry is_it es) (is_it e.0) refl there
   where
-    go : (IsSome (lookup is_it es) → (x : K × X) × Among x es × (is_it x.0 ≡ true)) → (t : Bool) → is_it e.0 ≡ t → IsSome (cond t (Some e.1) (lookup is_it es)) → (x : K × X) × Among x (e ∷ es) × (is_it x.0 ≡ true)
+    go : (IsSome (lookup is_it es) → (x : K × X) × Among x es × (is_it x.0 ≡ true)) → (t : Bool)
+        → is_it e.0 ≡ t → IsSome (cond t (Some e.1) (lookup is_it es)) → (x : K × X)
+        × Among x (e ∷ es) × (is_it x.0 ≡ true)
     go more true t it = (e, inl refl, t)
     go more false t it = let p = more it in (p.0, inr p.1, p.2)
 
-among-key : {K X : Type 0} (k : K) (es : List (K × X)) → Among k (keys_of es) → (e : K × X) × Among e es × (e.0 ≡ k)
+among-key : {K X : Type 0} (k : K) (es : List (K × X)) → Among k (keys_of es) → (e : K × X)
+    × Among e es × (e.0 ≡ k)
 unfolding Among
 among-key k [] is = absurd is
 among-key k (e ∷ es) (inl same) = (e, inl refl, same)
@@ -131,87 +161,130 @@ key-among e [] is = absurd is
 key-among e (x ∷ xs) (inl same) = inl (ap (λ z. z.0) same)
 key-among e (x ∷ xs) (inr there) = inr (key-among e xs there)
 
-pub all-of : {A : Type 0} (P : A → Type 0) (xs : List A) → ((x : A) → Among x xs → P x) → AllByRecursion P xs
+pub all-of : {A : Type 0} (P : A → Type 0) (xs : List A) → ((x : A) → Among x xs → P x)
+    → AllByRecursion P xs
 unfolding Among
 all-of P [] each = tt
 all-of P (x ∷ xs) each = (each x (inl refl), all-of P xs (λ y there. each y (inr there)))
 
 -- ---- the carrier's
 
-module _ (waits : FinMap wait_cmp Subject) (order : BTreeMap WaitKeyCode (Unit {0})) (subjects : BTreeMap SubjectCode (Unit {0})) (carrier : Spid) (lo hi : WaitKeyCode)
-    (low : wait_key_of lo ≡ lowest carrier.number) (high : wait_key_of hi ≡ highest carrier.number) (indexed : AreOrdered waits (order_of order))
-    (part : List (WaitKeyCode × Unit {0})) (is_part : part ≡ entries_between (on wait_key_of wait_cmp) (Included lo) (Included hi) order.entries)
+module _ (waits : FinMap wait_cmp Subject) (order : BTreeMap WaitKeyCode (Unit {0}))
+    (subjects : BTreeMap SubjectCode (Unit {0})) (carrier : Spid) (lo hi : WaitKeyCode)
+    (low : wait_key_of lo ≡ lowest carrier.number) (high : wait_key_of hi ≡ highest carrier.number)
+    (indexed : AreOrdered waits (order_of order))
+    (part : List (WaitKeyCode × Unit {0})) (is_part : part ≡ entries_between
+    (on wait_key_of wait_cmp) (Included lo) (Included hi) order.entries)
     (all : subjects_of subjects ≡ gathered waits part empty) where
   abbrev content : Content
   content = record empty_content { waits = waits }
 
   -- a subject that was gathered is of a download of the carrier's
-  awaited : (x : SubjectCode) → is_some (get (subjects_of subjects) (key_of x)) ≡ true → IsAwaitedBy content carrier.number (subject_of x)
-  awaited x there = go (gathered-from waits part empty (key_of x) (ap (λ m. is_some (get m (key_of x))) (sym all) ∙ there))
+  awaited : (x : SubjectCode) → is_some (get (subjects_of subjects) (key_of x)) ≡ true
+      → IsAwaitedBy content carrier.number (subject_of x)
+  awaited x there =
+      go (gathered-from waits part empty (key_of x) (ap (λ m. is_some (get m (key_of x))) (sym all)
+      ∙ there))
     where
       own : IsPassed waits part (key_of x) → IsAwaitedBy content carrier.number (subject_of x)
       own p =
           let e = p.0 in
-          let inside = among-filtered (λ (d : WaitKeyCode × Unit {0}). is_between lo hi d.0) e order.entries (subst (Among e) is_part p.1) in
+          let inside = among-filtered (λ (d : WaitKeyCode × Unit {0}). is_between lo hi d.0) e
+          order.entries (subst (Among e) is_part p.1) in
           let same : p.2 ≡ subject_of x = subject_key-exact p.2 (subject_of x) p.4 in (
             e.0.minute.number,
             e.0.id,
             e.0.attempt,
-            ap (λ c. get waits (record { carrier = c; minute = e.0.minute.number; id = e.0.id; attempt = e.0.attempt })) (carrier-is carrier.number lo hi low high e.0 inside.1)
+            ap (λ c. get waits (record {
+              carrier = c;
+              minute = e.0.minute.number;
+              id = e.0.id;
+              attempt = e.0.attempt;
+            })) (carrier-is carrier.number lo hi low high e.0 inside.1)
                 ∙ p.3 ∙ ap (λ s. Some s) same,
           )
 
       none_at : Gathered
       none_at = empty
 
-      go : (is_some (get none_at (key_of x)) ≡ true) ⊎ IsPassed waits part (key_of x) → IsAwaitedBy content carrier.number (subject_of x)
-      go (inl none) = let f : false ≡ true = sym (ap is_some (get-empty nat_cmp (key_of x))) ∙ none in cc
+      go : (is_some (get none_at (key_of x)) ≡ true) ⊎ IsPassed waits part (key_of x)
+          → IsAwaitedBy content carrier.number (subject_of x)
+      go (inl none) = let f : false ≡ true = sym (ap is_some (get-empty nat_cmp (key_of x)))
+          ∙ none in cc
       go (inr p) = own p
 
   -- the subject of each download of the carrier's was gathered
-  gathered-there : (s : Subject) → IsAwaitedBy content carrier.number s → is_some (get (subjects_of subjects) (subject_key s)) ≡ true
+  gathered-there : (s : Subject) → IsAwaitedBy content carrier.number s
+      → is_some (get (subjects_of subjects) (subject_key s)) ≡ true
   gathered-there s is =
-      let key : WaitKey = record { carrier = carrier.number; minute = is.0; id = is.1; attempt = is.2 } in
+      let key : WaitKey = record {
+        carrier = carrier.number;
+        minute = is.0;
+        id = is.1;
+        attempt = is.2;
+      } in
       let stands : is_some (get (order_of order) key) ≡ true = indexed.same key ∙ ap is_some is.3 in
-      let small : IsDownload (record { minute = is.0; id = is.1; attempt = is.2 }) = indexed.small key stands in
+      let small : IsDownload (record { minute = is.0; id = is.1; attempt = is.2 }) =
+      indexed.small key stands in
       let q = entry-of wait_key_of (λ (u : Unit {0}). u) wait_total wait_exact order key stands in
       let e = found-entry (is_at (on wait_key_of wait_cmp q.0)) order.entries q.2 in
-      let same : wait_key_of e.0.0 ≡ key = sym (wait_exact (wait_key_of q.0) (wait_key_of e.0.0) (tied _ e.2)) ∙ q.1 in
+      let same : wait_key_of e.0.0 ≡ key =
+      sym (wait_exact (wait_key_of q.0) (wait_key_of e.0.0) (tied _ e.2)) ∙ q.1 in
       let there : Among e.0 part =
       subst (Among e.0) (sym is_part)
-      (filtered-among (λ (d : WaitKeyCode × Unit {0}). is_between lo hi d.0) e.0 order.entries e.1 (within carrier.number lo hi low high e.0.0 is.0 is.1 is.2 same small.0 small.1 small.2)) in
-      ap (λ m. is_some (get m (subject_key s))) all ∙ gathered-has waits part empty e.0 there s (ap (get waits) same ∙ is.3)
+      (filtered-among (λ (d : WaitKeyCode × Unit {0}). is_between lo hi d.0) e.0 order.entries e.1
+      (within carrier.number lo hi low high e.0.0 is.0 is.1 is.2 same small.0 small.1 small.2)) in
+      ap (λ m. is_some (get m (subject_key s))) all ∙ gathered-has waits part empty e.0 there s
+      (ap (get waits) same ∙ is.3)
 
-  pub subjects-are : (found : List SubjectCode) → found ≡ tree.keys subjects → tree.IsOrdered (on key_of nat_cmp) subjects → AreAwaited content (spid_of carrier) found
+  pub subjects-are : (found : List SubjectCode) → found ≡ tree.keys subjects
+      → tree.IsOrdered (on key_of nat_cmp) subjects → AreAwaited content (spid_of carrier) found
   subjects-are found is ordered = record {
     each = λ s waits_for.
-        let q = entry-of key_of (λ (u : Unit {0}). u) nat_cmp_total nat_cmp-IsAntisymmetric subjects (subject_key s) (gathered-there s waits_for) in
+        let q = entry-of key_of (λ (u : Unit {0}). u) nat_cmp_total nat_cmp-IsAntisymmetric subjects
+        (subject_key s) (gathered-there s waits_for) in
         let e = found-entry (is_at (on key_of nat_cmp q.0)) subjects.entries q.2 in
-        let same : key_of e.0.0 ≡ subject_key s = sym (nat_cmp-IsAntisymmetric (key_of q.0) (key_of e.0.0) (tied _ e.2)) ∙ q.1 in
-        (e.0.0, contained e.0.0 found (subst (Among e.0.0) (sym is) (key-among e.0 subjects.entries e.1)), subject_key-exact (subject_of e.0.0) s same);
-    only = all-places (λ x. IsAwaitedBy content carrier.number (subject_of x)) found (all-of (λ x. IsAwaitedBy content carrier.number (subject_of x)) found
+        let same : key_of e.0.0 ≡ subject_key s =
+        sym (nat_cmp-IsAntisymmetric (key_of q.0) (key_of e.0.0) (tied _ e.2)) ∙ q.1 in (
+          e.0.0,
+          contained e.0.0 found (subst (Among e.0.0) (sym is) (key-among e.0 subjects.entries e.1)),
+          subject_key-exact (subject_of e.0.0) s same,
+        );
+    only = all-places (λ x. IsAwaitedBy content carrier.number (subject_of x)) found
+        (all-of (λ x. IsAwaitedBy content carrier.number (subject_of x)) found
         (λ x there. awaited x (held x (subst (Among x) is there))));
     rises = subst (IsStrictlySortedBy (on key_of nat_cmp)) (sym is) ordered;
   }
     where
-      held : (x : SubjectCode) → Among x (tree.keys subjects) → is_some (get (subjects_of subjects) (key_of x)) ≡ true
+      held : (x : SubjectCode) → Among x (tree.keys subjects)
+          → is_some (get (subjects_of subjects) (key_of x)) ≡ true
       held x there =
           let e = among-key x subjects.entries there in
-          ap is_some (get-map_of key_of (λ (u : Unit {0}). u) nat_cmp_total nat_cmp-IsAntisymmetric subjects x)
+          ap is_some (get-map_of key_of (λ (u : Unit {0}). u) nat_cmp_total nat_cmp-IsAntisymmetric
+          subjects x)
           ∙ present (tree.get (on key_of nat_cmp) subjects x)
-          (found-own (is_at (on key_of nat_cmp x)) subjects.entries e.0 e.1 (ap (λ y. is_at (on key_of nat_cmp x) y) e.2 ∙ (eq_by_cmp_equiv nat_cmp_total).refl (key_of x)))
+          (found-own (is_at (on key_of nat_cmp x)) subjects.entries e.0 e.1
+          (ap (λ y. is_at (on key_of nat_cmp x) y) e.2 ∙ (eq_by_cmp_equiv nat_cmp_total).refl
+          (key_of x)))
         where
-          present : (o : Option (Unit {0})) → IsSome o → is_some (option_map (λ (u : Unit {0}). u) o) ≡ true
+          present : (o : Option (Unit {0})) → IsSome o
+              → is_some (option_map (λ (u : Unit {0}). u) o) ≡ true
           present (Some u) s = refl
           present None s = s
 
 -- one place passed
-pub gathered-step : (waits : FinMap wait_cmp Subject) (e : WaitKeyCode × Unit {0}) (rest : List (WaitKeyCode × Unit {0})) (old new : BTreeMap SubjectCode (Unit {0})) (x : SubjectCode) →
-    Some (subject_of x) ≡ get waits (wait_key_of e.0) → IsSet (on key_of nat_cmp) old new x (Some tt) → gathered waits rest (subjects_of new) ≡ gathered waits (e ∷ rest) (subjects_of old)
+pub gathered-step : (waits : FinMap wait_cmp Subject) (e : WaitKeyCode × Unit {0})
+    (rest : List (WaitKeyCode × Unit {0})) (old new : BTreeMap SubjectCode (Unit {0}))
+    (x : SubjectCode) →
+    Some (subject_of x) ≡ get waits (wait_key_of e.0)
+    → IsSet (on key_of nat_cmp) old new x (Some tt) → gathered waits rest (subjects_of new)
+    ≡ gathered waits (e ∷ rest) (subjects_of old)
 gathered-step waits e rest old new x is written =
-    ap (gathered waits rest) (set_map_of key_of (λ (u : Unit {0}). u) nat_cmp_total nat_cmp-IsAntisymmetric old new x (Some tt) written)
+    ap (gathered waits rest) (set_map_of key_of (λ (u : Unit {0}). u) nat_cmp_total
+    nat_cmp-IsAntisymmetric old new x (Some tt) written)
     ∙ ap (λ o. gathered waits rest (with_subject o (subjects_of old))) is
 
-pub if_ok : {V E : Type 0} {P Q : V → Type 0} → ((v : V) → P v → Q v) → (r : Result V E) → IfOk r P → IfOk r Q
+pub if_ok : {V E : Type 0} {P Q : V → Type 0} → ((v : V) → P v → Q v) → (r : Result V E) → IfOk r P
+    → IfOk r Q
 if_ok more (Ok v) is = more v is
 if_ok more (Err e) is = tt

@@ -24,19 +24,27 @@ use Rattle.store.proofs.RowsChanged.{IsRow, IsKey, Agrees, row-changed, subject_
 
 -- ---- no rows
 
-no_row : (rows : List (RowKeyCode × WaitingCode)) → rows ≡ [] → (d : Download) (w : Waiting) → get (rows_of rows) d ≡ Some w → ⊥
+no_row : (rows : List (RowKeyCode × WaitingCode)) → rows ≡ [] → (d : Download) (w : Waiting)
+    → get (rows_of rows) d ≡ Some w → ⊥
 no_row rows none d w at =
-    let no : None ≡ Some w = sym (ap (λ es. get (rows_of es) d) none ∙ get-empty download_cmp d) ∙ at in
+    let no : None ≡ Some w = sym (ap (λ es. get (rows_of es) d) none ∙ get-empty download_cmp d)
+    ∙ at in
     cc
 
-pub none-agree : (rows : List (RowKeyCode × WaitingCode)) (about : BTreeMap SubjectDownloadCode (Unit {0})) → rows ≡ [] → about.entries ≡ [] → Agrees (rows_of rows) (about_of about)
-none-agree rows about none empty_index =
-    (λ d w at. absurd (no_row rows none d w at), λ k stands. absurd (no_key subject_download_cmp subject_download_of about empty_index k stands))
+pub none-agree : (rows : List (RowKeyCode × WaitingCode)) (about : BTreeMap SubjectDownloadCode
+    (Unit {0})) → rows ≡ [] → about.entries ≡ [] → Agrees (rows_of rows) (about_of about)
+none-agree rows about none empty_index = (
+  λ d w at. absurd (no_row rows none d w at),
+  λ k stands. absurd (no_key subject_download_cmp subject_download_of about empty_index k stands),
+)
 
-pub none-wait : (rows : List (RowKeyCode × WaitingCode)) → rows ≡ [] → waits_of (rows_of rows) ≡ empty
+pub none-wait : (rows : List (RowKeyCode × WaitingCode)) → rows ≡ []
+    → waits_of (rows_of rows) ≡ empty
 none-wait rows none = same_map wait_total wait_exact (waits_of (rows_of rows)) empty (λ q.
     get-waits_of (rows_of rows) q
-    ∙ ap (λ o. awaited o q.carrier) (ap (λ es. get (from_entries {R = download_cmp} (seen_entries row_key_of waiting_of es)) (download_of q)) none ∙ get-empty download_cmp (download_of q)) ∙ sym (get-empty wait_cmp q))
+    ∙ ap (λ o. awaited o q.carrier)
+    (ap (λ es. get (from_entries {R = download_cmp} (seen_entries row_key_of waiting_of es))
+    (download_of q)) none ∙ get-empty download_cmp (download_of q)) ∙ sym (get-empty wait_cmp q))
 
 -- ---- a look-up by a hash finds what one in the order of queues would
 
@@ -44,65 +52,89 @@ none-wait rows none = same_map wait_total wait_exact (waits_of (rows_of rows)) e
 abbrev pub same_key : RowKeyCode → RowKeyCode → Bool
 same_key a b = (a.minute == b.minute) && ((a.id == b.id) && (a.attempt == b.attempt))
 
-by_numbers : (a b c d e f : ℕ) → ((a == b) && ((c == d) && (e == f))) ≡ is_eq (ordering_then (nat_cmp a b) (ordering_then (nat_cmp c d) (nat_cmp e f)))
+by_numbers : (a b c d e f : ℕ)
+    → ((a == b) && ((c == d) && (e == f)))
+    ≡ is_eq (ordering_then (nat_cmp a b) (ordering_then (nat_cmp c d) (nat_cmp e f)))
 by_numbers a b c d e f = grind (arith, nat_tests)
 
 same-at : (a b : RowKeyCode) → same_key a b ≡ is_at (on row_key_of download_cmp a) b
 same-at a b = by_numbers a.minute b.minute a.id b.id a.attempt b.attempt
 
-pub hash-at : (rows : List (RowKeyCode × WaitingCode)) (b : RowKeyCode) → lookup (same_key b) rows ≡ row_in rows b
+pub hash-at : (rows : List (RowKeyCode × WaitingCode)) (b : RowKeyCode)
+    → lookup (same_key b) rows ≡ row_in rows b
 hash-at [] b = refl
 hash-at (e ∷ es) b = λ i. cond (same-at b e.0 i) (Some e.1) (hash-at es b i)
 
 -- one row put, or taken away, by a hash
-abbrev pub IsPut : (old new : List (RowKeyCode × WaitingCode)) → RowKeyCode → Option WaitingCode → Type 0
-IsPut old new key w = (q : RowKeyCode) → lookup (same_key q) new ≡ cond (same_key key q) w (lookup (same_key q) old)
+abbrev pub IsPut : (old new : List (RowKeyCode × WaitingCode)) → RowKeyCode → Option WaitingCode
+    → Type 0
+IsPut old new key w = (q : RowKeyCode)
+    → lookup (same_key q) new ≡ cond (same_key key q) w (lookup (same_key q) old)
 
-by-order : (old new : List (RowKeyCode × WaitingCode)) (b : RowKeyCode) (w : Option WaitingCode) → IsPut old new b w → (q : RowKeyCode) → row_in new q ≡ cond (is_at (on row_key_of download_cmp b) q) w (row_in old q)
-by-order old new b w is q = sym (hash-at new q) ∙ is q ∙ (λ i. cond (same-at b q i) w (hash-at old q i))
+by-order : (old new : List (RowKeyCode × WaitingCode)) (b : RowKeyCode) (w : Option WaitingCode)
+    → IsPut old new b w → (q : RowKeyCode)
+    → row_in new q ≡ cond (is_at (on row_key_of download_cmp b) q) w (row_in old q)
+by-order old new b w is q =
+    sym (hash-at new q) ∙ is q ∙ (λ i. cond (same-at b q i) w (hash-at old q i))
 
 -- ---- a look-up
 
 -- the row of a download's broadcast
-pub row-at : (rows : List (RowKeyCode × WaitingCode)) (b : RowKeyCode) (k : WaitKey) (w : Option WaitingCode) → row_key_of b ≡ download_of k → row_in rows b ≡ w →
+pub row-at : (rows : List (RowKeyCode × WaitingCode)) (b : RowKeyCode) (k : WaitKey)
+    (w : Option WaitingCode) → row_key_of b ≡ download_of k → row_in rows b ≡ w →
     get (rows_of rows) (download_of k) ≡ option_map waiting_of w
-row-at rows b k w e is = ap (get (rows_of rows)) (sym e) ∙ get-seen row_key_of waiting_of download_total download_exact rows b ∙ ap (option_map waiting_of) is
+row-at rows b k w e is =
+    ap (get (rows_of rows)) (sym e) ∙ get-seen row_key_of waiting_of download_total download_exact
+    rows b ∙ ap (option_map waiting_of) is
 
-pub wait-at : (rows : List (RowKeyCode × WaitingCode)) (b : RowKeyCode) (k : WaitKey) (w : Option WaitingCode) → row_key_of b ≡ download_of k → row_in rows b ≡ w →
+pub wait-at : (rows : List (RowKeyCode × WaitingCode)) (b : RowKeyCode) (k : WaitKey)
+    (w : Option WaitingCode) → row_key_of b ≡ download_of k → row_in rows b ≡ w →
     get (waits_of (rows_of rows)) k ≡ awaited (option_map waiting_of w) k.carrier
-wait-at rows b k w e is = get-waits_of (rows_of rows) k ∙ ap (λ o. awaited o k.carrier) (row-at rows b k w e is)
+wait-at rows b k w e is =
+    get-waits_of (rows_of rows) k ∙ ap (λ o. awaited o k.carrier) (row-at rows b k w e is)
 
 -- ---- one row, or one key, of the code
 
-pub row-written : (old new : List (RowKeyCode × WaitingCode)) (b : RowKeyCode) (k : WaitKey) (w : Option WaitingCode) → row_key_of b ≡ download_of k → IsPut old new b w →
+pub row-written : (old new : List (RowKeyCode × WaitingCode)) (b : RowKeyCode) (k : WaitKey)
+    (w : Option WaitingCode) → row_key_of b ≡ download_of k → IsPut old new b w →
     IsRow (rows_of old) (rows_of new) (download_of k) (option_map waiting_of w)
 row-written old new b k w e is q =
-    ap (λ m. get m q) (set_seen row_key_of waiting_of download_total download_exact old new b w (by-order old new b w is))
+    ap (λ m. get m q) (set_seen row_key_of waiting_of download_total download_exact old new b w
+    (by-order old new b w is))
     ∙ get-set download_total download_exact (rows_of old) (row_key_of b) (option_map waiting_of w) q
     ∙ ap (λ d. cond (eq_by_cmp download_cmp d q) (option_map waiting_of w) (get (rows_of old) q)) e
 
-pub key-written : (old new : BTreeMap SubjectDownloadCode (Unit {0})) (key : SubjectDownloadCode) (k : SubjectDownload) (v : Option (Unit {0})) → subject_download_of key ≡ k → IsSet (on subject_download_of subject_download_cmp) old new key v →
+pub key-written : (old new : BTreeMap SubjectDownloadCode (Unit {0})) (key : SubjectDownloadCode)
+    (k : SubjectDownload) (v : Option (Unit {0})) → subject_download_of key ≡ k
+    → IsSet (on subject_download_of subject_download_cmp) old new key v →
     IsKey (about_of old) (about_of new) k (option_map (λ u. u) v)
 key-written old new key k v e is q =
-    ap (λ m. get m q) (set_map_of subject_download_of (λ (u : Unit {0}). u) subject_download_total subject_download_exact old new key v is)
-    ∙ get-set subject_download_total subject_download_exact (about_of old) (subject_download_of key) (option_map (λ u. u) v) q
-    ∙ ap (λ d. cond (eq_by_cmp subject_download_cmp d q) (option_map (λ u. u) v) (get (about_of old) q)) e
+    ap (λ m. get m q) (set_map_of subject_download_of (λ (u : Unit {0}). u) subject_download_total
+    subject_download_exact old new key v is)
+    ∙ get-set subject_download_total subject_download_exact (about_of old) (subject_download_of key)
+    (option_map (λ u. u) v) q
+    ∙ ap (λ d. cond (eq_by_cmp subject_download_cmp d q) (option_map (λ u. u) v)
+    (get (about_of old) q)) e
 
 -- a row written, and then taken away
-pub row-gone : (old mid new : FinMap download_cmp Waiting) (d : Download) (w : Option Waiting) → IsRow old mid d w → IsRow mid new d None → IsRow old new d None
+pub row-gone : (old mid new : FinMap download_cmp Waiting) (d : Download) (w : Option Waiting)
+    → IsRow old mid d w → IsRow mid new d None → IsRow old new d None
 row-gone old mid new d w put taken q = taken q ∙ go (eq_by_cmp download_cmp d q) refl
   where
-    go : (b : Bool) → eq_by_cmp download_cmp d q ≡ b → cond b None (get mid q) ≡ cond b None (get old q)
+    go : (b : Bool) → eq_by_cmp download_cmp d q ≡ b
+        → cond b None (get mid q) ≡ cond b None (get old q)
     go true t = refl
     go false t = put q ∙ ap (λ b. cond b w (get old q)) t
 
 -- ---- what a result says
 
-pub if-ok-then : {V E : Type 0} {P Q : V → Type 0} (r : Result V E) → ((v : V) → P v → Q v) → IfOk r P → IfOk r Q
+pub if-ok-then : {V E : Type 0} {P Q : V → Type 0} (r : Result V E) → ((v : V) → P v → Q v)
+    → IfOk r P → IfOk r Q
 if-ok-then (Ok v) f p = f v p
 if-ok-then (Err e) f p = tt
 
-pub on-ok-from : {V E Q : Type 0} {P : V → Type 0} (r : Result V E) → ((v : V) → P v → Q) → IfOk r P → OnOk r Q
+pub on-ok-from : {V E Q : Type 0} {P : V → Type 0} (r : Result V E) → ((v : V) → P v → Q) → IfOk r P
+    → OnOk r Q
 on-ok-from (Ok v) f p = f v p
 on-ok-from (Err e) f p = tt
 
@@ -112,40 +144,62 @@ on-err-then (Err e) f p = f p
 
 -- ---- a carrier is added to a row that is there
 
-pub subject-stays : {V E : Type 0} (r : Result V E) (c : ℕ) (s : Subject) (old new : Waiting) → IfOk r (λ _. IsAdded c s old new) → OnErr r (new ≡ old) → new.0 ≡ old.0
+pub subject-stays : {V E : Type 0} (r : Result V E) (c : ℕ) (s : Subject) (old new : Waiting)
+    → IfOk r (λ _. IsAdded c s old new) → OnErr r (new ≡ old) → new.0 ≡ old.0
 subject-stays (Ok v) c s old new added refused = added.same ∙ sym added.subject
 subject-stays (Err e) c s old new added refused = ap (λ (w : Waiting). w.0) refused
 
-pub added-waits : (old new : FinMap download_cmp Waiting) (k : WaitKey) (s : Subject) (was now : Waiting) → get old (download_of k) ≡ Some was → IsRow old new (download_of k) (Some now) → IsAdded k.carrier s was now → waits_of new ≡ set (waits_of old) k (Some s)
-added-waits old new k s was now there row added = row-changed old new k (Some now) (Some s) row (λ c. added.each c ∙ ap (λ o. cond (c == k.carrier) (Some s) (awaited o c)) (sym there))
+pub added-waits : (old new : FinMap download_cmp Waiting) (k : WaitKey) (s : Subject)
+    (was now : Waiting) → get old (download_of k) ≡ Some was
+    → IsRow old new (download_of k) (Some now) → IsAdded k.carrier s was now
+    → waits_of new ≡ set (waits_of old) k (Some s)
+added-waits old new k s was now there row added =
+    row-changed old new k (Some now) (Some s) row (λ c. added.each c
+    ∙ ap (λ o. cond (c == k.carrier) (Some s) (awaited o c)) (sym there))
 
 -- what was there has the row's subject
-pub same-subject : (c : ℕ) (s : Subject) (was now : Waiting) (before : Option SubjectCode) → option_map subject_of before ≡ awaited (Some was) c → IsAdded c s was now → IfSome before (λ b. subject_of b ≡ s)
+pub same-subject : (c : ℕ) (s : Subject) (was now : Waiting) (before : Option SubjectCode)
+    → option_map subject_of before ≡ awaited (Some was) c → IsAdded c s was now
+    → IfSome before (λ b. subject_of b ≡ s)
 same-subject c s was now None e added = tt
 same-subject c s was now (Some b) e added = go (list_any (λ k. c == k) was.1) e
   where
     go : (y : Bool) → Some (subject_of b) ≡ cond y (Some was.0) None → subject_of b ≡ s
-    go true e = (let f : Some (subject_of b) ≡ Some was.0 = e in let g : subject_of b ≡ was.0 = cc in g) ∙ added.subject
+    go true e = (let f : Some (subject_of b) ≡ Some was.0 = e in let g : subject_of b ≡ was.0 =
+        cc in g) ∙ added.subject
     go false e = let no : Some (subject_of b) ≡ None = e in cc
 
 -- ---- the first carrier of a row
 
-pub first-waits : (old new : FinMap download_cmp Waiting) (k : WaitKey) (s : Subject) (now : Waiting) → get old (download_of k) ≡ None → IsRow old new (download_of k) (Some now) → IsFirst k.carrier s now → waits_of new ≡ set (waits_of old) k (Some s)
-first-waits old new k s now none row first = row-changed old new k (Some now) (Some s) row (λ c. first.each c ∙ ap (λ o. cond (c == k.carrier) (Some s) (awaited o c)) (sym none))
+pub first-waits : (old new : FinMap download_cmp Waiting) (k : WaitKey) (s : Subject)
+    (now : Waiting) → get old (download_of k) ≡ None → IsRow old new (download_of k) (Some now)
+    → IsFirst k.carrier s now → waits_of new ≡ set (waits_of old) k (Some s)
+first-waits old new k s now none row first =
+    row-changed old new k (Some now) (Some s) row (λ c. first.each c
+    ∙ ap (λ o. cond (c == k.carrier) (Some s) (awaited o c)) (sym none))
 
 -- ---- a carrier is taken out of a row
 
-pub without-waits : (old new : FinMap download_cmp Waiting) (k : WaitKey) (was now : Waiting) → get old (download_of k) ≡ Some was → IsRow old new (download_of k) (Some now) → IsWithout k.carrier was now → waits_of new ≡ set (waits_of old) k None
-without-waits old new k was now there row without = row-changed old new k (Some now) None row (λ c. without.each c ∙ ap (λ o. cond (c == k.carrier) None (awaited o c)) (sym there))
+pub without-waits : (old new : FinMap download_cmp Waiting) (k : WaitKey) (was now : Waiting)
+    → get old (download_of k) ≡ Some was → IsRow old new (download_of k) (Some now)
+    → IsWithout k.carrier was now → waits_of new ≡ set (waits_of old) k None
+without-waits old new k was now there row without =
+    row-changed old new k (Some now) None row (λ c. without.each c
+    ∙ ap (λ o. cond (c == k.carrier) None (awaited o c)) (sym there))
 
 -- the last one, with the row
-pub gone-waits : (old new : FinMap download_cmp Waiting) (k : WaitKey) (was now : Waiting) → get old (download_of k) ≡ Some was → IsRow old new (download_of k) None → IsWithout k.carrier was now → now.1 ≡ [] → waits_of new ≡ set (waits_of old) k None
+pub gone-waits : (old new : FinMap download_cmp Waiting) (k : WaitKey) (was now : Waiting)
+    → get old (download_of k) ≡ Some was → IsRow old new (download_of k) None
+    → IsWithout k.carrier was now → now.1 ≡ [] → waits_of new ≡ set (waits_of old) k None
 gone-waits old new k was now there row without nobody = row-changed old new k None None row (λ c.
-    sym (ap (λ cs. cond (list_any (λ x. c == x) cs) (Some now.0) None) nobody) ∙ without.each c ∙ ap (λ o. cond (c == k.carrier) None (awaited o c)) (sym there))
+    sym (ap (λ cs. cond (list_any (λ x. c == x) cs) (Some now.0) None) nobody) ∙ without.each c
+    ∙ ap (λ o. cond (c == k.carrier) None (awaited o c)) (sym there))
 
 -- a download that is not there
 pub not-there : (m : FinMap wait_cmp Subject) (k : WaitKey) → get m k ≡ None → m ≡ set m k None
-not-there m k none = same_map wait_total wait_exact m (set m k None) (λ q. sym (get-set wait_total wait_exact m k None q ∙ go q (eq_by_cmp wait_cmp k q) refl))
+not-there m k none =
+    same_map wait_total wait_exact m (set m k None)
+    (λ q. sym (get-set wait_total wait_exact m k None q ∙ go q (eq_by_cmp wait_cmp k q) refl))
   where
     go : (q : WaitKey) (b : Bool) → eq_by_cmp wait_cmp k q ≡ b → cond b None (get m q) ≡ get m q
     go q true t = sym none ∙ ap (get m) (wait_exact k q (tied _ t))

@@ -65,23 +65,34 @@ and_open known = record { is_in_force = has_held known; is_open = true }
 -- ---- numbers gathered
 
 -- the number, if there is one, with its mark, together with those that were there
-abbrev pub with_number : (Option Standing → Standing) → Option ℕ → FinMap nat_cmp Standing → FinMap nat_cmp Standing
+abbrev pub with_number : (Option Standing → Standing) → Option ℕ → FinMap nat_cmp Standing
+    → FinMap nat_cmp Standing
 with_number mark None m = m
 with_number mark (Some n) m = set m n (Some (mark (get m n)))
 
--- the numbers of the block that the rows of these keys have in the column, each with its mark, together with those that were there
-abbrev pub marked : (Option Standing → Standing) → (VersionRow → Option Subject) → ℕ → FinMap nat_cmp VersionRow → List (SubjectVersionCode × Unit {0}) → FinMap nat_cmp Standing → FinMap nat_cmp Standing
+-- the numbers of the block that the rows of these keys have in the column, each with its mark,
+-- together with those that were there
+abbrev pub marked : (Option Standing → Standing) → (VersionRow → Option Subject) → ℕ
+    → FinMap nat_cmp VersionRow → List (SubjectVersionCode × Unit {0}) → FinMap nat_cmp Standing
+    → FinMap nat_cmp Standing
 marked mark column block versions [] m = m
-marked mark column block versions (e ∷ es) m = marked mark column block versions es (with_number mark (number_at column block (get versions e.0.id)) m)
+marked mark column block versions (e ∷ es) m =
+    marked mark column block versions es
+    (with_number mark (number_at column block (get versions e.0.id)) m)
 
 abbrev pub standings_of : BTreeMap Tn Standing → FinMap nat_cmp Standing
 standings_of m = map_of tn_of (λ s. s) m
 
--- of each number of the block that is in use it is known which of its versions stand, and nothing of any other number
-pub record AreStandings (c : Content) (block : ℕ) (standings : FinMap nat_cmp Standing) : Type 0 where
-  pub held : (n : ℕ) → IsTold (has_held (get standings n)) ((block_of n ≡ block) × Holds c (Number n))
-  pub opened : (n : ℕ) → IsTold (has_opened (get standings n)) ((block_of n ≡ block) × Opens c (Number n))
-  pub in_use : (n : ℕ) → is_some (get standings n) ≡ (has_held (get standings n) || has_opened (get standings n))
+-- of each number of the block that is in use it is known which of its versions stand, and nothing
+-- of any other number
+pub record AreStandings (c : Content) (block : ℕ)
+    (standings : FinMap nat_cmp Standing) : Type 0 where
+  pub held : (n : ℕ) → IsTold (has_held (get standings n)) ((block_of n ≡ block)
+      × Holds c (Number n))
+  pub opened : (n : ℕ) → IsTold (has_opened (get standings n)) ((block_of n ≡ block)
+      × Opens c (Number n))
+  pub in_use : (n : ℕ)
+      → is_some (get standings n) ≡ (has_held (get standings n) || has_opened (get standings n))
 
 abbrev pub number_told : Tn × Standing → NumberInUse
 number_told e = record { tn = e.0; is_in_force = e.1.is_in_force; is_open = e.1.is_open }

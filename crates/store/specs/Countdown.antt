@@ -13,8 +13,10 @@ abbrev pub one_fewer : Option ℕ → Option ℕ
 one_fewer None = None
 one_fewer (Some before) = Some (before - 1)
 
--- The call fails where none comes before: then it tells storage, and nothing is asked of the store below. Any other is a call of that store.
-pub record CountsDown (before : Option ℕ) (failing : Failing) (now : Option ℕ) (tells : Bool) (is_still : Type 0) : Type 0 where
+-- The call fails where none comes before: then it tells storage, and nothing is asked of the store
+-- below. Any other is a call of that store.
+pub record CountsDown (before : Option ℕ) (failing : Failing) (now : Option ℕ) (tells : Bool)
+    (is_still : Type 0) : Type 0 where
   pub tells_it : before ≡ Some 0 → tells ≡ true
   pub still : before ≡ Some 0 → is_still
   pub failed : before ≡ Some 0 → now ≡ after_failing failing

@@ -20,7 +20,8 @@ use Rattle.windows.specs.declared.window.Windows.{Windows as WindowsCode}
 use Rattle.store.specs.Maps.{IsSet}
 use Rattle.store.specs.declared.tables.Tables.{Tables}
 
--- a table among the tables, and its map in the content, which shows a key as `key` and a row as `row`
+-- a table among the tables, and its map in the content, which shows a key as `key` and a row as
+-- `row`
 pub record Place (K X L Y : Type 0) (R : L → L → Ordering) : Type 0 where
   pub key : K → L
   pub row : X → Y
@@ -90,9 +91,14 @@ sets = record {
 }
 
 -- the row is put at the key of the map, and `before` was there
-abbrev pub IsRowPut : {K X : Type 0} → (K → K → Ordering) → K → Option X → BTreeMap K X → BTreeMap K X → Type 0
-IsRowPut {X = X} cmp key before old new = (row : X) × (before ≡ tree.get cmp old key) × IsSet cmp old new key (Some row)
+abbrev pub IsRowPut : {K X : Type 0} → (K → K → Ordering) → K → Option X → BTreeMap K X
+    → BTreeMap K X → Type 0
+IsRowPut {X = X} cmp key before old new = (row : X) × (before ≡ tree.get cmp old key)
+    × IsSet cmp old new key (Some row)
 
 -- the same, of a table among the tables
-abbrev pub IsPutAt : {K X L Y : Type 0} {R : L → L → Ordering} → Place K X L Y R → K → Option X → Tables → Tables → Type 0
-IsPutAt {K} {X} {R = R} place key before old new = (m : BTreeMap K X) × (new ≡ place.with_table old m) × IsRowPut (on place.key R) key before (place.table old) m
+abbrev pub IsPutAt : {K X L Y : Type 0} {R : L → L → Ordering} → Place K X L Y R → K → Option X
+    → Tables → Tables → Type 0
+IsPutAt {K} {X} {R = R} place key before old new =
+    (m : BTreeMap K X) × (new ≡ place.with_table old m)
+    × IsRowPut (on place.key R) key before (place.table old) m

@@ -20,7 +20,8 @@ abbrev pub order_of : BTreeMap WaitKeyCode (Unit {0}) → FinMap wait_cmp (Unit 
 order_of m = map_of wait_key_of (λ u. u) m
 
 -- the index has the keys of what waits and no others, and their numbers are those of the code
-pub record AreOrdered (waits : FinMap wait_cmp Subject) (order : FinMap wait_cmp (Unit {0})) : Type 0 where
+pub record AreOrdered (waits : FinMap wait_cmp Subject)
+    (order : FinMap wait_cmp (Unit {0})) : Type 0 where
   pub same : (k : WaitKey) → is_some (get order k) ≡ is_some (get waits k)
   pub small : (k : WaitKey) → is_some (get order k) ≡ true → IsDownload (download_of k)
 
@@ -29,17 +30,31 @@ abbrev pub lowest : ℕ → WaitKey
 lowest carrier = record { carrier = carrier; minute = 0; id = 0; attempt = 0 }
 
 abbrev pub highest : ℕ → WaitKey
-highest carrier = record { carrier = carrier; minute = 1099511627775; id = 18446744073709551615; attempt = 18446744073709551615 }
+highest carrier = record {
+  carrier = carrier;
+  minute = 1099511627775;
+  id = 18446744073709551615;
+  attempt = 18446744073709551615;
+}
 
 abbrev pub broadcast_of : WaitKeyCode → BroadcastKeyCode
 broadcast_of k = record { id = k.id; attempt = k.attempt }
 
 abbrev pub download_told : WaitKeyCode → Broadcast → Download
-download_told k b = record { id = k.id; attempt = k.attempt; minute = k.minute; subject = b.subject; action = b.action; routing = b.routing }
+download_told k b = record {
+  id = k.id;
+  attempt = k.attempt;
+  minute = k.minute;
+  subject = b.subject;
+  action = b.action;
+  routing = b.routing;
+}
 
 -- a download as its broadcast tells it, if there is such a broadcast
 abbrev pub told : BTreeMap BroadcastKeyCode Broadcast → WaitKeyCode → Option Download
-told broadcasts k = option_map (download_told k) (tree.get (on broadcast_key_of broadcast_cmp) broadcasts (broadcast_of k))
+told broadcasts k =
+    option_map (download_told k) (tree.get (on broadcast_key_of broadcast_cmp) broadcasts
+    (broadcast_of k))
 
 -- ---- subjects
 
@@ -49,7 +64,8 @@ with_subject None m = m
 with_subject (Some s) m = set m (subject_key s) (Some tt)
 
 -- the keys of the subjects that wait at these places, together with those that were there
-abbrev pub gathered : FinMap wait_cmp Subject → List (WaitKeyCode × Unit {0}) → FinMap nat_cmp (Unit {0}) → FinMap nat_cmp (Unit {0})
+abbrev pub gathered : FinMap wait_cmp Subject → List (WaitKeyCode × Unit {0})
+    → FinMap nat_cmp (Unit {0}) → FinMap nat_cmp (Unit {0})
 gathered waits [] m = m
 gathered waits (e ∷ es) m = gathered waits es (with_subject (get waits (wait_key_of e.0)) m)
 

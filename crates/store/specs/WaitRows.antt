@@ -29,7 +29,9 @@ pub record Download : Type 0 where
   pub attempt : ℕ
 
 abbrev pub download_cmp : Download → Download → Ordering
-download_cmp a b = ordering_then (nat_cmp a.minute b.minute) (ordering_then (nat_cmp a.id b.id) (nat_cmp a.attempt b.attempt))
+download_cmp a b =
+    ordering_then (nat_cmp a.minute b.minute) (ordering_then (nat_cmp a.id b.id)
+    (nat_cmp a.attempt b.attempt))
 
 abbrev pub download_of : WaitKey → Download
 download_of k = record { minute = k.minute; id = k.id; attempt = k.attempt }
@@ -83,12 +85,20 @@ pub record SubjectDownload : Type 0 where
 
 abbrev pub subject_download_cmp : SubjectDownload → SubjectDownload → Ordering
 subject_download_cmp a b =
-    ordering_then (nat_cmp (subject_key a.subject) (subject_key b.subject)) (ordering_then (nat_cmp a.minute b.minute) (ordering_then (nat_cmp a.id b.id) (nat_cmp a.attempt b.attempt)))
+    ordering_then (nat_cmp (subject_key a.subject) (subject_key b.subject))
+    (ordering_then (nat_cmp a.minute b.minute) (ordering_then (nat_cmp a.id b.id)
+    (nat_cmp a.attempt b.attempt)))
 
 abbrev pub subject_download_of : SubjectDownloadCode → SubjectDownload
-subject_download_of k = record { subject = subject_at k.rank; minute = k.minute.number; id = k.id; attempt = k.attempt }
+subject_download_of k = record {
+  subject = subject_at k.rank;
+  minute = k.minute.number;
+  id = k.id;
+  attempt = k.attempt;
+}
 
-abbrev pub about_of : BTreeMap SubjectDownloadCode (Unit {0}) → FinMap subject_download_cmp (Unit {0})
+abbrev pub about_of : BTreeMap SubjectDownloadCode (Unit {0})
+    → FinMap subject_download_cmp (Unit {0})
 about_of m = map_of subject_download_of (λ u. u) m
 
 abbrev pub key_about : Subject → Download → SubjectDownload
@@ -99,15 +109,19 @@ download_about k = record { minute = k.minute; id = k.id; attempt = k.attempt }
 
 -- the numbers of a key of the code
 abbrev pub IsDownload : Download → Type 0
-IsDownload d = (d.minute < 1099511627776) × (d.id < 18446744073709551616) × (d.attempt < 18446744073709551616)
+IsDownload d = (d.minute < 1099511627776) × (d.id < 18446744073709551616)
+    × (d.attempt < 18446744073709551616)
 
 -- each broadcast's row stands in the index under its subject
 abbrev pub AreAbout : FinMap download_cmp Waiting → FinMap subject_download_cmp (Unit {0}) → Type 0
-AreAbout rows about = (d : Download) (w : Waiting) → get rows d ≡ Some w → IsDownload d × (is_some (get about (key_about w.0 d)) ≡ true)
+AreAbout rows about = (d : Download) (w : Waiting) → get rows d ≡ Some w → IsDownload d
+    × (is_some (get about (key_about w.0 d)) ≡ true)
 
 -- and whatever stands in the index a row needs
-abbrev pub AboutIsNeeded : FinMap download_cmp Waiting → FinMap subject_download_cmp (Unit {0}) → Type 0
-AboutIsNeeded rows about = (k : SubjectDownload) → is_some (get about k) ≡ true → option_map (λ (w : Waiting). w.0) (get rows (download_about k)) ≡ Some k.subject
+abbrev pub AboutIsNeeded : FinMap download_cmp Waiting → FinMap subject_download_cmp (Unit {0})
+    → Type 0
+AboutIsNeeded rows about = (k : SubjectDownload) → is_some (get about k) ≡ true
+    → option_map (λ (w : Waiting). w.0) (get rows (download_about k)) ≡ Some k.subject
 
 -- ---- one row changed
 
@@ -130,8 +144,14 @@ pub record IsWithout (carrier : ℕ) (old new : Waiting) : Type 0 where
 -- ---- codes
 
 abbrev pub coded_wait_key : Coded WaitKey
-coded_wait_key = code_by (ℕ × (ℕ × (ℕ × ℕ))) (coded× coded_ℕ (coded× coded_ℕ (coded× coded_ℕ coded_ℕ)))
-    (λ k. (k.carrier, (k.minute, (k.id, k.attempt)))) (λ t. record { carrier = t.0; minute = t.1.0; id = t.1.1.0; attempt = t.1.1.1 }) (λ k. refl)
+coded_wait_key =
+    code_by (ℕ × (ℕ × (ℕ × ℕ))) (coded× coded_ℕ (coded× coded_ℕ (coded× coded_ℕ coded_ℕ)))
+    (λ k. (k.carrier, (k.minute, (k.id, k.attempt)))) (λ t. record {
+      carrier = t.0;
+      minute = t.1.0;
+      id = t.1.1.0;
+      attempt = t.1.1.1;
+    }) (λ k. refl)
 
 pub subject_cases : Subject → ℕ ⊎ ℕ
 subject_cases (Number n) = inl n
@@ -162,8 +182,13 @@ abbrev pub row_key_in : DownloadKeyCode → RowKeyCode
 row_key_in b = record { minute = b.minute.number; id = b.id; attempt = b.attempt }
 
 abbrev pub is_for : List (RowKeyCode × WaitingCode) → DownloadKeyCode → Spid → SubjectCode → Bool
-is_for rows b carrier subject = is_subject (subject_of subject) (awaited (option_map waiting_of (row_in rows (row_key_in b))) carrier.number)
+is_for rows b carrier subject =
+    is_subject (subject_of subject) (awaited (option_map waiting_of (row_in rows (row_key_in b)))
+    carrier.number)
 
 -- a broadcast of the index, if it is about the subject and waits for the carrier
-abbrev pub listed_about : List (RowKeyCode × WaitingCode) → Spid → SubjectCode → SubjectDownloadCode → Option DownloadKeyCode
-listed_about rows carrier subject k = if (rank_key k.rank == key_of subject) && is_for rows (download_in k) carrier subject then Some (download_in k) else None
+abbrev pub listed_about : List (RowKeyCode × WaitingCode) → Spid → SubjectCode → SubjectDownloadCode
+    → Option DownloadKeyCode
+listed_about rows carrier subject k =
+    if (rank_key k.rank == key_of subject) && is_for rows (download_in k) carrier subject
+    then Some (download_in k) else None

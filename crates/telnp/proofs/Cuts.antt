@@ -21,9 +21,13 @@ pub cut-none : (mark : ℕ) (bs : List ℕ) → Lacks mark bs → cut mark bs �
 cut-none mark [] h = refl
 cut-none mark (b ∷ bs) h = rw (lacks_head mark b bs h, cut-none mark bs (lacks_tail mark b bs h))
 
-pub cut-found : (mark : ℕ) (front bs : List ℕ) → Lacks mark front → cut mark (front ++ mark ∷ bs) ≡ Some (front, bs)
+pub cut-found : (mark : ℕ) (front bs : List ℕ) → Lacks mark front
+    → cut mark (front ++ mark ∷ bs) ≡ Some (front, bs)
 cut-found mark [] bs h = rw (same_number mark)
-cut-found mark (b ∷ front) bs h = rw (lacks_head mark b front h, cut-found mark front bs (lacks_tail mark b front h))
+cut-found mark (b ∷ front) bs h = rw (
+  lacks_head mark b front h,
+  cut-found mark front bs (lacks_tail mark b front h),
+)
 
 pub cut_once : (mark : ℕ) (bs : List ℕ) (r : Option (Bor (List ℕ) × Bor (List ℕ)))
     → MatchOption r (Lacks mark bs) (λ x. (bs ≡ x.0.now ++ (mark ∷ x.1.now)) × Lacks mark x.0.now)
@@ -39,8 +43,10 @@ abbrev pub HasParts : List ℕ → List (List ℕ) → ℕ → Option Cut → Ty
 HasParts bs ps mark None = ps ≡ bs ∷ []
 HasParts bs ps mark (Some p) = (ps ≡ p.0 ∷ parts mark p.1) × (length p.1 < length bs)
 
-at_head : (mark b : ℕ) (bs : List ℕ) (test : Bool) (found : Option Cut) → HasParts bs (parts mark bs) mark found
-    → HasParts (b ∷ bs) (cond test ([] ∷ parts mark bs) (onto_first b (parts mark bs))) mark (cond test (Some ([], bs)) (option_map (λ (p : Cut). (b ∷ p.0, p.1)) found))
+at_head : (mark b : ℕ) (bs : List ℕ) (test : Bool) (found : Option Cut)
+    → HasParts bs (parts mark bs) mark found
+    → HasParts (b ∷ bs) (cond test ([] ∷ parts mark bs) (onto_first b (parts mark bs))) mark
+    (cond test (Some ([], bs)) (option_map (λ (p : Cut). (b ∷ p.0, p.1)) found))
 at_head mark b bs true found h = (refl, omega arith)
 at_head mark b bs false None h = rw h
 at_head mark b bs false (Some p) h = (rw h.0, omega (arith, h.1))

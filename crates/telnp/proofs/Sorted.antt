@@ -10,9 +10,11 @@ placed_permutes : (p : List ℕ) (xs : List (List ℕ)) → IsPermutation (p ∷
 placed_permutes p [] = IsPermutation-refl (p ∷ [])
 placed_permutes p (q ∷ more) = at_test (goes_before p q) (placed_permutes p more)
   where
-    at_test : (b : Bool) → IsPermutation (p ∷ more) (placed p more) → IsPermutation (p ∷ q ∷ more) (cond b (p ∷ q ∷ more) (q ∷ placed p more))
+    at_test : (b : Bool) → IsPermutation (p ∷ more) (placed p more)
+        → IsPermutation (p ∷ q ∷ more) (cond b (p ∷ q ∷ more) (q ∷ placed p more))
     at_test true h = IsPermutation-refl (p ∷ q ∷ more)
-    at_test false h = IsPermutation-trans (p ∷ q ∷ more) (q ∷ p ∷ more) (q ∷ placed p more) (IsPermutation-middle (p ∷ []) q more) (IsPermutation-cons q (p ∷ more) (placed p more) h)
+    at_test false h = IsPermutation-trans (p ∷ q ∷ more) (q ∷ p ∷ more) (q ∷ placed p more)
+        (IsPermutation-middle (p ∷ []) q more) (IsPermutation-cons q (p ∷ more) (placed p more) h)
 
 -- the first of the list, if there is one, does not go before the other
 abbrev Follows : List ℕ → List (List ℕ) → Type 0
@@ -26,7 +28,8 @@ Rises (x ∷ more) = Follows x more × Rises more
 asymmetric : (a b : List ℕ) → goes_before a b ≡ true → goes_before b a ≡ false
 asymmetric a b h = (ranks_by nat_list_cmp_total order_key).one_way a b h
 
-follows_placed : (x p : List ℕ) (more : List (List ℕ)) → goes_before p x ≡ false → Follows x more → Follows x (placed p more)
+follows_placed : (x p : List ℕ) (more : List (List ℕ)) → goes_before p x ≡ false → Follows x more
+    → Follows x (placed p more)
 follows_placed x p [] h f = h
 follows_placed x p (y ∷ more) h f = at_test (goes_before p y)
   where
@@ -38,7 +41,8 @@ placed_rises : (p : List ℕ) (xs : List (List ℕ)) → Rises xs → Rises (pla
 placed_rises p [] h = (tt, tt)
 placed_rises p (q ∷ more) h = at_test (goes_before p q) refl h (placed_rises p more h.1)
   where
-    at_test : (b : Bool) → goes_before p q ≡ b → Rises (q ∷ more) → Rises (placed p more) → Rises (cond b (p ∷ q ∷ more) (q ∷ placed p more))
+    at_test : (b : Bool) → goes_before p q ≡ b → Rises (q ∷ more) → Rises (placed p more)
+        → Rises (cond b (p ∷ q ∷ more) (q ∷ placed p more))
     at_test true e h k = (asymmetric p q e, h)
     at_test false e h k = (follows_placed q p more e h.0, k)
 
@@ -47,21 +51,26 @@ rises_sorted [] h = λ k d low high. absurd (omega arith)
 rises_sorted (x ∷ []) h = λ k d low high. absurd (omega arith)
 rises_sorted (x ∷ y ∷ more) h = λ k d low high. at_place k d high (rises_sorted (y ∷ more) h.1)
   where
-    at_place : (k : ℕ) (d : List ℕ) → k + 1 < suc (suc (length more)) → IsSortedBy goes_before (y ∷ more)
+    at_place : (k : ℕ) (d : List ℕ) → k + 1 < suc (suc (length more))
+        → IsSortedBy goes_before (y ∷ more)
         → goes_before (get_or (x ∷ y ∷ more) (k + 1) d) (get_or (x ∷ y ∷ more) k d) ≡ false
     at_place zero d high sorted = h.0
     at_place (suc k) d high sorted =
         let e : suc k + 1 ≡ suc (k + 1) = omega arith in
         let same : get_or (y ∷ more) (k + 1) d ≡ get_or (x ∷ y ∷ more) (suc k + 1) d = rw e refl in
-        subst (λ t. goes_before t (get_or (y ∷ more) k d) ≡ false) same (sorted k d (omega arith) (omega arith))
+        subst (λ t. goes_before t (get_or (y ∷ more) k d) ≡ false) same
+        (sorted k d (omega arith) (omega arith))
 
-all_placed_permutes : (done parts : List (List ℕ)) → IsPermutation (done ++ parts) (all_placed done parts)
+all_placed_permutes : (done parts : List (List ℕ))
+    → IsPermutation (done ++ parts) (all_placed done parts)
 all_placed_permutes done [] = rw (append-nil done) (IsPermutation-refl done)
 all_placed_permutes done (p ∷ parts) =
     let to_front = IsPermutation-middle done p parts in
     let put = IsPermutation-append_left parts (p ∷ done) (placed p done) (placed_permutes p done) in
-    IsPermutation-trans (done ++ p ∷ parts) (p ∷ (done ++ parts)) (all_placed (placed p done) parts) to_front
-    (IsPermutation-trans (p ∷ (done ++ parts)) (placed p done ++ parts) (all_placed (placed p done) parts) put (all_placed_permutes (placed p done) parts))
+    IsPermutation-trans (done ++ p ∷ parts) (p ∷ (done ++ parts)) (all_placed (placed p done) parts)
+    to_front
+    (IsPermutation-trans (p ∷ (done ++ parts)) (placed p done ++ parts)
+    (all_placed (placed p done) parts) put (all_placed_permutes (placed p done) parts))
 
 all_placed_rises : (done parts : List (List ℕ)) → Rises done → Rises (all_placed done parts)
 all_placed_rises done [] h = h

@@ -14,7 +14,8 @@ pub record Uri : Type 0 where
   pub number : List ℕ
   pub parameters : List (List ℕ)
 
--- `ext`, `isub` and `phone-context` come first, in this order, and then all others (RFC 3966, section 3)
+-- `ext`, `isub` and `phone-context` come first, in this order, and then all others (RFC 3966,
+-- section 3)
 abbrev pub rank : List ℕ → ℕ
 rank name =
     if same_name name (codes "ext") then 0
@@ -22,7 +23,8 @@ rank name =
     else if same_name name (codes "phone-context") then 2
     else 3
 
--- what parameters are ordered by: the rank of the name, and then the name in lower case, byte for byte
+-- what parameters are ordered by: the rank of the name, and then the name in lower case, byte for
+-- byte
 abbrev pub order_key : List ℕ → List ℕ
 order_key part = rank (name_of part) ∷ lower (name_of part)
 
@@ -57,11 +59,13 @@ kept = filter is_kept
 -- the carrier's code, where the text has none
 abbrev pub added_carrier : List (List ℕ) → Option ℕ → List (List ℕ)
 added_carrier parameters None = []
-added_carrier parameters (Some cic) = if has_name (codes "cic") parameters then [] else (codes "cic=+1" ++ cic_text cic) ∷ []
+added_carrier parameters (Some cic) = if has_name (codes "cic") parameters then []
+    else (codes "cic=+1" ++ cic_text cic) ∷ []
 
 abbrev pub added_routing : List (List ℕ) → Option Routing → List (List ℕ)
 added_routing parameters None = []
-added_routing parameters (Some r) = (codes "rn=+1" ++ lrn_text r.lrn) ∷ added_carrier parameters r.cic
+added_routing parameters (Some r) =
+    (codes "rn=+1" ++ lrn_text r.lrn) ∷ added_carrier parameters r.cic
 
 -- what is added: `npdi`, and with a routing its `rn` and its `cic` (RFC 4694, section 5)
 abbrev pub added : List (List ℕ) → Option Routing → List (List ℕ)
@@ -71,7 +75,8 @@ added parameters routing = codes "npdi" ∷ added_routing parameters routing
 abbrev pub answer_parameters : List (List ℕ) → Option Routing → List (List ℕ)
 answer_parameters parameters routing = in_order (kept parameters ++ added parameters routing)
 
--- the text itself where it has `npdi`, and else `tel:`, the number part as it is written and the parameters
+-- the text itself where it has `npdi`, and else `tel:`, the number part as it is written and the
+-- parameters
 abbrev pub answer_text : Uri → Option Routing → List ℕ
 answer_text uri routing =
     if has_name (codes "npdi") uri.parameters then uri.text

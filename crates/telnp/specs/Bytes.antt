@@ -1,4 +1,5 @@
--- The bytes of a tel URI, after the grammar of RFC 3966, section 3. Each is the code of an ASCII character.
+-- The bytes of a tel URI, after the grammar of RFC 3966, section 3. Each is the code of an ASCII
+-- character.
 use Rattle.std.specs.Prelude.{ℕ, Bool, ◌==◌, ◌||◌, ◌&&◌, nat_le}
 
 -- the byte stands in a range
@@ -32,5 +33,7 @@ is_name_byte b = is_letter b || is_digit b || (b == 45)
 -- paramchar, but for pct-encoded: unreserved (letters, digits, `-` `_` `.` `!` `~` `*` `'` `(` `)`)
 -- and param-unreserved (`[` `]` `/` `:` `&` `+` `$`)
 abbrev pub is_value_byte : ℕ → Bool
-is_value_byte b = is_letter b || is_digit b || (b == 45) || (b == 95) || (b == 46) || (b == 33) || (b == 126) || (b == 42)
-    || (b == 39) || (b == 40) || (b == 41) || (b == 91) || (b == 93) || (b == 47) || (b == 58) || (b == 38) || (b == 43) || (b == 36)
+is_value_byte b = is_letter b || is_digit b || (b == 45) || (b == 95) || (b == 46) || (b == 33)
+    || (b == 126) || (b == 42)
+    || (b == 39) || (b == 40) || (b == 41) || (b == 91) || (b == 93) || (b == 47) || (b == 58)
+    || (b == 38) || (b == 43) || (b == 36)

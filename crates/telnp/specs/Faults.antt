@@ -29,11 +29,13 @@ parameter_parts rest = option_map_or (λ p. parts 59 p.1) (cut 59 rest) []
 
 -- the fault of a number part, if it is no global number
 abbrev pub fault_in_number : List ℕ → Option TelFault
-fault_in_number bs = if is_global bs then None else if is_local bs then Some LocalNumber else Some BadNumber
+fault_in_number bs = if is_global bs then None else if is_local bs then Some LocalNumber
+    else Some BadNumber
 
 -- the fault of the parameters: the form of each is tested before any is tested for coming twice
 abbrev pub fault_in_parts : List (List ℕ) → Option TelFault
-fault_in_parts ps = if list_all is_parameter ps then (if repeats ps then Some ParameterTwice else None) else Some BadParameter
+fault_in_parts ps = if list_all is_parameter ps then (if repeats ps then Some ParameterTwice
+    else None) else Some BadParameter
 
 abbrev pub first_fault : Option TelFault → Option TelFault → Option TelFault
 first_fault None second = second
@@ -42,7 +44,8 @@ first_fault (Some f) second = Some f
 -- the fault of what follows `tel:`, the number part's first
 abbrev pub fault_in_rest : Option (List ℕ) → Option TelFault
 fault_in_rest None = Some NotTel
-fault_in_rest (Some rest) = first_fault (fault_in_number (number_of rest)) (fault_in_parts (parameter_parts rest))
+fault_in_rest (Some rest) =
+    first_fault (fault_in_number (number_of rest)) (fault_in_parts (parameter_parts rest))
 
 -- the first fault of a text, if it has one
 abbrev pub fault_of : List ℕ → Option TelFault

@@ -9,7 +9,8 @@ use Rattle.telnp.specs.Bytes.{is_digit, is_hex, is_separator, is_local_mark, is_
 -- what stands before and after the first of these bytes
 abbrev pub cut : ℕ → List ℕ → Option (List ℕ × List ℕ)
 cut mark [] = None
-cut mark (b ∷ bs) = if b == mark then Some ([], bs) else option_map (λ p. (b ∷ p.0, p.1)) (cut mark bs)
+cut mark (b ∷ bs) = if b == mark then Some ([], bs)
+    else option_map (λ p. (b ∷ p.0, p.1)) (cut mark bs)
 
 -- the text in lower case
 abbrev pub lower : List ℕ → List ℕ
@@ -22,17 +23,21 @@ same_name a b = bytes_eq (lower a) (lower b)
 -- global-number-digits: `+`, then digits and separators with at least one digit
 abbrev pub is_global : List ℕ → Bool
 is_global [] = false
-is_global (b ∷ bs) = (b == 43) && list_all (λ d. is_digit d || is_separator d) bs && list_any is_digit bs
+is_global (b ∷ bs) = (b == 43) && list_all (λ d. is_digit d || is_separator d) bs && list_any
+    is_digit bs
 
--- local-number-digits: hexadecimal digits in either case, `*`, `#` and separators, at least one of them no separator
+-- local-number-digits: hexadecimal digits in either case, `*`, `#` and separators, at least one of
+-- them no separator
 abbrev pub is_local : List ℕ → Bool
-is_local bs = list_all (λ d. is_hex d || is_local_mark d || is_separator d) bs && list_any (λ d. not (is_separator d)) bs
+is_local bs = list_all (λ d. is_hex d || is_local_mark d || is_separator d) bs && list_any
+    (λ d. not (is_separator d)) bs
 
 -- pname: one or more letters, digits and `-`
 abbrev pub is_name : List ℕ → Bool
 is_name bs = not (length bs == 0) && list_all is_name_byte bs
 
--- how many hexadecimal digits are wanted after a byte, where it may stand, and how many were wanted before it:
+-- how many hexadecimal digits are wanted after a byte, where it may stand, and how many were wanted
+-- before it:
 -- two after `%` (pct-encoded)
 abbrev pub wanted_after : ℕ → ℕ → Option ℕ
 wanted_after wanted b =
@@ -43,7 +48,8 @@ wanted_after wanted b =
 -- paramchars, where so many hexadecimal digits are wanted first
 abbrev pub is_value_rest : ℕ → List ℕ → Bool
 is_value_rest wanted [] = wanted == 0
-is_value_rest wanted (b ∷ bs) = option_map_or (λ next. is_value_rest next bs) (wanted_after wanted b) false
+is_value_rest wanted (b ∷ bs) =
+    option_map_or (λ next. is_value_rest next bs) (wanted_after wanted b) false
 
 -- pvalue: one or more paramchars, that is value bytes and `%` with two hexadecimal digits
 abbrev pub is_value : List ℕ → Bool
@@ -67,7 +73,8 @@ name_of part = (parameter_of part).name
 
 -- one of the names that must have a value: `rn`, `cic`, `rn-context` and `cic-context` of RFC 4694
 abbrev pub wants_value : List ℕ → Bool
-wants_value name = same_name name (codes "rn") || same_name name (codes "cic") || same_name name (codes "rn-context") || same_name name (codes "cic-context")
+wants_value name = same_name name (codes "rn") || same_name name (codes "cic") || same_name name
+    (codes "rn-context") || same_name name (codes "cic-context")
 
 -- a name without a value may not be one that must have one; `npdi` of RFC 4694 has none
 abbrev pub is_valued : List ℕ → Option (List ℕ) → Bool
@@ -76,7 +83,8 @@ is_valued name (Some v) = is_value v && not (same_name name (codes "npdi"))
 
 -- parameter: a name, or a name, `=` and a value
 abbrev pub is_parameter : List ℕ → Bool
-is_parameter part = is_name (parameter_of part).name && is_valued (parameter_of part).name (parameter_of part).value
+is_parameter part = is_name (parameter_of part).name && is_valued (parameter_of part).name
+    (parameter_of part).value
 
 -- one of the parameters has this name
 abbrev pub has_name : List ℕ → List (List ℕ) → Bool

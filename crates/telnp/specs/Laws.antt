@@ -14,13 +14,15 @@ use Rattle.telnp.specs.Answer.{order_key, kept, added, answer_parameters}
 
 -- each text of the grammar has no fault, and is read into exactly these parts
 abbrev pub TelUrisAreRead : Type 0
-TelUrisAreRead = (text number : List ℕ) (parameters : List (List ℕ)) → IsTelUri text number parameters → IsRead text number parameters
+TelUrisAreRead = (text number : List ℕ) (parameters : List (List ℕ))
+    → IsTelUri text number parameters → IsRead text number parameters
 
 -- none of the bytes is the mark
 abbrev pub holds_no : ℕ → List ℕ → Bool
 holds_no mark = list_all (λ b. not (b == mark))
 
--- a text of at most 2,048 bytes that begins with `tel:`, cut up at its semicolons: what stands before the first of them,
+-- a text of at most 2,048 bytes that begins with `tel:`, cut up at its semicolons: what stands
+-- before the first of them,
 -- and what stands behind each
 pub record IsCutUp (text number : List ℕ) (parameters : List (List ℕ)) : Type 0 where
   pub scheme : List ℕ
@@ -32,23 +34,31 @@ pub record IsCutUp (text number : List ℕ) (parameters : List (List ℕ)) : Typ
 
 -- the text begins with `tel:`, its number part is this one, and so are its parameters
 abbrev pub CutsInto : List ℕ → (List ℕ → List (List ℕ) → Type 0) → Type 0
-CutsInto text Holds = (number : List ℕ) × (parameters : List (List ℕ)) × (IsCutUp text number parameters) × (Holds number parameters)
+CutsInto text Holds = (number : List ℕ) × (parameters : List (List ℕ))
+    × (IsCutUp text number parameters) × (Holds number parameters)
 
 -- the text has this fault, and none that is tested for before it
 abbrev pub HasFault : TelFault → List ℕ → Type 0
 HasFault TooLong text = 2048 < length text
-HasFault NotTel text = (length text ≤ 2048) × ((scheme rest : List ℕ) → text ≡ scheme ++ 58 ∷ rest → lower scheme ≡ codes "tel" → ⊥)
-HasFault LocalNumber text = CutsInto text (λ number parameters. (is_global number ≡ false) × (is_local number ≡ true))
-HasFault BadNumber text = CutsInto text (λ number parameters. (is_global number ≡ false) × (is_local number ≡ false))
-HasFault BadParameter text = CutsInto text (λ number parameters. (is_global number ≡ true) × (list_all is_parameter parameters ≡ false))
+HasFault NotTel text = (length text ≤ 2048) × ((scheme rest : List ℕ) → text ≡ scheme ++ 58 ∷ rest
+    → lower scheme ≡ codes "tel" → ⊥)
+HasFault LocalNumber text = CutsInto text (λ number parameters. (is_global number ≡ false)
+    × (is_local number ≡ true))
+HasFault BadNumber text = CutsInto text (λ number parameters. (is_global number ≡ false)
+    × (is_local number ≡ false))
+HasFault BadParameter text = CutsInto text (λ number parameters. (is_global number ≡ true)
+    × (list_all is_parameter parameters ≡ false))
 HasFault ParameterTwice text = CutsInto text (λ number parameters.
-    (is_global number ≡ true) × (list_all is_parameter parameters ≡ true) × (repeats parameters ≡ true))
+    (is_global number ≡ true) × (list_all is_parameter parameters ≡ true)
+    × (repeats parameters ≡ true))
 
 -- each fault is told exactly where it stands in the order of tests
 abbrev pub FaultsAreInOrder : Type 0
-FaultsAreInOrder = (text : List ℕ) (fault : TelFault) → (fault_of text ≡ Some fault) ↔ HasFault fault text
+FaultsAreInOrder = (text : List ℕ) (fault : TelFault)
+    → (fault_of text ≡ Some fault) ↔ HasFault fault text
 
--- the same parameters, each as it is written, with the ranks of their names rising, and under one rank their names in
+-- the same parameters, each as it is written, with the ranks of their names rising, and under one
+-- rank their names in
 -- lower case
 pub record IsInOrder (parameters ordered : List (List ℕ)) : Type 0 where
   pub same : IsPermutation parameters ordered

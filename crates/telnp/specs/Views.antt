@@ -20,7 +20,10 @@ abbrev pub uri_of : TelUri → Uri
 uri_of u = record { text = u.text.now; number = u.number.now; parameters = parts_in u.parameters }
 
 abbrev pub parameter_seen : ParameterCode → Parameter
-parameter_seen p = record { name = p.name.now; value = option_map (λ (v : Bor (List ℕ)). v.now) p.value }
+parameter_seen p = record {
+  name = p.name.now;
+  value = option_map (λ (v : Bor (List ℕ)). v.now) p.value;
+}
 
 -- the parameters that an iterator has left
 abbrev pub parameters_left : Parameters → List Parameter

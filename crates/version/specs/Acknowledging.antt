@@ -24,4 +24,5 @@ is_sending Canceled = false
 
 -- the version whose newest broadcast got its last acknowledgement, or stays
 abbrev pub completed_if : WindowSet → Bool → (minute : ℕ) → Version → Version
-completed_if present completes minute v = if completes then completed present v.status minute v else v
+completed_if present completes minute v = if completes then completed present v.status minute v
+    else v

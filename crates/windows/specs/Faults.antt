@@ -45,5 +45,7 @@ pub record IsLeastFault (document : Option Members) (f : WindowFault) : Type 0 w
 
 -- `fault_of` is the least fault that a text has, and nothing where it has none
 pub record IsFaultOfLeast : Type 0 where
-  pub some : (document : Option Members) (f : WindowFault) → fault_of document ≡ Some f → IsLeastFault document f
-  pub none : (document : Option Members) (f : WindowFault) → fault_of document ≡ None → ¬ (Holds document f)
+  pub some : (document : Option Members) (f : WindowFault) → fault_of document ≡ Some f
+      → IsLeastFault document f
+  pub none : (document : Option Members) (f : WindowFault) → fault_of document ≡ None
+      → ¬ (Holds document f)

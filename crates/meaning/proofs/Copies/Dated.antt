@@ -13,25 +13,32 @@ use Rattle.meaning.specs.Windows.{WindowSet}
 abbrev pub AllBy : ℕ → List Broadcast → Type 0
 AllBy m bs = AllByRecursion (λ (b : Broadcast). b.minute ≤ m) bs
 
-by_each : (f : Broadcast → Broadcast) → ((b : Broadcast) → (f b).minute ≡ b.minute) → (m : ℕ) (bs : List Broadcast) → AllBy m bs → AllBy m (map f bs)
+by_each : (f : Broadcast → Broadcast) → ((b : Broadcast) → (f b).minute ≡ b.minute)
+    → (m : ℕ) (bs : List Broadcast) → AllBy m bs → AllBy m (map f bs)
 by_each f same m [] by = tt
 by_each f same m (b ∷ bs) by = (subst (λ k. k ≤ m) (sym (same b)) by.0, by_each f same m bs by.1)
 
-answered_dated : (c attempt m : ℕ) (bs : List Broadcast) → AllBy m bs → AllBy m (map (acknowledged_broadcast c attempt) bs)
-answered_dated c attempt = by_each (acknowledged_broadcast c attempt) (λ b. go b (b.attempt == attempt))
+answered_dated : (c attempt m : ℕ) (bs : List Broadcast) → AllBy m bs
+    → AllBy m (map (acknowledged_broadcast c attempt) bs)
+answered_dated c attempt =
+    by_each (acknowledged_broadcast c attempt) (λ b. go b (b.attempt == attempt))
   where
-    go : (b : Broadcast) (t : Bool) → (if t then record b { acknowledged = with_number c b.acknowledged } else b).minute ≡ b.minute
+    go : (b : Broadcast) (t : Bool)
+        → (if t then record b { acknowledged = with_number c b.acknowledged } else b).minute
+        ≡ b.minute
     go b true = refl
     go b false = refl
 
 joined_dated : (c m : ℕ) (bs : List Broadcast) → AllBy m bs → AllBy m (map (joined_broadcast c) bs)
 joined_dated c = by_each (joined_broadcast c) (λ b. go b (is_open_broadcast b))
   where
-    go : (b : Broadcast) (t : Bool) → (if t then record b { recipients = with_number c b.recipients } else b).minute ≡ b.minute
+    go : (b : Broadcast) (t : Bool)
+        → (if t then record b { recipients = with_number c b.recipients } else b).minute ≡ b.minute
     go b true = refl
     go b false = refl
 
-closed_dated : (m : ℕ) (outcome : Outcome) (bs : List Broadcast) → AllBy m bs → AllBy m (on_newest (λ b. record b { outcome = outcome }) bs)
+closed_dated : (m : ℕ) (outcome : Outcome) (bs : List Broadcast) → AllBy m bs
+    → AllBy m (on_newest (λ b. record b { outcome = outcome }) bs)
 closed_dated m outcome [] by = tt
 closed_dated m outcome (b ∷ bs) by = by
 
@@ -58,6 +65,8 @@ dated_kept w = record {
   modified = λ routing m cs v may is. (omega arith, is);
   ended = λ action m cs v from is. closed_dated m (outcome_at_end v.broadcasts) v.broadcasts is;
   answered = λ c attempt m cs v may is. answered_dated c attempt m v.broadcasts is;
-  closed = λ c attempt action m cs v may is. closed_dated m AllAcknowledged (map (acknowledged_broadcast c attempt) v.broadcasts) (answered_dated c attempt m v.broadcasts is);
+  closed = λ c attempt action m cs v may is. closed_dated m AllAcknowledged
+      (map (acknowledged_broadcast c attempt) v.broadcasts) (answered_dated c attempt m v.broadcasts
+      is);
   whole = λ c attempt m cs v may is. answered_dated c attempt m v.broadcasts is;
 }

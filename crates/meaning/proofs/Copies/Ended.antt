@@ -1,4 +1,5 @@
--- In every record all broadcasts of an old version are closed, and where no version in front of an old one is or was in force its last word is that there is no routing.
+-- In every record all broadcasts of an old version are closed, and where no version in front of an
+-- old one is or was in force its last word is that there is no routing.
 use Rattle.std.proofs.Common.{◌≡◌, ℕ, suc, Bool, true, false, not, ◌&&◌, List, [], ◌∷◌, map, Option, Some, None, refl, ap, sym, ◌∙◌, subst}
 use Rattle.std.specs.Prelude.{⊤, ◌==◌, nat_lt, if◌then◌else◌}
 use Rattle.std.specs.List.{AllByRecursion}
@@ -34,13 +35,16 @@ use Rattle.meaning.proofs.Copies.Served.{is_old, is_served, Follows, stays_out, 
 
 -- ---- what an old version's broadcasts keep
 
-module _ (w : WindowSet) (R : List Broadcast → Type 0) (said : (bs : List Broadcast) → Says None bs → R bs)
-    (stays : (f : Broadcast → Broadcast) → ((b : Broadcast) → ((f b).outcome ≡ b.outcome) × ((f b).routing ≡ b.routing)) → (bs : List Broadcast) → R bs → R (map f bs)) where
+module _ (w : WindowSet) (R : List Broadcast → Type 0) (said : (bs : List Broadcast) → Says None bs
+    → R bs)
+    (stays : (f : Broadcast → Broadcast) → ((b : Broadcast) → ((f b).outcome ≡ b.outcome)
+    × ((f b).routing ≡ b.routing)) → (bs : List Broadcast) → R bs → R (map f bs)) where
   abbrev WhereOld : Version → Type 0
   WhereOld v = is_old v.status ≡ true → R v.broadcasts
 
   -- what closes and becomes old was a delete
-  closing_old : (action : Send) (outcome : Outcome) (routing : Option Routing) (bs : List Broadcast) → IsToldAs (Sending action) routing bs → is_old (status_after action outcome) ≡ true →
+  closing_old : (action : Send) (outcome : Outcome) (routing : Option Routing) (bs : List Broadcast)
+      → IsToldAs (Sending action) routing bs → is_old (status_after action outcome) ≡ true →
       R (on_newest (λ b. record b { outcome = outcome }) bs)
   closing_old Create Open routing bs told is = cc
   closing_old Create AllAcknowledged routing bs told is = cc
@@ -52,35 +56,51 @@ module _ (w : WindowSet) (R : List Broadcast → Type 0) (said : (bs : List Broa
   closing_old (Modify put) NoneAcknowledged routing bs told is = cc
   closing_old Delete Open routing bs told is = cc
   closing_old Delete NoneAcknowledged routing bs told is = cc
-  closing_old Delete AllAcknowledged routing bs told is = said _ (closing_says None (Says routing) (λ xs says. says.0) AllAcknowledged refl refl bs told)
-  closing_old Delete SomeAcknowledged routing bs told is = said _ (closing_says None (Says routing) (λ xs says. says.0) SomeAcknowledged refl refl bs told)
+  closing_old Delete AllAcknowledged routing bs told is =
+      said _ (closing_says None (Says routing) (λ xs says. says.0) AllAcknowledged refl refl bs
+      told)
+  closing_old Delete SomeAcknowledged routing bs told is =
+      said _ (closing_says None (Says routing) (λ xs says. says.0) SomeAcknowledged refl refl bs
+      told)
 
-  judged_old : (everyone : List ℕ) (j : ℕ) (v : Version) → IsTold v → WhereOld v → WhereOld (judged_version w everyone j v)
+  judged_old : (everyone : List ℕ) (j : ℕ) (v : Version) → IsTold v → WhereOld v
+      → WhereOld (judged_version w everyone j v)
   unfolding judged_version
   judged_old everyone j v told keeps = go (is_over j v v.status) v.status refl
     where
-      go : (b : Bool) (status : Status) → v.status ≡ status → WhereOld (if b then ended w everyone j v status else v)
+      go : (b : Bool) (status : Status) → v.status ≡ status
+          → WhereOld (if b then ended w everyone j v status else v)
       go false status e = keeps
       go true Pending e = λ is. cc
       go true Conflict e = λ is. cc
       go true (CancelPending OldProvider) e = λ is. cc
       go true (CancelPending NewProvider) e = λ is. cc
       go true (DisconnectPending release) e = λ is. cc
-      go true (Sending action) e = closing_old action (outcome_at_end v.broadcasts) v.routing v.broadcasts (told_in v (Sending action) e told)
+      go true (Sending action) e =
+          closing_old action (outcome_at_end v.broadcasts) v.routing v.broadcasts
+          (told_in v (Sending action) e told)
       go true _ e = keeps
 
   either : (b : Bool) (u v : Version) → WhereOld u → WhereOld v → WhereOld (if b then u else v)
   either true u v one other = one
   either false u v one other = other
 
-  cancelled_old : (caller minute : ℕ) (v : Version) → WhereOld v → (status : Status) → WhereOld (cancelled_by w status caller minute v)
-  cancelled_old caller minute v keeps Pending = either (has_both_creates v.old_at v.new_at) (enters w (CancelPending (side_of caller v.old_provider)) minute v) (enters w Canceled minute v) (λ is. cc) (λ is. cc)
-  cancelled_old caller minute v keeps Conflict = either (has_both_creates v.old_at v.new_at) (enters w (CancelPending (side_of caller v.old_provider)) minute v) (enters w Canceled minute v) (λ is. cc) (λ is. cc)
+  cancelled_old : (caller minute : ℕ) (v : Version) → WhereOld v → (status : Status)
+      → WhereOld (cancelled_by w status caller minute v)
+  cancelled_old caller minute v keeps Pending =
+      either (has_both_creates v.old_at v.new_at)
+      (enters w (CancelPending (side_of caller v.old_provider)) minute v)
+      (enters w Canceled minute v) (λ is. cc) (λ is. cc)
+  cancelled_old caller minute v keeps Conflict =
+      either (has_both_creates v.old_at v.new_at)
+      (enters w (CancelPending (side_of caller v.old_provider)) minute v)
+      (enters w Canceled minute v) (λ is. cc) (λ is. cc)
   cancelled_old caller minute v keeps Failed = λ is. cc
   cancelled_old caller minute v keeps (DisconnectPending release) = λ is. cc
   cancelled_old caller minute v keeps _ = keeps
 
-  change_old : (caller minute : ℕ) (everyone : List ℕ) (c : VersionCommand) (v : Version) → WhereOld v → WhereOld (change_of w caller minute everyone c v)
+  change_old : (caller minute : ℕ) (everyone : List ℕ) (c : VersionCommand) (v : Version)
+      → WhereOld v → WhereOld (change_of w caller minute everyone c v)
   change_old caller minute everyone Activate v keeps = λ is. cc
   change_old caller minute everyone PutInConflict v keeps = λ is. cc
   change_old caller minute everyone RemoveFromConflict v keeps = λ is. cc
@@ -88,34 +108,56 @@ module _ (w : WindowSet) (R : List Broadcast → Type 0) (said : (bs : List Broa
   change_old caller minute everyone OldProviderCancellationAcknowledge v keeps = λ is. cc
   change_old caller minute everyone NewProviderCancellationAcknowledge v keeps = λ is. cc
   change_old caller minute everyone (Disconnect None) v keeps = λ is. cc
-  change_old caller minute everyone (Disconnect (Some release)) v keeps = either (nat_lt minute release) (enters w (DisconnectPending release) minute v) (sent w Delete everyone minute v) (λ is. cc) (λ is. cc)
+  change_old caller minute everyone (Disconnect (Some release)) v keeps =
+      either (nat_lt minute release) (enters w (DisconnectPending release) minute v)
+      (sent w Delete everyone minute v) (λ is. cc) (λ is. cc)
   change_old caller minute everyone (ModifyRouting lrn cic) v keeps = λ is. cc
 
-  acknowledged_old : (c attempt minute : ℕ) (v : Version) → IsTold v → WhereOld v → WhereOld (acknowledged_by w c attempt minute v)
+  acknowledged_old : (c attempt minute : ℕ) (v : Version) → IsTold v → WhereOld v
+      → WhereOld (acknowledged_by w c attempt minute v)
   acknowledged_old c attempt minute v told keeps =
-      either (nobody_is_missing (answered_by c attempt v).broadcasts) (completed w v.status minute (answered_by c attempt v)) (answered_by c attempt v) (go v.status refl) still
+      either (nobody_is_missing (answered_by c attempt v).broadcasts)
+      (completed w v.status minute (answered_by c attempt v)) (answered_by c attempt v)
+      (go v.status refl) still
     where
       still : WhereOld (answered_by c attempt v)
-      still = λ is. stays (acknowledged_broadcast c attempt) (answered_same c attempt) v.broadcasts (keeps is)
+      still = λ is. stays (acknowledged_broadcast c attempt) (answered_same c attempt) v.broadcasts
+          (keeps is)
 
-      go : (status : Status) → v.status ≡ status → WhereOld (completed w status minute (answered_by c attempt v))
-      go (Sending action) e = closing_old action AllAcknowledged v.routing (answered_by c attempt v).broadcasts (answered_told c attempt (Sending action) v.routing v.broadcasts (told_in v (Sending action) e told))
+      go : (status : Status) → v.status ≡ status
+          → WhereOld (completed w status minute (answered_by c attempt v))
+      go (Sending action) e =
+          closing_old action AllAcknowledged v.routing (answered_by c attempt v).broadcasts
+          (answered_told c attempt (Sending action) v.routing v.broadcasts
+          (told_in v (Sending action) e told))
       go PartialFailure e = λ is. cc
       go _ e = still
 
-  done_old : (s : Subject) (caller minute : ℕ) (everyone : List ℕ) (request : Request) (v : Version) → IsTold v → WhereOld v → WhereOld (done_to w s caller minute everyone request v)
-  done_old s caller minute everyone (Commands (RegisterCarrier spid)) v told keeps = λ is. stays (joined_broadcast spid) (joined_same spid) v.broadcasts (keeps is)
-  done_old s caller minute everyone (Commands (OldProviderCreate tn old_provider new_provider due authorized)) v told keeps =
-      either (subject_eq s (Number tn) && lacks_old_create old_provider new_provider v) (with_old_create w authorized minute v) v (by authorized) keeps
+  done_old : (s : Subject) (caller minute : ℕ) (everyone : List ℕ) (request : Request) (v : Version)
+      → IsTold v → WhereOld v → WhereOld (done_to w s caller minute everyone request v)
+  done_old s caller minute everyone (Commands (RegisterCarrier spid)) v told keeps =
+      λ is. stays (joined_broadcast spid) (joined_same spid) v.broadcasts (keeps is)
+  done_old s caller minute everyone
+      (Commands (OldProviderCreate tn old_provider new_provider due authorized)) v told keeps =
+      either (subject_eq s (Number tn) && lacks_old_create old_provider new_provider v)
+      (with_old_create w authorized minute v) v (by authorized) keeps
     where
       by : (b : Bool) → WhereOld (with_old_create w b minute v)
       by true = keeps
       by false = λ is. cc
-  done_old s caller minute everyone (Commands (NewProviderCreate tn old_provider new_provider due lrn cic)) v told keeps =
-      either (subject_eq s (Number tn) && lacks_new_create old_provider new_provider v) (with_new_create (record { lrn = lrn; cic = cic }) minute v) v keeps keeps
-  done_old s caller minute everyone (Commands (OnVersion id c)) v told keeps = either (v.id == id) (change_of w caller minute everyone c v) v (change_old caller minute everyone c v keeps) keeps
-  done_old s caller minute everyone (Commands (Release block)) v told keeps = either (subject_eq s (Block block) && in_force v) (sent w Delete everyone minute v) v (λ is. cc) keeps
-  done_old s caller minute everyone (Acknowledges id attempt) v told keeps = either (v.id == id) (acknowledged_by w caller attempt minute v) v (acknowledged_old caller attempt minute v told keeps) keeps
+  done_old s caller minute everyone
+      (Commands (NewProviderCreate tn old_provider new_provider due lrn cic)) v told keeps =
+      either (subject_eq s (Number tn) && lacks_new_create old_provider new_provider v)
+      (with_new_create (record { lrn = lrn; cic = cic }) minute v) v keeps keeps
+  done_old s caller minute everyone (Commands (OnVersion id c)) v told keeps =
+      either (v.id == id) (change_of w caller minute everyone c v) v
+      (change_old caller minute everyone c v keeps) keeps
+  done_old s caller minute everyone (Commands (Release block)) v told keeps =
+      either (subject_eq s (Block block) && in_force v) (sent w Delete everyone minute v) v
+      (λ is. cc) keeps
+  done_old s caller minute everyone (Acknowledges id attempt) v told keeps =
+      either (v.id == id) (acknowledged_by w caller attempt minute v) v
+      (acknowledged_old caller attempt minute v told keeps) keeps
   done_old s caller minute everyone _ v told keeps = keeps
 
 -- ---- the versions of a subject
@@ -143,122 +185,203 @@ sends_open s (Sending Delete) is = cc
 sends_open s (Sending (Modify routing)) is = cc
 sends_open s _ is = cc
 
-module _ (w : WindowSet) (s : Subject) (takes : Bool) (minute : ℕ) (change : Version → Version) where
+module _ (w : WindowSet) (s : Subject) (takes : Bool) (minute : ℕ) (change : Version
+    → Version) where
   -- among versions none of which is open none takes over
-  behind_mapped : (vs : List Version) → AllByRecursion (Follows takes change) vs → NoneOpen s vs → changed_at w minute change vs ≡ map change vs
+  behind_mapped : (vs : List Version) → AllByRecursion (Follows takes change) vs → NoneOpen s vs
+      → changed_at w minute change vs ≡ map change vs
   behind_mapped [] steps closed = refl
   behind_mapped (v ∷ vs) steps closed =
-      ap (λ b. change v ∷ map (retired w b minute) (changed_at w minute change vs)) (go (in_force v) refl)
-      ∙ ap (λ us. change v ∷ us) (retired-never w minute (changed_at w minute change vs) ∙ behind_mapped vs steps.1 closed.1)
+      ap (λ b. change v ∷ map (retired w b minute) (changed_at w minute change vs))
+      (go (in_force v) refl)
+      ∙ ap (λ us. change v ∷ us) (retired-never w minute (changed_at w minute change vs)
+      ∙ behind_mapped vs steps.1 closed.1)
     where
       go : (b : Bool) → in_force v ≡ b → (not b && in_force (change v)) ≡ false
       go true e = refl
-      go false e = stays_out takes v.status (change v).status steps.0 (closed_sends_none s v.status closed.0) e
+      go false e =
+          stays_out takes v.status (change v).status steps.0 (closed_sends_none s v.status closed.0)
+          e
 
-  module _ (closed_step : (v : Version) → IsTold v → IsClosedWhereOld v → IsClosedWhereOld (change v)) (none_step : (v : Version) → IsTold v → SaysNoneWhereOld v → SaysNoneWhereOld (change v)) where
-    retired_closed : (b : Bool) (vs : List Version) → AllByRecursion IsTold vs → AllByRecursion IsClosedWhereOld vs → (b ≡ true → AllByRecursion (λ v. in_force (change v) ≡ true → AllClosed (change v).broadcasts) vs) →
+  module _ (closed_step : (v : Version) → IsTold v → IsClosedWhereOld v
+      → IsClosedWhereOld (change v)) (none_step : (v : Version) → IsTold v → SaysNoneWhereOld v
+      → SaysNoneWhereOld (change v)) where
+    retired_closed : (b : Bool) (vs : List Version) → AllByRecursion IsTold vs
+        → AllByRecursion IsClosedWhereOld vs
+        → (b ≡ true → AllByRecursion (λ v. in_force (change v) ≡ true
+        → AllClosed (change v).broadcasts) vs) →
         AllByRecursion IsClosedWhereOld (map (retired w b minute) (map change vs))
     retired_closed b [] told old forced = tt
-    retired_closed b (v ∷ vs) told old forced = (go b (in_force (change v)) refl refl, retired_closed b vs told.1 old.1 (λ e. (forced e).1))
+    retired_closed b (v ∷ vs) told old forced = (
+      go b (in_force (change v)) refl refl,
+      retired_closed b vs told.1 old.1 (λ e. (forced e).1),
+    )
       where
-        go : (x y : Bool) → b ≡ x → in_force (change v) ≡ y → IsClosedWhereOld (if x && y then enters w Old minute (change v) else change v)
+        go : (x y : Bool) → b ≡ x → in_force (change v) ≡ y
+            → IsClosedWhereOld (if x && y then enters w Old minute (change v) else change v)
         go true true e f = λ is. (forced e).0 f
         go true false e f = closed_step v told.0 old.0
         go false y e f = closed_step v told.0 old.0
 
-    last_mapped : (vs : List Version) → AllByRecursion (Follows takes change) vs → AllByRecursion IsTold vs → LastSaysNone vs → LastSaysNone (map change vs)
+    last_mapped : (vs : List Version) → AllByRecursion (Follows takes change) vs
+        → AllByRecursion IsTold vs → LastSaysNone vs → LastSaysNone (map change vs)
     last_mapped [] steps told last = tt
-    last_mapped (v ∷ vs) steps told last = (none_step v told.0 last.0, λ out. last_mapped vs steps.1 told.1 (last.1 (go (is_served v.status) refl out)))
+    last_mapped (v ∷ vs) steps told last = (
+      none_step v told.0 last.0,
+      λ out. last_mapped vs steps.1 told.1 (last.1 (go (is_served v.status) refl out)),
+    )
       where
         go : (b : Bool) → is_served v.status ≡ b → is_served (change v).status ≡ false → b ≡ false
-        go true e out = true-false (is_served (change v).status) (still_served takes v.status (change v).status steps.0 e) out
+        go true e out =
+            true-false (is_served (change v).status) (still_served takes v.status (change v).status
+            steps.0 e) out
         go false e out = refl
 
     -- beside an open version what is in force is active, and its broadcasts are closed
-    active_closed : (vs : List Version) → AllByRecursion (Follows takes change) vs → NoneOpen s vs → ForceIsActive vs → KeepsActive change vs → AllByRecursion (λ v. IsTold (change v)) vs →
+    active_closed : (vs : List Version) → AllByRecursion (Follows takes change) vs → NoneOpen s vs
+        → ForceIsActive vs → KeepsActive change vs → AllByRecursion (λ v. IsTold (change v)) vs →
         AllByRecursion (λ v. in_force (change v) ≡ true → AllClosed (change v).broadcasts) vs
     active_closed [] steps closed active keeps told = tt
-    active_closed (v ∷ vs) steps closed active keeps told = (go (in_force v) refl, active_closed vs steps.1 closed.1 active.1 keeps.1 told.1)
+    active_closed (v ∷ vs) steps closed active keeps told = (
+      go (in_force v) refl,
+      active_closed vs steps.1 closed.1 active.1 keeps.1 told.1,
+    )
       where
-        go : (b : Bool) → in_force v ≡ b → in_force (change v) ≡ true → AllClosed (change v).broadcasts
+        go : (b : Bool) → in_force v ≡ b → in_force (change v) ≡ true
+            → AllClosed (change v).broadcasts
         go true e now = (told_in (change v) Active (keeps.0 (active.0 e)) told.0).0
-        go false e now = true-false (in_force (change v)) now (stays_out takes v.status (change v).status steps.0 (closed_sends_none s v.status closed.0) e)
+        go false e now =
+            true-false (in_force (change v)) now (stays_out takes v.status (change v).status steps.0
+            (closed_sends_none s v.status closed.0) e)
 
-    changed_ended : (vs : List Version) → AreSound s vs → AllByRecursion (Follows takes change) vs → AllByRecursion IsTold vs → AllByRecursion (λ v. IsTold (change v)) vs → (takes ≡ true → KeepsActive change vs) → HaveEnded vs →
+    changed_ended : (vs : List Version) → AreSound s vs → AllByRecursion (Follows takes change) vs
+        → AllByRecursion IsTold vs → AllByRecursion (λ v. IsTold (change v)) vs
+        → (takes ≡ true → KeepsActive change vs) → HaveEnded vs →
         HaveEnded (changed_at w minute change vs)
     changed_ended [] sound steps told after keeps ended = (tt, tt)
     changed_ended (v ∷ vs) sound steps told after keeps ended =
-        subst (λ us. HaveEnded (change v ∷ map (retired w (not (in_force v) && in_force (change v)) minute) us)) (sym (behind_mapped vs steps.1 sound.0))
-        ((closed_step v told.0 ended.0.0, retired_closed (not (in_force v) && in_force (change v)) vs told.1 ended.0.1 forced), (none_step v told.0 ended.1.0, last))
+        subst (λ us. HaveEnded (change v ∷ map (retired w (not (in_force v) && in_force (change v))
+        minute) us)) (sym (behind_mapped vs steps.1 sound.0)) (
+          (
+            closed_step v told.0 ended.0.0,
+            retired_closed (not (in_force v) && in_force (change v)) vs told.1 ended.0.1 forced,
+          ),
+          (none_step v told.0 ended.1.0, last),
+        )
       where
-        taken : (a b : Bool) → in_force v ≡ a → in_force (change v) ≡ b → (not a && b) ≡ true → (takes ≡ true) × (sends_create v.status ≡ true)
+        taken : (a b : Bool) → in_force v ≡ a → in_force (change v) ≡ b → (not a && b) ≡ true
+            → (takes ≡ true) × (sends_create v.status ≡ true)
         taken false true e f is = taker takes v.status (change v).status steps.0 e f
         taken true b e f is = cc
         taken false false e f is = cc
 
-        forced : (not (in_force v) && in_force (change v)) ≡ true → AllByRecursion (λ u. in_force (change u) ≡ true → AllClosed (change u).broadcasts) vs
+        forced : (not (in_force v) && in_force (change v)) ≡ true
+            → AllByRecursion (λ u. in_force (change u) ≡ true → AllClosed (change u).broadcasts) vs
         forced is =
             let by = taken (in_force v) (in_force (change v)) refl refl is in
-            active_closed vs steps.1 sound.0 (sound.2 (sends_open s v.status by.1)) (keeps by.0).1 after.1
+            active_closed vs steps.1 sound.0 (sound.2 (sends_open s v.status by.1)) (keeps by.0).1
+            after.1
 
         drop : (b : Bool) → (b && false) ≡ false
         drop true = refl
         drop false = refl
 
-        unserved : (b : Bool) → is_served v.status ≡ b → is_served (change v).status ≡ false → b ≡ false
-        unserved true e out = true-false (is_served (change v).status) (still_served takes v.status (change v).status steps.0 e) out
+        unserved : (b : Bool) → is_served v.status ≡ b → is_served (change v).status ≡ false
+            → b ≡ false
+        unserved true e out =
+            true-false (is_served (change v).status) (still_served takes v.status (change v).status
+            steps.0 e) out
         unserved false e out = refl
 
-        last : is_served (change v).status ≡ false → LastSaysNone (map (retired w (not (in_force v) && in_force (change v)) minute) (map change vs))
+        last : is_served (change v).status ≡ false
+            → LastSaysNone (map (retired w (not (in_force v) && in_force (change v)) minute)
+            (map change vs))
         last out = subst LastSaysNone
-            (sym (ap (λ b. map (retired w b minute) (map change vs)) (ap (λ b. not (in_force v) && b) (or_first (in_force (change v)) (is_old (change v).status) out) ∙ drop (not (in_force v))) ∙ retired-never w minute (map change vs)))
+            (sym (ap (λ b. map (retired w b minute) (map change vs))
+            (ap (λ b. not (in_force v) && b) (or_first (in_force (change v))
+            (is_old (change v).status) out) ∙ drop (not (in_force v)))
+            ∙ retired-never w minute (map change vs)))
             (last_mapped vs steps.1 told.1 (ended.1.1 (unserved (is_served v.status) refl out)))
 
 -- ---- every record
 
 module _ (w : Windows) (s : Subject) where
-  after_minute : (h : List Entry) (m : ℕ) → IsHistory w h m → HaveEnded (replay w s h m).versions → HaveEnded (judge (present_set w h) (suc m) (replay w s h m)).versions
+  after_minute : (h : List Entry) (m : ℕ) → IsHistory w h m → HaveEnded (replay w s h m).versions
+      → HaveEnded (judge (present_set w h) (suc m) (replay w s h m)).versions
   unfolding judge
   after_minute h m is ended =
       let r : Record = replay w s h m in
       let told : AllByRecursion IsTold r.versions = versions_kept told_kept w s h m is in
-      changed_ended (present_set w h) s true (suc m) (judged_version (present_set w h) r.carriers (suc m)) (judged_old (present_set w h) AllClosed (λ bs says. says.0) closed_same r.carriers (suc m))
-      (judged_old (present_set w h) (Says None) (λ bs says. says) (λ f same. says_same f same None) r.carriers (suc m)) r.versions
-      (sound_now (record { windows = w; history = h; now = m }) is s) (everywhere (judged_follows (present_set w h) r.carriers (suc m)) r.versions) told
-      (each (λ v p. judged_kept (told_kept (present_set w h)) r.carriers (suc m) v p) r.versions told) (λ takes. everywhere (λ v. (judged_version-respects s (present_set w h) r.carriers (suc m) v).active) r.versions) ended
+      changed_ended (present_set w h) s true (suc m) (judged_version (present_set w h) r.carriers
+      (suc m)) (judged_old (present_set w h) AllClosed (λ bs says. says.0) closed_same r.carriers
+      (suc m))
+      (judged_old (present_set w h) (Says None) (λ bs says. says) (λ f same. says_same f same None)
+      r.carriers (suc m)) r.versions
+      (sound_now (record { windows = w; history = h; now = m }) is s)
+      (everywhere (judged_follows (present_set w h) r.carriers (suc m)) r.versions) told
+      (each (λ v p. judged_kept (told_kept (present_set w h)) r.carriers (suc m) v p) r.versions
+      told) (λ takes. everywhere
+      (λ v. (judged_version-respects s (present_set w h) r.carriers (suc m) v).active) r.versions)
+      ended
 
-  after_entry : (h : List Entry) (e : Entry) → IsHistory w (e ∷ h) e.minute → HaveEnded (replay w s h e.minute).versions → HaveEnded (record_after w s h e).versions
+  after_entry : (h : List Entry) (e : Entry) → IsHistory w (e ∷ h) e.minute
+      → HaveEnded (replay w s h e.minute).versions → HaveEnded (record_after w s h e).versions
   unfolding effect
   after_entry h e is ended =
       let r : Record = replay w s h e.minute in
       let st : State = record { windows = w; history = h; now = e.minute } in
       let told : AllByRecursion IsTold r.versions = versions_kept told_kept w s h e.minute is.3 in
       with_new (id_among s (next_after (made_by w h)) (makes e.request (record_now st)))
-      (changed_ended (present_set w h) s (is_answer e.request) e.minute (done_to (present_set w h) s e.caller e.minute r.carriers e.request) (done_old (present_set w h) AllClosed (λ bs says. says.0) closed_same s e.caller e.minute r.carriers e.request)
-      (done_old (present_set w h) (Says None) (λ bs says. says) (λ f same. says_same f same None) s e.caller e.minute r.carriers e.request) r.versions
-      (sound_now st is.3 s) (done_follows st s (given_now st is.3 s) e.caller r.carriers e.request is.2) told
-      (each_two (λ v found p. done_kept st (told_kept (present_set w h)) is.3 s e.caller e.request is.2 v found p) r.versions (all_found r.versions (given_apart (made_by w h) s r.versions (given_now st is.3 s))) told)
+      (changed_ended (present_set w h) s (is_answer e.request) e.minute
+      (done_to (present_set w h) s e.caller e.minute r.carriers e.request)
+      (done_old (present_set w h) AllClosed (λ bs says. says.0) closed_same s e.caller e.minute
+      r.carriers e.request)
+      (done_old (present_set w h) (Says None) (λ bs says. says) (λ f same. says_same f same None) s
+      e.caller e.minute r.carriers e.request) r.versions
+      (sound_now st is.3 s) (done_follows st s (given_now st is.3 s) e.caller r.carriers e.request
+      is.2) told
+      (each_two (λ v found p. done_kept st (told_kept (present_set w h)) is.3 s e.caller e.request
+      is.2 v found p) r.versions
+      (all_found r.versions (given_apart (made_by w h) s r.versions (given_now st is.3 s))) told)
       (active e.request) ended)
     where
       versions : List Version
-      versions = changed_at (present_set w h) e.minute (done_to (present_set w h) s e.caller e.minute (replay w s h e.minute).carriers e.request) (replay w s h e.minute).versions
+      versions = changed_at (present_set w h) e.minute (done_to (present_set w h) s e.caller
+          e.minute (replay w s h e.minute).carriers e.request) (replay w s h e.minute).versions
 
-      active : (request : Request) → is_answer request ≡ true → KeepsActive (done_to (present_set w h) s e.caller e.minute (replay w s h e.minute).carriers request) (replay w s h e.minute).versions
+      active : (request : Request) → is_answer request ≡ true
+          → KeepsActive (done_to (present_set w h) s e.caller e.minute
+          (replay w s h e.minute).carriers request) (replay w s h e.minute).versions
       active (Acknowledges id attempt) answers =
-          respect_active s (done_to (present_set w h) s e.caller e.minute (replay w s h e.minute).carriers (Acknowledges id attempt)) (replay w s h e.minute).versions
-          (acknowledge-respects (record { windows = w; history = h; now = e.minute }) s (given_now (record { windows = w; history = h; now = e.minute }) is.3 s) e.caller id attempt (replay w s h e.minute).carriers)
+          respect_active s (done_to (present_set w h) s e.caller e.minute
+          (replay w s h e.minute).carriers (Acknowledges id attempt))
+          (replay w s h e.minute).versions
+          (acknowledge-respects (record { windows = w; history = h; now = e.minute }) s
+          (given_now (record { windows = w; history = h; now = e.minute }) is.3 s) e.caller id
+          attempt (replay w s h e.minute).carriers)
       active (Commands command) answers = cc
 
       made : ℕ → Version
-      made id = made_version (present_set w h) id e.caller e.minute (replay w s h e.minute).carriers (donor_of (assigned_block e.request) h) e.request
+      made id = made_version (present_set w h) id e.caller e.minute (replay w s h e.minute).carriers
+          (donor_of (assigned_block e.request) h) e.request
 
       fresh : (id : ℕ) → is_old (made id).status ≡ true → ⊥
-      fresh id is_it = true-false (is_old (made id).status) is_it (or_second (in_force (made id)) (is_old (made id).status) (made_unserved (present_set w h) id e.caller e.minute (replay w s h e.minute).carriers (donor_of (assigned_block e.request) h) e.request))
+      fresh id is_it =
+          true-false (is_old (made id).status) is_it (or_second (in_force (made id))
+          (is_old (made id).status) (made_unserved (present_set w h) id e.caller e.minute
+          (replay w s h e.minute).carriers (donor_of (assigned_block e.request) h) e.request))
 
       with_new : (o : Option ℕ) → HaveEnded versions → HaveEnded (with_made o made versions)
       with_new None now = now
-      with_new (Some id) now = ((λ is_it. absurd (fresh id is_it), now.0), (λ is_it. absurd (fresh id is_it), λ out. now.1))
+      with_new (Some id) now = (
+        (λ is_it. absurd (fresh id is_it), now.0),
+        (λ is_it. absurd (fresh id is_it), λ out. now.1),
+      )
 
   -- every record of every history
   pub have_ended : (h : List Entry) (m : ℕ) → IsHistory w h m → HaveEnded (replay w s h m).versions
-  have_ended = kept w s (λ h m r. HaveEnded r.versions) (record { first = λ m. (tt, tt); minute = after_minute; entry = after_entry })
+  have_ended = kept w s (λ h m r. HaveEnded r.versions) (record {
+    first = λ m. (tt, tt);
+    minute = after_minute;
+    entry = after_entry;
+  })

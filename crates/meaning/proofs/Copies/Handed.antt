@@ -1,4 +1,5 @@
--- A carrier's copy is that which is started with the rows of its registration and takes the downloads that it has acknowledged.
+-- A carrier's copy is that which is started with the rows of its registration and takes the
+-- downloads that it has acknowledged.
 use Rattle.std.proofs.Common.{◌≡◌, ℕ, ◌≤◌, ◌⊎◌, inl, inr, Bool, true, false, not, ◌||◌, List, [], ◌∷◌, map, Option, Some, None, refl, ap, sym, ◌∙◌, subst, arith}
 use Rattle.std.specs.Prelude.{◌==◌, fold, find, flat_map, option_and_then, if◌then◌else◌}
 use Rattle.std.specs.List.{list_any, AllByRecursion}
@@ -31,35 +32,58 @@ abbrev begun : Subject → Option Routing → InForce → Option Routing
 begun s before r = if subject_eq r.subject s then r.routing else before
 
 -- where each row of a subject has one routing, the copy has it
-begun_is : (s : Subject) (want : Option Routing) (rows : List InForce) (before : Option Routing) → AllByRecursion (λ (r : InForce). subject_eq r.subject s ≡ true → r.routing ≡ want) rows →
-    (before ≡ want) ⊎ (list_any (λ (r : InForce). subject_eq r.subject s) rows ≡ true) → fold (begun s) before rows ≡ want
+begun_is : (s : Subject) (want : Option Routing) (rows : List InForce) (before : Option Routing)
+    → AllByRecursion (λ (r : InForce). subject_eq r.subject s ≡ true → r.routing ≡ want) rows →
+    (before ≡ want) ⊎ (list_any (λ (r : InForce). subject_eq r.subject s) rows ≡ true)
+    → fold (begun s) before rows ≡ want
 begun_is s want [] before all (inl e) = e
 begun_is s want [] before all (inr e) = cc
-begun_is s want (r ∷ rs) before all has = go (λ next some. begun_is s want rs next all.1 some) (subject_eq r.subject s) refl has
+begun_is s want (r ∷ rs) before all has =
+    go (λ next some. begun_is s want rs next all.1 some) (subject_eq r.subject s) refl has
   where
-    go : ((next : Option Routing) → (next ≡ want) ⊎ (list_any (λ (q : InForce). subject_eq q.subject s) rs ≡ true) → fold (begun s) next rs ≡ want) → (b : Bool) → subject_eq r.subject s ≡ b →
-        (before ≡ want) ⊎ (list_any (λ (q : InForce). subject_eq q.subject s) (r ∷ rs) ≡ true) → fold (begun s) (begun s before r) rs ≡ want
-    go later true e some = later (begun s before r) (inl (ap (λ t. if t then r.routing else before) e ∙ all.0 e))
-    go later false e (inl f) = later (begun s before r) (inl (ap (λ t. if t then r.routing else before) e ∙ f))
-    go later false e (inr f) = later (begun s before r) (inr (sym (ap (λ t. t || list_any (λ (q : InForce). subject_eq q.subject s) rs) e) ∙ f))
+    go : ((next : Option Routing) → (next ≡ want)
+        ⊎ (list_any (λ (q : InForce). subject_eq q.subject s) rs ≡ true)
+        → fold (begun s) next rs ≡ want) → (b : Bool) → subject_eq r.subject s ≡ b →
+        (before ≡ want) ⊎ (list_any (λ (q : InForce). subject_eq q.subject s) (r ∷ rs) ≡ true)
+        → fold (begun s) (begun s before r) rs ≡ want
+    go later true e some =
+        later (begun s before r) (inl (ap (λ t. if t then r.routing else before) e ∙ all.0 e))
+    go later false e (inl f) =
+        later (begun s before r) (inl (ap (λ t. if t then r.routing else before) e ∙ f))
+    go later false e (inr f) =
+        later (begun s before r)
+        (inr (sym (ap (λ t. t || list_any (λ (q : InForce). subject_eq q.subject s) rs) e) ∙ f))
 
 -- a copy that is started with all in force routes a subject as it is in force
-started_is : (st : State) → IsState st → (s : Subject) → started (all_in_force st) s ≡ routing_in_force (record_now st s)
+started_is : (st : State) → IsState st → (s : Subject)
+    → started (all_in_force st) s ≡ routing_in_force (record_now st s)
 started_is st is s = go (version_in_force (record_now st s)) refl
   where
-    its : (r : InForce) → Among r (all_in_force st) → subject_eq r.subject s ≡ true → r.routing ≡ routing_in_force (record_now st s)
+    its : (r : InForce) → Among r (all_in_force st) → subject_eq r.subject s ≡ true
+        → r.routing ≡ routing_in_force (record_now st s)
     its r there same =
         let row : IsOfForce st r = row_is st is r there in
         let at : s ≡ r.subject = same_subject r.subject s same in
-        row.routing ∙ sym (ap (option_and_then (λ (v : Version). v.routing)) (ap (λ t. version_in_force (record_now st t)) at ∙ row.stands))
+        row.routing
+        ∙ sym (ap (option_and_then (λ (v : Version). v.routing))
+        (ap (λ t. version_in_force (record_now st t)) at ∙ row.stands))
 
-    each_its : AllByRecursion (λ (r : InForce). subject_eq r.subject s ≡ true → r.routing ≡ routing_in_force (record_now st s)) (all_in_force st)
-    each_its = each_there (λ (r : InForce). subject_eq r.subject s ≡ true → r.routing ≡ routing_in_force (record_now st s)) (all_in_force st) its
+    each_its : AllByRecursion (λ (r : InForce). subject_eq r.subject s ≡ true
+        → r.routing ≡ routing_in_force (record_now st s)) (all_in_force st)
+    each_its = each_there (λ (r : InForce). subject_eq r.subject s ≡ true
+        → r.routing ≡ routing_in_force (record_now st s)) (all_in_force st) its
 
-    go : (o : Option Version) → version_in_force (record_now st s) ≡ o → started (all_in_force st) s ≡ routing_in_force (record_now st s)
-    go None none = begun_is s (routing_in_force (record_now st s)) (all_in_force st) None each_its (inl (sym (ap (option_and_then (λ (v : Version). v.routing)) none)))
-    go (Some v) stands = begun_is s (routing_in_force (record_now st s)) (all_in_force st) None each_its
-        (inr (there_any (λ (r : InForce). subject_eq r.subject s) (record { subject = s; routing = v.routing }) (all_in_force st) (row_there st is s v stands) (subject_eq-refl s)))
+    go : (o : Option Version) → version_in_force (record_now st s) ≡ o
+        → started (all_in_force st) s ≡ routing_in_force (record_now st s)
+    go None none = begun_is s (routing_in_force (record_now st s)) (all_in_force st) None each_its
+        (inl (sym (ap (option_and_then (λ (v : Version). v.routing)) none)))
+    go (Some v) stands = begun_is s (routing_in_force (record_now st s)) (all_in_force st) None
+        each_its
+        (inr (there_any (λ (r : InForce). subject_eq r.subject s) (record {
+          subject = s;
+          routing =
+              v.routing;
+        }) (all_in_force st) (row_there st is s v stands) (subject_eq-refl s)))
 
 -- ---- a download
 
@@ -71,65 +95,89 @@ abbrev copied : Option Download → Option Routing → Option Routing
 copied o before = elim o [ Some d ↦ d.routing | None ↦ before ]
 
 fold_then : (s : Subject) (start : Option Routing) (ds : List Download) (o : Option Download) →
-    fold (λ before d. applied d s before) start (and_then ds o) ≡ taken s o (fold (λ before d. applied d s before) start ds)
+    fold (λ before d. applied d s before) start (and_then ds o)
+    ≡ taken s o (fold (λ before d. applied d s before) start ds)
 fold_then s start ds None = refl
 fold_then s start ds (Some d) = fold-append (λ before d. applied d s before) start ds (d ∷ [])
 
--- the carrier's own acknowledgement: what it says of a subject is what the download in the queue says
-module _ (st : State) (is : IsHistory st.windows st.history st.now) (s : Subject) (c id attempt : ℕ) (ok : refusal st (Requests c (Acknowledges id attempt)) ≡ None) where
+-- the carrier's own acknowledgement: what it says of a subject is what the download in the queue
+-- says
+module _ (st : State) (is : IsHistory st.windows st.history st.now) (s : Subject) (c id attempt : ℕ)
+    (ok : refusal st (Requests c (Acknowledges id attempt)) ≡ None) where
   abbrev of_it : Option Download
-  of_it = first_of (flat_map (downloads_acknowledged c c (Acknowledges id attempt)) (map (as_listed s) (record_now st s).versions))
+  of_it = first_of (flat_map (downloads_acknowledged c c (Acknowledges id attempt))
+      (map (as_listed s) (record_now st s).versions))
 
   -- what is of another subject says nothing of this one
-  not_its : (x : Download) → Among x (queue st c) → is_download id attempt x ≡ true → of_it ≡ None → subject_eq x.subject s ≡ false
+  not_its : (x : Download) → Among x (queue st c) → is_download id attempt x ≡ true → of_it ≡ None
+      → subject_eq x.subject s ≡ false
   not_its x there matched none = go (subject_eq x.subject s) refl
     where
       stands : IsQueued st c x
       stands = queued-from st c x there
 
       its_id : stands.at.version.id ≡ id
-      its_id = ap (λ (y : Download). y.id) (sym stands.is) ∙ equal_number x.id id (and_first (x.id == id) (x.attempt == attempt) matched)
+      its_id = ap (λ (y : Download). y.id) (sym stands.is)
+          ∙ equal_number x.id id (and_first (x.id == id) (x.attempt == attempt) matched)
 
       its_attempt : stands.broadcast.attempt ≡ attempt
-      its_attempt = ap (λ (y : Download). y.attempt) (sym stands.is) ∙ equal_number x.attempt attempt (and_second (x.id == id) (x.attempt == attempt) matched)
+      its_attempt = ap (λ (y : Download). y.attempt) (sym stands.is)
+          ∙ equal_number x.attempt attempt (and_second (x.id == id) (x.attempt == attempt) matched)
 
       never : s ≡ stands.at.subject → ⊥
-      never same = none_first (flat_map (downloads_acknowledged c c (Acknowledges id attempt)) (map (as_listed s) (record_now st s).versions)) (download (as_listed s stands.at.version) stands.broadcast) none
+      never same =
+          none_first (flat_map (downloads_acknowledged c c (Acknowledges id attempt))
+          (map (as_listed s) (record_now st s).versions)) (download (as_listed s stands.at.version)
+          stands.broadcast) none
           (of_version st is s c id attempt stands.at.version stands.broadcast
-          (subst (λ t. Among stands.at.version (record_now st t).versions) (sym same) (found-among _ (record_now st stands.at.subject).versions stands.at.version stands.found).0)
-          stands.sent (ap (λ k. k == id) its_id ∙ same_number id) (ap (λ k. k == attempt) its_attempt ∙ same_number attempt))
+          (subst (λ t. Among stands.at.version (record_now st t).versions) (sym same)
+          (found-among _ (record_now st stands.at.subject).versions stands.at.version
+          stands.found).0)
+          stands.sent (ap (λ k. k == id) its_id ∙ same_number id)
+          (ap (λ k. k == attempt) its_attempt ∙ same_number attempt))
 
       go : (b : Bool) → subject_eq x.subject s ≡ b → b ≡ false
       go false e = refl
-      go true e = absurd (never (same_subject x.subject s e ∙ ap (λ (y : Download). y.subject) stands.is))
+      go true e =
+          absurd (never (same_subject x.subject s e ∙ ap (λ (y : Download). y.subject) stands.is))
 
-  says : (x : Download) → find (is_download id attempt) (queue st c) ≡ Some x → (before : Option Routing) → copied of_it before ≡ applied x s before
+  says : (x : Download) → find (is_download id attempt) (queue st c) ≡ Some x
+      → (before : Option Routing) → copied of_it before ≡ applied x s before
   says x found before = go of_it refl
     where
       there : Among x (queue st c) × (is_download id attempt x ≡ true)
       there = found-among (is_download id attempt) (queue st c) x found
 
       go : (o : Option Download) → of_it ≡ o → copied o before ≡ applied x s before
-      go None none = sym (ap (λ b. if b then x.routing else before) (not_its x there.0 there.1 none))
+      go None none =
+          sym (ap (λ b. if b then x.routing else before) (not_its x there.0 there.1 none))
       go (Some d) some =
           let one : IsOf st is s c id attempt d = it_is_of st is s c id attempt d some in
-          let same : x ≡ d = (same_download st is s c id attempt d one x there.0 there.1).0 ∙ sym one.is_its in
-          let about : subject_eq d.subject s ≡ true = ap (λ (y : Download). subject_eq y.subject s) one.is_its ∙ subject_eq-refl s in
+          let same : x ≡ d = (same_download st is s c id attempt d one x there.0 there.1).0
+          ∙ sym one.is_its in
+          let about : subject_eq d.subject s ≡ true =
+          ap (λ (y : Download). subject_eq y.subject s) one.is_its ∙ subject_eq-refl s in
           sym (ap (λ y. applied y s before) same ∙ ap (λ b. if b then d.routing else before) about)
 
-  own_says : (before : Option Routing) → copied of_it before ≡ taken s (acknowledged_of c c (Acknowledges id attempt) (queue st c)) before
+  own_says : (before : Option Routing)
+      → copied of_it before ≡ taken s (acknowledged_of c c (Acknowledges id attempt) (queue st c))
+      before
   own_says before =
-      let waits = any_there (is_download id attempt) (queue st c) (queued st is s c id attempt ok) in
+      let waits =
+      any_there (is_download id attempt) (queue st c) (queued st is s c id attempt ok) in
       let found = found-there (is_download id attempt) (queue st c) waits.0 waits.1 waits.2 in
       says found.0 found.1 before
-      ∙ sym (ap (λ o. taken s o before) (ap (λ b. if b then find (is_download id attempt) (queue st c) else None) (same_number c) ∙ found.1))
+      ∙ sym (ap (λ o. taken s o before) (ap (λ b. if b
+      then find (is_download id attempt) (queue st c) else None) (same_number c) ∙ found.1))
 
 -- ---- every history
 
 -- another's request takes nothing
-others_take : (c caller : ℕ) (request : Request) (waiting : List Download) → is_others (Carrier c) caller request ≡ true → acknowledged_of c caller request waiting ≡ None
+others_take : (c caller : ℕ) (request : Request) (waiting : List Download)
+    → is_others (Carrier c) caller request ≡ true → acknowledged_of c caller request waiting ≡ None
 others_take c caller (Commands command) waiting other = refl
-others_take c caller (Acknowledges id attempt) waiting other = ap (λ b. if b then find (is_download id attempt) waiting else None) (out (caller == c) other)
+others_take c caller (Acknowledges id attempt) waiting other =
+    ap (λ b. if b then find (is_download id attempt) waiting else None) (out (caller == c) other)
   where
     out : (b : Bool) → not b ≡ true → b ≡ false
     out true e = cc
@@ -140,7 +188,9 @@ module _ (w : Windows) (are : AreWindows w) (c : ℕ) (s : Subject) where
   at h e = record { windows = w; history = h; now = e.minute }
 
   abbrev Says : List Entry → Entry → Type 0
-  Says h e = IsHistory w (e ∷ h) e.minute → (before : Option Routing) → copied (acknowledged_now w c s h e) before ≡ taken s (acknowledged_of c e.caller e.request (queue (at h e) c)) before
+  Says h e = IsHistory w (e ∷ h) e.minute → (before : Option Routing)
+      → copied (acknowledged_now w c s h e) before ≡ taken s (acknowledged_of c e.caller e.request
+      (queue (at h e) c)) before
 
   -- an entry that is no registration of the carrier
   entry_says : (h : List Entry) (e : Entry) → registers c e.request ≡ false → Says h e
@@ -148,11 +198,21 @@ module _ (w : Windows) (are : AreWindows w) (c : ℕ) (s : Subject) where
     where
       go : (b : Bool) → is_others (Carrier c) e.caller e.request ≡ b → Says h e
       go true other = λ is before.
-          ap (λ o. copied o before) (others_none c e.caller e.request (map (as_listed s) (replay w s h e.minute).versions) other)
-          ∙ sym (ap (λ o. taken s o before) (others_take c e.caller e.request (queue (at h e) c) other))
+          ap (λ o. copied o before) (others_none c e.caller e.request
+          (map (as_listed s) (replay w s h e.minute).versions) other)
+          ∙ sym (ap (λ o. taken s o before) (others_take c e.caller e.request (queue (at h e) c)
+          other))
       go false own =
           let its = its_own c e.caller e.request unregistered own in
-          subst (Says h) (ap (λ k. let x : Entry = record { minute = e.minute; caller = k; request = Acknowledges its.0 its.1 } in x) (sym its.3) ∙ ap (λ q. let x : Entry = record { minute = e.minute; caller = e.caller; request = q } in x) (sym its.2))
+          subst (Says h) (ap (λ k. let x : Entry = record {
+            minute = e.minute;
+            caller = k;
+            request = Acknowledges its.0 its.1;
+          } in x) (sym its.3) ∙ ap (λ q. let x : Entry = record {
+            minute = e.minute;
+            caller = e.caller;
+            request = q;
+          } in x) (sym its.2))
           (λ is before. own_says (at h e) is.3 s c its.0 its.1 is.2 before)
 
   handed : (h : List Entry) (now : ℕ) → IsHistory w h now → copy_of w c s h ≡ copy_handed w c h s
@@ -164,19 +224,29 @@ module _ (w : Windows) (are : AreWindows w) (c : ℕ) (s : Subject) where
       here = (let same : e.minute ≤ e.minute = omega arith in same, is.1, is.2, is.3)
 
       go : copy_of w c s h ≡ copy_handed w c h s → (b : Bool) → registers c e.request ≡ b →
-          (if registers c e.request then routing_in_force (replay w s h e.minute) else copied (acknowledged_now w c s h e) (copy_of w c s h)) ≡ copy_handed w c (e ∷ h) s
+          (if registers c e.request then routing_in_force (replay w s h e.minute)
+          else copied (acknowledged_now w c s h e) (copy_of w c s h)) ≡ copy_handed w c (e ∷ h) s
       go before true f =
-          ap (λ b. if b then routing_in_force (replay w s h e.minute) else copied (acknowledged_now w c s h e) (copy_of w c s h)) f
+          ap (λ b. if b then routing_in_force (replay w s h e.minute)
+          else copied (acknowledged_now w c s h e) (copy_of w c s h)) f
           ∙ sym (started_is (at h e) (record { windows = are; history = is.3 }) s)
-          ∙ sym (ap (λ b. fold (λ had d. applied d s had) (started (if b then all_in_force (at h e) else rows_handed w c h) s)
-          (if b then [] else and_then (downloads_handed w c h) (acknowledged_of c e.caller e.request (queue (at h e) c)))) f)
+          ∙ sym (ap (λ b. fold (λ had d. applied d s had) (started (if b then all_in_force (at h e)
+          else rows_handed w c h) s)
+          (if b then []
+          else and_then (downloads_handed w c h) (acknowledged_of c e.caller e.request
+          (queue (at h e) c)))) f)
       go before false f =
-          ap (λ b. if b then routing_in_force (replay w s h e.minute) else copied (acknowledged_now w c s h e) (copy_of w c s h)) f
+          ap (λ b. if b then routing_in_force (replay w s h e.minute)
+          else copied (acknowledged_now w c s h e) (copy_of w c s h)) f
           ∙ ap (copied (acknowledged_now w c s h e)) before
           ∙ entry_says h e f here (copy_handed w c h s)
-          ∙ sym (fold_then s (started (rows_handed w c h) s) (downloads_handed w c h) (acknowledged_of c e.caller e.request (queue (at h e) c)))
-          ∙ sym (ap (λ b. fold (λ had d. applied d s had) (started (if b then all_in_force (at h e) else rows_handed w c h) s)
-          (if b then [] else and_then (downloads_handed w c h) (acknowledged_of c e.caller e.request (queue (at h e) c)))) f)
+          ∙ sym (fold_then s (started (rows_handed w c h) s) (downloads_handed w c h)
+          (acknowledged_of c e.caller e.request (queue (at h e) c)))
+          ∙ sym (ap (λ b. fold (λ had d. applied d s had) (started (if b then all_in_force (at h e)
+          else rows_handed w c h) s)
+          (if b then []
+          else and_then (downloads_handed w c h) (acknowledged_of c e.caller e.request
+          (queue (at h e) c)))) f)
 
 -- in every state
 pub copy_is_handed : CopyIsHanded

@@ -1,4 +1,5 @@
--- Where nothing about a subject waits for a carrier, its copy of the subject is what was last published to it.
+-- Where nothing about a subject waits for a carrier, its copy of the subject is what was last
+-- published to it.
 use Rattle.std.proofs.Common.{◌≡◌, ℕ, suc, ◌≤◌, Bool, true, false, not, ◌&&◌, List, [], ◌∷◌, ◌++◌, map, Some, None, refl, ap, sym, ◌∙◌, subst, arith}
 use Rattle.std.specs.Prelude.{◌==◌, flat_map, if◌then◌else◌}
 use Rattle.numbers.specs.Subjects.{Subject}
@@ -22,64 +23,110 @@ use Rattle.meaning.proofs.Copies.Answering.{elsewhere_next, here_answers}
 -- ---- the order
 
 module _ (w : Windows) (s : Subject) where
-  fall_minute : (h : List Entry) (m : ℕ) → IsHistory w h m → MinutesFall (placed Nobody (replay w s h m).versions) → MinutesFall (placed Nobody (judge (present_set w h) (suc m) (replay w s h m)).versions)
-  fall_minute h m is fall = next_fall (suc m) (placed Nobody (replay w s h m).versions) (placed Nobody (judge (present_set w h) (suc m) (replay w s h m)).versions) (minute_next Nobody w s h m is tt)
+  fall_minute : (h : List Entry) (m : ℕ) → IsHistory w h m
+      → MinutesFall (placed Nobody (replay w s h m).versions)
+      → MinutesFall (placed Nobody (judge (present_set w h) (suc m) (replay w s h m)).versions)
+  fall_minute h m is fall =
+      next_fall (suc m) (placed Nobody (replay w s h m).versions)
+      (placed Nobody (judge (present_set w h) (suc m) (replay w s h m)).versions)
+      (minute_next Nobody w s h m is tt)
       (placed_up Nobody w s h m (suc m) is (omega arith)) fall
 
-  fall_entry : (h : List Entry) (e : Entry) → IsHistory w (e ∷ h) e.minute → MinutesFall (placed Nobody (replay w s h e.minute).versions) → MinutesFall (placed Nobody (record_after w s h e).versions)
-  fall_entry h e is fall = next_fall e.minute (placed Nobody (replay w s h e.minute).versions) (placed Nobody (record_after w s h e).versions) (entry_next Nobody w s h e is tt refl)
-      (placed_up Nobody w s h e.minute e.minute is.3 (let same : e.minute ≤ e.minute = omega arith in same)) fall
+  fall_entry : (h : List Entry) (e : Entry) → IsHistory w (e ∷ h) e.minute
+      → MinutesFall (placed Nobody (replay w s h e.minute).versions)
+      → MinutesFall (placed Nobody (record_after w s h e).versions)
+  fall_entry h e is fall = next_fall e.minute (placed Nobody (replay w s h e.minute).versions)
+      (placed Nobody (record_after w s h e).versions) (entry_next Nobody w s h e is tt refl)
+      (placed_up Nobody w s h e.minute e.minute is.3 (let same : e.minute ≤ e.minute =
+      omega arith in same)) fall
 
-  minutes_fall : (h : List Entry) (m : ℕ) → IsHistory w h m → MinutesFall (placed Nobody (replay w s h m).versions)
-  minutes_fall = kept w s (λ h m r. MinutesFall (placed Nobody r.versions)) (record { first = λ m. tt; minute = fall_minute; entry = fall_entry })
+  minutes_fall : (h : List Entry) (m : ℕ) → IsHistory w h m
+      → MinutesFall (placed Nobody (replay w s h m).versions)
+  minutes_fall = kept w s (λ h m r. MinutesFall (placed Nobody r.versions)) (record {
+    first = λ m. tt;
+    minute = fall_minute;
+    entry = fall_entry;
+  })
 
-  pub ordered : (c : ℕ) (h : List Entry) (m : ℕ) → IsHistory w h m → AreInOrder s (placed (Carrier c) (replay w s h m).versions)
-  ordered c h m is = in_order s (placed (Carrier c) (replay w s h m).versions) (fall_for c (replay w s h m).versions (minutes_fall h m is)) (placed_lower (Carrier c) w h m is s)
+  pub ordered : (c : ℕ) (h : List Entry) (m : ℕ) → IsHistory w h m
+      → AreInOrder s (placed (Carrier c) (replay w s h m).versions)
+  ordered c h m is =
+      in_order s (placed (Carrier c) (replay w s h m).versions)
+      (fall_for c (replay w s h m).versions (minutes_fall h m is)) (placed_lower (Carrier c) w h m
+      is s)
 
 -- ---- an entry
 
-none_of : (f : SubjectVersion → List Download) → ((e : SubjectVersion) → f e ≡ []) → (es : List SubjectVersion) → first_of (flat_map f es) ≡ None
+none_of : (f : SubjectVersion → List Download) → ((e : SubjectVersion) → f e ≡ [])
+    → (es : List SubjectVersion) → first_of (flat_map f es) ≡ None
 none_of f none [] = refl
 none_of f none (e ∷ es) = ap (λ ds. first_of (ds ++ flat_map f es)) (none e) ∙ none_of f none es
 
 -- another's request acknowledges nothing for the carrier
-pub others_none : (c caller : ℕ) (request : Request) (es : List SubjectVersion) → is_others (Carrier c) caller request ≡ true → first_of (flat_map (downloads_acknowledged c caller request) es) ≡ None
-others_none c caller (Commands command) es other = none_of (downloads_acknowledged c caller (Commands command)) (λ e. refl) es
-others_none c caller (Acknowledges id attempt) es other = none_of (downloads_acknowledged c caller (Acknowledges id attempt))
-    (λ e. ap (λ t. if t && (e.version.id == id) then downloads_of (λ b. b.attempt == attempt) e else []) (out (caller == c) other)) es
+pub others_none : (c caller : ℕ) (request : Request) (es : List SubjectVersion)
+    → is_others (Carrier c) caller request ≡ true
+    → first_of (flat_map (downloads_acknowledged c caller request) es) ≡ None
+others_none c caller (Commands command) es other =
+    none_of (downloads_acknowledged c caller (Commands command)) (λ e. refl) es
+others_none c caller (Acknowledges id attempt) es other =
+    none_of (downloads_acknowledged c caller (Acknowledges id attempt))
+    (λ e. ap (λ t. if t && (e.version.id == id) then downloads_of (λ b. b.attempt == attempt) e
+    else []) (out (caller == c) other)) es
   where
     out : (b : Bool) → not b ≡ true → b ≡ false
     out true e = cc
     out false e = refl
 
 -- one that is not another's and no registration is its acknowledgement
-pub its_own : (c caller : ℕ) (request : Request) → registers c request ≡ false → is_others (Carrier c) caller request ≡ false → (id : ℕ) × (attempt : ℕ) × (request ≡ Acknowledges id attempt) × (caller ≡ c)
-its_own c caller (Commands command) unregistered own = true-false (registers c (Commands command)) (denied (registers c (Commands command)) own) unregistered
-its_own c caller (Acknowledges id attempt) unregistered own = (id, attempt, refl, equal_number caller c (denied (caller == c) own))
+pub its_own : (c caller : ℕ) (request : Request) → registers c request ≡ false
+    → is_others (Carrier c) caller request ≡ false → (id : ℕ) × (attempt : ℕ)
+    × (request ≡ Acknowledges id attempt) × (caller ≡ c)
+its_own c caller (Commands command) unregistered own =
+    true-false (registers c (Commands command)) (denied (registers c (Commands command)) own)
+    unregistered
+its_own c caller (Acknowledges id attempt) unregistered own =
+    (id, attempt, refl, equal_number caller c (denied (caller == c) own))
 
 module _ (w : Windows) (c : ℕ) (s : Subject) (h : List Entry) where
   abbrev acknowledging : (m id attempt : ℕ) → Entry
   acknowledging m id attempt = record { minute = m; caller = c; request = Acknowledges id attempt }
 
   abbrev Passes : Entry → Type 0
-  Passes e = IsHistory w (e ∷ h) e.minute → acknowledged_now w c s h e ≡ None → IsNext e.minute (placed (Carrier c) (replay w s h e.minute).versions) (placed (Carrier c) (record_after w s h e).versions)
+  Passes e = IsHistory w (e ∷ h) e.minute → acknowledged_now w c s h e ≡ None
+      → IsNext e.minute (placed (Carrier c) (replay w s h e.minute).versions)
+      (placed (Carrier c) (record_after w s h e).versions)
 
   abbrev Answers : Download → Entry → Type 0
-  Answers d e = IsHistory w (e ∷ h) e.minute → acknowledged_now w c s h e ≡ Some d → IsMarkedNow d.routing (placed (Carrier c) (replay w s h e.minute).versions) (placed (Carrier c) (record_after w s h e).versions)
+  Answers d e = IsHistory w (e ∷ h) e.minute → acknowledged_now w c s h e ≡ Some d
+      → IsMarkedNow d.routing (placed (Carrier c) (replay w s h e.minute).versions)
+      (placed (Carrier c) (record_after w s h e).versions)
 
   own_passes : (m id attempt : ℕ) → Passes (acknowledging m id attempt)
   unfolding effect
-  own_passes m id attempt is none = elsewhere_next (record { windows = w; history = h; now = m }) is.3 s c id attempt is.2 none
+  own_passes m id attempt is none =
+      elsewhere_next (record { windows = w; history = h; now = m }) is.3 s c id attempt is.2 none
 
   own_answers : (d : Download) (m id attempt : ℕ) → Answers d (acknowledging m id attempt)
   unfolding effect
-  own_answers d m id attempt is some = here_answers (record { windows = w; history = h; now = m }) is.3 s c id attempt is.2 d some (ordered w s c h m is.3) (placed_lower (Carrier c) w h m is.3 s)
+  own_answers d m id attempt is some =
+      here_answers (record { windows = w; history = h; now = m }) is.3 s c id attempt is.2 d some
+      (ordered w s c h m is.3) (placed_lower (Carrier c) w h m is.3 s)
 
   -- of such an entry
-  of_own : (P : Entry → Type 0) → ((m id attempt : ℕ) → P (acknowledging m id attempt)) → (e : Entry) → registers c e.request ≡ false → is_others (Carrier c) e.caller e.request ≡ false → P e
+  of_own : (P : Entry → Type 0) → ((m id attempt : ℕ) → P (acknowledging m id attempt))
+      → (e : Entry) → registers c e.request ≡ false → is_others (Carrier c) e.caller e.request
+      ≡ false → P e
   of_own P each e unregistered own =
       let its = its_own c e.caller e.request unregistered own in
-      subst P (ap (λ k. let x : Entry = record { minute = e.minute; caller = k; request = Acknowledges its.0 its.1 } in x) (sym its.3) ∙ ap (λ q. let x : Entry = record { minute = e.minute; caller = e.caller; request = q } in x) (sym its.2))
+      subst P (ap (λ k. let x : Entry = record {
+        minute = e.minute;
+        caller = k;
+        request = Acknowledges its.0 its.1;
+      } in x) (sym its.3) ∙ ap (λ q. let x : Entry = record {
+        minute = e.minute;
+        caller = e.caller;
+        request = q;
+      } in x) (sym its.2))
       (each e.minute its.0 its.1)
 
   passes : (e : Entry) → registers c e.request ≡ false → Passes e
@@ -93,7 +140,10 @@ module _ (w : Windows) (c : ℕ) (s : Subject) (h : List Entry) where
   answers d e unregistered = go (is_others (Carrier c) e.caller e.request) refl
     where
       go : (b : Bool) → is_others (Carrier c) e.caller e.request ≡ b → Answers d e
-      go true other = λ is some. let both : None ≡ Some d = sym (others_none c e.caller e.request (map (λ v. let x : SubjectVersion = record { subject = s; version = v } in x) (replay w s h e.minute).versions) other) ∙ some in cc
+      go true other = λ is some. let both : None ≡ Some d =
+          sym (others_none c e.caller e.request (map (λ v. let x : SubjectVersion =
+          record { subject = s; version = v } in x) (replay w s h e.minute).versions) other)
+          ∙ some in cc
       go false own = of_own (Answers d) (own_answers d) e unregistered own
 
 -- ---- the law
@@ -110,4 +160,5 @@ follows w c s = record {
 pub copy_is_published : CopyIsPublished
 copy_is_published st is c s carrier idle =
     (followed st.windows c s (follows st.windows c s) st.history st.now is.history).copy
-    ∙ held_is_published st c s (ordered st.windows s c st.history st.now is.history) (all_answered st is.history c s idle)
+    ∙ held_is_published st c s (ordered st.windows s c st.history st.now is.history)
+    (all_answered st is.history c s idle)

@@ -1,4 +1,5 @@
--- The order of a subject's broadcasts that stand: from the newest on ids fall, then attempts, and minutes as well.
+-- The order of a subject's broadcasts that stand: from the newest on ids fall, then attempts, and
+-- minutes as well.
 use Rattle.std.proofs.Common.{◌≡◌, ℕ, suc, ◌≤◌, ◌<◌, Bool, true, false, cond, not, ◌&&◌, ◌||◌, List, [], ◌∷◌, ◌++◌, map, Option, Some, None, refl, sym, ◌∙◌, subst, arith, ◌⊎◌, inl, inr}
 use Rattle.std.specs.Prelude.{⊤, ◌==◌, nat_lt, filter}
 use Rattle.std.specs.List.{AllByRecursion}
@@ -35,33 +36,45 @@ AreFalling (v ∷ vs) = AllBelow v.id vs × AreFalling vs
 module _ (f : Version → Version) (same : (v : Version) → (f v).id ≡ v.id) where
   below_each : (id : ℕ) (vs : List Version) → AllBelow id vs → AllBelow id (map f vs)
   below_each id [] below = tt
-  below_each id (v ∷ vs) below = (subst (λ k. k < id) (sym (same v)) below.0, below_each id vs below.1)
+  below_each id (v ∷ vs) below =
+      (subst (λ k. k < id) (sym (same v)) below.0, below_each id vs below.1)
 
   falling_each : (vs : List Version) → AreFalling vs → AreFalling (map f vs)
   falling_each [] are = tt
-  falling_each (v ∷ vs) are = (subst (λ k. AllBelow k (map f vs)) (sym (same v)) (below_each v.id vs are.0), falling_each vs are.1)
+  falling_each (v ∷ vs) are = (
+    subst (λ k. AllBelow k (map f vs)) (sym (same v)) (below_each v.id vs are.0),
+    falling_each vs are.1,
+  )
 
-module _ (w : WindowSet) (minute : ℕ) (change : Version → Version) (same : (v : Version) → (change v).id ≡ v.id) where
-  below_changed : (id : ℕ) (vs : List Version) → AllBelow id vs → AllBelow id (changed_at w minute change vs)
+module _ (w : WindowSet) (minute : ℕ) (change : Version → Version) (same : (v : Version)
+    → (change v).id ≡ v.id) where
+  below_changed : (id : ℕ) (vs : List Version) → AllBelow id vs
+      → AllBelow id (changed_at w minute change vs)
   below_changed id [] below = tt
   below_changed id (v ∷ vs) below = (
     subst (λ k. k < id) (sym (same v)) below.0,
-    below_each (retired w (not (in_force v) && in_force (change v)) minute) (retired-id w (not (in_force v) && in_force (change v)) minute) id (changed_at w minute change vs) (below_changed id vs below.1),
+    below_each (retired w (not (in_force v) && in_force (change v)) minute)
+        (retired-id w (not (in_force v) && in_force (change v)) minute) id
+        (changed_at w minute change vs) (below_changed id vs below.1),
   )
 
   falling_changed : (vs : List Version) → AreFalling vs → AreFalling (changed_at w minute change vs)
   falling_changed [] are = tt
   falling_changed (v ∷ vs) are =
       let f : Version → Version = retired w (not (in_force v) && in_force (change v)) minute in
-      let keeps : (u : Version) → (f u).id ≡ u.id = retired-id w (not (in_force v) && in_force (change v)) minute in (
-        subst (λ k. AllBelow k (map f (changed_at w minute change vs))) (sym (same v)) (below_each f keeps v.id (changed_at w minute change vs) (below_changed v.id vs are.0)),
+      let keeps : (u : Version) → (f u).id ≡ u.id =
+      retired-id w (not (in_force v) && in_force (change v)) minute in (
+        subst (λ k. AllBelow k (map f (changed_at w minute change vs))) (sym (same v))
+            (below_each f keeps v.id (changed_at w minute change vs) (below_changed v.id vs are.0)),
         falling_each f keeps (changed_at w minute change vs) (falling_changed vs are.1),
       )
 
 -- an id that was given is below the next
-given_below : (made : List Subject) (s : Subject) (id : ℕ) → next_after made ≤ id → (vs : List Version) → AreGiven made s vs → AllBelow id vs
+given_below : (made : List Subject) (s : Subject) (id : ℕ) → next_after made ≤ id
+    → (vs : List Version) → AreGiven made s vs → AllBelow id vs
 given_below made s id past [] given = tt
-given_below made s id past (v ∷ vs) given = (go (nat_lt v.id id) refl, given_below made s id past vs given.2)
+given_below made s id past (v ∷ vs) given =
+    (go (nat_lt v.id id) refl, given_below made s id past vs given.2)
   where
     go : (b : Bool) → nat_lt v.id id ≡ b → v.id < id
     go true e = grind (arith, nat_tests)
@@ -71,34 +84,59 @@ given_below made s id past (v ∷ vs) given = (go (nat_lt v.id id) refl, given_b
         let both : None ≡ Some s = sym none ∙ given.0 in cc
 
 module _ (w : Windows) (s : Subject) where
-  falling_minute : (h : List Entry) (m : ℕ) → IsHistory w h m → AreFalling (replay w s h m).versions → AreFalling (judge (present_set w h) (suc m) (replay w s h m)).versions
+  falling_minute : (h : List Entry) (m : ℕ) → IsHistory w h m → AreFalling (replay w s h m).versions
+      → AreFalling (judge (present_set w h) (suc m) (replay w s h m)).versions
   unfolding judge
-  falling_minute h m is are = falling_changed (present_set w h) (suc m) (judged_version (present_set w h) (replay w s h m).carriers (suc m)) (judged_version-id (present_set w h) (replay w s h m).carriers (suc m)) (replay w s h m).versions are
+  falling_minute h m is are =
+      falling_changed (present_set w h) (suc m) (judged_version (present_set w h)
+      (replay w s h m).carriers (suc m)) (judged_version-id (present_set w h)
+      (replay w s h m).carriers (suc m)) (replay w s h m).versions are
 
-  falling_entry : (h : List Entry) (e : Entry) → IsHistory w (e ∷ h) e.minute → AreFalling (replay w s h e.minute).versions → AreFalling (record_after w s h e).versions
+  falling_entry : (h : List Entry) (e : Entry) → IsHistory w (e ∷ h) e.minute
+      → AreFalling (replay w s h e.minute).versions → AreFalling (record_after w s h e).versions
   unfolding effect
-  falling_entry h e is are = go (id_among s (next_after (made_by w h)) (makes e.request (λ t. replay w t h e.minute))) refl
+  falling_entry h e is are =
+      go (id_among s (next_after (made_by w h)) (makes e.request (λ t. replay w t h e.minute))) refl
     where
       change : Version → Version
-      change = done_to (present_set w h) s e.caller e.minute (replay w s h e.minute).carriers e.request
+      change = done_to (present_set w h) s e.caller e.minute (replay w s h e.minute).carriers
+          e.request
 
-      same : (v : Version) → (done_to (present_set w h) s e.caller e.minute (replay w s h e.minute).carriers e.request v).id ≡ v.id
-      same = done_to-id (present_set w h) s e.caller e.minute (replay w s h e.minute).carriers e.request
+      same : (v : Version)
+          → (done_to (present_set w h) s e.caller e.minute (replay w s h e.minute).carriers
+          e.request v).id ≡ v.id
+      same = done_to-id (present_set w h) s e.caller e.minute (replay w s h e.minute).carriers
+          e.request
 
-      go : (o : Option ℕ) → id_among s (next_after (made_by w h)) (makes e.request (λ t. replay w t h e.minute)) ≡ o →
-          AreFalling (with_made o (λ id. made_version (present_set w h) id e.caller e.minute (replay w s h e.minute).carriers (donor_of (assigned_block e.request) h) e.request) (changed_at (present_set w h) e.minute change (replay w s h e.minute).versions))
-      go None f = falling_changed (present_set w h) e.minute change same (replay w s h e.minute).versions are
+      go : (o : Option ℕ)
+          → id_among s (next_after (made_by w h)) (makes e.request (λ t. replay w t h e.minute)) ≡ o
+          →
+          AreFalling (with_made o (λ id. made_version (present_set w h) id e.caller e.minute
+          (replay w s h e.minute).carriers (donor_of (assigned_block e.request) h) e.request)
+          (changed_at (present_set w h) e.minute change (replay w s h e.minute).versions))
+      go None f =
+          falling_changed (present_set w h) e.minute change same (replay w s h e.minute).versions
+          are
       go (Some id) f = (
-        subst (λ k. AllBelow k (changed_at (present_set w h) e.minute change (replay w s h e.minute).versions)) (sym (made_version-id (present_set w h) id e.caller e.minute (replay w s h e.minute).carriers (donor_of (assigned_block e.request) h) e.request))
-            (below_changed (present_set w h) e.minute change same id (replay w s h e.minute).versions
-            (given_below (made_by w h) s id (id_among-from s (next_after (made_by w h)) id (makes e.request (λ t. replay w t h e.minute)) f) (replay w s h e.minute).versions
+        subst (λ k. AllBelow k (changed_at (present_set w h) e.minute change
+            (replay w s h e.minute).versions))
+            (sym (made_version-id (present_set w h) id e.caller e.minute
+            (replay w s h e.minute).carriers (donor_of (assigned_block e.request) h) e.request))
+            (below_changed (present_set w h) e.minute change same id
+            (replay w s h e.minute).versions
+            (given_below (made_by w h) s id (id_among-from s (next_after (made_by w h)) id
+            (makes e.request (λ t. replay w t h e.minute)) f) (replay w s h e.minute).versions
             (given_now (record { windows = w; history = h; now = e.minute }) is.3 s))),
         falling_changed (present_set w h) e.minute change same (replay w s h e.minute).versions are,
       )
 
   -- every record of every history
   are_falling : (h : List Entry) (m : ℕ) → IsHistory w h m → AreFalling (replay w s h m).versions
-  are_falling = kept w s (λ h m r. AreFalling r.versions) (record { first = λ m. tt; minute = falling_minute; entry = falling_entry })
+  are_falling = kept w s (λ h m r. AreFalling r.versions) (record {
+    first = λ m. tt;
+    minute = falling_minute;
+    entry = falling_entry;
+  })
 
 -- ---- ids and attempts of what stands
 
@@ -111,33 +149,52 @@ AreLower (p ∷ ps) = AllByRecursion (IsLower p) ps × AreLower ps
 
 module _ (o : Look) where
   -- those of an older version
-  lower_versions : (p : Placed) (vs : List Version) → AllBelow p.id vs → AllByRecursion (IsLower p) (placed o vs)
-  lower_versions p vs below = each_placed o (IsLower p) vs (each (λ v under. everyone v under v.broadcasts) vs below)
+  lower_versions : (p : Placed) (vs : List Version) → AllBelow p.id vs
+      → AllByRecursion (IsLower p) (placed o vs)
+  lower_versions p vs below =
+      each_placed o (IsLower p) vs (each (λ v under. everyone v under v.broadcasts) vs below)
     where
-      everyone : (v : Version) → v.id < p.id → (bs : List Broadcast) → AllByRecursion (λ b. stands_for o b ≡ true → IsLower p (place o v.id b)) bs
+      everyone : (v : Version) → v.id < p.id → (bs : List Broadcast)
+          → AllByRecursion (λ b. stands_for o b ≡ true → IsLower p (place o v.id b)) bs
       everyone v under [] = tt
       everyone v under (b ∷ bs) = (λ stands. inl under, everyone v under bs)
 
   -- the older ones of the same version
-  lower_same : (id : ℕ) (b : Broadcast) (bs : List Broadcast) → AreBelow b.attempt bs → AllByRecursion (λ x. stands_for o x ≡ true → IsLower (place o id b) (place o id x)) bs
+  lower_same : (id : ℕ) (b : Broadcast) (bs : List Broadcast) → AreBelow b.attempt bs
+      → AllByRecursion (λ x. stands_for o x ≡ true → IsLower (place o id b) (place o id x)) bs
   lower_same id b [] below = tt
   lower_same id b (x ∷ xs) below = (λ stands. inr (refl, below.0), lower_same id b xs below.1)
 
-  lower_own : (id : ℕ) (bs : List Broadcast) (vs : List Version) → AreApart bs → AllBelow id vs → AreLower (placed o vs) → AreLower (own_of o id bs ++ placed o vs)
+  lower_own : (id : ℕ) (bs : List Broadcast) (vs : List Version) → AreApart bs → AllBelow id vs
+      → AreLower (placed o vs) → AreLower (own_of o id bs ++ placed o vs)
   lower_own id [] vs apart below rest = rest
-  lower_own id (b ∷ bs) vs apart below rest = go (stands_for o b) (lower_own id bs vs apart.1 below rest)
+  lower_own id (b ∷ bs) vs apart below rest =
+      go (stands_for o b) (lower_own id bs vs apart.1 below rest)
     where
-      go : (t : Bool) → AreLower (own_of o id bs ++ placed o vs) → AreLower (map (place o id) (cond t (b ∷ filter (stands_for o) bs) (filter (stands_for o) bs)) ++ placed o vs)
-      go true later = (all_append (IsLower (place o id b)) (own_of o id bs) (placed o vs) (each_own o (IsLower (place o id b)) id bs (lower_same id b bs apart.0)) (lower_versions (place o id b) vs below), later)
+      go : (t : Bool) → AreLower (own_of o id bs ++ placed o vs)
+          → AreLower (map (place o id) (cond t (b ∷ filter (stands_for o) bs)
+          (filter (stands_for o) bs)) ++ placed o vs)
+      go true later = (
+        all_append (IsLower (place o id b)) (own_of o id bs) (placed o vs)
+            (each_own o (IsLower (place o id b)) id bs (lower_same id b bs apart.0))
+            (lower_versions (place o id b) vs below),
+        later,
+      )
       go false later = later
 
-  are_lower : (everyone : List ℕ) (vs : List Version) → AreFalling vs → AllByRecursion (IsTended everyone) vs → AreLower (placed o vs)
+  are_lower : (everyone : List ℕ) (vs : List Version) → AreFalling vs
+      → AllByRecursion (IsTended everyone) vs → AreLower (placed o vs)
   are_lower everyone [] falling tended = tt
-  are_lower everyone (v ∷ vs) falling tended = lower_own v.id v.broadcasts vs tended.0.apart falling.0 (are_lower everyone vs falling.1 tended.1)
+  are_lower everyone (v ∷ vs) falling tended =
+      lower_own v.id v.broadcasts vs tended.0.apart falling.0 (are_lower everyone vs falling.1
+      tended.1)
 
   -- in every record
-  pub placed_lower : (w : Windows) (h : List Entry) (m : ℕ) → IsHistory w h m → (s : Subject) → AreLower (placed o (replay w s h m).versions)
-  placed_lower w h m is s = are_lower (replay w s h m).carriers (replay w s h m).versions (are_falling w s h m is) (versions_kept tended_kept w s h m is)
+  pub placed_lower : (w : Windows) (h : List Entry) (m : ℕ) → IsHistory w h m → (s : Subject)
+      → AreLower (placed o (replay w s h m).versions)
+  placed_lower w h m is s =
+      are_lower (replay w s h m).carriers (replay w s h m).versions (are_falling w s h m is)
+      (versions_kept tended_kept w s h m is)
 
 -- ---- minutes
 
@@ -153,18 +210,29 @@ thinned_fall : (ps qs : List Placed) → IsThinned ps qs → MinutesFall ps → 
 thinned_fall ps [] thin fall = tt
 thinned_fall [] (q ∷ qs) thin fall = absurd thin
 thinned_fall (p ∷ ps) (q ∷ qs) (inl thin) fall = thinned_fall ps (q ∷ qs) thin.1 fall.1
-thinned_fall (p ∷ ps) (q ∷ qs) (inr thin) fall = (subst (λ (x : Placed). AllUpTo x.minute qs) (sym thin.0) (thinned_each (λ x. x.minute ≤ p.minute) ps qs thin.1 fall.0), thinned_fall ps qs thin.1 fall.1)
+thinned_fall (p ∷ ps) (q ∷ qs) (inr thin) fall = (
+  subst (λ (x : Placed). AllUpTo x.minute qs) (sym thin.0) (thinned_each (λ x. x.minute ≤ p.minute)
+      ps qs thin.1 fall.0),
+  thinned_fall ps qs thin.1 fall.1,
+)
 
 -- a further one is the last
-pub next_fall : (m : ℕ) (ps qs : List Placed) → IsNext m ps qs → AllUpTo m ps → MinutesFall ps → MinutesFall qs
+pub next_fall : (m : ℕ) (ps qs : List Placed) → IsNext m ps qs → AllUpTo m ps → MinutesFall ps
+    → MinutesFall qs
 next_fall m ps [] next up fall = tt
 next_fall m ps (q ∷ qs) (inl thin) up fall = thinned_fall ps (q ∷ qs) thin fall
-next_fall m ps (q ∷ qs) (inr new) up fall = (subst (λ k. AllUpTo k qs) (sym new.1) (thinned_each (λ x. x.minute ≤ m) ps qs new.2 up), thinned_fall ps qs new.2 fall)
+next_fall m ps (q ∷ qs) (inr new) up fall = (
+  subst (λ k. AllUpTo k qs) (sym new.1) (thinned_each (λ x. x.minute ≤ m) ps qs new.2 up),
+  thinned_fall ps qs new.2 fall,
+)
 
 -- what stands was sent up to now
-pub placed_up : (o : Look) (w : Windows) (s : Subject) (h : List Entry) (now m : ℕ) → IsHistory w h now → now ≤ m → AllUpTo m (placed o (replay w s h now).versions)
+pub placed_up : (o : Look) (w : Windows) (s : Subject) (h : List Entry) (now m : ℕ)
+    → IsHistory w h now → now ≤ m → AllUpTo m (placed o (replay w s h now).versions)
 placed_up o w s h now m is up = each_placed o (λ p. p.minute ≤ m) (replay w s h now).versions
-    (each (λ v all. each (λ b by stands. let before : b.minute ≤ now = by in omega arith) v.broadcasts all) (replay w s h now).versions (versions_kept dated_kept w s h now is))
+    (each (λ v all. each (λ b by stands. let before : b.minute ≤ now = by in
+    omega arith) v.broadcasts all) (replay w s h now).versions (versions_kept dated_kept w s h now
+    is))
 
 -- ---- of those that stand for anybody, those that stand for one carrier
 
@@ -177,24 +245,33 @@ IsWithin (p ∷ ps) (q ∷ qs) = ((q.minute ≡ p.minute) × IsWithin ps qs) ⊎
 up_within : (m : ℕ) (ps qs : List Placed) → IsWithin ps qs → AllUpTo m ps → AllUpTo m qs
 up_within m ps [] within all = tt
 up_within m [] (q ∷ qs) within all = absurd within
-up_within m (p ∷ ps) (q ∷ qs) (inl within) all = (subst (λ k. k ≤ m) (sym within.0) all.0, up_within m ps qs within.1 all.1)
+up_within m (p ∷ ps) (q ∷ qs) (inl within) all = (
+  subst (λ k. k ≤ m) (sym within.0) all.0,
+  up_within m ps qs within.1 all.1,
+)
 up_within m (p ∷ ps) (q ∷ qs) (inr within) all = up_within m ps (q ∷ qs) within all.1
 
 fall_within : (ps qs : List Placed) → IsWithin ps qs → MinutesFall ps → MinutesFall qs
 fall_within ps [] within fall = tt
 fall_within [] (q ∷ qs) within fall = absurd within
-fall_within (p ∷ ps) (q ∷ qs) (inl within) fall = (subst (λ k. AllUpTo k qs) (sym within.0) (up_within p.minute ps qs within.1 fall.0), fall_within ps qs within.1 fall.1)
+fall_within (p ∷ ps) (q ∷ qs) (inl within) fall = (
+  subst (λ k. AllUpTo k qs) (sym within.0) (up_within p.minute ps qs within.1 fall.0),
+  fall_within ps qs within.1 fall.1,
+)
 fall_within (p ∷ ps) (q ∷ qs) (inr within) fall = fall_within ps (q ∷ qs) within fall.1
 
-within_append : (ps qs xs ys : List Placed) → IsWithin ps qs → IsWithin xs ys → IsWithin (ps ++ xs) (qs ++ ys)
+within_append : (ps qs xs ys : List Placed) → IsWithin ps qs → IsWithin xs ys
+    → IsWithin (ps ++ xs) (qs ++ ys)
 within_append [] [] xs ys one two = two
 within_append (p ∷ ps) [] xs [] one two = tt
 within_append (p ∷ ps) [] xs (y ∷ ys) one two = inr (within_append ps [] xs (y ∷ ys) tt two)
 within_append [] (q ∷ qs) xs ys one two = absurd one
-within_append (p ∷ ps) (q ∷ qs) xs ys (inl one) two = inl (one.0, within_append ps qs xs ys one.1 two)
+within_append (p ∷ ps) (q ∷ qs) xs ys (inl one) two =
+    inl (one.0, within_append ps qs xs ys one.1 two)
 within_append (p ∷ ps) (q ∷ qs) xs ys (inr one) two = inr (within_append ps (q ∷ qs) xs ys one two)
 
-own_within : (c id : ℕ) (bs : List Broadcast) → IsWithin (own_of Nobody id bs) (own_of (Carrier c) id bs)
+own_within : (c id : ℕ) (bs : List Broadcast)
+    → IsWithin (own_of Nobody id bs) (own_of (Carrier c) id bs)
 own_within c id [] = tt
 own_within c id (b ∷ bs) = go (is_among c b.recipients) (is_withdrawn b) (own_within c id bs)
   where
@@ -203,23 +280,30 @@ own_within c id (b ∷ bs) = go (is_among c b.recipients) (is_withdrawn b) (own_
     more p ps (q ∷ qs) within = inr within
 
     go : (x y : Bool) → IsWithin (own_of Nobody id bs) (own_of (Carrier c) id bs) →
-        IsWithin (map (place Nobody id) (cond (true && not y) (b ∷ filter (stands_for Nobody) bs) (filter (stands_for Nobody) bs)))
-        (map (place (Carrier c) id) (cond (x && not y) (b ∷ filter (stands_for (Carrier c)) bs) (filter (stands_for (Carrier c)) bs)))
+        IsWithin (map (place Nobody id) (cond (true && not y) (b ∷ filter (stands_for Nobody) bs)
+        (filter (stands_for Nobody) bs)))
+        (map (place (Carrier c) id) (cond (x && not y) (b ∷ filter (stands_for (Carrier c)) bs)
+        (filter (stands_for (Carrier c)) bs)))
     go true false within = inl (refl, within)
     go true true within = within
-    go false false within = more (place Nobody id b) (own_of Nobody id bs) (own_of (Carrier c) id bs) within
+    go false false within =
+        more (place Nobody id b) (own_of Nobody id bs) (own_of (Carrier c) id bs) within
     go false true within = within
 
 placed_within : (c : ℕ) (vs : List Version) → IsWithin (placed Nobody vs) (placed (Carrier c) vs)
 placed_within c [] = tt
-placed_within c (v ∷ vs) = within_append (own Nobody v) (own (Carrier c) v) (placed Nobody vs) (placed (Carrier c) vs) (own_within c v.id v.broadcasts) (placed_within c vs)
+placed_within c (v ∷ vs) = within_append (own Nobody v) (own (Carrier c) v) (placed Nobody vs)
+    (placed (Carrier c) vs) (own_within c v.id v.broadcasts) (placed_within c vs)
 
-pub fall_for : (c : ℕ) (vs : List Version) → MinutesFall (placed Nobody vs) → MinutesFall (placed (Carrier c) vs)
-fall_for c vs fall = fall_within (placed Nobody vs) (placed (Carrier c) vs) (placed_within c vs) fall
+pub fall_for : (c : ℕ) (vs : List Version) → MinutesFall (placed Nobody vs)
+    → MinutesFall (placed (Carrier c) vs)
+fall_for c vs fall = fall_within (placed Nobody vs) (placed (Carrier c) vs) (placed_within c vs)
+    fall
 
 -- ---- the order of downloads
 
-before_is : (s : Subject) (p q : Placed) → q.minute ≤ p.minute → IsLower p q → is_before (download_of s q) (download_of s p) ≡ true
+before_is : (s : Subject) (p q : Placed) → q.minute ≤ p.minute → IsLower p q
+    → is_before (download_of s q) (download_of s p) ≡ true
 before_is s p q up lower = go (nat_lt q.minute p.minute) refl lower
   where
     tail : (nat_lt q.minute p.minute) ≡ false → (q.minute == p.minute) ≡ true
@@ -241,11 +325,19 @@ before_is s p q up lower = go (nat_lt q.minute p.minute) refl lower
     first false y e = cc
 
     go : (b : Bool) → nat_lt q.minute p.minute ≡ b → IsLower p q →
-        (nat_lt q.minute p.minute || ((q.minute == p.minute) && (nat_lt q.id p.id || ((q.id == p.id) && nat_lt q.attempt p.attempt)))) ≡ true
+        (nat_lt q.minute p.minute
+        || ((q.minute == p.minute)
+        && (nat_lt q.id p.id || ((q.id == p.id) && nat_lt q.attempt p.attempt)))) ≡ true
     go true e is = first (nat_lt q.minute p.minute) _ e
-    go false e (inl is) = second (nat_lt q.minute p.minute) (q.minute == p.minute) _ (tail e) (first (nat_lt q.id p.id) _ (less q.id p.id is))
-    go false e (inr is) = second (nat_lt q.minute p.minute) (q.minute == p.minute) _ (tail e) (second (nat_lt q.id p.id) (q.id == p.id) _ (even q.id p.id is.0) (less q.attempt p.attempt is.1))
+    go false e (inl is) = second (nat_lt q.minute p.minute) (q.minute == p.minute) _ (tail e)
+        (first (nat_lt q.id p.id) _ (less q.id p.id is))
+    go false e (inr is) = second (nat_lt q.minute p.minute) (q.minute == p.minute) _ (tail e)
+        (second (nat_lt q.id p.id) (q.id == p.id) _ (even q.id p.id is.0)
+        (less q.attempt p.attempt is.1))
 
 pub in_order : (s : Subject) (ps : List Placed) → MinutesFall ps → AreLower ps → AreInOrder s ps
 in_order s [] fall lower = tt
-in_order s (p ∷ ps) fall lower = (each_two (λ q up under. before_is s p q up under) ps fall.0 lower.0, in_order s ps fall.1 lower.1)
+in_order s (p ∷ ps) fall lower = (
+  each_two (λ q up under. before_is s p q up under) ps fall.0 lower.0,
+  in_order s ps fall.1 lower.1,
+)

@@ -18,20 +18,25 @@ abbrev pub AllReach : List ℕ → List Broadcast → Type 0
 AllReach cs bs = AllByRecursion (Reaches cs) bs
 
 -- what closes is open no more
-closed_reach : (cs : List ℕ) (outcome : Outcome) (bs : List Broadcast) → (outcome ≡ Open → ⊥) → AllReach cs bs → AllReach cs (on_newest (λ b. record b { outcome = outcome }) bs)
+closed_reach : (cs : List ℕ) (outcome : Outcome) (bs : List Broadcast) → (outcome ≡ Open → ⊥)
+    → AllReach cs bs → AllReach cs (on_newest (λ b. record b { outcome = outcome }) bs)
 closed_reach cs outcome [] closed all = tt
 closed_reach cs outcome (b ∷ bs) closed all = (λ opened. absurd (closed opened), all.1)
 
-answered_reach : (cs : List ℕ) (c attempt : ℕ) (bs : List Broadcast) → AllReach cs bs → AllReach cs (map (acknowledged_broadcast c attempt) bs)
+answered_reach : (cs : List ℕ) (c attempt : ℕ) (bs : List Broadcast) → AllReach cs bs
+    → AllReach cs (map (acknowledged_broadcast c attempt) bs)
 answered_reach cs c attempt [] all = tt
-answered_reach cs c attempt (b ∷ bs) all = (go (b.attempt == attempt), answered_reach cs c attempt bs all.1)
+answered_reach cs c attempt (b ∷ bs) all =
+    (go (b.attempt == attempt), answered_reach cs c attempt bs all.1)
   where
-    go : (t : Bool) → Reaches cs (if t then record b { acknowledged = with_number c b.acknowledged } else b)
+    go : (t : Bool) → Reaches cs (if t then record b { acknowledged = with_number c b.acknowledged }
+        else b)
     go true = all.0
     go false = all.0
 
 -- a carrier that registers is a recipient of it too
-joined_reach : (cs : List ℕ) (c : ℕ) (bs : List Broadcast) → AllReach cs bs → AllReach (with_number c cs) (map (joined_broadcast c) bs)
+joined_reach : (cs : List ℕ) (c : ℕ) (bs : List Broadcast) → AllReach cs bs
+    → AllReach (with_number c cs) (map (joined_broadcast c) bs)
 joined_reach cs c [] all = tt
 joined_reach cs c (b ∷ bs) all = (go (is_open_broadcast b) refl, joined_reach cs c bs all.1)
   where
@@ -39,8 +44,10 @@ joined_reach cs c (b ∷ bs) all = (go (is_open_broadcast b) refl, joined_reach 
     either true y z step is = refl
     either false y z step is = step is
 
-    go : (t : Bool) → is_open_broadcast b ≡ t → Reaches (with_number c cs) (if t then record b { recipients = with_number c b.recipients } else b)
-    go true e = λ opened k is. among-with_number k c b.recipients ∙ either (c == k) (is_among k cs) (is_among k b.recipients) (all.0 opened k) (sym (among-with_number k c cs) ∙ is)
+    go : (t : Bool) → is_open_broadcast b ≡ t → Reaches (with_number c cs) (if t
+        then record b { recipients = with_number c b.recipients } else b)
+    go true e = λ opened k is. among-with_number k c b.recipients ∙ either (c == k) (is_among k cs)
+        (is_among k b.recipients) (all.0 opened k) (sym (among-with_number k c cs) ∙ is)
     go false e = λ opened k is. let no : true ≡ false = sym (ap is_open_outcome opened) ∙ e in cc
 
 -- every move keeps it
@@ -50,7 +57,9 @@ reach_kept w = record {
   joined = λ c m cs v is. joined_reach cs c v.broadcasts is;
   made_old = λ m cs id old_provider new_provider due some. tt;
   made_new = λ routing m cs id old_provider new_provider due some. tt;
-  made_sent = λ routing protective m cs id old_provider new_provider due some. (λ opened k among. among, tt);
+  made_sent =
+      λ routing protective m cs id old_provider new_provider due some.
+      (λ opened k among. among, tt);
   old_create = λ m cs v awaits is. is;
   new_create = λ routing m cs v awaits is. is;
   pending = λ m cs v from is. is;
@@ -64,8 +73,11 @@ reach_kept w = record {
   disconnected = λ m cs v may is. (λ opened k among. among, is);
   released = λ m cs v from is. (λ opened k among. among, is);
   modified = λ routing m cs v may is. (λ opened k among. among, is);
-  ended = λ action m cs v from is. closed_reach cs (outcome_at_end v.broadcasts) v.broadcasts (end_closes v.broadcasts) is;
+  ended = λ action m cs v from is. closed_reach cs (outcome_at_end v.broadcasts) v.broadcasts
+      (end_closes v.broadcasts) is;
   answered = λ c attempt m cs v may is. answered_reach cs c attempt v.broadcasts is;
-  closed = λ c attempt action m cs v may is. closed_reach cs AllAcknowledged (map (acknowledged_broadcast c attempt) v.broadcasts) (λ e. cc) (answered_reach cs c attempt v.broadcasts is);
+  closed = λ c attempt action m cs v may is. closed_reach cs AllAcknowledged
+      (map (acknowledged_broadcast c attempt) v.broadcasts) (λ e. cc)
+      (answered_reach cs c attempt v.broadcasts is);
   whole = λ c attempt m cs v may is. answered_reach cs c attempt v.broadcasts is;
 }

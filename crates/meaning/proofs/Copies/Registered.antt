@@ -1,4 +1,5 @@
--- Of the broadcasts that stand, those that were not sent to a carrier are behind those that were, and the last of them says its starting row.
+-- Of the broadcasts that stand, those that were not sent to a carrier are behind those that were,
+-- and the last of them says its starting row.
 use Rattle.std.proofs.Common.{◌≡◌, ℕ, suc, Bool, true, false, cond, not, ◌&&◌, ◌||◌, List, [], ◌∷◌, ◌++◌, map, Option, None, refl, ap, sym, ◌∙◌, subst}
 use Rattle.std.specs.Prelude.{◌==◌, filter, if◌then◌else◌}
 use Rattle.std.specs.List.{AllByRecursion}
@@ -30,15 +31,20 @@ use Rattle.meaning.proofs.Copies.LastWord.{Say, force_says}
 -- ---- where the carrier registers, it becomes a recipient of what is open
 
 module _ (c : ℕ) (cs : List ℕ) (out : is_among c cs ≡ false) where
-  joined_own : (id : ℕ) (bs : List Broadcast) → AllKnown cs bs → own_of (Unsent c) id (map (joined_broadcast c) bs) ≡ own_of Closed id bs
+  joined_own : (id : ℕ) (bs : List Broadcast) → AllKnown cs bs
+      → own_of (Unsent c) id (map (joined_broadcast c) bs) ≡ own_of Closed id bs
   joined_own id [] known = refl
   joined_own id (b ∷ bs) known =
-      ap (λ t. map (place (Unsent c) id) (cond (true && not t) (joined_broadcast c b ∷ rest) rest)) (withdrawn (is_open_broadcast b)) ∙ go (is_withdrawn b) (joined_own id bs known.1)
+      ap (λ t. map (place (Unsent c) id) (cond (true && not t) (joined_broadcast c b ∷ rest) rest))
+      (withdrawn (is_open_broadcast b)) ∙ go (is_withdrawn b) (joined_own id bs known.1)
     where
       rest : List Broadcast
       rest = filter (stands_for (Unsent c)) (map (joined_broadcast c) bs)
 
-      withdrawn : (t : Bool) → is_withdrawn (if t then record b { recipients = with_number c b.recipients } else b) ≡ is_withdrawn b
+      withdrawn : (t : Bool) → is_withdrawn (if t then record b {
+        recipients =
+            with_number c b.recipients;
+      } else b) ≡ is_withdrawn b
       withdrawn true = refl
       withdrawn false = refl
 
@@ -46,24 +52,58 @@ module _ (c : ℕ) (cs : List ℕ) (out : is_among c cs ≡ false) where
       never true e = true-false (is_among c cs) (known.0.recipients c e) out
       never false e = refl
 
-      first : (t : Bool) → place (Unsent c) id (if t then record b { recipients = with_number c b.recipients } else b)
-          ≡ (let p : Placed = record { id = id; attempt = b.attempt; minute = b.minute; action = b.action; routing = b.routing; marked = not t } in p)
-      first true = ap (λ x. let p : Placed = record { id = id; attempt = b.attempt; minute = b.minute; action = b.action; routing = b.routing; marked = not x } in p)
-          (among-with_number c c b.recipients ∙ ap (λ x. x || is_among c b.recipients) (same_number c))
-      first false = ap (λ x. let p : Placed = record { id = id; attempt = b.attempt; minute = b.minute; action = b.action; routing = b.routing; marked = not x } in p) (never (is_among c b.recipients) refl)
+      first : (t : Bool) → place (Unsent c) id (if t then record b {
+        recipients =
+            with_number c b.recipients;
+      } else b)
+          ≡ (let p : Placed = record {
+            id = id;
+            attempt = b.attempt;
+            minute = b.minute;
+            action = b.action;
+            routing = b.routing;
+            marked = not t;
+          } in p)
+      first true = ap (λ x. let p : Placed = record {
+        id = id;
+        attempt = b.attempt;
+        minute = b.minute;
+        action = b.action;
+        routing = b.routing;
+        marked = not x;
+      } in p)
+          (among-with_number c c b.recipients ∙ ap (λ x. x || is_among c b.recipients)
+          (same_number c))
+      first false = ap (λ x. let p : Placed = record {
+        id = id;
+        attempt = b.attempt;
+        minute = b.minute;
+        action = b.action;
+        routing = b.routing;
+        marked = not x;
+      } in p) (never (is_among c b.recipients) refl)
 
       go : (t : Bool) → map (place (Unsent c) id) rest ≡ own_of Closed id bs →
-          map (place (Unsent c) id) (cond (true && not t) (joined_broadcast c b ∷ rest) rest) ≡ map (place Closed id) (cond (true && not t) (b ∷ filter (stands_for Closed) bs) (filter (stands_for Closed) bs))
+          map (place (Unsent c) id) (cond (true && not t) (joined_broadcast c b ∷ rest) rest)
+          ≡ map (place Closed id) (cond (true && not t) (b ∷ filter (stands_for Closed) bs)
+          (filter (stands_for Closed) bs))
       go true later = later
-      go false later = ap (λ p. p ∷ map (place (Unsent c) id) rest) (first (is_open_broadcast b)) ∙ ap (λ ps. place Closed id b ∷ ps) later
+      go false later = ap (λ p. p ∷ map (place (Unsent c) id) rest) (first (is_open_broadcast b))
+          ∙ ap (λ ps. place Closed id b ∷ ps) later
 
-  joined_placed : (vs : List Version) → AllByRecursion (IsKnown cs) vs → placed (Unsent c) (map (joined_by c) vs) ≡ placed Closed vs
+  joined_placed : (vs : List Version) → AllByRecursion (IsKnown cs) vs
+      → placed (Unsent c) (map (joined_by c) vs) ≡ placed Closed vs
   joined_placed [] known = refl
-  joined_placed (v ∷ vs) known = ap (λ ps. ps ++ placed (Unsent c) (map (joined_by c) vs)) (joined_own v.id v.broadcasts known.0) ∙ ap (λ ps. own Closed v ++ ps) (joined_placed vs known.1)
+  joined_placed (v ∷ vs) known =
+      ap (λ ps. ps ++ placed (Unsent c) (map (joined_by c) vs))
+      (joined_own v.id v.broadcasts known.0) ∙ ap (λ ps. own Closed v ++ ps)
+      (joined_placed vs known.1)
 
 -- one that does not register now was registered before
-known_before : (c : ℕ) (request : Request) (cs : List ℕ) → registers c request ≡ false → is_among c (carrier_added (carrier_named request) cs) ≡ true → is_among c cs ≡ true
-known_before c (Commands (RegisterCarrier spid)) cs other is = ap (λ b. b || is_among c cs) (sym other) ∙ sym (among-with_number c spid cs) ∙ is
+known_before : (c : ℕ) (request : Request) (cs : List ℕ) → registers c request ≡ false
+    → is_among c (carrier_added (carrier_named request) cs) ≡ true → is_among c cs ≡ true
+known_before c (Commands (RegisterCarrier spid)) cs other is =
+    ap (λ b. b || is_among c cs) (sym other) ∙ sym (among-with_number c spid cs) ∙ is
 known_before c _ cs other is = is
 
 -- ---- every record
@@ -71,51 +111,97 @@ known_before c _ cs other is = is
 module _ (w : Windows) (c : ℕ) (s : Subject) where
   -- once the carrier is registered
   abbrev pub SaysStart : List Entry → ℕ → Record → Type 0
-  SaysStart h m r = is_among c (carriers h) ≡ true → Say (starting_row w c s h) (placed (Unsent c) r.versions)
+  SaysStart h m r = is_among c (carriers h) ≡ true
+      → Say (starting_row w c s h) (placed (Unsent c) r.versions)
 
-  next_says : (m : ℕ) (routing : Option Routing) (ps qs : List Placed) → IsNext m ps qs → Say routing ps → Say routing qs
-  next_says m routing ps qs next says = (next_in_order m ps qs next says.0, sym (next_held m None ps qs next) ∙ says.1)
+  next_says : (m : ℕ) (routing : Option Routing) (ps qs : List Placed) → IsNext m ps qs
+      → Say routing ps → Say routing qs
+  next_says m routing ps qs next says = (
+    next_in_order m ps qs next says.0,
+    sym (next_held m None ps qs next) ∙ says.1,
+  )
 
-  lasts : (h : List Entry) (m : ℕ) → is_among c (carriers h) ≡ true → is_among c (replay w s h m).carriers ≡ true
+  lasts : (h : List Entry) (m : ℕ) → is_among c (carriers h) ≡ true
+      → is_among c (replay w s h m).carriers ≡ true
   lasts h m known = ap (is_among c) (record-carriers w h s m) ∙ known
 
-  after_minute : (h : List Entry) (m : ℕ) → IsHistory w h m → SaysStart h m (replay w s h m) → SaysStart h (suc m) (judge (present_set w h) (suc m) (replay w s h m))
-  after_minute h m is says known = next_says (suc m) (starting_row w c s h) (placed (Unsent c) (replay w s h m).versions) (placed (Unsent c) (judge (present_set w h) (suc m) (replay w s h m)).versions)
+  after_minute : (h : List Entry) (m : ℕ) → IsHistory w h m → SaysStart h m (replay w s h m)
+      → SaysStart h (suc m) (judge (present_set w h) (suc m) (replay w s h m))
+  after_minute h m is says known =
+      next_says (suc m) (starting_row w c s h) (placed (Unsent c) (replay w s h m).versions)
+      (placed (Unsent c) (judge (present_set w h) (suc m) (replay w s h m)).versions)
       (minute_next (Unsent c) w s h m is (lasts h m known)) (says known)
 
   -- a registration of the carrier
-  joins : (h : List Entry) (e : Entry) → IsHistory w (e ∷ h) e.minute → registers c e.request ≡ true → placed (Unsent c) (record_after w s h e).versions ≡ placed Closed (replay w s h e.minute).versions
+  joins : (h : List Entry) (e : Entry) → IsHistory w (e ∷ h) e.minute → registers c e.request ≡ true
+      → placed (Unsent c) (record_after w s h e).versions ≡ placed Closed
+      (replay w s h e.minute).versions
   unfolding effect
   joins h e is registered = go e.request refl registered is.2
     where
       known : AllByRecursion (IsKnown (carriers h)) (replay w s h e.minute).versions
-      known = subst (λ cs. AllByRecursion (IsKnown cs) (replay w s h e.minute).versions) (record-carriers w h s e.minute) (versions_kept known_kept w s h e.minute is.3)
+      known = subst (λ cs. AllByRecursion (IsKnown cs) (replay w s h e.minute).versions)
+          (record-carriers w h s e.minute) (versions_kept known_kept w s h e.minute is.3)
 
-      go : (request : Request) → e.request ≡ request → registers c request ≡ true → refusal (record { windows = w; history = h; now = e.minute }) (Requests e.caller e.request) ≡ None →
-          placed (Unsent c) (record_after w s h e).versions ≡ placed Closed (replay w s h e.minute).versions
+      go : (request : Request) → e.request ≡ request → registers c request ≡ true
+          → refusal (record { windows = w; history = h; now = e.minute })
+          (Requests e.caller e.request) ≡ None →
+          placed (Unsent c) (record_after w s h e).versions ≡ placed Closed
+          (replay w s h e.minute).versions
       go (Commands (RegisterCarrier spid)) f r ok =
           let same : spid ≡ c = equal_number spid c r in
-          let free : is_among c (carriers h) ≡ false = subst (λ k. is_among k (carriers h) ≡ false) same
-          (or_first (is_carrier (record { windows = w; history = h; now = e.minute }) spid) (spid == npac)
-          (accepted_command (record { windows = w; history = h; now = e.minute }) e.caller (RegisterCarrier spid) (subst (λ q. refusal (record { windows = w; history = h; now = e.minute }) (Requests e.caller q) ≡ None) f ok)).carrier_taken) in
-          subst (λ q. placed (Unsent c) (with_made (id_among s (next_after (made_by w h)) (makes q (λ t. replay w t h e.minute))) (λ id. made_version (present_set w h) id e.caller e.minute (replay w s h e.minute).carriers (donor_of (assigned_block q) h) q)
-          (changed_at (present_set w h) e.minute (done_to (present_set w h) s e.caller e.minute (replay w s h e.minute).carriers q) (replay w s h e.minute).versions)) ≡ placed Closed (replay w s h e.minute).versions) (sym f)
-          (subst (λ k. placed (Unsent c) (changed_at (present_set w h) e.minute (joined_by k) (replay w s h e.minute).versions) ≡ placed Closed (replay w s h e.minute).versions) (sym same)
-          (changed_placed (present_set w h) (Unsent c) e.minute (joined_by c) (replay w s h e.minute).versions ∙ joined_placed c (carriers h) free (replay w s h e.minute).versions known))
+          let free : is_among c (carriers h) ≡ false =
+          subst (λ k. is_among k (carriers h) ≡ false) same
+          (or_first (is_carrier (record { windows = w; history = h; now = e.minute }) spid)
+          (spid == npac)
+          (accepted_command (record { windows = w; history = h; now = e.minute }) e.caller
+          (RegisterCarrier spid) (subst (λ q. refusal (record {
+            windows = w;
+            history = h;
+            now =
+                e.minute;
+          }) (Requests e.caller q) ≡ None) f ok)).carrier_taken) in
+          subst (λ q. placed (Unsent c)
+          (with_made (id_among s (next_after (made_by w h)) (makes q (λ t. replay w t h e.minute)))
+          (λ id. made_version (present_set w h) id e.caller e.minute
+          (replay w s h e.minute).carriers (donor_of (assigned_block q) h) q)
+          (changed_at (present_set w h) e.minute (done_to (present_set w h) s e.caller e.minute
+          (replay w s h e.minute).carriers q) (replay w s h e.minute).versions)) ≡ placed Closed
+          (replay w s h e.minute).versions) (sym f)
+          (subst (λ k. placed (Unsent c) (changed_at (present_set w h) e.minute (joined_by k)
+          (replay w s h e.minute).versions) ≡ placed Closed (replay w s h e.minute).versions)
+          (sym same)
+          (changed_placed (present_set w h) (Unsent c) e.minute (joined_by c)
+          (replay w s h e.minute).versions ∙ joined_placed c (carriers h) free
+          (replay w s h e.minute).versions known))
       go _ f r ok = cc
 
-  after_entry : (h : List Entry) (e : Entry) → IsHistory w (e ∷ h) e.minute → SaysStart h e.minute (replay w s h e.minute) → SaysStart (e ∷ h) e.minute (record_after w s h e)
+  after_entry : (h : List Entry) (e : Entry) → IsHistory w (e ∷ h) e.minute
+      → SaysStart h e.minute (replay w s h e.minute)
+      → SaysStart (e ∷ h) e.minute (record_after w s h e)
   after_entry h e is says known = go (registers c e.request) refl
     where
-      go : (b : Bool) → registers c e.request ≡ b → Say (if registers c e.request then routing_in_force (replay w s h e.minute) else starting_row w c s h) (placed (Unsent c) (record_after w s h e).versions)
+      go : (b : Bool) → registers c e.request ≡ b → Say (if registers c e.request
+          then routing_in_force (replay w s h e.minute) else starting_row w c s h)
+          (placed (Unsent c) (record_after w s h e).versions)
       go true f =
-          subst (λ b. Say (if b then routing_in_force (replay w s h e.minute) else starting_row w c s h) (placed (Unsent c) (record_after w s h e).versions)) (sym f)
-          (subst (Say (routing_in_force (replay w s h e.minute))) (sym (joins h e is f)) (force_says w s h e.minute is.3))
+          subst (λ b. Say (if b then routing_in_force (replay w s h e.minute)
+          else starting_row w c s h) (placed (Unsent c) (record_after w s h e).versions)) (sym f)
+          (subst (Say (routing_in_force (replay w s h e.minute))) (sym (joins h e is f))
+          (force_says w s h e.minute is.3))
       go false f =
-          let before : is_among c (carriers h) ≡ true = known_before c e.request (carriers h) f known in
-          subst (λ b. Say (if b then routing_in_force (replay w s h e.minute) else starting_row w c s h) (placed (Unsent c) (record_after w s h e).versions)) (sym f)
-          (next_says e.minute (starting_row w c s h) (placed (Unsent c) (replay w s h e.minute).versions) (placed (Unsent c) (record_after w s h e).versions)
+          let before : is_among c (carriers h) ≡ true =
+          known_before c e.request (carriers h) f known in
+          subst (λ b. Say (if b then routing_in_force (replay w s h e.minute)
+          else starting_row w c s h) (placed (Unsent c) (record_after w s h e).versions)) (sym f)
+          (next_says e.minute (starting_row w c s h)
+          (placed (Unsent c) (replay w s h e.minute).versions)
+          (placed (Unsent c) (record_after w s h e).versions)
           (entry_next (Unsent c) w s h e is (lasts h e.minute before) (ap not f)) (says before))
 
   pub says_start : (h : List Entry) (m : ℕ) → IsHistory w h m → SaysStart h m (replay w s h m)
-  says_start = kept w s SaysStart (record { first = λ m known. cc; minute = after_minute; entry = after_entry })
+  says_start = kept w s SaysStart (record {
+    first = λ m known. cc;
+    minute = after_minute;
+    entry = after_entry;
+  })

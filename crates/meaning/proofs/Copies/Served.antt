@@ -44,11 +44,13 @@ abbrev pub AreServed : List Version → Type 0
 AreServed [] = ⊤
 AreServed (v ∷ vs) = (is_served v.status ≡ true → NoneInForce vs) × AreServed vs
 
--- what is in force stays so or becomes old, what is old stays so, and the rest stays out of force; only where a version may take over does one that sends a create come into force
+-- what is in force stays so or becomes old, what is old stays so, and the rest stays out of force;
+-- only where a version may take over does one that sends a create come into force
 abbrev pub follows : (takes : Bool) → Status → Status → Bool
 follows takes old new =
     if in_force_status old then is_served new
-    else (if is_old old then is_old new else not (is_served new) || (takes && sends_create old && in_force_status new))
+    else (if is_old old then is_old new
+    else not (is_served new) || (takes && sends_create old && in_force_status new))
 
 abbrev pub Follows : Bool → (Version → Version) → Version → Type 0
 Follows takes change v = follows takes v.status (change v).status ≡ true
@@ -69,7 +71,8 @@ follows_itself takes Canceled = refl
 
 -- ---- what follows
 
-pub closed_sends_none : (s : Subject) (status : Status) → open_by s status ≡ false → sends_create status ≡ false
+pub closed_sends_none : (s : Subject) (status : Status) → open_by s status ≡ false
+    → sends_create status ≡ false
 closed_sends_none (Number n) (Sending Create) closed = cc
 closed_sends_none (Block b) (Sending Create) closed = cc
 closed_sends_none s (Sending Delete) closed = refl
@@ -77,14 +80,20 @@ closed_sends_none s (Sending (Modify routing)) closed = refl
 closed_sends_none s _ closed = refl
 
 -- what neither is in force nor sends a create stays out of force
-pub stays_out : (takes : Bool) (old new : Status) → follows takes old new ≡ true → sends_create old ≡ false → in_force_status old ≡ false → in_force_status new ≡ false
-stays_out takes old new step idle out = go takes (in_force_status old) (is_old old) (sends_create old) (in_force_status new) (is_old new) out idle refl (old_is new) step
+pub stays_out : (takes : Bool) (old new : Status) → follows takes old new ≡ true
+    → sends_create old ≡ false → in_force_status old ≡ false → in_force_status new ≡ false
+stays_out takes old new step idle out =
+    go takes (in_force_status old) (is_old old) (sends_create old) (in_force_status new)
+    (is_old new) out idle refl (old_is new) step
   where
     old_is : (status : Status) → is_old status ≡ true → in_force_status status ≡ false
     old_is Old e = refl
     old_is _ e = cc
 
-    go : (t a b c x y : Bool) → a ≡ false → c ≡ false → in_force_status new ≡ x → (y ≡ true → in_force_status new ≡ false) → (if a then x || y else (if b then y else not (x || y) || (t && c && x))) ≡ true → in_force_status new ≡ false
+    go : (t a b c x y : Bool) → a ≡ false → c ≡ false → in_force_status new ≡ x
+        → (y ≡ true → in_force_status new ≡ false)
+        → (if a then x || y else (if b then y else not (x || y) || (t && c && x))) ≡ true
+        → in_force_status new ≡ false
     go t true b c x y e f g h is = cc
     go t false true c x y e f g h is = h is
     go t false false c false y e f g h is = g
@@ -93,10 +102,15 @@ stays_out takes old new step idle out = go takes (in_force_status old) (is_old o
     go false false false false true y e f g h is = cc
 
 -- what is old was in force or old
-pub was_served : (takes : Bool) (old new : Status) → follows takes old new ≡ true → in_force_status new ≡ false → is_served new ≡ true → is_served old ≡ true
-was_served takes old new step out served = go takes (in_force_status old) (is_old old) (sends_create old) (in_force_status new) (is_old new) out served step
+pub was_served : (takes : Bool) (old new : Status) → follows takes old new ≡ true
+    → in_force_status new ≡ false → is_served new ≡ true → is_served old ≡ true
+was_served takes old new step out served =
+    go takes (in_force_status old) (is_old old) (sends_create old) (in_force_status new)
+    (is_old new) out served step
   where
-    go : (t a b c x y : Bool) → x ≡ false → (x || y) ≡ true → (if a then x || y else (if b then y else not (x || y) || (t && c && x))) ≡ true → (a || b) ≡ true
+    go : (t a b c x y : Bool) → x ≡ false → (x || y) ≡ true
+        → (if a then x || y else (if b then y else not (x || y) || (t && c && x))) ≡ true
+        → (a || b) ≡ true
     go t true b c x y e f is = refl
     go t false true c x y e f is = refl
     go t false false c true y e f is = cc
@@ -106,24 +120,34 @@ was_served takes old new step out served = go takes (in_force_status old) (is_ol
     go false false false c false true e f is = cc
 
 -- what is or was in force stays so
-pub still_served : (takes : Bool) (old new : Status) → follows takes old new ≡ true → is_served old ≡ true → is_served new ≡ true
-still_served takes old new step served = go (in_force_status old) (is_old old) (in_force_status new) (is_old new) (not (is_served new) || (takes && sends_create old && in_force_status new)) served step
+pub still_served : (takes : Bool) (old new : Status) → follows takes old new ≡ true
+    → is_served old ≡ true → is_served new ≡ true
+still_served takes old new step served =
+    go (in_force_status old) (is_old old) (in_force_status new) (is_old new)
+    (not (is_served new) || (takes && sends_create old && in_force_status new)) served step
   where
-    go : (a b x y z : Bool) → (a || b) ≡ true → (if a then x || y else (if b then y else z)) ≡ true → (x || y) ≡ true
+    go : (a b x y z : Bool) → (a || b) ≡ true → (if a then x || y else (if b then y else z)) ≡ true
+        → (x || y) ≡ true
     go true b x y z e is = is
     go false true true y z e is = refl
     go false true false y z e is = is
     go false false x y z e is = cc
 
 -- what comes into force was sent, and where it may
-pub taker : (takes : Bool) (old new : Status) → follows takes old new ≡ true → in_force_status old ≡ false → in_force_status new ≡ true → (takes ≡ true) × (sends_create old ≡ true)
-taker takes old new step out now = go takes (in_force_status old) (is_old old) (sends_create old) (in_force_status new) (is_old new) out now (old_is new) step
+pub taker : (takes : Bool) (old new : Status) → follows takes old new ≡ true
+    → in_force_status old ≡ false → in_force_status new ≡ true → (takes ≡ true)
+    × (sends_create old ≡ true)
+taker takes old new step out now =
+    go takes (in_force_status old) (is_old old) (sends_create old) (in_force_status new)
+    (is_old new) out now (old_is new) step
   where
     old_is : (status : Status) → is_old status ≡ true → in_force_status status ≡ false
     old_is Old e = refl
     old_is _ e = cc
 
-    go : (t a b c x y : Bool) → a ≡ false → x ≡ true → (y ≡ true → in_force_status new ≡ false) → (if a then x || y else (if b then y else not (x || y) || (t && c && x))) ≡ true → (t ≡ true) × (c ≡ true)
+    go : (t a b c x y : Bool) → a ≡ false → x ≡ true → (y ≡ true → in_force_status new ≡ false)
+        → (if a then x || y else (if b then y else not (x || y) || (t && c && x))) ≡ true
+        → (t ≡ true) × (c ≡ true)
     go t true b c x y e f g is = cc
     go t false true c x y e f g is = true-false (in_force_status new) now (g is)
     go true false false true true y e f g is = (refl, refl)
@@ -133,49 +157,76 @@ taker takes old new step out now = go takes (in_force_status old) (is_old old) (
 
 -- ---- a change of each version keeps it
 
-retired_served : (w : WindowSet) (b : Bool) (minute : ℕ) (vs : List Version) → AreServed vs → AreServed (map (retired w b minute) vs)
+retired_served : (w : WindowSet) (b : Bool) (minute : ℕ) (vs : List Version) → AreServed vs
+    → AreServed (map (retired w b minute) vs)
 retired_served w b minute [] are = tt
-retired_served w b minute (v ∷ vs) are = (go b (in_force v) refl, retired_served w b minute vs are.1)
+retired_served w b minute (v ∷ vs) are =
+    (go b (in_force v) refl, retired_served w b minute vs are.1)
   where
     force_served : in_force v ≡ true → is_served v.status ≡ true
     force_served e = ap (λ t. t || is_old v.status) e
 
-    go : (x y : Bool) → in_force v ≡ y → is_served (if x && y then enters w Old minute v else v).status ≡ true → NoneInForce (map (retired w b minute) vs)
+    go : (x y : Bool) → in_force v ≡ y → is_served (if x && y then enters w Old minute v
+        else v).status ≡ true → NoneInForce (map (retired w b minute) vs)
     go true true e is = retired-none w b minute vs (are.0 (force_served e))
     go true false e is = retired-none w b minute vs (are.0 is)
     go false y e is = retired-none w b minute vs (are.0 is)
 
-module _ (w : WindowSet) (s : Subject) (takes : Bool) (minute : ℕ) (change : Version → Version) where
-  none_changed : (vs : List Version) → AllByRecursion (Follows takes change) vs → NoneOpen s vs → NoneInForce vs → NoneInForce (changed_at w minute change vs)
+module _ (w : WindowSet) (s : Subject) (takes : Bool) (minute : ℕ) (change : Version
+    → Version) where
+  none_changed : (vs : List Version) → AllByRecursion (Follows takes change) vs → NoneOpen s vs
+      → NoneInForce vs → NoneInForce (changed_at w minute change vs)
   none_changed [] steps closed out = tt
-  none_changed (v ∷ vs) steps closed out =
-      (stays_out takes v.status (change v).status steps.0 (closed_sends_none s v.status closed.0) out.0, retired-none w (not (in_force v) && in_force (change v)) minute (changed_at w minute change vs) (none_changed vs steps.1 closed.1 out.1))
+  none_changed (v ∷ vs) steps closed out = (
+    stays_out takes v.status (change v).status steps.0 (closed_sends_none s v.status closed.0)
+        out.0,
+    retired-none w (not (in_force v) && in_force (change v)) minute (changed_at w minute change vs)
+        (none_changed vs steps.1 closed.1 out.1),
+  )
 
-  newest_served : (v : Version) (vs : List Version) → AllByRecursion (Follows takes change) (v ∷ vs) → NoneOpen s vs → AreServed (v ∷ vs) →
-      is_served (change v).status ≡ true → NoneInForce (map (retired w (not (in_force v) && in_force (change v)) minute) (changed_at w minute change vs))
+  newest_served : (v : Version) (vs : List Version) → AllByRecursion (Follows takes change) (v ∷ vs)
+      → NoneOpen s vs → AreServed (v ∷ vs) →
+      is_served (change v).status ≡ true
+      → NoneInForce (map (retired w (not (in_force v) && in_force (change v)) minute)
+      (changed_at w minute change vs))
   newest_served v vs steps closed are = go (in_force v) (in_force (change v)) refl refl
     where
-      quiet : (b : Bool) → is_served v.status ≡ true → NoneInForce (map (retired w b minute) (changed_at w minute change vs))
-      quiet b is = retired-none w b minute (changed_at w minute change vs) (none_changed vs steps.1 closed (are.0 is))
+      quiet : (b : Bool) → is_served v.status ≡ true
+          → NoneInForce (map (retired w b minute) (changed_at w minute change vs))
+      quiet b is =
+          retired-none w b minute (changed_at w minute change vs) (none_changed vs steps.1 closed
+          (are.0 is))
 
-      go : (x y : Bool) → in_force v ≡ x → in_force (change v) ≡ y → is_served (change v).status ≡ true → NoneInForce (map (retired w (not x && y) minute) (changed_at w minute change vs))
+      go : (x y : Bool) → in_force v ≡ x → in_force (change v) ≡ y
+          → is_served (change v).status ≡ true
+          → NoneInForce (map (retired w (not x && y) minute) (changed_at w minute change vs))
       go true y e f is = quiet (not true && y) (ap (λ t. t || is_old v.status) e)
       go false true e f is = retired-all w minute (changed_at w minute change vs)
-      go false false e f is = quiet (not false && false) (was_served takes v.status (change v).status steps.0 f is)
+      go false false e f is =
+          quiet (not false && false) (was_served takes v.status (change v).status steps.0 f is)
 
-  behind_served : (vs : List Version) → AllByRecursion (Follows takes change) vs → NoneOpen s vs → AreServed vs → AreServed (changed_at w minute change vs)
+  behind_served : (vs : List Version) → AllByRecursion (Follows takes change) vs → NoneOpen s vs
+      → AreServed vs → AreServed (changed_at w minute change vs)
   behind_served [] steps closed are = tt
-  behind_served (v ∷ vs) steps closed are =
-      (newest_served v vs steps closed.1 are, retired_served w (not (in_force v) && in_force (change v)) minute (changed_at w minute change vs) (behind_served vs steps.1 closed.1 are.1))
+  behind_served (v ∷ vs) steps closed are = (
+    newest_served v vs steps closed.1 are,
+    retired_served w (not (in_force v) && in_force (change v)) minute
+        (changed_at w minute change vs) (behind_served vs steps.1 closed.1 are.1),
+  )
 
-  changed_served : (vs : List Version) → AllByRecursion (Follows takes change) vs → AreSound s vs → AreServed vs → AreServed (changed_at w minute change vs)
+  changed_served : (vs : List Version) → AllByRecursion (Follows takes change) vs → AreSound s vs
+      → AreServed vs → AreServed (changed_at w minute change vs)
   changed_served [] steps sound are = tt
-  changed_served (v ∷ vs) steps sound are =
-      (newest_served v vs steps sound.0 are, retired_served w (not (in_force v) && in_force (change v)) minute (changed_at w minute change vs) (behind_served vs steps.1 sound.0 are.1))
+  changed_served (v ∷ vs) steps sound are = (
+    newest_served v vs steps sound.0 are,
+    retired_served w (not (in_force v) && in_force (change v)) minute
+        (changed_at w minute change vs) (behind_served vs steps.1 sound.0 are.1),
+  )
 
 -- ---- minutes
 
-closed_follows : (action : Send) (outcome : Outcome) → follows true (Sending action) (status_after action outcome) ≡ true
+closed_follows : (action : Send) (outcome : Outcome)
+    → follows true (Sending action) (status_after action outcome) ≡ true
 closed_follows Create Open = refl
 closed_follows Create NoneAcknowledged = refl
 closed_follows Create _ = refl
@@ -184,18 +235,22 @@ closed_follows Delete _ = refl
 closed_follows (Modify routing) Open = refl
 closed_follows (Modify routing) _ = refl
 
-pub judged_follows : (w : WindowSet) (everyone : List ℕ) (j : ℕ) (v : Version) → Follows true (judged_version w everyone j) v
+pub judged_follows : (w : WindowSet) (everyone : List ℕ) (j : ℕ) (v : Version)
+    → Follows true (judged_version w everyone j) v
 unfolding judged_version
 judged_follows w everyone j v = go (is_over j v v.status) v.status refl
   where
-    go : (b : Bool) (status : Status) → v.status ≡ status → follows true v.status (if b then ended w everyone j v status else v).status ≡ true
+    go : (b : Bool) (status : Status) → v.status ≡ status
+        → follows true v.status (if b then ended w everyone j v status else v).status ≡ true
     go false status e = follows_itself true v.status
     go true Pending e = ap (λ x. follows true x Canceled) e
     go true Conflict e = ap (λ x. follows true x Canceled) e
     go true (CancelPending OldProvider) e = ap (λ x. follows true x Conflict) e
     go true (CancelPending NewProvider) e = ap (λ x. follows true x Canceled) e
     go true (DisconnectPending release) e = ap (λ x. follows true x (Sending Delete)) e
-    go true (Sending action) e = ap (λ x. follows true x (status_after action (outcome_at_end v.broadcasts))) e ∙ closed_follows action (outcome_at_end v.broadcasts)
+    go true (Sending action) e =
+        ap (λ x. follows true x (status_after action (outcome_at_end v.broadcasts))) e
+        ∙ closed_follows action (outcome_at_end v.broadcasts)
     go true _ e = follows_itself true v.status
 
 -- ---- entries
@@ -205,126 +260,218 @@ abbrev pub is_answer : Request → Bool
 is_answer (Acknowledges id attempt) = true
 is_answer (Commands command) = false
 
-either : (takes : Bool) (old : Status) (b : Bool) (u v : Version) → (b ≡ true → follows takes old u.status ≡ true) → follows takes old v.status ≡ true → follows takes old (if b then u else v).status ≡ true
+either : (takes : Bool) (old : Status) (b : Bool) (u v : Version)
+    → (b ≡ true → follows takes old u.status ≡ true) → follows takes old v.status ≡ true
+    → follows takes old (if b then u else v).status ≡ true
 either takes old true u v one other = one refl
 either takes old false u v one other = other
 
 -- a status that passed a command's test
-awaiting_follows : (status : Status) → awaits_creates status ≡ true → follows false status Conflict ≡ true
+awaiting_follows : (status : Status) → awaits_creates status ≡ true
+    → follows false status Conflict ≡ true
 awaiting_follows Pending is = refl
 awaiting_follows Conflict is = refl
 awaiting_follows _ is = cc
 
-old_follows : (w : WindowSet) (authorized : Bool) (minute : ℕ) (v : Version) → awaits_creates v.status ≡ true → follows false v.status (with_old_create w authorized minute v).status ≡ true
+old_follows : (w : WindowSet) (authorized : Bool) (minute : ℕ) (v : Version)
+    → awaits_creates v.status ≡ true
+    → follows false v.status (with_old_create w authorized minute v).status ≡ true
 old_follows w true minute v awaits = follows_itself false v.status
 old_follows w false minute v awaits = awaiting_follows v.status awaits
 
-activated_follows : (status : Status) → not (can_activate status) ≡ false → follows false status (Sending Create) ≡ true
+activated_follows : (status : Status) → not (can_activate status) ≡ false
+    → follows false status (Sending Create) ≡ true
 activated_follows Pending may = refl
 activated_follows Failed may = refl
 activated_follows _ may = cc
 
-pending_follows : (status : Status) → not (is_pending status) ≡ false → follows false status Conflict ≡ true
+pending_follows : (status : Status) → not (is_pending status) ≡ false
+    → follows false status Conflict ≡ true
 pending_follows Pending may = refl
 pending_follows _ may = cc
 
-conflict_follows : (status : Status) → not (is_conflict status) ≡ false → follows false status Pending ≡ true
+conflict_follows : (status : Status) → not (is_conflict status) ≡ false
+    → follows false status Pending ≡ true
 conflict_follows Conflict may = refl
 conflict_follows _ may = cc
 
-cancel_follows : (status : Status) → not (is_cancel_pending status) ≡ false → follows false status Canceled ≡ true
+cancel_follows : (status : Status) → not (is_cancel_pending status) ≡ false
+    → follows false status Canceled ≡ true
 cancel_follows (CancelPending by) may = refl
 cancel_follows _ may = cc
 
-waiting_follows : (w : WindowSet) (caller minute : ℕ) (v : Version) (status : Status) → v.status ≡ status → follows false status Canceled ≡ true → ((by : Side) → follows false status (CancelPending by) ≡ true) → (b : Bool) →
-    follows false v.status (if b then enters w (CancelPending (side_of caller v.old_provider)) minute v else enters w Canceled minute v).status ≡ true
-waiting_follows w caller minute v status e one other true = ap (λ x. follows false x (CancelPending (side_of caller v.old_provider))) e ∙ other (side_of caller v.old_provider)
-waiting_follows w caller minute v status e one other false = ap (λ x. follows false x Canceled) e ∙ one
+waiting_follows : (w : WindowSet) (caller minute : ℕ) (v : Version) (status : Status)
+    → v.status ≡ status → follows false status Canceled ≡ true
+    → ((by : Side) → follows false status (CancelPending by) ≡ true) → (b : Bool) →
+    follows false v.status (if b then enters w (CancelPending (side_of caller v.old_provider))
+    minute v else enters w Canceled minute v).status ≡ true
+waiting_follows w caller minute v status e one other true =
+    ap (λ x. follows false x (CancelPending (side_of caller v.old_provider))) e
+    ∙ other (side_of caller v.old_provider)
+waiting_follows w caller minute v status e one other false =
+    ap (λ x. follows false x Canceled) e ∙ one
 
-cancelled_follows : (w : WindowSet) (caller minute : ℕ) (v : Version) (status : Status) → v.status ≡ status → follows false v.status (cancelled_by w status caller minute v).status ≡ true
-cancelled_follows w caller minute v Pending e = waiting_follows w caller minute v Pending e refl (λ by. refl) (has_both_creates v.old_at v.new_at)
-cancelled_follows w caller minute v Conflict e = waiting_follows w caller minute v Conflict e refl (λ by. refl) (has_both_creates v.old_at v.new_at)
+cancelled_follows : (w : WindowSet) (caller minute : ℕ) (v : Version) (status : Status)
+    → v.status ≡ status → follows false v.status (cancelled_by w status caller minute v).status
+    ≡ true
+cancelled_follows w caller minute v Pending e =
+    waiting_follows w caller minute v Pending e refl (λ by. refl)
+    (has_both_creates v.old_at v.new_at)
+cancelled_follows w caller minute v Conflict e =
+    waiting_follows w caller minute v Conflict e refl (λ by. refl)
+    (has_both_creates v.old_at v.new_at)
 cancelled_follows w caller minute v Failed e = ap (λ x. follows false x Canceled) e
-cancelled_follows w caller minute v (DisconnectPending release) e = ap (λ x. follows false x Active) e
+cancelled_follows w caller minute v (DisconnectPending release) e =
+    ap (λ x. follows false x Active) e
 cancelled_follows w caller minute v _ e = follows_itself false v.status
 
-disconnected_follows : (w : WindowSet) (release : Option ℕ) (everyone : List ℕ) (minute : ℕ) (v : Version) → v.status ≡ Active → follows false v.status (disconnected w release everyone minute v).status ≡ true
-disconnected_follows w None everyone minute v active = ap (λ x. follows false x (Sending Delete)) active
+disconnected_follows : (w : WindowSet) (release : Option ℕ) (everyone : List ℕ) (minute : ℕ)
+    (v : Version) → v.status ≡ Active
+    → follows false v.status (disconnected w release everyone minute v).status ≡ true
+disconnected_follows w None everyone minute v active =
+    ap (λ x. follows false x (Sending Delete)) active
 disconnected_follows w (Some release) everyone minute v active =
-    either false v.status (nat_lt minute release) (enters w (DisconnectPending release) minute v) (sent w Delete everyone minute v) (λ later. ap (λ x. follows false x (DisconnectPending release)) active)
+    either false v.status (nat_lt minute release) (enters w (DisconnectPending release) minute v)
+    (sent w Delete everyone minute v)
+    (λ later. ap (λ x. follows false x (DisconnectPending release)) active)
     (ap (λ x. follows false x (Sending Delete)) active)
 
-acknowledged_follows : (w : WindowSet) (c attempt minute : ℕ) (v : Version) → follows true v.status (acknowledged_by w c attempt minute v).status ≡ true
+acknowledged_follows : (w : WindowSet) (c attempt minute : ℕ) (v : Version)
+    → follows true v.status (acknowledged_by w c attempt minute v).status ≡ true
 acknowledged_follows w c attempt minute v =
-    either true v.status (nobody_is_missing (answered_by c attempt v).broadcasts) (completed w v.status minute (answered_by c attempt v)) (answered_by c attempt v) (λ all. go v.status refl) (follows_itself true v.status)
+    either true v.status (nobody_is_missing (answered_by c attempt v).broadcasts)
+    (completed w v.status minute (answered_by c attempt v)) (answered_by c attempt v)
+    (λ all. go v.status refl) (follows_itself true v.status)
   where
-    go : (status : Status) → v.status ≡ status → follows true v.status (completed w status minute (answered_by c attempt v)).status ≡ true
-    go (Sending action) e = ap (λ x. follows true x (status_after action AllAcknowledged)) e ∙ closed_follows action AllAcknowledged
+    go : (status : Status) → v.status ≡ status
+        → follows true v.status (completed w status minute (answered_by c attempt v)).status ≡ true
+    go (Sending action) e = ap (λ x. follows true x (status_after action AllAcknowledged)) e
+        ∙ closed_follows action AllAcknowledged
     go PartialFailure e = ap (λ x. follows true x Active) e
     go _ e = follows_itself true v.status
 
-module _ (st : State) (s : Subject) (given : AreGiven (made_by st.windows st.history) s (record_now st s).versions) where
-  change_follows : (caller id : ℕ) (everyone : List ℕ) (c : VersionCommand) → AcceptedCommand st caller (OnVersion id c) → (v : Version) → version_with id (record_now st s) ≡ Some v →
+module _ (st : State) (s : Subject) (given : AreGiven (made_by st.windows st.history) s
+    (record_now st s).versions) where
+  change_follows : (caller id : ℕ) (everyone : List ℕ) (c : VersionCommand)
+      → AcceptedCommand st caller (OnVersion id c) → (v : Version)
+      → version_with id (record_now st s) ≡ Some v →
       follows false v.status (change_of (set_now st) caller st.now everyone c v).status ≡ true
-  change_follows caller id everyone Activate accepted v found = activated_follows v.status (named_test st s given id v (λ u. not (can_activate u.status)) found accepted.wrong_status)
-  change_follows caller id everyone PutInConflict accepted v found = pending_follows v.status (named_test st s given id v (λ u. not (is_pending u.status)) found accepted.wrong_status)
-  change_follows caller id everyone RemoveFromConflict accepted v found = conflict_follows v.status (named_test st s given id v (λ u. not (is_conflict u.status)) found accepted.wrong_status)
-  change_follows caller id everyone Cancel accepted v found = cancelled_follows (set_now st) caller st.now v v.status refl
-  change_follows caller id everyone OldProviderCancellationAcknowledge accepted v found = cancel_follows v.status (named_test st s given id v (λ u. not (is_cancel_pending u.status)) found accepted.wrong_status)
-  change_follows caller id everyone NewProviderCancellationAcknowledge accepted v found = cancel_follows v.status (named_test st s given id v (λ u. not (is_cancel_pending u.status)) found accepted.wrong_status)
+  change_follows caller id everyone Activate accepted v found =
+      activated_follows v.status (named_test st s given id v (λ u. not (can_activate u.status))
+      found accepted.wrong_status)
+  change_follows caller id everyone PutInConflict accepted v found =
+      pending_follows v.status (named_test st s given id v (λ u. not (is_pending u.status)) found
+      accepted.wrong_status)
+  change_follows caller id everyone RemoveFromConflict accepted v found =
+      conflict_follows v.status (named_test st s given id v (λ u. not (is_conflict u.status)) found
+      accepted.wrong_status)
+  change_follows caller id everyone Cancel accepted v found =
+      cancelled_follows (set_now st) caller st.now v v.status refl
+  change_follows caller id everyone OldProviderCancellationAcknowledge accepted v found =
+      cancel_follows v.status (named_test st s given id v (λ u. not (is_cancel_pending u.status))
+      found accepted.wrong_status)
+  change_follows caller id everyone NewProviderCancellationAcknowledge accepted v found =
+      cancel_follows v.status (named_test st s given id v (λ u. not (is_cancel_pending u.status))
+      found accepted.wrong_status)
   change_follows caller id everyone (Disconnect release) accepted v found =
-      disconnected_follows (set_now st) release everyone st.now v (is_active-is v.status (named_test st s given id v (λ u. not (is_active u.status)) found accepted.wrong_status))
+      disconnected_follows (set_now st) release everyone st.now v
+      (is_active-is v.status (named_test st s given id v (λ u. not (is_active u.status)) found
+      accepted.wrong_status))
   change_follows caller id everyone (ModifyRouting lrn cic) accepted v found =
-      ap (λ x. follows false x (Sending (Modify (record { lrn = lrn; cic = cic })))) (is_active-is v.status (named_test st s given id v (λ u. not (is_active u.status)) found accepted.wrong_status))
+      ap (λ x. follows false x (Sending (Modify (record { lrn = lrn; cic = cic }))))
+      (is_active-is v.status (named_test st s given id v (λ u. not (is_active u.status)) found
+      accepted.wrong_status))
 
-  pub done_follows : (caller : ℕ) (everyone : List ℕ) (request : Request) → refusal st (Requests caller request) ≡ None →
-      AllByRecursion (Follows (is_answer request) (done_to (set_now st) s caller st.now everyone request)) (record_now st s).versions
-  done_follows caller everyone (Commands (OldProviderCreate tn old_provider new_provider due authorized)) ok =
-      everywhere (λ v. either false v.status (subject_eq s (Number tn) && lacks_old_create old_provider new_provider v) (with_old_create (set_now st) authorized st.now v) v
-      (λ lacks. old_follows (set_now st) authorized st.now v (and_first (awaits_creates v.status) _ (and_first _ _ (and_second (subject_eq s (Number tn)) (lacks_old_create old_provider new_provider v) lacks)))) (follows_itself false v.status))
+  pub done_follows : (caller : ℕ) (everyone : List ℕ) (request : Request)
+      → refusal st (Requests caller request) ≡ None →
+      AllByRecursion (Follows (is_answer request) (done_to (set_now st) s caller st.now everyone
+      request)) (record_now st s).versions
+  done_follows caller everyone
+      (Commands (OldProviderCreate tn old_provider new_provider due authorized)) ok =
+      everywhere (λ v. either false v.status (subject_eq s (Number tn) && lacks_old_create
+      old_provider new_provider v) (with_old_create (set_now st) authorized st.now v) v
+      (λ lacks. old_follows (set_now st) authorized st.now v (and_first (awaits_creates v.status) _
+      (and_first _ _ (and_second (subject_eq s (Number tn))
+      (lacks_old_create old_provider new_provider v) lacks)))) (follows_itself false v.status))
       (record_now st s).versions
-  done_follows caller everyone (Commands (NewProviderCreate tn old_provider new_provider due lrn cic)) ok =
-      everywhere (λ v. either false v.status (subject_eq s (Number tn) && lacks_new_create old_provider new_provider v) (with_new_create (record { lrn = lrn; cic = cic }) st.now v) v (λ lacks. follows_itself false v.status)
+  done_follows caller everyone (Commands (NewProviderCreate tn old_provider new_provider due lrn
+      cic)) ok =
+      everywhere (λ v. either false v.status (subject_eq s (Number tn) && lacks_new_create
+      old_provider new_provider v) (with_new_create (record { lrn = lrn; cic = cic }) st.now v) v
+      (λ lacks. follows_itself false v.status)
       (follows_itself false v.status)) (record_now st s).versions
   done_follows caller everyone (Commands (OnVersion id c)) ok =
-      of_id-each (λ v u. follows false v.status u.status ≡ true) (λ v. follows_itself false v.status) (made_by st.windows st.history) s id (change_of (set_now st) caller st.now everyone c) (record_now st s).versions given
-      (λ v found. change_follows caller id everyone c (accepted_command st caller (OnVersion id c) ok) v found)
+      of_id-each (λ v u. follows false v.status u.status ≡ true)
+      (λ v. follows_itself false v.status) (made_by st.windows st.history) s id
+      (change_of (set_now st) caller st.now everyone c) (record_now st s).versions given
+      (λ v found. change_follows caller id everyone c (accepted_command st caller (OnVersion id c)
+      ok) v found)
   done_follows caller everyone (Commands (Release block)) ok =
-      everywhere (λ v. either false v.status (subject_eq s (Block block) && in_force v) (sent (set_now st) Delete everyone st.now v) v
-      (λ is. ap (λ t. if t then true else (if is_old v.status then false else false)) (and_second (subject_eq s (Block block)) (in_force v) is)) (follows_itself false v.status)) (record_now st s).versions
+      everywhere (λ v. either false v.status (subject_eq s (Block block) && in_force v)
+      (sent (set_now st) Delete everyone st.now v) v
+      (λ is. ap (λ t. if t then true else (if is_old v.status then false else false))
+      (and_second (subject_eq s (Block block)) (in_force v) is)) (follows_itself false v.status))
+      (record_now st s).versions
   done_follows caller everyone (Acknowledges id attempt) ok =
-      of_id-each (λ v u. follows true v.status u.status ≡ true) (λ v. follows_itself true v.status) (made_by st.windows st.history) s id (acknowledged_by (set_now st) caller attempt st.now) (record_now st s).versions given
+      of_id-each (λ v u. follows true v.status u.status ≡ true) (λ v. follows_itself true v.status)
+      (made_by st.windows st.history) s id (acknowledged_by (set_now st) caller attempt st.now)
+      (record_now st s).versions given
       (λ v found. acknowledged_follows (set_now st) caller attempt st.now v)
-  done_follows caller everyone (Commands (RegisterCarrier spid)) ok = everywhere (λ v. follows_itself false v.status) (record_now st s).versions
-  done_follows caller everyone (Commands _) ok = everywhere (λ v. follows_itself false v.status) (record_now st s).versions
+  done_follows caller everyone (Commands (RegisterCarrier spid)) ok =
+      everywhere (λ v. follows_itself false v.status) (record_now st s).versions
+  done_follows caller everyone (Commands _) ok =
+      everywhere (λ v. follows_itself false v.status) (record_now st s).versions
 
-pub made_unserved : (w : WindowSet) (id caller minute : ℕ) (everyone : List ℕ) (donor : Option ℕ) (request : Request) → is_served (made_version w id caller minute everyone donor request).status ≡ false
-made_unserved w id caller minute everyone donor (Commands (OldProviderCreate tn old_provider new_provider due true)) = refl
-made_unserved w id caller minute everyone donor (Commands (OldProviderCreate tn old_provider new_provider due false)) = refl
+pub made_unserved : (w : WindowSet) (id caller minute : ℕ) (everyone : List ℕ) (donor : Option ℕ)
+    (request : Request) → is_served (made_version w id caller minute everyone donor request).status
+    ≡ false
+made_unserved w id caller minute everyone donor
+    (Commands (OldProviderCreate tn old_provider new_provider due true)) = refl
+made_unserved w id caller minute everyone donor
+    (Commands (OldProviderCreate tn old_provider new_provider due false)) = refl
 made_unserved w id caller minute everyone donor _ = refl
 
 module _ (w : Windows) (s : Subject) where
-  after_minute : (h : List Entry) (m : ℕ) → IsHistory w h m → AreServed (replay w s h m).versions → AreServed (judge (present_set w h) (suc m) (replay w s h m)).versions
+  after_minute : (h : List Entry) (m : ℕ) → IsHistory w h m → AreServed (replay w s h m).versions
+      → AreServed (judge (present_set w h) (suc m) (replay w s h m)).versions
   unfolding judge
   after_minute h m is are =
       let r : Record = replay w s h m in
-      changed_served (present_set w h) s true (suc m) (judged_version (present_set w h) r.carriers (suc m)) r.versions (everywhere (judged_follows (present_set w h) r.carriers (suc m)) r.versions) (sound_now (record { windows = w; history = h; now = m }) is s) are
+      changed_served (present_set w h) s true (suc m) (judged_version (present_set w h) r.carriers
+      (suc m)) r.versions (everywhere (judged_follows (present_set w h) r.carriers (suc m))
+      r.versions) (sound_now (record { windows = w; history = h; now = m }) is s) are
 
-  after_entry : (h : List Entry) (e : Entry) → IsHistory w (e ∷ h) e.minute → AreServed (replay w s h e.minute).versions → AreServed (record_after w s h e).versions
+  after_entry : (h : List Entry) (e : Entry) → IsHistory w (e ∷ h) e.minute
+      → AreServed (replay w s h e.minute).versions → AreServed (record_after w s h e).versions
   unfolding effect
   after_entry h e is are =
       let r : Record = replay w s h e.minute in
       let st : State = record { windows = w; history = h; now = e.minute } in
       with_new (id_among s (next_after (made_by w h)) (makes e.request (record_now st)))
-      (changed_served (present_set w h) s (is_answer e.request) e.minute (done_to (present_set w h) s e.caller e.minute r.carriers e.request) r.versions (done_follows st s (given_now st is.3 s) e.caller r.carriers e.request is.2) (sound_now st is.3 s) are)
+      (changed_served (present_set w h) s (is_answer e.request) e.minute
+      (done_to (present_set w h) s e.caller e.minute r.carriers e.request) r.versions
+      (done_follows st s (given_now st is.3 s) e.caller r.carriers e.request is.2)
+      (sound_now st is.3 s) are)
     where
       versions : List Version
-      versions = changed_at (present_set w h) e.minute (done_to (present_set w h) s e.caller e.minute (replay w s h e.minute).carriers e.request) (replay w s h e.minute).versions
+      versions = changed_at (present_set w h) e.minute (done_to (present_set w h) s e.caller
+          e.minute (replay w s h e.minute).carriers e.request) (replay w s h e.minute).versions
 
-      with_new : (o : Option ℕ) → AreServed versions → AreServed (with_made o (λ id. made_version (present_set w h) id e.caller e.minute (replay w s h e.minute).carriers (donor_of (assigned_block e.request) h) e.request) versions)
+      with_new : (o : Option ℕ) → AreServed versions
+          → AreServed (with_made o (λ id. made_version (present_set w h) id e.caller e.minute
+          (replay w s h e.minute).carriers (donor_of (assigned_block e.request) h) e.request)
+          versions)
       with_new None now = now
-      with_new (Some id) now = (λ served. true-false _ served (made_unserved (present_set w h) id e.caller e.minute (replay w s h e.minute).carriers (donor_of (assigned_block e.request) h) e.request), now)
+      with_new (Some id) now = (
+        λ served. true-false _ served (made_unserved (present_set w h) id e.caller e.minute
+            (replay w s h e.minute).carriers (donor_of (assigned_block e.request) h) e.request),
+        now,
+      )
 
   -- every record of every history
   pub are_served : (h : List Entry) (m : ℕ) → IsHistory w h m → AreServed (replay w s h m).versions
-  are_served = kept w s (λ h m r. AreServed r.versions) (record { first = λ m. tt; minute = after_minute; entry = after_entry })
+  are_served = kept w s (λ h m r. AreServed r.versions) (record {
+    first = λ m. tt;
+    minute = after_minute;
+    entry = after_entry;
+  })

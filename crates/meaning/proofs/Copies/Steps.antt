@@ -30,7 +30,9 @@ use Rattle.meaning.proofs.Copies.Reaching.{Reaches, AllReach, reach_kept}
 use Rattle.meaning.proofs.Copies.Served.{is_old, is_served, AreServed, are_served}
 
 -- neither open nor ever in force: nothing of it was sent, or all is withdrawn
-unserved_all : (s : Subject) (status : Status) (routing : Option Routing) (bs : List Broadcast) → is_served status ≡ false → open_by s status ≡ false → IsToldAs status routing bs → AllWithdrawn bs
+unserved_all : (s : Subject) (status : Status) (routing : Option Routing) (bs : List Broadcast)
+    → is_served status ≡ false → open_by s status ≡ false → IsToldAs status routing bs
+    → AllWithdrawn bs
 unserved_all s Pending routing bs out closed told = told
 unserved_all s Conflict routing bs out closed told = told
 unserved_all s (CancelPending by) routing bs out closed told = told
@@ -48,21 +50,25 @@ planned_in_force : (status : Status) → is_planned status ≡ true → in_force
 planned_in_force (DisconnectPending release) e = refl
 planned_in_force _ e = cc
 
--- a look whose marks stay while a broadcast closes; at what was not sent to a carrier, the carrier is one of those that there are
+-- a look whose marks stay while a broadcast closes; at what was not sent to a carrier, the carrier
+-- is one of those that there are
 abbrev pub Lasts : Look → List ℕ → Type 0
 Lasts (Carrier c) everyone = ⊤
 Lasts Nobody everyone = ⊤
 Lasts (Unsent c) everyone = is_among c everyone ≡ true
 Lasts Closed everyone = ⊥
 
-close_same : (o : Look) (everyone : List ℕ) → Lasts o everyone → (b : Broadcast) (outcome : Outcome) → is_marked o (record b { outcome = outcome }) ≡ is_marked o b
+close_same : (o : Look) (everyone : List ℕ) → Lasts o everyone → (b : Broadcast) (outcome : Outcome)
+    → is_marked o (record b { outcome = outcome }) ≡ is_marked o b
 close_same (Carrier c) everyone lasts b outcome = refl
 close_same Nobody everyone lasts b outcome = refl
 close_same (Unsent c) everyone lasts b outcome = refl
 close_same Closed everyone lasts b outcome = absurd lasts
 
 -- what is open, is to everyone and was acknowledged by nobody is not marked
-open_unmarked : (o : Look) (everyone : List ℕ) → Lasts o everyone → (b : Broadcast) → ((k : ℕ) → is_among k everyone ≡ true → is_among k b.recipients ≡ true) → b.acknowledged ≡ [] → is_marked o b ≡ false
+open_unmarked : (o : Look) (everyone : List ℕ) → Lasts o everyone → (b : Broadcast)
+    → ((k : ℕ) → is_among k everyone ≡ true → is_among k b.recipients ≡ true) → b.acknowledged ≡ []
+    → is_marked o b ≡ false
 open_unmarked (Carrier c) everyone lasts b reaches nobody = ap (is_among c) nobody
 open_unmarked Nobody everyone lasts b reaches nobody = refl
 open_unmarked (Unsent c) everyone lasts b reaches nobody = ap not (reaches c lasts)
@@ -70,9 +76,12 @@ open_unmarked Closed everyone lasts b reaches nobody = absurd lasts
 
 -- ---- one version
 
-pub withdrawn_own : (o : Look) (id : ℕ) (bs : List Broadcast) → AllWithdrawn bs → own_of o id bs ≡ []
+pub withdrawn_own : (o : Look) (id : ℕ) (bs : List Broadcast) → AllWithdrawn bs
+    → own_of o id bs ≡ []
 withdrawn_own o id [] all = refl
-withdrawn_own o id (b ∷ bs) all = ap (λ t. map (place o id) (cond t (b ∷ filter (stands_for o) bs) (filter (stands_for o) bs))) (off (wants o b.recipients) (is_withdrawn b) all.0) ∙ withdrawn_own o id bs all.1
+withdrawn_own o id (b ∷ bs) all =
+    ap (λ t. map (place o id) (cond t (b ∷ filter (stands_for o) bs) (filter (stands_for o) bs)))
+    (off (wants o b.recipients) (is_withdrawn b) all.0) ∙ withdrawn_own o id bs all.1
   where
     off : (x y : Bool) → y ≡ true → (x && not y) ≡ false
     off true true e = refl
@@ -81,86 +90,154 @@ withdrawn_own o id (b ∷ bs) all = ap (λ t. map (place o id) (cond t (b ∷ fi
 
 module _ (w : WindowSet) (o : Look) (everyone : List ℕ) (lasts : Lasts o everyone) where
   -- a send puts one in front that nobody has acknowledged
-  pub sent_next : (action : Send) (minute : ℕ) (v : Version) → IsNext minute (own o v) (own o (sent w action everyone minute v))
+  pub sent_next : (action : Send) (minute : ℕ) (v : Version)
+      → IsNext minute (own o v) (own o (sent w action everyone minute v))
   sent_next action minute v = go (wants o everyone)
     where
       new : Broadcast
-      new = record { attempt = v.attempt + 1; minute = minute; action = action_of action; routing = routing_sent action v; recipients = everyone; acknowledged = []; outcome = Open }
+      new = record {
+        attempt = v.attempt + 1;
+        minute = minute;
+        action = action_of action;
+        routing = routing_sent action v;
+        recipients = everyone;
+        acknowledged = [];
+        outcome = Open;
+      }
 
-      go : (b : Bool) → IsNext minute (own o v) (map (place o v.id) (cond (b && true) (new ∷ filter (stands_for o) v.broadcasts) (filter (stands_for o) v.broadcasts)))
-      go true = inr (open_unmarked o everyone lasts new (λ k is. is) refl, refl, thinned_same (own o v))
+      go : (b : Bool)
+          → IsNext minute (own o v)
+          (map (place o v.id) (cond (b && true) (new ∷ filter (stands_for o) v.broadcasts)
+          (filter (stands_for o) v.broadcasts)))
+      go true = inr (
+        open_unmarked o everyone lasts new (λ k is. is) refl,
+        refl,
+        thinned_same (own o v),
+      )
       go false = next_thinned minute (own o v) (own o v) (thinned_same (own o v))
 
   -- where an open broadcast closes with an acknowledgement, it stands as it stood
-  closed_newest : (id : ℕ) (b : Broadcast) (rest : List Broadcast) (outcome : Outcome) → b.outcome ≡ Open → is_withdrawn_outcome outcome ≡ false →
+  closed_newest : (id : ℕ) (b : Broadcast) (rest : List Broadcast) (outcome : Outcome)
+      → b.outcome ≡ Open → is_withdrawn_outcome outcome ≡ false →
       own_of o id (record b { outcome = outcome } ∷ rest) ≡ own_of o id (b ∷ rest)
   closed_newest id b rest outcome opened stands =
-      ap (λ t. map (place o id) (cond (wants o b.recipients && not t) (record b { outcome = outcome } ∷ filter (stands_for o) rest) (filter (stands_for o) rest))) (stands ∙ sym (ap is_withdrawn_outcome opened))
+      ap (λ t. map (place o id) (cond (wants o b.recipients && not t) (record b {
+        outcome =
+            outcome;
+      } ∷ filter (stands_for o) rest) (filter (stands_for o) rest))) (stands
+      ∙ sym (ap is_withdrawn_outcome opened))
       ∙ go (wants o b.recipients && not (is_withdrawn b))
     where
-      go : (t : Bool) → map (place o id) (cond t (record b { outcome = outcome } ∷ filter (stands_for o) rest) (filter (stands_for o) rest)) ≡ map (place o id) (cond t (b ∷ filter (stands_for o) rest) (filter (stands_for o) rest))
-      go true = ap (λ x. (let p : Placed = record { id = id; attempt = b.attempt; minute = b.minute; action = b.action; routing = b.routing; marked = x } in p) ∷ own_of o id rest) (close_same o everyone lasts b outcome)
+      go : (t : Bool)
+          → map (place o id) (cond t (record b { outcome = outcome } ∷ filter (stands_for o) rest)
+          (filter (stands_for o) rest)) ≡ map (place o id) (cond t (b ∷ filter (stands_for o) rest)
+          (filter (stands_for o) rest))
+      go true = ap (λ x. (let p : Placed = record {
+        id = id;
+        attempt = b.attempt;
+        minute = b.minute;
+        action = b.action;
+        routing = b.routing;
+        marked = x;
+      } in p) ∷ own_of o id rest) (close_same o everyone lasts b outcome)
       go false = refl
 
-  pub closed_same : (id : ℕ) (action : Send) (bs : List Broadcast) (outcome : Outcome) → HasBegunAs (Sending action) bs → is_withdrawn_outcome outcome ≡ false →
+  pub closed_same : (id : ℕ) (action : Send) (bs : List Broadcast) (outcome : Outcome)
+      → HasBegunAs (Sending action) bs → is_withdrawn_outcome outcome ≡ false →
       own_of o id (on_newest (λ b. record b { outcome = outcome }) bs) ≡ own_of o id bs
   closed_same id action bs outcome begun stands =
-      ap (λ xs. own_of o id (on_newest (λ b. record b { outcome = outcome }) xs)) begun.2 ∙ closed_newest id begun.0 begun.1 outcome begun.3 stands ∙ ap (own_of o id) (sym begun.2)
+      ap (λ xs. own_of o id (on_newest (λ b. record b { outcome = outcome }) xs)) begun.2
+      ∙ closed_newest id begun.0 begun.1 outcome begun.3 stands ∙ ap (own_of o id) (sym begun.2)
 
   -- where it closes with none, it is taken away
-  none_thins : (id : ℕ) (b : Broadcast) (rest : List Broadcast) → b.outcome ≡ Open → Reaches everyone b → b.acknowledged ≡ [] → IsThinned (own_of o id (b ∷ rest)) (own_of o id (record b { outcome = NoneAcknowledged } ∷ rest))
-  none_thins id b rest opened reaches nobody = go (wants o b.recipients) (is_withdrawn b) (ap is_withdrawn_outcome opened)
+  none_thins : (id : ℕ) (b : Broadcast) (rest : List Broadcast) → b.outcome ≡ Open
+      → Reaches everyone b → b.acknowledged ≡ []
+      → IsThinned (own_of o id (b ∷ rest)) (own_of o id (record b {
+        outcome =
+            NoneAcknowledged;
+      } ∷ rest))
+  none_thins id b rest opened reaches nobody =
+      go (wants o b.recipients) (is_withdrawn b) (ap is_withdrawn_outcome opened)
     where
       taken : (ps : List Placed) → IsThinned (place o id b ∷ ps) ps
       taken [] = (open_unmarked o everyone lasts b (reaches opened) nobody, tt)
-      taken (p ∷ ps) = inl (open_unmarked o everyone lasts b (reaches opened) nobody, thinned_same (p ∷ ps))
+      taken (p ∷ ps) = inl (
+        open_unmarked o everyone lasts b (reaches opened) nobody,
+        thinned_same (p ∷ ps),
+      )
 
-      go : (x y : Bool) → y ≡ false → IsThinned (map (place o id) (cond (x && not y) (b ∷ filter (stands_for o) rest) (filter (stands_for o) rest)))
-          (map (place o id) (cond (x && not true) (record b { outcome = NoneAcknowledged } ∷ filter (stands_for o) rest) (filter (stands_for o) rest)))
+      go : (x y : Bool) → y ≡ false
+          → IsThinned (map (place o id) (cond (x && not y) (b ∷ filter (stands_for o) rest)
+          (filter (stands_for o) rest)))
+          (map (place o id) (cond (x && not true) (record b {
+            outcome =
+                NoneAcknowledged;
+          } ∷ filter (stands_for o) rest) (filter (stands_for o) rest)))
       go true true e = cc
       go true false e = taken (own_of o id rest)
       go false y e = thinned_same (own_of o id rest)
 
-  end_thins : (id : ℕ) (action : Send) (bs : List Broadcast) → HasBegunAs (Sending action) bs → AllReach everyone bs → IsThinned (own_of o id bs) (own_of o id (on_newest (λ b. record b { outcome = outcome_at_end bs }) bs))
+  end_thins : (id : ℕ) (action : Send) (bs : List Broadcast) → HasBegunAs (Sending action) bs
+      → AllReach everyone bs
+      → IsThinned (own_of o id bs)
+      (own_of o id (on_newest (λ b. record b { outcome = outcome_at_end bs }) bs))
   end_thins id action bs begun reach =
-      subst (λ xs. IsThinned (own_of o id xs) (own_of o id (on_newest (λ b. record b { outcome = outcome_at_end xs }) xs))) (sym begun.2) (go begun.0.acknowledged refl)
+      subst (λ xs. IsThinned (own_of o id xs)
+      (own_of o id (on_newest (λ b. record b { outcome = outcome_at_end xs }) xs))) (sym begun.2)
+      (go begun.0.acknowledged refl)
     where
-      go : (ks : List ℕ) → begun.0.acknowledged ≡ ks → IsThinned (own_of o id (begun.0 ∷ begun.1)) (own_of o id (record begun.0 { outcome = outcome_at_end (record begun.0 { acknowledged = ks } ∷ begun.1) } ∷ begun.1))
+      go : (ks : List ℕ) → begun.0.acknowledged ≡ ks
+          → IsThinned (own_of o id (begun.0 ∷ begun.1)) (own_of o id (record begun.0 {
+            outcome = outcome_at_end (record begun.0 { acknowledged = ks } ∷ begun.1);
+          } ∷ begun.1))
       go [] e = none_thins id begun.0 begun.1 begun.3 (subst (AllReach everyone) begun.2 reach).0 e
-      go (k ∷ ks) e = thinned_is _ _ (closed_newest id begun.0 begun.1 SomeAcknowledged begun.3 refl)
+      go (k ∷ ks) e =
+          thinned_is _ _ (closed_newest id begun.0 begun.1 SomeAcknowledged begun.3 refl)
 
   -- a minute sends only what is disconnect-pending
   judged_sends : (minute : ℕ) (v : Version) → HasBegun v → AllReach everyone v.broadcasts →
-      IsThinned (own o v) (own o (judged_version w everyone minute v)) ⊎ (IsNext minute (own o v) (own o (judged_version w everyone minute v)) × (is_planned v.status ≡ true))
+      IsThinned (own o v) (own o (judged_version w everyone minute v))
+      ⊎ (IsNext minute (own o v) (own o (judged_version w everyone minute v))
+      × (is_planned v.status ≡ true))
   unfolding judged_version
   judged_sends minute v begun reach = go (is_over minute v v.status) v.status refl
     where
       go : (b : Bool) (status : Status) → v.status ≡ status →
-          IsThinned (own o v) (own o (if b then ended w everyone minute v status else v)) ⊎ (IsNext minute (own o v) (own o (if b then ended w everyone minute v status else v)) × (is_planned v.status ≡ true))
+          IsThinned (own o v) (own o (if b then ended w everyone minute v status else v))
+          ⊎ (IsNext minute (own o v) (own o (if b then ended w everyone minute v status else v))
+          × (is_planned v.status ≡ true))
       go false status e = inl (thinned_same (own o v))
       go true Pending e = inl (thinned_same (own o v))
       go true Conflict e = inl (thinned_same (own o v))
       go true (CancelPending OldProvider) e = inl (thinned_same (own o v))
       go true (CancelPending NewProvider) e = inl (thinned_same (own o v))
       go true (DisconnectPending release) e = inr (sent_next Delete minute v, ap is_planned e)
-      go true (Sending action) e = inl (end_thins v.id action v.broadcasts (subst (λ x. HasBegunAs x v.broadcasts) e begun) reach)
+      go true (Sending action) e =
+          inl (end_thins v.id action v.broadcasts (subst (λ x. HasBegunAs x v.broadcasts) e begun)
+          reach)
       go true _ e = inl (thinned_same (own o v))
 
 module _ (w : WindowSet) (o : Look) where
   -- ---- the versions of a subject, each changed
 
-  pub retired_placed : (b : Bool) (minute : ℕ) (vs : List Version) → placed o (map (retired w b minute) vs) ≡ placed o vs
+  pub retired_placed : (b : Bool) (minute : ℕ) (vs : List Version)
+      → placed o (map (retired w b minute) vs) ≡ placed o vs
   retired_placed b minute [] = refl
-  retired_placed b minute (v ∷ vs) = ap (λ ps. ps ++ placed o (map (retired w b minute) vs)) (go (b && in_force v)) ∙ ap (λ ps. own o v ++ ps) (retired_placed b minute vs)
+  retired_placed b minute (v ∷ vs) =
+      ap (λ ps. ps ++ placed o (map (retired w b minute) vs)) (go (b && in_force v))
+      ∙ ap (λ ps. own o v ++ ps) (retired_placed b minute vs)
     where
       go : (t : Bool) → own o (if t then enters w Old minute v else v) ≡ own o v
       go true = refl
       go false = refl
 
   -- a change of each version changes its own
-  pub changed_placed : (minute : ℕ) (change : Version → Version) (vs : List Version) → placed o (changed_at w minute change vs) ≡ placed o (map change vs)
+  pub changed_placed : (minute : ℕ) (change : Version → Version) (vs : List Version)
+      → placed o (changed_at w minute change vs) ≡ placed o (map change vs)
   changed_placed minute change [] = refl
-  changed_placed minute change (v ∷ vs) = ap (λ ps. own o (change v) ++ ps) (retired_placed (not (in_force v) && in_force (change v)) minute (changed_at w minute change vs) ∙ changed_placed minute change vs)
+  changed_placed minute change (v ∷ vs) =
+      ap (λ ps. own o (change v) ++ ps) (retired_placed (not (in_force v) && in_force (change v))
+      minute (changed_at w minute change vs) ∙ changed_placed minute change vs)
 
   module _ (minute : ℕ) (change : Version → Version) where
     abbrev pub Thins : Version → Type 0
@@ -170,41 +247,60 @@ module _ (w : WindowSet) (o : Look) where
     abbrev pub SendsOnly : (Version → Bool) → Version → Type 0
     SendsOnly test v = Thins v ⊎ (IsNext minute (own o v) (own o (change v)) × (test v ≡ true))
 
-    first_placed : (v : Version) (vs : List Version) → placed o (changed_at w minute change (v ∷ vs)) ≡ own o (change v) ++ placed o (changed_at w minute change vs)
-    first_placed v vs = ap (λ ps. own o (change v) ++ ps) (retired_placed (not (in_force v) && in_force (change v)) minute (changed_at w minute change vs))
+    first_placed : (v : Version) (vs : List Version)
+        → placed o (changed_at w minute change (v ∷ vs)) ≡ own o (change v) ++ placed o
+        (changed_at w minute change vs)
+    first_placed v vs =
+        ap (λ ps. own o (change v) ++ ps) (retired_placed (not (in_force v) && in_force (change v))
+        minute (changed_at w minute change vs))
 
-    pub changed_thinned : (vs : List Version) → AllByRecursion Thins vs → IsThinned (placed o vs) (placed o (changed_at w minute change vs))
+    pub changed_thinned : (vs : List Version) → AllByRecursion Thins vs
+        → IsThinned (placed o vs) (placed o (changed_at w minute change vs))
     changed_thinned [] thin = tt
     changed_thinned (v ∷ vs) thin = subst (IsThinned (placed o (v ∷ vs))) (sym (first_placed v vs))
-        (thinned_append (own o v) (own o (change v)) (placed o vs) (placed o (changed_at w minute change vs)) thin.0 (changed_thinned vs thin.1))
+        (thinned_append (own o v) (own o (change v)) (placed o vs)
+        (placed o (changed_at w minute change vs)) thin.0 (changed_thinned vs thin.1))
 
     -- where none is sent
-    pub thins_next : (vs : List Version) → AllByRecursion Thins vs → IsNext minute (placed o vs) (placed o (changed_at w minute change vs))
-    thins_next vs thin = next_thinned minute (placed o vs) (placed o (changed_at w minute change vs)) (changed_thinned vs thin)
+    pub thins_next : (vs : List Version) → AllByRecursion Thins vs
+        → IsNext minute (placed o vs) (placed o (changed_at w minute change vs))
+    thins_next vs thin =
+        next_thinned minute (placed o vs) (placed o (changed_at w minute change vs))
+        (changed_thinned vs thin)
 
     -- where the newest alone may be sent
-    first_next : (v : Version) (vs : List Version) → IsNext minute (own o v) (own o (change v)) → AllByRecursion Thins vs → IsNext minute (placed o (v ∷ vs)) (placed o (changed_at w minute change (v ∷ vs)))
+    first_next : (v : Version) (vs : List Version) → IsNext minute (own o v) (own o (change v))
+        → AllByRecursion Thins vs
+        → IsNext minute (placed o (v ∷ vs)) (placed o (changed_at w minute change (v ∷ vs)))
     first_next v vs next thin = subst (IsNext minute (placed o (v ∷ vs))) (sym (first_placed v vs))
-        (next_append minute (own o v) (own o (change v)) (placed o vs) (placed o (changed_at w minute change vs)) next (changed_thinned vs thin))
+        (next_append minute (own o v) (own o (change v)) (placed o vs)
+        (placed o (changed_at w minute change vs)) next (changed_thinned vs thin))
 
-    any_next : (test : Version → Bool) (v : Version) → SendsOnly test v → IsNext minute (own o v) (own o (change v))
+    any_next : (test : Version → Bool) (v : Version) → SendsOnly test v
+        → IsNext minute (own o v) (own o (change v))
     any_next test v (inl thin) = next_thinned minute (own o v) (own o (change v)) thin
     any_next test v (inr sends) = sends.0
 
     -- where none passes the test
-    none_sends : (test : Version → Bool) (vs : List Version) → AllByRecursion (SendsOnly test) vs → list_any test vs ≡ false → AllByRecursion Thins vs
+    none_sends : (test : Version → Bool) (vs : List Version) → AllByRecursion (SendsOnly test) vs
+        → list_any test vs ≡ false → AllByRecursion Thins vs
     none_sends test [] sends none = tt
-    none_sends test (v ∷ vs) sends none = (go sends.0 (or_first (test v) (list_any test vs) none), none_sends test vs sends.1 (or_second (test v) (list_any test vs) none))
+    none_sends test (v ∷ vs) sends none = (
+      go sends.0 (or_first (test v) (list_any test vs) none),
+      none_sends test vs sends.1 (or_second (test v) (list_any test vs) none),
+    )
       where
         go : SendsOnly test v → test v ≡ false → Thins v
         go (inl thin) e = thin
         go (inr sent_one) e = true-false (test v) sent_one.1 e
 
     -- where what is in force may be sent and none is open: nothing newer stands
-    pub force_next : (s : Subject) (vs : List Version) → AllByRecursion IsTold vs → AreServed vs → NoneOpen s vs → AllByRecursion (SendsOnly in_force) vs →
+    pub force_next : (s : Subject) (vs : List Version) → AllByRecursion IsTold vs → AreServed vs
+        → NoneOpen s vs → AllByRecursion (SendsOnly in_force) vs →
         IsNext minute (placed o vs) (placed o (changed_at w minute change vs))
     force_next s [] told served closed sends = tt
-    force_next s (v ∷ vs) told served closed sends = go (list_any in_force vs) refl (force_next s vs told.1 served.1 closed.1 sends.1)
+    force_next s (v ∷ vs) told served closed sends =
+        go (list_any in_force vs) refl (force_next s vs told.1 served.1 closed.1 sends.1)
       where
         out : list_any in_force vs ≡ true → (b : Bool) → is_served v.status ≡ b → b ≡ false
         out some true e = true-false (list_any in_force vs) some (none_any vs (served.0 e))
@@ -212,57 +308,85 @@ module _ (w : WindowSet) (o : Look) where
 
         thin_out : is_served v.status ≡ false → SendsOnly in_force v → Thins v
         thin_out e (inl thin) = thin
-        thin_out e (inr sent_one) = true-false (in_force v) sent_one.1 (or_first (in_force_status v.status) (is_old v.status) e)
+        thin_out e (inr sent_one) =
+            true-false (in_force v) sent_one.1 (or_first (in_force_status v.status)
+            (is_old v.status) e)
 
-        go : (b : Bool) → list_any in_force vs ≡ b → IsNext minute (placed o vs) (placed o (changed_at w minute change vs)) → IsNext minute (placed o (v ∷ vs)) (placed o (changed_at w minute change (v ∷ vs)))
-        go false e later = first_next v vs (any_next in_force v sends.0) (none_sends in_force vs sends.1 e)
+        go : (b : Bool) → list_any in_force vs ≡ b
+            → IsNext minute (placed o vs) (placed o (changed_at w minute change vs))
+            → IsNext minute (placed o (v ∷ vs)) (placed o (changed_at w minute change (v ∷ vs)))
+        go false e later =
+            first_next v vs (any_next in_force v sends.0) (none_sends in_force vs sends.1 e)
         go true e later =
             let unserved : is_served v.status ≡ false = out e (is_served v.status) refl in
-            let none : own o v ≡ [] = withdrawn_own o v.id v.broadcasts (unserved_all s v.status v.routing v.broadcasts unserved closed.0 told.0) in
-            let none_then : own o (change v) ≡ [] = thinned_none (own o v) (own o (change v)) none (thin_out unserved sends.0) in
+            let none : own o v ≡ [] =
+            withdrawn_own o v.id v.broadcasts (unserved_all s v.status v.routing v.broadcasts
+            unserved closed.0 told.0) in
+            let none_then : own o (change v) ≡ [] =
+            thinned_none (own o v) (own o (change v)) none (thin_out unserved sends.0) in
             subst (IsNext minute (placed o (v ∷ vs))) (sym (first_placed v vs))
-            (subst (λ ps. IsNext minute (ps ++ placed o vs) (own o (change v) ++ placed o (changed_at w minute change vs))) (sym none)
-            (subst (λ ps. IsNext minute (placed o vs) (ps ++ placed o (changed_at w minute change vs))) (sym none_then) later))
+            (subst (λ ps. IsNext minute (ps ++ placed o vs)
+            (own o (change v) ++ placed o (changed_at w minute change vs))) (sym none)
+            (subst (λ ps. IsNext minute (placed o vs)
+            (ps ++ placed o (changed_at w minute change vs))) (sym none_then) later))
 
     none_open : (s : Subject) (vs : List Version) → NoneOpen s vs → list_any (is_open s) vs ≡ false
     none_open s [] closed = refl
-    none_open s (v ∷ vs) closed = ap (λ b. b || list_any (is_open s) vs) closed.0 ∙ none_open s vs closed.1
+    none_open s (v ∷ vs) closed = ap (λ b. b || list_any (is_open s) vs) closed.0
+        ∙ none_open s vs closed.1
 
     -- where the open one may be sent: it is the newest
-    pub open_next : (s : Subject) (vs : List Version) → AreSound s vs → AllByRecursion (SendsOnly (is_open s)) vs → IsNext minute (placed o vs) (placed o (changed_at w minute change vs))
+    pub open_next : (s : Subject) (vs : List Version) → AreSound s vs
+        → AllByRecursion (SendsOnly (is_open s)) vs
+        → IsNext minute (placed o vs) (placed o (changed_at w minute change vs))
     open_next s [] sound sends = tt
-    open_next s (v ∷ vs) sound sends = first_next v vs (any_next (is_open s) v sends.0) (none_sends (is_open s) vs sends.1 (none_open s vs sound.0))
+    open_next s (v ∷ vs) sound sends =
+        first_next v vs (any_next (is_open s) v sends.0) (none_sends (is_open s) vs sends.1
+        (none_open s vs sound.0))
 
-    active_rests : (vs : List Version) → ForceIsActive vs → AllByRecursion (SendsOnly (λ (v : Version). is_planned v.status)) vs → AllByRecursion Thins vs
+    active_rests : (vs : List Version) → ForceIsActive vs
+        → AllByRecursion (SendsOnly (λ (v : Version). is_planned v.status)) vs
+        → AllByRecursion Thins vs
     active_rests [] active sends = tt
     active_rests (v ∷ vs) active sends = (go sends.0, active_rests vs active.1 sends.1)
       where
         go : SendsOnly (λ (u : Version). is_planned u.status) v → Thins v
         go (inl thin) = thin
-        go (inr sent_one) = let no : true ≡ false = sym sent_one.1 ∙ ap is_planned (active.0 (planned_in_force v.status sent_one.1)) in cc
+        go (inr sent_one) = let no : true ≡ false =
+            sym sent_one.1 ∙ ap is_planned (active.0 (planned_in_force v.status sent_one.1)) in cc
 
-    forces : (vs : List Version) → AllByRecursion (SendsOnly (λ (v : Version). is_planned v.status)) vs → AllByRecursion (SendsOnly in_force) vs
+    forces : (vs : List Version) → AllByRecursion (SendsOnly (λ (v : Version). is_planned v.status))
+        vs → AllByRecursion (SendsOnly in_force) vs
     forces vs sends = each go vs sends
       where
-        go : (v : Version) → SendsOnly (λ (u : Version). is_planned u.status) v → SendsOnly in_force v
+        go : (v : Version) → SendsOnly (λ (u : Version). is_planned u.status) v
+            → SendsOnly in_force v
         go v (inl thin) = inl thin
         go v (inr sent_one) = inr (sent_one.0, planned_in_force v.status sent_one.1)
 
     -- where what is disconnect-pending may be sent: beside an open version there is none
-    planned_next : (s : Subject) (vs : List Version) → AllByRecursion IsTold vs → AreServed vs → AreSound s vs → AllByRecursion (SendsOnly (λ (v : Version). is_planned v.status)) vs →
+    planned_next : (s : Subject) (vs : List Version) → AllByRecursion IsTold vs → AreServed vs
+        → AreSound s vs → AllByRecursion (SendsOnly (λ (v : Version). is_planned v.status)) vs →
         IsNext minute (placed o vs) (placed o (changed_at w minute change vs))
     planned_next s [] told served sound sends = tt
     planned_next s (v ∷ vs) told served sound sends = go (is_open s v) refl
       where
-        go : (b : Bool) → is_open s v ≡ b → IsNext minute (placed o (v ∷ vs)) (placed o (changed_at w minute change (v ∷ vs)))
-        go true e = first_next v vs (any_next (λ (u : Version). is_planned u.status) v sends.0) (active_rests vs (sound.2 e) sends.1)
+        go : (b : Bool) → is_open s v ≡ b
+            → IsNext minute (placed o (v ∷ vs)) (placed o (changed_at w minute change (v ∷ vs)))
+        go true e = first_next v vs (any_next (λ (u : Version). is_planned u.status) v sends.0)
+            (active_rests vs (sound.2 e) sends.1)
         go false e = force_next s (v ∷ vs) told served (e, sound.0) (forces (v ∷ vs) sends)
 
 -- a minute
-pub minute_next : (o : Look) (w : Windows) (s : Subject) (h : List Entry) (m : ℕ) → IsHistory w h m → Lasts o (replay w s h m).carriers →
-    IsNext (suc m) (placed o (replay w s h m).versions) (placed o (judge (present_set w h) (suc m) (replay w s h m)).versions)
+pub minute_next : (o : Look) (w : Windows) (s : Subject) (h : List Entry) (m : ℕ) → IsHistory w h m
+    → Lasts o (replay w s h m).carriers →
+    IsNext (suc m) (placed o (replay w s h m).versions)
+    (placed o (judge (present_set w h) (suc m) (replay w s h m)).versions)
 unfolding judge
 minute_next o w s h m is lasts =
     let r : Record = replay w s h m in
-    planned_next (present_set w h) o (suc m) (judged_version (present_set w h) r.carriers (suc m)) s r.versions (versions_kept told_kept w s h m is) (are_served w s h m is) (sound_now (record { windows = w; history = h; now = m }) is s)
-    (each_two (λ v begun reach. judged_sends (present_set w h) o r.carriers lasts (suc m) v begun reach) r.versions (versions_kept begun_kept w s h m is) (versions_kept reach_kept w s h m is))
+    planned_next (present_set w h) o (suc m) (judged_version (present_set w h) r.carriers (suc m)) s
+    r.versions (versions_kept told_kept w s h m is) (are_served w s h m is)
+    (sound_now (record { windows = w; history = h; now = m }) is s)
+    (each_two (λ v begun reach. judged_sends (present_set w h) o r.carriers lasts (suc m) v begun
+    reach) r.versions (versions_kept begun_kept w s h m is) (versions_kept reach_kept w s h m is))

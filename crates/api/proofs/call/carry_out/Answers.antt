@@ -7,35 +7,63 @@ use Rattle.api.proofs.call.carry_out.Goals as goal
 
 pub returns-in_err-version_asked-in-Version-clause-calls : goal.returns-in_err-version_asked-in-Version-clause-calls
 returns-in_err-version_asked-in-Version-clause-calls g c = rw c.in-Version.is (λ u st s.
-    unasked_refused (g.S.Store.failed c.args.register.now.store) (g.S.Store.failed c.args.register.now.store) (g.S.Store.content c.args.register.now.store) st (IdAsks c.in-Version.id c.args.body.now) c.args.caller.number c.from_residual.result _ c.in_err-version_asked-in-Version.field-0.0 (search rules)
-    c.in_err-version_asked-in-Version.ensures.err.0 c.in_err-version_asked-in-Version.ensures.err.1 s)
+    unasked_refused (g.S.Store.failed c.args.register.now.store)
+    (g.S.Store.failed c.args.register.now.store) (g.S.Store.content c.args.register.now.store) st
+    (IdAsks c.in-Version.id c.args.body.now) c.args.caller.number c.from_residual.result _
+    c.in_err-version_asked-in-Version.field-0.0 (search rules)
+    c.in_err-version_asked-in-Version.ensures.err.0 c.in_err-version_asked-in-Version.ensures.err.1
+    s)
 
 pub returns-in_err-number_asked-in-Number-clause-calls : goal.returns-in_err-number_asked-in-Number-clause-calls
 returns-in_err-number_asked-in-Number-clause-calls g c = rw c.in-Number.is (λ u st s.
-    unasked_refused (g.S.Store.failed c.args.register.now.store) (g.S.Store.failed c.args.register.now.store) (g.S.Store.content c.args.register.now.store) st (NumberAsks c.in-Number.number c.args.body.now) c.args.caller.number c.from_residual-in_err-number_asked-in-Number.result _ c.in_err-number_asked-in-Number.field-0.0 (search rules)
+    unasked_refused (g.S.Store.failed c.args.register.now.store)
+    (g.S.Store.failed c.args.register.now.store) (g.S.Store.content c.args.register.now.store) st
+    (NumberAsks c.in-Number.number c.args.body.now) c.args.caller.number
+    c.from_residual-in_err-number_asked-in-Number.result _ c.in_err-number_asked-in-Number.field-0.0
+    (search rules)
     c.in_err-number_asked-in-Number.ensures.err.0 c.in_err-number_asked-in-Number.ensures.err.1 s)
 
 pub returns-in_err-downloads_asked-in-Downloads-clause-calls : goal.returns-in_err-downloads_asked-in-Downloads-clause-calls
 returns-in_err-downloads_asked-in-Downloads-clause-calls g c = rw c.in-Downloads.is (λ u st s.
-    unasked_refused (g.S.Store.failed c.args.register.now.store) (g.S.Store.failed c.args.register.now.store) (g.S.Store.content c.args.register.now.store) st (CountAsks c.in-Downloads.count c.args.body.now) c.args.caller.number c.from_residual-in_err-downloads_asked-in-Downloads.result _ c.in_err-downloads_asked-in-Downloads.field-0.0 (search rules)
-    c.in_err-downloads_asked-in-Downloads.ensures.err.0 c.in_err-downloads_asked-in-Downloads.ensures.err.1 s)
+    unasked_refused (g.S.Store.failed c.args.register.now.store)
+    (g.S.Store.failed c.args.register.now.store) (g.S.Store.content c.args.register.now.store) st
+    (CountAsks c.in-Downloads.count c.args.body.now) c.args.caller.number
+    c.from_residual-in_err-downloads_asked-in-Downloads.result _
+    c.in_err-downloads_asked-in-Downloads.field-0.0 (search rules)
+    c.in_err-downloads_asked-in-Downloads.ensures.err.0
+    c.in_err-downloads_asked-in-Downloads.ensures.err.1 s)
 
 pub returns-in_ok-version_asked-in-Version-clause-calls : goal.returns-in_ok-version_asked-in-Version-clause-calls
 returns-in_ok-version_asked-in-Version-clause-calls g c = rw c.in-Version.is (λ u st s.
-    asked_carried (g.S.Store.failed c.args.register.now.store) (g.S.Store.failed c.answer.new.register.store) (g.S.Store.content c.answer.new.register.store) st (IdAsks c.in-Version.id c.args.body.now) (Calling (called_of c.in_ok-version_asked-in-Version.field-0)) c.args.caller.number _
+    asked_carried (g.S.Store.failed c.args.register.now.store)
+    (g.S.Store.failed c.answer.new.register.store) (g.S.Store.content c.answer.new.register.store)
+    st (IdAsks c.in-Version.id c.args.body.now)
+    (Calling (called_of c.in_ok-version_asked-in-Version.field-0)) c.args.caller.number _
     c.in_ok-version_asked-in-Version.ensures.ok (c.answer.ensures.carries u st s))
 
 pub returns-in_ok-number_asked-in-Number-clause-calls : goal.returns-in_ok-number_asked-in-Number-clause-calls
 returns-in_ok-number_asked-in-Number-clause-calls g c = rw c.in-Number.is (λ u st s.
-    asked_carried (g.S.Store.failed c.args.register.now.store) (g.S.Store.failed c.answer-in-Number.new.register.store) (g.S.Store.content c.answer-in-Number.new.register.store) st (NumberAsks c.in-Number.number c.args.body.now) (Calling (called_of c.in_ok-number_asked-in-Number.field-0)) c.args.caller.number _
+    asked_carried (g.S.Store.failed c.args.register.now.store)
+    (g.S.Store.failed c.answer-in-Number.new.register.store)
+    (g.S.Store.content c.answer-in-Number.new.register.store) st
+    (NumberAsks c.in-Number.number c.args.body.now)
+    (Calling (called_of c.in_ok-number_asked-in-Number.field-0)) c.args.caller.number _
     c.in_ok-number_asked-in-Number.ensures.ok (c.answer-in-Number.ensures.carries u st s))
 
 pub returns-in_ok-downloads_asked-in-Downloads-clause-calls : goal.returns-in_ok-downloads_asked-in-Downloads-clause-calls
 returns-in_ok-downloads_asked-in-Downloads-clause-calls g c = rw c.in-Downloads.is (λ u st s.
-    asked_carried (g.S.Store.failed c.args.register.now.store) (g.S.Store.failed c.answer-in-Downloads.new.register.store) (g.S.Store.content c.answer-in-Downloads.new.register.store) st (CountAsks c.in-Downloads.count c.args.body.now) (Calling (called_of c.in_ok-downloads_asked-in-Downloads.field-0)) c.args.caller.number _
+    asked_carried (g.S.Store.failed c.args.register.now.store)
+    (g.S.Store.failed c.answer-in-Downloads.new.register.store)
+    (g.S.Store.content c.answer-in-Downloads.new.register.store) st (CountAsks c.in-Downloads.count
+    c.args.body.now) (Calling (called_of c.in_ok-downloads_asked-in-Downloads.field-0))
+    c.args.caller.number _
     c.in_ok-downloads_asked-in-Downloads.ensures.ok (c.answer-in-Downloads.ensures.carries u st s))
 
 pub returns-in_default-clause-calls : goal.returns-in_default-clause-calls
 returns-in_default-clause-calls g c = λ u st s.
-    path_carried (g.S.Store.failed c.args.register.now.store) (g.S.Store.failed c.carry_out_body.new.register.store) (g.S.Store.content c.carry_out_body.new.register.store) st c.args.route c.args.caller.number c.args.body.now _
-    c.in_default.not-Version c.in_default.not-Number c.in_default.not-Downloads (c.carry_out_body.ensures.calls u st s)
+    path_carried (g.S.Store.failed c.args.register.now.store)
+    (g.S.Store.failed c.carry_out_body.new.register.store)
+    (g.S.Store.content c.carry_out_body.new.register.store) st c.args.route c.args.caller.number
+    c.args.body.now _
+    c.in_default.not-Version c.in_default.not-Number c.in_default.not-Downloads
+    (c.carry_out_body.ensures.calls u st s)

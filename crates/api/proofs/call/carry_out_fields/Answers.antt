@@ -7,16 +7,27 @@ use Rattle.api.proofs.StepLemmas.{calls_carried}
 use Rattle.api.proofs.call.carry_out_fields.Goals as goal
 
 pub returns-in-Err-clause-calls : goal.returns-in-Err-clause-calls
-returns-in-Err-clause-calls g c = λ u body is st s. (st, inl (inr (text_by_number NoMemory), refl), s)
+returns-in-Err-clause-calls g c =
+    λ u body is st s. (st, inl (inr (text_by_number NoMemory), refl), s)
 
 pub returns-in-Ok-Some-Call-clause-calls : goal.returns-in-Ok-Some-Call-clause-calls
 returns-in-Ok-Some-Call-clause-calls g c = λ u body is st s.
-    calls_carried (g.S.Store.failed c.args.register.now.store) (g.S.Store.failed c.answer.new.register.store) (g.S.Store.content c.answer.new.register.store) st c.args.route c.args.caller.number body (g.F.Fields.value c.args.fields.now) (Calling (called_of c.in-Ok-Some-Call.call)) _
+    calls_carried (g.S.Store.failed c.args.register.now.store)
+    (g.S.Store.failed c.answer.new.register.store) (g.S.Store.content c.answer.new.register.store)
+    st c.args.route c.args.caller.number body (g.F.Fields.value c.args.fields.now)
+    (Calling (called_of c.in-Ok-Some-Call.call)) _
     (sym is)
-    (subst (λ read. IfSome read (λ asked. HasForm c.args.route (g.F.Fields.value c.args.fields.now) (asked_of asked))) (c.in-Ok-Some-Call.field-0-is ∙ ap Some c.in-Ok-Some-Call.field-0-0-is) c.in-Ok-Some-Call.ensures.some) (c.answer.ensures.carries u st s)
+    (subst (λ read. IfSome read (λ asked. HasForm c.args.route (g.F.Fields.value c.args.fields.now)
+    (asked_of asked))) (c.in-Ok-Some-Call.field-0-is ∙ ap Some c.in-Ok-Some-Call.field-0-0-is)
+    c.in-Ok-Some-Call.ensures.some) (c.answer.ensures.carries u st s)
 
 pub returns-in-Ok-Some-Uri-clause-calls : goal.returns-in-Ok-Some-Uri-clause-calls
 returns-in-Ok-Some-Uri-clause-calls g c = λ u body is st s.
-    calls_carried (g.S.Store.failed c.args.register.now.store) (g.S.Store.failed c.query.new.register.store) (g.S.Store.content c.query.new.register.store) st c.args.route c.args.caller.number body (g.F.Fields.value c.args.fields.now) (Seeking c.in-Ok-Some-Uri.uri.now) _
+    calls_carried (g.S.Store.failed c.args.register.now.store)
+    (g.S.Store.failed c.query.new.register.store) (g.S.Store.content c.query.new.register.store) st
+    c.args.route c.args.caller.number body (g.F.Fields.value c.args.fields.now)
+    (Seeking c.in-Ok-Some-Uri.uri.now) _
     (sym is)
-    (subst (λ read. IfSome read (λ asked. HasForm c.args.route (g.F.Fields.value c.args.fields.now) (asked_of asked))) (c.in-Ok-Some-Uri.field-0-is ∙ ap Some c.in-Ok-Some-Uri.field-0-0-is) c.in-Ok-Some-Uri.ensures.some) (c.query.ensures.carries u st s)
+    (subst (λ read. IfSome read (λ asked. HasForm c.args.route (g.F.Fields.value c.args.fields.now)
+    (asked_of asked))) (c.in-Ok-Some-Uri.field-0-is ∙ ap Some c.in-Ok-Some-Uri.field-0-0-is)
+    c.in-Ok-Some-Uri.ensures.some) (c.query.ensures.carries u st s)

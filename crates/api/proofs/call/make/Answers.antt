@@ -6,8 +6,15 @@ use Rattle.api.proofs.call.make.Goals as goal
 
 pub returns-in_err-counted-clause-carries : goal.returns-in_err-counted-clause-carries
 returns-in_err-counted-clause-carries g c = λ u st s admits.
-    refused_as (g.S.Store.failed c.args.register.now.store) (g.S.Store.failed c.take_room.new.register.store) (g.S.Store.content c.take_room.new.register.store) st c.args.caller.number (Calling (called_of c.args.call.now)) c.from_residual.result _ c.in_err-counted.field-0.0 (search rules)
-    (short_carried (g.S.Store.failed c.args.register.now.store) (g.S.Store.failed c.take_room.new.register.store) (g.S.Store.content c.take_room.new.register.store) st c.args.caller.number (called_of c.args.call.now) c.in_err-counted.field-0.0
+    refused_as (g.S.Store.failed c.args.register.now.store)
+    (g.S.Store.failed c.take_room.new.register.store)
+    (g.S.Store.content c.take_room.new.register.store) st c.args.caller.number
+    (Calling (called_of c.args.call.now)) c.from_residual.result _ c.in_err-counted.field-0.0
+    (search rules)
+    (short_carried (g.S.Store.failed c.args.register.now.store)
+    (g.S.Store.failed c.take_room.new.register.store)
+    (g.S.Store.content c.take_room.new.register.store) st c.args.caller.number
+    (called_of c.args.call.now) c.in_err-counted.field-0.0
     (c.in_err-counted.ensures.kept u st s) (c.in_err-counted.ensures.short u st s))
 
 pub returns-in_err-reply-clause-carries : goal.returns-in_err-reply-clause-carries
@@ -17,14 +24,22 @@ returns-in_err-reply-clause-carries g c = λ u st s admits.
     let mid = g.S.Store.content c.take_room.new.register.store in
     let new = g.S.Store.content c.answer.new.self.store in
     let refusal = c.in_err-reply.field-0.0 in
-    refused_as from to new st c.args.caller.number (Calling (called_of c.args.call.now)) c.from_residual-in_err-reply.result _ refusal (search rules)
-    (refused_carried from to new st c.args.caller.number (called_of c.args.call.now) admits refusal mid (c.in_err-reply.ensures.answers u)
-    (blames_since from (g.S.Store.failed c.take_room.new.register.store) to mid mid refusal c.in_ok-counted.ensures.owes.rises c.in_err-reply.ensures.owes.rises (λ x y. y) (λ st s e. blamed c.in_err-reply.ensures.owes u st s (ap Err e)))
+    refused_as from to new st c.args.caller.number (Calling (called_of c.args.call.now))
+    c.from_residual-in_err-reply.result _ refusal (search rules)
+    (refused_carried from to new st c.args.caller.number (called_of c.args.call.now) admits refusal
+    mid (c.in_err-reply.ensures.answers u)
+    (blames_since from (g.S.Store.failed c.take_room.new.register.store) to mid mid refusal
+    c.in_ok-counted.ensures.owes.rises c.in_err-reply.ensures.owes.rises (λ x y. y)
+    (λ st s e. blamed c.in_err-reply.ensures.owes u st s (ap Err e)))
     (c.in_ok-counted.ensures.kept (c.answer.ensures.owes.usable u) st s))
 
 pub returns-clause-carries : goal.returns-clause-carries
 returns-clause-carries g c = λ u st s admits.
     let middle = c.answer.ensures.owes.usable u in
-    reply_carried (g.S.Store.failed c.args.register.now.store) (g.S.Store.failed c.answer.new.self.store) (g.S.Store.content c.answer.new.self.store) st c.args.caller.number (called_of c.args.call.now) admits
-    (g.S.Store.content c.take_room.new.register.store) (reply_of c.in_ok-reply.reply) c.in_ok-counted.counted c.put_reply.result _
-    (c.in_ok-counted.ensures.kept middle st s) (c.in_ok-counted.ensures.counted middle st s) (c.in_ok-reply.ensures.answers u) c.put_reply.ensures.text c.put_reply.ensures.more
+    reply_carried (g.S.Store.failed c.args.register.now.store)
+    (g.S.Store.failed c.answer.new.self.store) (g.S.Store.content c.answer.new.self.store) st
+    c.args.caller.number (called_of c.args.call.now) admits
+    (g.S.Store.content c.take_room.new.register.store) (reply_of c.in_ok-reply.reply)
+    c.in_ok-counted.counted c.put_reply.result _
+    (c.in_ok-counted.ensures.kept middle st s) (c.in_ok-counted.ensures.counted middle st s)
+    (c.in_ok-reply.ensures.answers u) c.put_reply.ensures.text c.put_reply.ensures.more

@@ -5,22 +5,54 @@ use Rattle.api.proofs.StepLemmas.{blamed, unknown_carried, faulty_carried, unask
 use Rattle.api.proofs.query.query.Goals as goal
 
 pub returns-in-Err-clause-carries : goal.returns-in-Err-clause-carries
-returns-in-Err-clause-carries g c = λ u. unknown_carried c.in-Err.refusal (g.S.Store.failed c.args.register.now.store) (g.S.Store.failed c.knows.new.self.store) (g.S.Store.content c.args.register.now.store) (g.S.Store.content c.knows.new.self.store) c.args.caller.number c.args.text.now (c.in-Err.ensures.answers u) (λ st s e. blamed c.in-Err.ensures.owes u st s (ap Err e))
+returns-in-Err-clause-carries g c =
+    λ u. unknown_carried c.in-Err.refusal (g.S.Store.failed c.args.register.now.store)
+    (g.S.Store.failed c.knows.new.self.store) (g.S.Store.content c.args.register.now.store)
+    (g.S.Store.content c.knows.new.self.store) c.args.caller.number c.args.text.now
+    (c.in-Err.ensures.answers u) (λ st s e. blamed c.in-Err.ensures.owes u st s (ap Err e))
 
 pub returns-in-Err-read-clause-carries : goal.returns-in-Err-read-clause-carries
-returns-in-Err-read-clause-carries g c = λ u. faulty_carried c.in-Err-read.fault (g.S.Store.failed c.args.register.now.store) (g.S.Store.failed c.knows.new.self.store) (g.S.Store.content c.args.register.now.store) (g.S.Store.content c.knows.new.self.store) c.args.caller.number c.args.text.now (c.in_default.ensures.answers u) c.in-Err-read.ensures.fault
+returns-in-Err-read-clause-carries g c =
+    λ u. faulty_carried c.in-Err-read.fault (g.S.Store.failed c.args.register.now.store)
+    (g.S.Store.failed c.knows.new.self.store) (g.S.Store.content c.args.register.now.store)
+    (g.S.Store.content c.knows.new.self.store) c.args.caller.number c.args.text.now
+    (c.in_default.ensures.answers u) c.in-Err-read.ensures.fault
 
 pub returns-in_default-number_asked_for-clause-carries : goal.returns-in_default-number_asked_for-clause-carries
 returns-in_default-number_asked_for-clause-carries g c = λ u.
-    unasked_carried (g.S.Store.failed c.args.register.now.store) (g.S.Store.failed c.knows.new.self.store) (g.S.Store.content c.args.register.now.store) (g.S.Store.content c.knows.new.self.store) c.args.caller.number c.args.text.now (uri_of c.in-Ok.uri) c.put_text.result _
-    (record { same = c.in-Ok.ensures.text; parts = c.in-Ok.ensures.uri }) c.in_default-number_asked_for.ensures.none (c.in_default.ensures.answers u) c.put_text.ensures.body c.put_text.ensures.short
+    unasked_carried (g.S.Store.failed c.args.register.now.store)
+    (g.S.Store.failed c.knows.new.self.store) (g.S.Store.content c.args.register.now.store)
+    (g.S.Store.content c.knows.new.self.store) c.args.caller.number c.args.text.now
+    (uri_of c.in-Ok.uri) c.put_text.result _
+    (record {
+      same = c.in-Ok.ensures.text;
+      parts = c.in-Ok.ensures.uri;
+    }) c.in_default-number_asked_for.ensures.none (c.in_default.ensures.answers u)
+    c.put_text.ensures.body c.put_text.ensures.short
 
 pub returns-in-Ok-query-clause-carries : goal.returns-in-Ok-query-clause-carries
 returns-in-Ok-query-clause-carries g c = λ u.
-    query_carried (g.S.Store.failed c.args.register.now.store) (g.S.Store.failed c.query.new.self.store) (g.S.Store.content c.args.register.now.store) (g.S.Store.content c.knows.new.self.store) (g.S.Store.content c.query.new.self.store) c.args.caller.number c.args.text.now (uri_of c.in-Ok.uri) c.in-Some.tn.number (answer_of c.in-Ok-query.answer) c.put_routed.result _
-    (record { same = c.in-Ok.ensures.text; parts = c.in-Ok.ensures.uri }) c.in-Some.ensures.some (c.in_default.ensures.answers (c.query.ensures.owes.usable u)) (c.in-Ok-query.ensures.answers u) c.put_routed.ensures.body c.put_routed.ensures.short
+    query_carried (g.S.Store.failed c.args.register.now.store)
+    (g.S.Store.failed c.query.new.self.store) (g.S.Store.content c.args.register.now.store)
+    (g.S.Store.content c.knows.new.self.store) (g.S.Store.content c.query.new.self.store)
+    c.args.caller.number c.args.text.now (uri_of c.in-Ok.uri) c.in-Some.tn.number
+    (answer_of c.in-Ok-query.answer) c.put_routed.result _
+    (record {
+      same = c.in-Ok.ensures.text;
+      parts = c.in-Ok.ensures.uri;
+    }) c.in-Some.ensures.some (c.in_default.ensures.answers (c.query.ensures.owes.usable u))
+    (c.in-Ok-query.ensures.answers u) c.put_routed.ensures.body c.put_routed.ensures.short
 
 pub returns-in-Err-query-clause-carries : goal.returns-in-Err-query-clause-carries
 returns-in-Err-query-clause-carries g c = λ u.
-    refused_query_carried c.in-Err-query.refusal (g.S.Store.failed c.args.register.now.store) (g.S.Store.failed c.knows.new.self.store) (g.S.Store.failed c.query.new.self.store) (g.S.Store.content c.args.register.now.store) (g.S.Store.content c.knows.new.self.store) (g.S.Store.content c.query.new.self.store) c.args.caller.number c.args.text.now (uri_of c.in-Ok.uri) c.in-Some.tn.number
-    c.in_default.ensures.owes.rises c.in-Err-query.ensures.owes.rises (record { same = c.in-Ok.ensures.text; parts = c.in-Ok.ensures.uri }) c.in-Some.ensures.some (c.in_default.ensures.answers (c.query.ensures.owes.usable u)) (c.in-Err-query.ensures.answers u) (λ st s e. blamed c.in-Err-query.ensures.owes u st s (ap Err e))
+    refused_query_carried c.in-Err-query.refusal (g.S.Store.failed c.args.register.now.store)
+    (g.S.Store.failed c.knows.new.self.store) (g.S.Store.failed c.query.new.self.store)
+    (g.S.Store.content c.args.register.now.store) (g.S.Store.content c.knows.new.self.store)
+    (g.S.Store.content c.query.new.self.store) c.args.caller.number c.args.text.now
+    (uri_of c.in-Ok.uri) c.in-Some.tn.number
+    c.in_default.ensures.owes.rises c.in-Err-query.ensures.owes.rises (record {
+      same = c.in-Ok.ensures.text;
+      parts = c.in-Ok.ensures.uri;
+    }) c.in-Some.ensures.some (c.in_default.ensures.answers (c.query.ensures.owes.usable u))
+    (c.in-Err-query.ensures.answers u) (λ st s e. blamed c.in-Err-query.ensures.owes u st s
+    (ap Err e))

@@ -20,81 +20,123 @@ loop-count-init g c = (
   le_refl _,
   λ honest. honest,
   λ usable honest. inl usable,
-  λ usable. (input_left c.args.held.now (g.R.Read.remaining c.args.reader.now), refl, started c.args.options.now.clock_route (g.S.Store.failed c.args.register.now.store) (g.S.Store.content c.args.register.now.store) _ (g.R.Read.remaining c.args.reader.now) (g.W.Write.contents c.args.writer.now) (g.T.Ticks.told c.args.ticks.now) c.requires.empty),
+  λ usable. (
+    input_left c.args.held.now (g.R.Read.remaining c.args.reader.now),
+    refl,
+    started c.args.options.now.clock_route (g.S.Store.failed c.args.register.now.store)
+        (g.S.Store.content c.args.register.now.store) _ (g.R.Read.remaining c.args.reader.now)
+        (g.W.Write.contents c.args.writer.now) (g.T.Ticks.told c.args.ticks.now) c.requires.empty,
+  ),
 )
 
 pub returns-in-Ok-None-clause-serves : goal.returns-in-Ok-None-clause-serves
 returns-in-Ok-None-clause-serves g c = λ usable.
     let at = c.loop-count.invariant.6 usable in
-    ended _ _ _ _ _ _ _ _ _ _ _ _ at.2 (g.R.Read.remaining c.next_of.new.reader) (rw c.in-Ok-None.field-0-is at (c.in-Ok-None.ensures.cut at.0 at.1)) (rw c.in-Ok-None.field-0-is at (c.in-Ok-None.ensures.read at.0 at.1))
+    ended _ _ _ _ _ _ _ _ _ _ _ _ at.2 (g.R.Read.remaining c.next_of.new.reader)
+    (rw c.in-Ok-None.field-0-is at (c.in-Ok-None.ensures.cut at.0 at.1))
+    (rw c.in-Ok-None.field-0-is at (c.in-Ok-None.ensures.read at.0 at.1))
 
 pub returns-in-Err-Read-clause-serves : goal.returns-in-Err-Read-clause-serves
 returns-in-Err-Read-clause-serves g c = λ usable.
     let at = c.loop-count.invariant.6 usable in
-    failed_read _ _ _ _ _ _ _ _ _ _ _ _ at.2 (g.R.Read.remaining c.next_of.new.reader) (rw c.in-Err-Read.field-0-is at (c.in-Err-Read.ensures.read at.0 at.1))
+    failed_read _ _ _ _ _ _ _ _ _ _ _ _ at.2 (g.R.Read.remaining c.next_of.new.reader)
+    (rw c.in-Err-Read.field-0-is at (c.in-Err-Read.ensures.read at.0 at.1))
 
 pub returns-in-Err-Memory-clause-serves : goal.returns-in-Err-Memory-clause-serves
 returns-in-Err-Memory-clause-serves g c = λ usable.
     let at = c.loop-count.invariant.6 usable in
-    no_memory _ _ _ _ _ _ _ _ _ _ _ _ at.2 (g.R.Read.remaining c.next_of.new.reader) (rw c.in-Err-Memory.field-0-is at (c.in-Err-Memory.ensures.read at.0 at.1))
+    no_memory _ _ _ _ _ _ _ _ _ _ _ _ at.2 (g.R.Read.remaining c.next_of.new.reader)
+    (rw c.in-Err-Memory.field-0-is at (c.in-Err-Memory.ensures.read at.0 at.1))
 
 pub returns-in-Ok-None-clause-until : goal.returns-in-Ok-None-clause-until
-returns-in-Ok-None-clause-until g c = λ usable honest. already (c.loop-count.invariant.5 usable honest) (stops _ _ _ _ _ _ _)
+returns-in-Ok-None-clause-until g c =
+    λ usable honest. already (c.loop-count.invariant.5 usable honest) (stops _ _ _ _ _ _ _)
 
 pub returns-in-Err-Read-clause-until : goal.returns-in-Err-Read-clause-until
-returns-in-Err-Read-clause-until g c = λ usable honest. already (c.loop-count.invariant.5 usable honest) (stops _ _ _ _ _ _ _)
+returns-in-Err-Read-clause-until g c =
+    λ usable honest. already (c.loop-count.invariant.5 usable honest) (stops _ _ _ _ _ _ _)
 
 pub returns-in-Err-Memory-clause-until : goal.returns-in-Err-Memory-clause-until
-returns-in-Err-Memory-clause-until g c = λ usable honest. already (c.loop-count.invariant.5 usable honest) (stops _ _ _ _ _ _ _)
+returns-in-Err-Memory-clause-until g c =
+    λ usable honest. already (c.loop-count.invariant.5 usable honest) (stops _ _ _ _ _ _ _)
 
 pub returns-clause-until : goal.returns-clause-until
-returns-clause-until g c = λ usable honest. already (c.loop-count.invariant.5 usable honest) (stops _ _ _ _ _ _ _)
+returns-clause-until g c =
+    λ usable honest. already (c.loop-count.invariant.5 usable honest) (stops _ _ _ _ _ _ _)
 
 pub returns-in-Err-clause-until : goal.returns-in-Err-clause-until
 returns-in-Err-clause-until g c = λ usable honest.
     let was = c.respond-end.ensures.honest honest in
-    let sent = subst (AppendsFront (g.W.Write.contents c.loop-count.writer) (g.W.Write.contents c.send_all.new.writer)) c.as_bytes.ensures.value c.in-Err.ensures.err in
+    let sent = subst (AppendsFront (g.W.Write.contents c.loop-count.writer)
+    (g.W.Write.contents c.send_all.new.writer)) c.as_bytes.ensures.value c.in-Err.ensures.err in
     still (c.loop-count.invariant.5 usable was) (λ held. c.respond-end.ensures.stays held honest)
     (λ held withheld.
     let at = c.loop-count.invariant.6 held in
-    stopped_partly _ _ _ _ _ _ _ _ _ _ _ _ at.2 _ _ _ _ c.in-Ok-Some.next (rw c.in-Ok-Some.field-0-is at (c.in-Ok-Some.ensures.cut at.0 at.1)) sent withheld)
+    stopped_partly _ _ _ _ _ _ _ _ _ _ _ _ at.2 _ _ _ _ c.in-Ok-Some.next
+    (rw c.in-Ok-Some.field-0-is at (c.in-Ok-Some.ensures.cut at.0 at.1)) sent withheld)
     (further_partly _ _ _ _ _ _ _ _ _ sent)
 
 pub returns-in-Some-clause-until : goal.returns-in-Some-clause-until
 returns-in-Some-clause-until g c = λ usable honest.
     let was = c.respond-end.ensures.honest honest in
-    let sent = subst (Appends (g.W.Write.contents c.loop-count.writer) (g.W.Write.contents c.send_all.new.writer)) c.as_bytes.ensures.value c.in-Ok.ensures.ok in
+    let sent = subst (Appends (g.W.Write.contents c.loop-count.writer)
+    (g.W.Write.contents c.send_all.new.writer)) c.as_bytes.ensures.value c.in-Ok.ensures.ok in
     still (c.loop-count.invariant.5 usable was) (λ held. c.respond-end.ensures.stays held honest)
     (λ held withheld.
     let at = c.loop-count.invariant.6 held in
-    stops _ _ _ _ _ _ _ (stopped _ _ _ _ _ _ _ _ _ _ _ _ at.2 _ _ _ _ c.in-Ok-Some.next (rw c.in-Ok-Some.field-0-is at (c.in-Ok-Some.ensures.cut at.0 at.1)) sent withheld))
+    stops _ _ _ _ _ _ _ (stopped _ _ _ _ _ _ _ _ _ _ _ _ at.2 _ _ _ _ c.in-Ok-Some.next
+    (rw c.in-Ok-Some.field-0-is at (c.in-Ok-Some.ensures.cut at.0 at.1)) sent withheld))
     (λ past. stops _ _ _ _ _ _ _ (further _ _ _ _ _ _ _ _ _ sent past))
 
 pub returns-in-Err-clause-serves : goal.returns-in-Err-clause-serves
 returns-in-Err-clause-serves g c = λ usable.
     let at = c.loop-count.invariant.6 (c.respond-end.ensures.usable usable) in
-    partly _ _ _ _ _ _ _ _ _ _ _ _ at.2 _ _ c.next_of.new.held (g.R.Read.remaining c.next_of.new.reader) c.in-Ok-Some.ensures.size _ _ _ _ c.in-Ok-Some.next
-    (rw c.in-Ok-Some.field-0-is at (c.in-Ok-Some.ensures.cut at.0 at.1)) (rw c.in-Ok-Some.field-0-is at (c.in-Ok-Some.ensures.read at.0 at.1))
-    (subst (λ (b : List ℕ). Responds c.args.options.now.clock_route (g.T.Ticks.told c.loop-count.ticks) (g.T.Ticks.told c.respond-end.new.ticks) (g.S.Store.failed c.loop-count.register.store) (g.S.Store.failed c.respond-end.new.register.store) c.in-Ok-Some.next b (string_bytes c.respond-end.new.room.text) (g.S.Store.content c.loop-count.register.store) (g.S.Store.content c.respond-end.new.register.store)) c.deref.ensures.value (c.respond-end.ensures.responds usable))
-    (subst (AppendsFront (g.W.Write.contents c.loop-count.writer) (g.W.Write.contents c.send_all.new.writer)) c.as_bytes.ensures.value c.in-Err.ensures.err)
+    partly _ _ _ _ _ _ _ _ _ _ _ _ at.2 _ _ c.next_of.new.held
+    (g.R.Read.remaining c.next_of.new.reader) c.in-Ok-Some.ensures.size _ _ _ _ c.in-Ok-Some.next
+    (rw c.in-Ok-Some.field-0-is at (c.in-Ok-Some.ensures.cut at.0 at.1))
+    (rw c.in-Ok-Some.field-0-is at (c.in-Ok-Some.ensures.read at.0 at.1))
+    (subst (λ (b : List ℕ). Responds c.args.options.now.clock_route
+    (g.T.Ticks.told c.loop-count.ticks) (g.T.Ticks.told c.respond-end.new.ticks)
+    (g.S.Store.failed c.loop-count.register.store)
+    (g.S.Store.failed c.respond-end.new.register.store) c.in-Ok-Some.next b
+    (string_bytes c.respond-end.new.room.text) (g.S.Store.content c.loop-count.register.store)
+    (g.S.Store.content c.respond-end.new.register.store)) c.deref.ensures.value
+    (c.respond-end.ensures.responds usable))
+    (subst (AppendsFront (g.W.Write.contents c.loop-count.writer)
+    (g.W.Write.contents c.send_all.new.writer)) c.as_bytes.ensures.value c.in-Err.ensures.err)
 
 pub returns-in-Err-clause-state : goal.returns-in-Err-clause-state
 returns-in-Err-clause-state g c = λ usable.
     let at = c.loop-count.invariant.6 (c.respond-end.ensures.usable usable) in
-    state_then _ _ _ _ _ _ _ _ _ _ _ _ at.2 _ _ c.next_of.new.held (g.R.Read.remaining c.next_of.new.reader) c.in-Ok-Some.ensures.size _ _ _ c.in-Ok-Some.next (c.respond-end.ensures.responds usable)
+    state_then _ _ _ _ _ _ _ _ _ _ _ _ at.2 _ _ c.next_of.new.held
+    (g.R.Read.remaining c.next_of.new.reader) c.in-Ok-Some.ensures.size _ _ _ c.in-Ok-Some.next
+    (c.respond-end.ensures.responds usable)
 
 pub returns-in-Some-clause-serves : goal.returns-in-Some-clause-serves
 returns-in-Some-clause-serves g c = λ usable.
     let at = c.loop-count.invariant.6 (c.respond-end.ensures.usable usable) in
-    finished _ _ _ _ _ _ _ _ _ _ _ _ at.2 _ _ c.next_of.new.held (g.R.Read.remaining c.next_of.new.reader) c.in-Ok-Some.ensures.size _ _ _ _ c.in-Ok-Some.next c.in-Some.end
-    (sym c.respond-end.ensures.end ∙ c.in-Some.is) (rw c.in-Ok-Some.field-0-is at (c.in-Ok-Some.ensures.cut at.0 at.1)) (rw c.in-Ok-Some.field-0-is at (c.in-Ok-Some.ensures.read at.0 at.1))
-    (subst (λ (b : List ℕ). Responds c.args.options.now.clock_route (g.T.Ticks.told c.loop-count.ticks) (g.T.Ticks.told c.respond-end.new.ticks) (g.S.Store.failed c.loop-count.register.store) (g.S.Store.failed c.respond-end.new.register.store) c.in-Ok-Some.next b (string_bytes c.respond-end.new.room.text) (g.S.Store.content c.loop-count.register.store) (g.S.Store.content c.respond-end.new.register.store)) c.deref.ensures.value (c.respond-end.ensures.responds usable))
-    (subst (Appends (g.W.Write.contents c.loop-count.writer) (g.W.Write.contents c.send_all.new.writer)) c.as_bytes.ensures.value c.in-Ok.ensures.ok)
+    finished _ _ _ _ _ _ _ _ _ _ _ _ at.2 _ _ c.next_of.new.held
+    (g.R.Read.remaining c.next_of.new.reader) c.in-Ok-Some.ensures.size _ _ _ _ c.in-Ok-Some.next
+    c.in-Some.end
+    (sym c.respond-end.ensures.end ∙ c.in-Some.is)
+    (rw c.in-Ok-Some.field-0-is at (c.in-Ok-Some.ensures.cut at.0 at.1))
+    (rw c.in-Ok-Some.field-0-is at (c.in-Ok-Some.ensures.read at.0 at.1))
+    (subst (λ (b : List ℕ). Responds c.args.options.now.clock_route
+    (g.T.Ticks.told c.loop-count.ticks) (g.T.Ticks.told c.respond-end.new.ticks)
+    (g.S.Store.failed c.loop-count.register.store)
+    (g.S.Store.failed c.respond-end.new.register.store) c.in-Ok-Some.next b
+    (string_bytes c.respond-end.new.room.text) (g.S.Store.content c.loop-count.register.store)
+    (g.S.Store.content c.respond-end.new.register.store)) c.deref.ensures.value
+    (c.respond-end.ensures.responds usable))
+    (subst (Appends (g.W.Write.contents c.loop-count.writer)
+    (g.W.Write.contents c.send_all.new.writer)) c.as_bytes.ensures.value c.in-Ok.ensures.ok)
 
 pub returns-in-Some-clause-state : goal.returns-in-Some-clause-state
 returns-in-Some-clause-state g c = λ usable.
     let at = c.loop-count.invariant.6 (c.respond-end.ensures.usable usable) in
-    state_then _ _ _ _ _ _ _ _ _ _ _ _ at.2 _ _ c.next_of.new.held (g.R.Read.remaining c.next_of.new.reader) c.in-Ok-Some.ensures.size _ _ _ c.in-Ok-Some.next (c.respond-end.ensures.responds usable)
+    state_then _ _ _ _ _ _ _ _ _ _ _ _ at.2 _ _ c.next_of.new.held
+    (g.R.Read.remaining c.next_of.new.reader) c.in-Ok-Some.ensures.size _ _ _ c.in-Ok-Some.next
+    (c.respond-end.ensures.responds usable)
 
 pub loop-count-preserved : goal.loop-count-preserved
 loop-count-preserved g c = (
@@ -105,27 +147,53 @@ loop-count-preserved g c = (
   λ honest. c.loop-count.invariant.4 (c.respond-end.ensures.honest honest),
   λ usable honest.
       let was = c.respond-end.ensures.honest honest in
-      let sent = subst (Appends (g.W.Write.contents c.loop-count.writer) (g.W.Write.contents c.send_all.new.writer)) c.as_bytes.ensures.value c.in-Ok.ensures.ok in
+      let sent = subst (Appends (g.W.Write.contents c.loop-count.writer)
+      (g.W.Write.contents c.send_all.new.writer)) c.as_bytes.ensures.value c.in-Ok.ensures.ok in
       still (c.loop-count.invariant.5 usable was) (λ held. c.respond-end.ensures.stays held honest)
       (λ held withheld.
       let at = c.loop-count.invariant.6 held in
-      stopped _ _ _ _ _ _ _ _ _ _ _ _ at.2 _ _ _ _ c.in-Ok-Some.next (rw c.in-Ok-Some.field-0-is at (c.in-Ok-Some.ensures.cut at.0 at.1)) sent withheld)
+      stopped _ _ _ _ _ _ _ _ _ _ _ _ at.2 _ _ _ _ c.in-Ok-Some.next
+      (rw c.in-Ok-Some.field-0-is at (c.in-Ok-Some.ensures.cut at.0 at.1)) sent withheld)
       (further _ _ _ _ _ _ _ _ _ sent),
   λ usable.
       let at = c.loop-count.invariant.6 (c.respond-end.ensures.usable usable) in (
         input_left c.next_of.new.held (g.R.Read.remaining c.next_of.new.reader),
         c.next_held-at_hand.ensures.cut (g.R.Read.remaining c.next_of.new.reader),
-        went_on _ _ _ _ _ _ _ _ _ _ _ _ at.2 _ _ c.next_of.new.held (g.R.Read.remaining c.next_of.new.reader) c.in-Ok-Some.ensures.size _ _ _ _ c.in-Ok-Some.next
-            (sym c.respond-end.ensures.end ∙ c.in_default.is) (rw c.in-Ok-Some.field-0-is at (c.in-Ok-Some.ensures.cut at.0 at.1))
-            (subst (λ (b : List ℕ). Responds c.args.options.now.clock_route (g.T.Ticks.told c.loop-count.ticks) (g.T.Ticks.told c.respond-end.new.ticks) (g.S.Store.failed c.loop-count.register.store) (g.S.Store.failed c.respond-end.new.register.store) c.in-Ok-Some.next b (string_bytes c.respond-end.new.room.text) (g.S.Store.content c.loop-count.register.store) (g.S.Store.content c.respond-end.new.register.store)) c.deref.ensures.value (c.respond-end.ensures.responds usable))
-            (subst (Appends (g.W.Write.contents c.loop-count.writer) (g.W.Write.contents c.send_all.new.writer)) c.as_bytes.ensures.value c.in-Ok.ensures.ok),
+        went_on _ _ _ _ _ _ _ _ _ _ _ _ at.2 _ _ c.next_of.new.held
+            (g.R.Read.remaining c.next_of.new.reader) c.in-Ok-Some.ensures.size _ _ _ _
+            c.in-Ok-Some.next
+            (sym c.respond-end.ensures.end ∙ c.in_default.is)
+            (rw c.in-Ok-Some.field-0-is at (c.in-Ok-Some.ensures.cut at.0 at.1))
+            (subst (λ (b : List ℕ). Responds c.args.options.now.clock_route
+            (g.T.Ticks.told c.loop-count.ticks) (g.T.Ticks.told c.respond-end.new.ticks)
+            (g.S.Store.failed c.loop-count.register.store)
+            (g.S.Store.failed c.respond-end.new.register.store) c.in-Ok-Some.next b
+            (string_bytes c.respond-end.new.room.text)
+            (g.S.Store.content c.loop-count.register.store)
+            (g.S.Store.content c.respond-end.new.register.store)) c.deref.ensures.value
+            (c.respond-end.ensures.responds usable))
+            (subst (Appends (g.W.Write.contents c.loop-count.writer)
+            (g.W.Write.contents c.send_all.new.writer)) c.as_bytes.ensures.value
+            c.in-Ok.ensures.ok),
       ),
 )
 
 pub returns-clause-serves : goal.returns-clause-serves
 returns-clause-serves g c = λ usable.
     let at = c.loop-count.invariant.6 usable in
-    let last : c.loop-count.count ≡ 18446744073709551615 = omega (arith, c.loop-count-test.false, c.loop-count.auto.count-end) in
-    subst (λ (k : ℕ). (st : State) → Stands (g.S.Store.content c.args.register.now.store) st → IfSome (g.R.Read.remaining c.args.reader.now) (λ input. FailsAt (Memory k) c.args.options.now.clock_route (g.S.Store.failed c.args.register.now.store) (g.S.Store.failed c.loop-count.register.store) st (g.S.Store.content c.loop-count.register.store)
-    (record { input = input; unread = g.R.Read.remaining c.loop-count.reader; before = g.T.Ticks.told c.args.ticks.now; behind = g.T.Ticks.told c.loop-count.ticks; had = g.W.Write.contents c.args.writer.now; has = g.W.Write.contents c.loop-count.writer }))) last
+    let last : c.loop-count.count ≡ 18446744073709551615 =
+    omega (arith, c.loop-count-test.false, c.loop-count.auto.count-end) in
+    subst (λ (k : ℕ). (st : State) → Stands (g.S.Store.content c.args.register.now.store) st
+    → IfSome (g.R.Read.remaining c.args.reader.now)
+    (λ input. FailsAt (Memory k) c.args.options.now.clock_route
+    (g.S.Store.failed c.args.register.now.store) (g.S.Store.failed c.loop-count.register.store) st
+    (g.S.Store.content c.loop-count.register.store)
+    (record {
+      input = input;
+      unread = g.R.Read.remaining c.loop-count.reader;
+      before = g.T.Ticks.told c.args.ticks.now;
+      behind = g.T.Ticks.told c.loop-count.ticks;
+      had = g.W.Write.contents c.args.writer.now;
+      has = g.W.Write.contents c.loop-count.writer;
+    }))) last
     (full _ _ _ _ _ _ _ _ _ _ _ _ at.2 (g.R.Read.remaining c.loop-count.reader) last)

@@ -12,8 +12,15 @@ invariant-loop-count g l =
     × (g.S.Store.IsUsable l.register.store → g.S.Store.IsUsable l.fn.register.store)
     × (g.S.Store.failed l.fn.register.store ≤ g.S.Store.failed l.register.store)
     × (g.S.Store.IsHonest l.register.store → g.S.Store.IsHonest l.fn.register.store)
-    × (g.S.Store.IsUsable l.fn.register.store → g.S.Store.IsHonest l.register.store → g.S.Store.IsUsable l.register.store
-    ⊎ Past l.fn.options.clock_route (g.S.Store.failed l.fn.register.store) (g.S.Store.content l.fn.register.store) (g.R.Read.remaining l.fn.reader) (g.W.Write.contents l.fn.writer) (g.T.Ticks.told l.fn.ticks) (g.W.Write.contents l.writer))
-    × (g.S.Store.IsUsable l.register.store → (left : Option (List ℕ)) × IsTaken left l.at_hand l.body.items (input_left l.held (g.R.Read.remaining l.reader))
-    × Progress l.fn.options.clock_route (g.S.Store.failed l.fn.register.store) (g.S.Store.failed l.register.store) (g.S.Store.content l.fn.register.store) (g.S.Store.content l.register.store)
-    (g.R.Read.remaining l.fn.reader) left (g.W.Write.contents l.fn.writer) (g.W.Write.contents l.writer) (g.T.Ticks.told l.fn.ticks) (g.T.Ticks.told l.ticks) l.count)
+    × (g.S.Store.IsUsable l.fn.register.store → g.S.Store.IsHonest l.register.store
+    → g.S.Store.IsUsable l.register.store
+    ⊎ Past l.fn.options.clock_route (g.S.Store.failed l.fn.register.store)
+    (g.S.Store.content l.fn.register.store) (g.R.Read.remaining l.fn.reader)
+    (g.W.Write.contents l.fn.writer) (g.T.Ticks.told l.fn.ticks) (g.W.Write.contents l.writer))
+    × (g.S.Store.IsUsable l.register.store → (left : Option (List ℕ))
+    × IsTaken left l.at_hand l.body.items (input_left l.held (g.R.Read.remaining l.reader))
+    × Progress l.fn.options.clock_route (g.S.Store.failed l.fn.register.store)
+    (g.S.Store.failed l.register.store) (g.S.Store.content l.fn.register.store)
+    (g.S.Store.content l.register.store)
+    (g.R.Read.remaining l.fn.reader) left (g.W.Write.contents l.fn.writer)
+    (g.W.Write.contents l.writer) (g.T.Ticks.told l.fn.ticks) (g.T.Ticks.told l.ticks) l.count)

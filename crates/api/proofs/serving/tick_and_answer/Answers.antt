@@ -13,18 +13,29 @@ pub returns-in-Ok-clause-responds : goal.returns-in-Ok-clause-responds
 returns-in-Ok-clause-responds g c = λ u. (
   minute_of c.next-tick.result,
   c.next-tick.ensures,
-  tick_then c.args.clock (minute_of c.next-tick.result) (g.S.Store.failed c.args.register.now.store) (g.S.Store.failed c.take_tick.new.register.store) (g.S.Store.failed c.put_answer.new.register.store) (g.S.Store.content c.args.register.now.store) (g.S.Store.content c.take_tick.new.register.store) (g.S.Store.content c.put_answer.new.register.store) c.args.request.now c.args.body.now _
-      c.in-Ok.ensures.owes.rises (c.in-Ok.ensures.moved (c.put_answer.ensures.usable u)) (c.put_answer.ensures.step u),
+  tick_then c.args.clock (minute_of c.next-tick.result) (g.S.Store.failed c.args.register.now.store)
+      (g.S.Store.failed c.take_tick.new.register.store)
+      (g.S.Store.failed c.put_answer.new.register.store)
+      (g.S.Store.content c.args.register.now.store)
+      (g.S.Store.content c.take_tick.new.register.store)
+      (g.S.Store.content c.put_answer.new.register.store) c.args.request.now c.args.body.now _
+      c.in-Ok.ensures.owes.rises (c.in-Ok.ensures.moved (c.put_answer.ensures.usable u))
+      (c.put_answer.ensures.step u),
 )
 
 pub returns-in-Err-clause-responds : goal.returns-in-Err-clause-responds
 returns-in-Err-clause-responds g c = λ u. (
   minute_of c.next-tick.result,
   c.next-tick.ensures,
-  tick_withheld c.args.clock (minute_of c.next-tick.result) (g.S.Store.failed c.args.register.now.store) (g.S.Store.failed c.take_tick.new.register.store) (g.S.Store.content c.args.register.now.store) (g.S.Store.content c.take_tick.new.register.store) c.args.request.now c.args.body.now _ _
+  tick_withheld c.args.clock (minute_of c.next-tick.result)
+      (g.S.Store.failed c.args.register.now.store) (g.S.Store.failed c.take_tick.new.register.store)
+      (g.S.Store.content c.args.register.now.store)
+      (g.S.Store.content c.take_tick.new.register.store) c.args.request.now c.args.body.now _ _
       c.in-Err.ensures.owes.rises c.put_refused.ensures.text (c.in-Err.ensures.short u),
 )
 
 pub returns-in-Err-clause-stays : goal.returns-in-Err-clause-stays
 returns-in-Err-clause-stays g c = λ usable honest.
-    subst (λ (t : List ℕ). IsWithheld t ⊎ g.S.Store.IsUsable c.take_tick.new.register.store) (sym c.put_refused.ensures.text) (refused_or c.in-Err.refusal (λ answered. c.in-Err.ensures.owes.stays answered usable honest))
+    subst (λ (t : List ℕ). IsWithheld t ⊎ g.S.Store.IsUsable c.take_tick.new.register.store)
+    (sym c.put_refused.ensures.text)
+    (refused_or c.in-Err.refusal (λ answered. c.in-Err.ensures.owes.stays answered usable honest))

@@ -12,6 +12,9 @@ returns-in_default-refusal g c = record {
     storage = λ never. absurd never;
   };
   moved = tt;
-  short = rw c.in-Some.is (λ u. move_withheld c.in-Err.refusal (g.S.Store.failed c.args.register.now.store) (g.S.Store.failed c.clock.new.self.store) (g.S.Store.content c.args.register.now.store) (g.S.Store.content c.clock.new.self.store) c.in-Some.minute.number c.in_default-refusal.not-ClockBack
+  short = rw c.in-Some.is (λ u. move_withheld c.in-Err.refusal
+      (g.S.Store.failed c.args.register.now.store) (g.S.Store.failed c.clock.new.self.store)
+      (g.S.Store.content c.args.register.now.store) (g.S.Store.content c.clock.new.self.store)
+      c.in-Some.minute.number c.in_default-refusal.not-ClockBack
       (c.in-Err.ensures.answers u) (λ st s e. blamed c.in-Err.ensures.owes u st s (ap Err e)));
 }

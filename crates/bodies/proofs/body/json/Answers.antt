@@ -7,11 +7,13 @@ use Rattle.serde_json.specs.Read.{read}
 use Rattle.serde_json.specs.View.{view}
 use Rattle.bodies.proofs.body.json.Goals as goal
 
-none_of : (body : List ℕ) (d : Option Data) (b : Bool) → is_utf8 body ≡ b → (IsUtf8 body → ⊥) → None ≡ cond b d None
+none_of : (body : List ℕ) (d : Option Data) (b : Bool) → is_utf8 body ≡ b → (IsUtf8 body → ⊥)
+    → None ≡ cond b d None
 none_of body d true e never = absurd (never (IsUtf8-from_is_utf8 body e))
 none_of body d false e never = refl
 
-some_of : (body text : List ℕ) (d : Option Data) → IsUtf8 body → text ≡ body → d ≡ read text → d ≡ cond (is_utf8 body) (read body) None
+some_of : (body text : List ℕ) (d : Option Data) → IsUtf8 body → text ≡ body → d ≡ read text
+    → d ≡ cond (is_utf8 body) (read body) None
 some_of body text d utf8 same is = rw (is_utf8-from_IsUtf8 body utf8) (is ∙ ap read same)
 
 pub returns-in_default : goal.returns-in_default
@@ -23,4 +25,5 @@ pub returns : goal.returns
 returns c =
     let utf8 : IsUtf8 c.args.body.now = search rules in
     let same : c.in-Ok.text.now ≡ c.args.body.now = search rules in
-    subst (λ d. IfOk c.tree.result (λ found. option_map view found ≡ d)) (some_of c.args.body.now c.in-Ok.text.now (read c.in-Ok.text.now) utf8 same refl) c.tree.ensures
+    subst (λ d. IfOk c.tree.result (λ found. option_map view found ≡ d))
+    (some_of c.args.body.now c.in-Ok.text.now (read c.in-Ok.text.now) utf8 same refl) c.tree.ensures

@@ -6,4 +6,6 @@ use Rattle.bodies.proofs.flat.are_known.Given as goal
 
 -- those that are left decide
 abbrev pub invariant-members : goal.invariant-members
-invariant-members l = list_all (λ (m : Member). is_among l.allowed m.key.now) (drop l.member-index l.members) ≡ list_all (λ (m : Member). is_among l.allowed m.key.now) l.members
+invariant-members l =
+    list_all (λ (m : Member). is_among l.allowed m.key.now) (drop l.member-index l.members)
+    ≡ list_all (λ (m : Member). is_among l.allowed m.key.now) l.members

@@ -16,8 +16,10 @@ returns-in-Clock-clause-none g c = rw c.in-Clock.is c.clock_of.ensures.none
 
 pub returns-in-Some : goal.returns-in-Some
 returns-in-Some g c = record {
-  some = values_of_command _ _ _ c.in_default.not-Acknowledge c.in_default.not-Query c.in_default.not-Clock
-      (subst (λ read. IfSome read (λ k. HasCommand c.args.route (g.F.Fields.value c.args.fields.now) (command_of k))) c.in-Some.is c.in_ok-command-in_default.ensures.some);
+  some = values_of_command _ _ _ c.in_default.not-Acknowledge c.in_default.not-Query
+      c.in_default.not-Clock
+      (subst (λ read. IfSome read (λ k. HasCommand c.args.route (g.F.Fields.value c.args.fields.now)
+      (command_of k))) c.in-Some.is c.in_ok-command-in_default.ensures.some);
   none = tt;
 }
 
@@ -25,5 +27,7 @@ pub returns-in-None : goal.returns-in-None
 returns-in-None g c = record {
   some = tt;
   none = no_values _ _ c.in_default.not-Acknowledge c.in_default.not-Query c.in_default.not-Clock
-      (subst (λ read. IfNone read ((k : Command) → ¬ (HasCommand c.args.route (g.F.Fields.value c.args.fields.now) k))) c.in-None.is c.in_ok-command-in_default.ensures.none);
+      (subst (λ read. IfNone read ((k : Command)
+      → ¬ (HasCommand c.args.route (g.F.Fields.value c.args.fields.now) k))) c.in-None.is
+      c.in_ok-command-in_default.ensures.none);
 }

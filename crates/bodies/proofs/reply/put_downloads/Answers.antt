@@ -4,4 +4,9 @@ use Rattle.bodies.proofs.reply.put_downloads.Goals as goal
 
 pub returns-clause-bytes : goal.returns-clause-bytes
 unfolding downloads_text
-returns-clause-bytes c = simp (c.put-2.ensures.bytes, c.put_download_list.ensures.bytes, c.put.ensures.bytes, append_assoc)
+returns-clause-bytes c = simp (
+  c.put-2.ensures.bytes,
+  c.put_download_list.ensures.bytes,
+  c.put.ensures.bytes,
+  append_assoc,
+)

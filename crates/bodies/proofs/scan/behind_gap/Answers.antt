@@ -11,4 +11,5 @@ gap-preserved c =
       | else-byte-eq32 w ↦ inr (grind (arith, w.value-is, c.if-byte-eq10.true))
     ] in
     let gap = c.gap.invariant in
-    gap_more c.args.bytes.now gap.0 c.gap.rest.now c.in-Some.behind.now byte gap.1 gap.2 c.in-Some.ensures.cases.0 blank
+    gap_more c.args.bytes.now gap.0 c.gap.rest.now c.in-Some.behind.now byte gap.1 gap.2
+    c.in-Some.ensures.cases.0 blank

@@ -12,13 +12,20 @@ pub returns : goal.returns
 returns c =
     let digits = c.split_at.result.0.now in
     let n = c.in_ok-read_number.field-0 in
-    let all : list_all is_ascii_digit digits ≡ true = ap (list_all is_ascii_digit) c.split_at.ensures.front ∙ c.digits_len.ensures.digits in
+    let all : list_all is_ascii_digit digits ≡ true =
+    ap (list_all is_ascii_digit) c.split_at.ensures.front ∙ c.digits_len.ensures.digits in
     let said = c.in_ok-read_number.ensures in
-    let no_zero : 1 < length digits → get_or digits 0 0 ≡ 48 → ⊥ = λ more zero. elim c.else-digits-gt1.branch [
+    let no_zero : 1 < length digits → get_or digits 0 0 ≡ 48 → ⊥ =
+    λ more zero. elim c.else-digits-gt1.branch [
       | else-digits-gt1-via-then-digits-gt1+else-digits-eq48 w ↦ w.if-digits-eq48.false zero
       | else-digits-gt1-via-else-digits-gt1 w ↦ omega (arith, more, w.if-digits-gt1.false)
     ] in (
       Token.number digits,
-      record { printable = digits_number digits all (said_some digits n (search rules)) no_zero; ended = refl; utf8 = digits_utf8 digits all; is = of_number digits n (plain_number digits n (search rules)) },
+      record {
+        printable = digits_number digits all (said_some digits n (search rules)) no_zero;
+        ended = refl;
+        utf8 = digits_utf8 digits all;
+        is = of_number digits n (plain_number digits n (search rules));
+      },
       c.split_at.ensures.by_index.0,
     )

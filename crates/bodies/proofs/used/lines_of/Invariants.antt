@@ -6,4 +6,5 @@ use Rattle.bodies.proofs.used.lines_of.Given as goal
 
 -- those passed are the texts of the lines
 abbrev pub invariant-loop-value : goal.invariant-loop-value
-invariant-loop-value l = AreLineTexts (items_view (take l.value-index l.values)) (lines_of l.lines.items)
+invariant-loop-value l =
+    AreLineTexts (items_view (take l.value-index l.values)) (lines_of l.lines.items)

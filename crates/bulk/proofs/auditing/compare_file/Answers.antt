@@ -6,7 +6,9 @@ use Rattle.bulk.proofs.auditing.compare_file.Goals as goal
 
 pub returns-in-Ok-clause-compared : goal.returns-in-Ok-clause-compared
 returns-in-Ok-clause-compared g c =
-    file_compares c.compare.result (λ findings. findings.items) (g.R.Read.remaining c.args.reader) c.args.held.now.in_force.items c.args.held.now.waiting.items c.in-Ok.entries.items c.deref.result.now c.deref.ensures.value
+    file_compares c.compare.result (λ findings. findings.items) (g.R.Read.remaining c.args.reader)
+    c.args.held.now.in_force.items c.args.held.now.waiting.items c.in-Ok.entries.items
+    c.deref.result.now c.deref.ensures.value
     (λ bytes e.
     let (rows, are) = rows_of_text bytes in
     let copy = c.in-Ok.ensures.copy rows (c.open-reader.ensures.rows bytes rows e are) in
@@ -15,7 +17,8 @@ returns-in-Ok-clause-compared g c =
 
 pub returns-in-Ok-clause-other : goal.returns-in-Ok-clause-other
 returns-in-Ok-clause-other g c =
-    file_not_compared c.compare.result (g.R.Read.remaining c.args.reader) c.in-Ok.entries.items c.deref.result.now c.deref.ensures.value
+    file_not_compared c.compare.result (g.R.Read.remaining c.args.reader) c.in-Ok.entries.items
+    c.deref.result.now c.deref.ensures.value
     (λ bytes e.
     let (rows, are) = rows_of_text bytes in
     let copy = c.in-Ok.ensures.copy rows (c.open-reader.ensures.rows bytes rows e are) in
@@ -27,4 +30,5 @@ returns-clause-other g c =
     known (g.R.Read.remaining c.args.reader) (IsNotCompared c.in-Err.kind)
     (λ bytes e.
     let (rows, are) = rows_of_text bytes in
-    not_read c.in-Err.kind bytes rows are (c.in-Err.ensures.other rows (c.open-reader.ensures.rows bytes rows e are)))
+    not_read c.in-Err.kind bytes rows are
+    (c.in-Err.ensures.other rows (c.open-reader.ensures.rows bytes rows e are)))

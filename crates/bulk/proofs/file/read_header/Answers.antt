@@ -18,7 +18,8 @@ returns-in-Ok-true-clause-other g c =
       λ rows has.
           let takes = rw c.in-Ok-true.field-0-test at c.in-Ok-true.ensures.takes in
           let taken = takes rows has in
-          other_first rows taken.0 (fields_of c.next_row.new.row) taken.1 (λ e. let h = c.is_header.ensures.1 e in cc),
+          other_first rows taken.0 (fields_of c.next_row.new.row) taken.1 (λ e. let h =
+          c.is_header.ensures.1 e in cc),
     )
 
 pub returns-in-Ok-false-clause-other : goal.returns-in-Ok-false-clause-other

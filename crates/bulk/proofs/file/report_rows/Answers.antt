@@ -10,12 +10,15 @@ unfolding report_header
 returns-in-Ok-clause-reports g c = λ u st s rows has.
     inl (
       g.W.Write.contents c.send.new.writer,
-      subst (Appends (g.W.Write.contents c.args.writer.now) (g.W.Write.contents c.send.new.writer)) c.set_first.ensures c.in-Ok.ensures.ok,
+      subst (Appends (g.W.Write.contents c.args.writer.now) (g.W.Write.contents c.send.new.writer))
+          c.set_first.ensures c.in-Ok.ensures.ok,
       c.run_rows.ensures.runs u st s rows has,
     )
 
 pub returns-in-Err-clause-reports : goal.returns-in-Err-clause-reports
 unfolding report_header
 returns-in-Err-clause-reports g c = λ u st s rows has.
-    header_broken st rows _ _ _ c.at_start.result (c.at_start.ensures.kind ∙ c.in-Err.ensures.kind) c.at_start.ensures.rows s
-    (subst (AppendsFront (g.W.Write.contents c.args.writer.now) (g.W.Write.contents c.send.new.writer)) c.set_first.ensures c.in-Err.ensures.err)
+    header_broken st rows _ _ _ c.at_start.result (c.at_start.ensures.kind ∙ c.in-Err.ensures.kind)
+    c.at_start.ensures.rows s
+    (subst (AppendsFront (g.W.Write.contents c.args.writer.now)
+    (g.W.Write.contents c.send.new.writer)) c.set_first.ensures c.in-Err.ensures.err)

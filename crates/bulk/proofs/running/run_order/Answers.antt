@@ -7,26 +7,40 @@ use Rattle.bulk.proofs.running.run_order.Goals as goal
 
 pub returns-in-Err-clause-runs : goal.returns-in-Err-clause-runs
 returns-in-Err-clause-runs g c = λ u st s.
-    let f : ℕ → Task = λ n. Wants c.args.row c.args.order.now.caller.number n c.args.order.now.wish in
+    let f : ℕ → Task =
+    λ n. Wants c.args.row c.args.order.now.caller.number n c.args.order.now.wish in
     let n = c.loop-number.number in
     let first = c.args.order.now.numbers.first.number in
     let before = c.loop-number.invariant.going (c.run_number.ensures.owes.usable u) st s in
-    let now = c.in-Err.ensures.runs u (state_after st (map f (rising first (n - first)))) before.stands in
+    let now = c.in-Err.ensures.runs u (state_after st (map f (rising first (n - first))))
+    before.stands in
     let named : f c.at-tn.result.number ≡ f n = ap f c.at-tn.ensures in
-    fails_among c.in-Err.fault.kind f first c.args.order.now.numbers.last.number n st _ _ _ c.args.count c.in-Err.fault.rows c.loop-number.invariant.from c.loop-number-test.true
-    (runs_number f first n st _ _ _ (g.W.Write.contents c.loop-number.writer) _ c.args.count c.loop-number.written (Err c.in-Err.fault) c.loop-number.invariant.from before
+    fails_among c.in-Err.fault.kind f first c.args.order.now.numbers.last.number n st _ _ _
+    c.args.count c.in-Err.fault.rows c.loop-number.invariant.from c.loop-number-test.true
+    (runs_number f first n st _ _ _ (g.W.Write.contents c.loop-number.writer) _ c.args.count
+    c.loop-number.written (Err c.in-Err.fault) c.loop-number.invariant.from before
     (rw named at now))
 
 pub returns-in-Err-clause-owes : goal.returns-in-Err-clause-owes
 returns-in-Err-clause-owes g c =
     owes_on c.loop-number.invariant.owed c.in-Err.ensures.owes (λ u st s.
-    let f : ℕ → Task = λ n. Wants c.args.row c.args.order.now.caller.number n c.args.order.now.wish in
-    (state_after st (map f (rising c.args.order.now.numbers.first.number (c.loop-number.number - c.args.order.now.numbers.first.number))), (c.loop-number.invariant.going u st s).stands))
+    let f : ℕ → Task =
+    λ n. Wants c.args.row c.args.order.now.caller.number n c.args.order.now.wish in (
+      state_after st
+          (map f (rising c.args.order.now.numbers.first.number
+          (c.loop-number.number - c.args.order.now.numbers.first.number))),
+      (c.loop-number.invariant.going u st s).stands,
+    ))
 
 pub loop-number-preserved : goal.loop-number-preserved
 loop-number-preserved g c = record {
   from = omega (arith, c.loop-number.invariant.from);
-  counted = omega (arith, c.in-Ok.ensures.count, c.loop-number.invariant.counted, c.loop-number.invariant.from);
+  counted = omega (
+    arith,
+    c.in-Ok.ensures.count,
+    c.loop-number.invariant.counted,
+    c.loop-number.invariant.from,
+  );
   owed = record {
     usable = λ u. c.loop-number.invariant.owed.usable (c.run_number.ensures.owes.usable u);
     honest = λ h. c.loop-number.invariant.owed.honest (c.run_number.ensures.owes.honest h);
@@ -35,23 +49,28 @@ loop-number-preserved g c = record {
     storage = λ x. absurd x;
   };
   going = λ u st s.
-      let f : ℕ → Task = λ n. Wants c.args.row c.args.order.now.caller.number n c.args.order.now.wish in
+      let f : ℕ → Task =
+      λ n. Wants c.args.row c.args.order.now.caller.number n c.args.order.now.wish in
       let n = c.loop-number.number in
       let first = c.args.order.now.numbers.first.number in
       let before = c.loop-number.invariant.going (c.run_number.ensures.owes.usable u) st s in
-      let now = c.in-Ok.ensures.runs u (state_after st (map f (rising first (n - first)))) before.stands in
+      let now = c.in-Ok.ensures.runs u (state_after st (map f (rising first (n - first))))
+      before.stands in
       let named : f c.at-tn.result.number ≡ f n = ap f c.at-tn.ensures in
-      runs_number f first n st _ _ _ (g.W.Write.contents c.loop-number.writer) _ c.args.count c.loop-number.written (Ok c.in-Ok.count) c.loop-number.invariant.from before
+      runs_number f first n st _ _ _ (g.W.Write.contents c.loop-number.writer) _ c.args.count
+      c.loop-number.written (Ok c.in-Ok.count) c.loop-number.invariant.from before
       (rw named at now);
 }
 
 pub returns-clause-runs : goal.returns-clause-runs
 returns-clause-runs g c = λ u st s.
-    let f : ℕ → Task = λ n. Wants c.args.row c.args.order.now.caller.number n c.args.order.now.wish in
+    let f : ℕ → Task =
+    λ n. Wants c.args.row c.args.order.now.caller.number n c.args.order.now.wish in
     let rise = c.args.order.now.numbers.valid.rise in
     let first = c.args.order.now.numbers.first.number in
     let last = c.args.order.now.numbers.last.number in
     let within : first ≤ last + 1 = omega (arith, rise) in
     let end : c.loop-number.number ≤ last + 1 = c.loop-number.auto.number-end within in
     let at : c.loop-number.number ≡ last + 1 = omega (arith, end, c.loop-number-test.false) in
-    does_numbers f first last c.loop-number.number st _ _ _ c.args.count c.loop-number.written at (c.loop-number.invariant.going u st s)
+    does_numbers f first last c.loop-number.number st _ _ _ c.args.count c.loop-number.written at
+    (c.loop-number.invariant.going u st s)

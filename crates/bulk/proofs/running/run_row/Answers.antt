@@ -4,7 +4,13 @@ use Rattle.bulk.proofs.Runs.{one_sent}
 use Rattle.bulk.proofs.running.run_row.Goals as goal
 
 pub returns-in-Some-clause-runs : goal.returns-in-Some-clause-runs
-returns-in-Some-clause-runs g c = (Some c.in-Some.order, c.in-Some.ensures, c.run_order.ensures.runs)
+returns-in-Some-clause-runs g c =
+    (Some c.in-Some.order, c.in-Some.ensures, c.run_order.ensures.runs)
 
 pub returns-in-None-clause-runs : goal.returns-in-None-clause-runs
-returns-in-None-clause-runs g c = (None, c.in-None.ensures, λ u st s. one_sent st (Bad c.args.row) _ _ _ c.args.count (string_bytes c.set_bad.new.self.text) c.send_line.result c.set_bad.ensures s c.send_line.ensures)
+returns-in-None-clause-runs g c = (
+  None,
+  c.in-None.ensures,
+  λ u st s. one_sent st (Bad c.args.row) _ _ _ c.args.count (string_bytes c.set_bad.new.self.text)
+      c.send_line.result c.set_bad.ensures s c.send_line.ensures,
+)

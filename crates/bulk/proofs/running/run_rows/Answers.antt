@@ -14,7 +14,8 @@ loop-row-init g c = record {
   few = omega arith;
   owed = owes_none g.S.Store.IsUsable g.S.Store.IsHonest g.S.Store.failed c.args.register.now.store;
   follows = λ u st s. follows_none st (g.S.Store.content c.args.register.now.store) s;
-  passes = λ u st s rows has. begins g.R.Read.remaining st rows c.args.reader.now (g.S.Store.content c.args.register.now.store) (g.W.Write.contents c.args.writer.now) s has;
+  passes = λ u st s rows has. begins g.R.Read.remaining st rows c.args.reader.now
+      (g.S.Store.content c.args.register.now.store) (g.W.Write.contents c.args.writer.now) s has;
 }
 
 pub returns-in-Err-run_row-clause-runs : goal.returns-in-Err-run_row-clause-runs
@@ -22,29 +23,37 @@ returns-in-Err-run_row-clause-runs g c = λ u st s rows has.
     let p = c.loop-row.invariant.passes (c.run_row.ensures.owes.usable u) st s rows has in
     let runs = c.in-Err-run_row.ensures.runs in
     let takes = rw c.in-Ok-true.field-0-test at c.in-Ok-true.ensures.takes in
-    fails_row g.R.Read.remaining st rows c.loop-row.reader c.next_row.new.reader _ (g.W.Write.contents c.args.writer.now) (g.W.Write.contents c.loop-row.writer) c.loop-row.row c.loop-row.count p (fields_of c.next_row.new.row) runs.0 _ _ runs.1 takes
+    fails_row g.R.Read.remaining st rows c.loop-row.reader c.next_row.new.reader _
+    (g.W.Write.contents c.args.writer.now) (g.W.Write.contents c.loop-row.writer) c.loop-row.row
+    c.loop-row.count p (fields_of c.next_row.new.row) runs.0 _ _ runs.1 takes
     c.in-Err-run_row.fault (runs.2 u (state_after st (tasks_from 1 p.orders)) p.done.stands)
 
 pub returns-in-Err-run_row-clause-state : goal.returns-in-Err-run_row-clause-state
 returns-in-Err-run_row-clause-state g c = λ u st s.
     let runs = c.in-Err-run_row.ensures.runs in
-    follows_then st (g.S.Store.content c.loop-row.register.store) _ (c.loop-row.invariant.follows (c.run_row.ensures.owes.usable u) st s)
-    (λ later t. run_follows later (tasks_of c.loop-row.row runs.0) _ (g.W.Write.contents c.loop-row.writer) (g.W.Write.contents c.run_row.new.writer) c.loop-row.count (Err c.in-Err-run_row.fault) (runs.2 u later t))
+    follows_then st (g.S.Store.content c.loop-row.register.store) _
+    (c.loop-row.invariant.follows (c.run_row.ensures.owes.usable u) st s)
+    (λ later t. run_follows later (tasks_of c.loop-row.row runs.0) _
+    (g.W.Write.contents c.loop-row.writer) (g.W.Write.contents c.run_row.new.writer)
+    c.loop-row.count (Err c.in-Err-run_row.fault) (runs.2 u later t))
 
 pub returns-in-Err-run_row-clause-owes : goal.returns-in-Err-run_row-clause-owes
 returns-in-Err-run_row-clause-owes g c =
-    owes_on c.loop-row.invariant.owed c.in-Err-run_row.ensures.owes (λ u st s. let f = c.loop-row.invariant.follows u st s in (_, f.1))
+    owes_on c.loop-row.invariant.owed c.in-Err-run_row.ensures.owes (λ u st s. let f =
+    c.loop-row.invariant.follows u st s in (_, f.1))
 
 pub returns-in-Ok-false-clause-runs : goal.returns-in-Ok-false-clause-runs
 returns-in-Ok-false-clause-runs g c = λ u st s rows has.
     let p = c.loop-row.invariant.passes u st s rows has in
     let takes = rw c.in-Ok-false.field-0-test at c.in-Ok-false.ensures.takes in
-    ends g.R.Read.remaining st rows c.loop-row.reader c.next_row.new.reader _ _ _ c.loop-row.row c.loop-row.count p (fields_of c.next_row.new.row) takes
+    ends g.R.Read.remaining st rows c.loop-row.reader c.next_row.new.reader _ _ _ c.loop-row.row
+    c.loop-row.count p (fields_of c.next_row.new.row) takes
 
 pub returns-in-Err-clause-runs : goal.returns-in-Err-clause-runs
 returns-in-Err-clause-runs g c = λ u st s rows has.
     let p = c.loop-row.invariant.passes u st s rows has in
-    unread g.R.Read.remaining st rows c.loop-row.reader c.next_row.new.reader _ _ _ c.loop-row.row c.loop-row.count p c.in-Err.kind c.in-Err.ensures.unread
+    unread g.R.Read.remaining st rows c.loop-row.reader c.next_row.new.reader _ _ _ c.loop-row.row
+    c.loop-row.count p c.in-Err.kind c.in-Err.ensures.unread
 
 pub loop-row-preserved : goal.loop-row-preserved
 loop-row-preserved g c =
@@ -60,16 +69,22 @@ loop-row-preserved g c =
         storage = λ x. absurd x;
       };
       follows = λ u st s.
-          follows_then st (g.S.Store.content c.loop-row.register.store) _ (c.loop-row.invariant.follows (c.run_row.ensures.owes.usable u) st s)
-          (λ later t. run_follows later (tasks_of c.loop-row.row runs.0) _ (g.W.Write.contents c.loop-row.writer) (g.W.Write.contents c.run_row.new.writer) c.loop-row.count (Ok c.in-Ok.done) (runs.2 u later t));
+          follows_then st (g.S.Store.content c.loop-row.register.store) _
+          (c.loop-row.invariant.follows (c.run_row.ensures.owes.usable u) st s)
+          (λ later t. run_follows later (tasks_of c.loop-row.row runs.0) _
+          (g.W.Write.contents c.loop-row.writer) (g.W.Write.contents c.run_row.new.writer)
+          c.loop-row.count (Ok c.in-Ok.done) (runs.2 u later t));
       passes = λ u st s rows has.
           let p = c.loop-row.invariant.passes (c.run_row.ensures.owes.usable u) st s rows has in
           let takes = rw c.in-Ok-true.field-0-test at c.in-Ok-true.ensures.takes in
-          passes_row g.R.Read.remaining st rows c.loop-row.reader c.next_row.new.reader _ (g.W.Write.contents c.args.writer.now) (g.W.Write.contents c.loop-row.writer) c.loop-row.row c.loop-row.count p (fields_of c.next_row.new.row) runs.0 _ _ runs.1 takes
+          passes_row g.R.Read.remaining st rows c.loop-row.reader c.next_row.new.reader _
+          (g.W.Write.contents c.args.writer.now) (g.W.Write.contents c.loop-row.writer)
+          c.loop-row.row c.loop-row.count p (fields_of c.next_row.new.row) runs.0 _ _ runs.1 takes
           c.in-Ok.done (runs.2 u (state_after st (tasks_from 1 p.orders)) p.done.stands);
     }
 
 pub returns-clause-runs : goal.returns-clause-runs
 returns-clause-runs g c = λ u st s rows has.
     let p = c.loop-row.invariant.passes u st s rows has in
-    unread g.R.Read.remaining st rows c.loop-row.reader c.loop-row.reader _ _ _ c.loop-row.row c.loop-row.count p NoMemory (inr refl)
+    unread g.R.Read.remaining st rows c.loop-row.reader c.loop-row.reader _ _ _ c.loop-row.row
+    c.loop-row.count p NoMemory (inr refl)

@@ -6,4 +6,5 @@ use Rattle.bulk.proofs.sides.add_in_force.Given as goal
 
 -- the rows that are left make of the sides what all of them make of those at the beginning
 abbrev pub invariant-loop-row : goal.invariant-loop-row
-invariant-loop-row l = (s : Subject) → with_in_force (drop l.row-index l.rows) s (sides_at l.all s) ≡ with_in_force l.rows s (sides_at l.fn.all s)
+invariant-loop-row l = (s : Subject) → with_in_force (drop l.row-index l.rows) s (sides_at l.all s)
+    ≡ with_in_force l.rows s (sides_at l.fn.all s)

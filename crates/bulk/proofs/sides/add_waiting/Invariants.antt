@@ -6,4 +6,6 @@ use Rattle.bulk.proofs.sides.add_waiting.Given as goal
 
 -- the subjects that are left make of the sides what all of them make of those at the beginning
 abbrev pub invariant-loop-subject : goal.invariant-loop-subject
-invariant-loop-subject l = (s : Subject) → with_waiting (drop l.subject-index l.subjects) s (sides_at l.all s) ≡ with_waiting l.subjects s (sides_at l.fn.all s)
+invariant-loop-subject l = (s : Subject)
+    → with_waiting (drop l.subject-index l.subjects) s (sides_at l.all s) ≡ with_waiting l.subjects
+    s (sides_at l.fn.all s)

@@ -7,6 +7,7 @@ use Rattle.bulk.proofs.sides.copy_sides.Given as goal
 -- the entries that are left make of the sides what all of them make of none
 abbrev pub invariant-loop-entry : goal.invariant-loop-entry
 invariant-loop-entry l = record {
-  added : (s : Subject) → with_copied (drop l.entry-index l.entries) s (sides_at l.all s) ≡ with_copied l.entries s no_sides;
+  added : (s : Subject) → with_copied (drop l.entry-index l.entries) s (sides_at l.all s)
+      ≡ with_copied l.entries s no_sides;
   taken : Taken l.entries (drop l.entry-index l.entries) l.all;
 }

@@ -11,5 +11,6 @@ use Rattle.delivery.proofs.mirror.routings_of.Given as goal
 -- the rows that are left make of the map what all of them make of an empty one
 abbrev pub invariant-loop-row : goal.invariant-loop-row
 invariant-loop-row l =
-    (s : Subject) → fold (λ before (r : InForce). if subject_eq r.subject (subject_of s) then r.routing else before) (copied l.routings s) (map in_force_of (drop l.row-index l.rows))
+    (s : Subject) → fold (λ before (r : InForce). if subject_eq r.subject (subject_of s)
+    then r.routing else before) (copied l.routings s) (map in_force_of (drop l.row-index l.rows))
     ≡ started (map in_force_of l.fn.rows) (subject_of s)

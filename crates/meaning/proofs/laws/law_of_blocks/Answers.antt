@@ -3,4 +3,9 @@ use Rattle.meaning.proofs.Service.{donation_keeps, assignment_keeps, release_kee
 use Rattle.meaning.proofs.laws.law_of_blocks.Goals as goal
 
 pub returns : goal.returns
-returns c = record { donation = donation_keeps; assignment = assignment_keeps; release = release_keeps; port = no_port_under_block }
+returns c = record {
+  donation = donation_keeps;
+  assignment = assignment_keeps;
+  release = release_keeps;
+  port = no_port_under_block;
+}

@@ -4,4 +4,8 @@ use Rattle.meaning.proofs.Copies.Handed.{copy_is_handed}
 use Rattle.meaning.proofs.laws.law_of_copies.Goals as goal
 
 pub returns : goal.returns
-returns c = record { published = copy_is_published; in_force = copy_is_in_force; handed = copy_is_handed }
+returns c = record {
+  published = copy_is_published;
+  in_force = copy_is_in_force;
+  handed = copy_is_handed;
+}

@@ -6,6 +6,13 @@ pub pieces-preserved : goal.pieces-preserved
 pieces-preserved g c = (
   c.take_held.ensures.size ∙ c.holds_some.ensures.size,
   omega (arith, c.take_held.ensures.capacity, c.pieces.invariant.1),
-  omega (arith, c.take_held.ensures.len, c.min.ensures, c.len-in-pieces.ensures, c.pieces.invariant.2),
-  more_taken _ _ _ _ _ _ _ _ c.pieces.invariant.3 c.holds_some.ensures.left c.take_held.ensures.held c.take_held.ensures.body,
+  omega (
+    arith,
+    c.take_held.ensures.len,
+    c.min.ensures,
+    c.len-in-pieces.ensures,
+    c.pieces.invariant.2,
+  ),
+  more_taken _ _ _ _ _ _ _ _ c.pieces.invariant.3 c.holds_some.ensures.left c.take_held.ensures.held
+      c.take_held.ensures.body,
 )

@@ -6,7 +6,8 @@ use Rattle.messages.proofs.body.read_body.Given as goal
 abbrev pub invariant-pieces : goal.invariant-pieces
 invariant-pieces g l =
     (vec_len l.held.bytes ≡ 8192) × (l.count ≤ vec_capacity l.body) × (vec_len l.body ≤ l.count)
-    × Consumes (input_left l.fn.held (g.R.Read.remaining l.fn.reader)) (input_left l.held (g.R.Read.remaining l.reader)) l.body.items
+    × Consumes (input_left l.fn.held (g.R.Read.remaining l.fn.reader))
+    (input_left l.held (g.R.Read.remaining l.reader)) l.body.items
 
 abbrev pub decreases-pieces : goal.decreases-pieces
 decreases-pieces g l = l.count - vec_len l.body

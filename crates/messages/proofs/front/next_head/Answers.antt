@@ -8,10 +8,14 @@ use Rattle.messages.proofs.front.next_head.Goals as goal
 pub returns-in-Bad-clause-not_blank : goal.returns-in-Bad-clause-not_blank
 returns-in-Bad-clause-not_blank g c =
     let held : List ℕ = held_bytes c.reads.held in
-    let over : RequestOverflows 64 held = subst (RequestOverflows 64) c.held.ensures c.in-Bad.ensures in
-    λ _. not_blank_bad held (g.R.Read.remaining c.reads.reader) (λ more ends. c.heads_of_the_input.ensures.blank held more ends over)
+    let over : RequestOverflows 64 held =
+    subst (RequestOverflows 64) c.held.ensures c.in-Bad.ensures in
+    λ _. not_blank_bad held (g.R.Read.remaining c.reads.reader)
+    (λ more ends. c.heads_of_the_input.ensures.blank held more ends over)
 
 pub returns-then-branch-eq0-clause-not_blank : goal.returns-then-branch-eq0-clause-not_blank
 returns-then-branch-eq0-clause-not_blank g c =
-    let blank : is_blank (held_bytes c.fill.new.self) ≡ false = ap is_blank (sym c.held-then-branch-eq0.ensures) ∙ sym c.if-are_empty_lines.ensures in
-    λ _. not_blank_end (held_bytes c.fill.new.self) (g.R.Read.remaining c.fill.new.reader) blank (c.in_ok-fill.ensures.end c.if-branch-eq0.true).0
+    let blank : is_blank (held_bytes c.fill.new.self) ≡ false =
+    ap is_blank (sym c.held-then-branch-eq0.ensures) ∙ sym c.if-are_empty_lines.ensures in
+    λ _. not_blank_end (held_bytes c.fill.new.self) (g.R.Read.remaining c.fill.new.reader) blank
+    (c.in_ok-fill.ensures.end c.if-branch-eq0.true).0

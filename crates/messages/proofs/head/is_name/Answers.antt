@@ -8,5 +8,7 @@ pub returns-then-starts_with : goal.returns-then-starts_with
 returns-then-starts_with c =
     let long : length c.args.own.now ≤ length c.args.name.now = search rules in
     let same : c.args.own.now ≡ c.args.name.now =
-    sym (take_all (length c.args.name.now) c.args.own.now long) ∙ sym ((bytes_eq-Decides c.args.name.now (take (length c.args.name.now) c.args.own.now)).0 (sym c.starts_with.ensures.value ∙ c.if-starts_with.true)) in
+    sym (take_all (length c.args.name.now) c.args.own.now long)
+    ∙ sym ((bytes_eq-Decides c.args.name.now (take (length c.args.name.now) c.args.own.now)).0
+    (sym c.starts_with.ensures.value ∙ c.if-starts_with.true)) in
     (λ is. ap lower same ∙ c.requires, λ is. c.if-starts_with.true)

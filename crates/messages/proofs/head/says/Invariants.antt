@@ -6,4 +6,6 @@ use Rattle.messages.specs.Fields.{values_in, lower}
 use Rattle.messages.proofs.head.says.Given as goal
 
 abbrev pub invariant-loop-header : goal.invariant-loop-header
-invariant-loop-header l = list_any (λ v. bytes_eq (lower v) l.value) (values_in l.name (map (header_bytes l.buf) (take l.header-index l.headers))) ≡ false
+invariant-loop-header l =
+    list_any (λ v. bytes_eq (lower v) l.value)
+    (values_in l.name (map (header_bytes l.buf) (take l.header-index l.headers))) ≡ false

@@ -8,4 +8,5 @@ both true b c e f = f
 both false b c e f = cc
 
 pub returns : goal.returns
-returns c = let long : nat_lt 0 (length c.args.part.now) ≡ true = grind (arith, nat_tests, c.if-is_empty.ensures) in both _ _ _ long c.are_of_part.ensures
+returns c = let long : nat_lt 0 (length c.args.part.now) ≡ true =
+    grind (arith, nat_tests, c.if-is_empty.ensures) in both _ _ _ long c.are_of_part.ensures

@@ -4,9 +4,11 @@ use Rattle.npac.proofs.running.run.Goals as goal
 
 pub returns-in-Ok : goal.returns-in-Ok
 returns-in-Ok g c =
-    outcome_ends (map g.S.AsStr.text c.args.words.now) _ _ c.tell_outcome.result c.in-Ok.line c.in-Ok.ensures.line c.carry_out.result c.tell_outcome.ensures
+    outcome_ends (map g.S.AsStr.text c.args.words.now) _ _ c.tell_outcome.result c.in-Ok.line
+    c.in-Ok.ensures.line c.carry_out.result c.tell_outcome.ensures
 
 pub returns-in-Err : goal.returns-in-Err
 returns-in-Err g c =
-    usage_ends (map g.S.AsStr.text c.args.words.now) _ _ c.tell_usage.result c.in-Err.usage.status _ _ _
+    usage_ends (map g.S.AsStr.text c.args.words.now) _ _ c.tell_usage.result c.in-Err.usage.status _
+    _ _
     c.in-Err.ensures.status c.in-Err.ensures.help c.in-Err.ensures.refused c.tell_usage.ensures

@@ -5,4 +5,5 @@ use Rattle.numbers.proofs.digits.read_digits.Given as goal
 -- the bytes so far are the digits of the number so far
 abbrev pub invariant-loop-byte : goal.invariant-loop-byte
 invariant-loop-byte l =
-    (l.number < 10 ^ l.byte-index) × (digits_of l.byte-index l.number ≡ take l.byte-index l.byte-items)
+    (l.number < 10 ^ l.byte-index)
+    × (digits_of l.byte-index l.number ≡ take l.byte-index l.byte-items)

@@ -16,20 +16,24 @@ returns-in_err-last-clause-reads g c = record {
       (first.0, at_row.1 ∙ at_code.1 ∙ first.1);
   honest = search rules;
   stays = search rules;
-  rises = let a = c.code-2.ensures.reads.rises in let b = c.block.ensures.reads.rises in let d = c.last_made.ensures.reads.rises in omega arith;
+  rises = let a = c.code-2.ensures.reads.rises in let b = c.block.ensures.reads.rises in let d =
+      c.last_made.ensures.reads.rises in omega arith;
   storage = λ says.
       let at_row = c.last_made.ensures.reads.same says.usable in
       let at_code = c.block.ensures.reads.same at_row.0 in
       let first = c.code-2.ensures.reads.same at_code.0 in
-      let read : option_map block_row_of c.in_ok-row.row ≡ get (g.S.Store.content c.args.store.now).blocks c.args.block.number =
+      let read : option_map block_row_of c.in_ok-row.row
+      ≡ get (g.S.Store.content c.args.store.now).blocks c.args.block.number =
       c.in_ok-row.ensures.value at_row.0 ∙ ap (λ m. get m.blocks c.args.block.number) first.1 in
       let there : IsRowThere (g.S.Store.content c.block.new.self) c.last_id.result =
       subst (λ o. IsRowThere (g.S.Store.content c.block.new.self) o) (sym c.last_id.ensures)
       (subst (λ m. IsRowThere m (last_id c.in_ok-row.row)) (sym (at_code.1 ∙ first.1))
-      (last_is_there says.st (g.S.Store.content c.args.store.now) says.represents c.args.block.number c.in_ok-row.row read)) in
+      (last_is_there says.st (g.S.Store.content c.args.store.now) says.represents
+      c.args.block.number c.in_ok-row.row read)) in
       let said : c.last_made.result ≡ Err Storage = let s = says.says in search (rules, s) in
       let a = c.code-2.ensures.reads.rises in let b = c.block.ensures.reads.rises in
-      risen-since (g.S.Store.failed c.args.store.now) (g.S.Store.failed c.block.new.self) (g.S.Store.failed c.last_made.new.store) (omega arith) c.last_made.ensures.reads.rises
+      risen-since (g.S.Store.failed c.args.store.now) (g.S.Store.failed c.block.new.self)
+      (g.S.Store.failed c.last_made.new.store) (omega arith) c.last_made.ensures.reads.rises
       (c.last_made.ensures.reads.storage (says.usable, there, said));
   left = search rules;
 }

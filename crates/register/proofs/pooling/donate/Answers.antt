@@ -42,10 +42,14 @@ returns-in_err-plan-clause-decides g c = λ usable.
     let has = has_found old (g.S.Store.content c.carrier.new.self) c.args.caller.number
     d.block.number (donation_of d) (clock_row_of c.in_ok-found.found.clock) c.in_ok-found.found.read
     c.facts-facts.result
-    c.in_ok-is_known.is_known c.in_ok-is_lrn_good.is_lrn_good at_start.1 (c.in_ok-found.ensures.found at_found.0)
-    (λ st stands. donor_unknown st old c.args.caller.number d.block.number (lines_of d.used.now) d.routing.lrn.number (option_map (λ (x : Cic). x.number) d.routing.cic)
+    c.in_ok-is_known.is_known c.in_ok-is_lrn_good.is_lrn_good at_start.1
+    (c.in_ok-found.ensures.found at_found.0)
+    (λ st stands. donor_unknown st old c.args.caller.number d.block.number (lines_of d.used.now)
+    d.routing.lrn.number (option_map (λ (x : Cic). x.number) d.routing.cic)
     stands c.in_ok-is_known.is_known (c.in_ok-is_known.ensures.value at_carrier.0))
-    (c.in_ok-is_lrn_good.ensures.value usable ∙ ap (λ (m : Content). is_the c.args.caller.number (get m.lrns d.routing.lrn.number)) (at_carrier.1 ∙ at_start.1))
+    (c.in_ok-is_lrn_good.ensures.value usable
+    ∙ ap (λ (m : Content). is_the c.args.caller.number (get m.lrns d.routing.lrn.number))
+    (at_carrier.1 ∙ at_start.1))
     c.facts-facts.ensures in
     decides_replied old _ _ c.from_residual-in_err-plan.result c.in_err-plan.field-0.0
     (search rules)
@@ -66,8 +70,10 @@ returns-clause-decides g c = λ usable.
     let has = has_found old (g.S.Store.content c.carrier.new.self) c.args.caller.number
     d.block.number (donation_of d) (clock_row_of c.in_ok-found.found.clock) c.in_ok-found.found.read
     c.facts-facts.result
-    c.in_ok-is_known.is_known c.in_ok-is_lrn_good.is_lrn_good at_start.1 (c.in_ok-found.ensures.found at_found.0)
-    (λ st stands. donor_unknown st old c.args.caller.number d.block.number (lines_of d.used.now) d.routing.lrn.number (option_map (λ (x : Cic). x.number) d.routing.cic)
+    c.in_ok-is_known.is_known c.in_ok-is_lrn_good.is_lrn_good at_start.1
+    (c.in_ok-found.ensures.found at_found.0)
+    (λ st stands. donor_unknown st old c.args.caller.number d.block.number (lines_of d.used.now)
+    d.routing.lrn.number (option_map (λ (x : Cic). x.number) d.routing.cic)
     stands c.in_ok-is_known.is_known (c.in_ok-is_known.ensures.value at_carrier.0))
     (c.in_ok-is_lrn_good.ensures.value at_lrn.0 ∙ ap (λ (m : Content). is_the c.args.caller.number
     (get m.lrns d.routing.lrn.number)) (at_carrier.1 ∙ at_start.1))

@@ -39,7 +39,9 @@ returns-in_err-step-clause-decides g c = λ usable.
     c.args.block.number (Release c.args.block.number) (clock_row_of c.in_ok-found.found.clock)
     c.in_ok-found.found.read c.facts-facts.result
     c.in_ok-is_known.is_known true at_start.1 (c.in_ok-found.ensures.found usable)
-    (λ st stands. releaser_unknown st old c.args.caller.number c.args.block.number stands c.in_ok-is_known.is_known (c.in_ok-is_known.ensures.value at_carrier.0)) refl c.facts-facts.ensures in
+    (λ st stands. releaser_unknown st old c.args.caller.number c.args.block.number stands
+    c.in_ok-is_known.is_known (c.in_ok-is_known.ensures.value at_carrier.0)) refl
+    c.facts-facts.ensures in
     decides_err old _ _ c.from_residual-in_err-step.result c.in_err-step.field-0.0 (search rules)
     (answers_release_refused old old c.args.caller.number c.args.block.number _ _ _ has _ refl
     c.in_err-step.ensures.refusal)
@@ -90,5 +92,6 @@ returns-in_err-put_step-clause-decides g c = λ usable. decides_fault _ _ _
 pub returns-in_err-put_step-clause-reads : goal.returns-in_err-put_step-clause-reads
 returns-in_err-put_step-clause-reads g c =
     reads_fault (reads_on c.in_ok-is_known.ensures.reads tt c.in_ok-found.ensures.reads tt) tt
-    c.in_err-put_step.ensures.reads c.from_residual-in_err-put_step.result c.in_err-put_step.field-0.0
+    c.in_err-put_step.ensures.reads c.from_residual-in_err-put_step.result
+    c.in_err-put_step.field-0.0
     (search rules) (ap Err)

@@ -9,6 +9,8 @@ pub returns-clause-answers : goal.returns-clause-answers
 returns-clause-answers g c = λ usable caller.
     let second = c.in_ok-opened.ensures.reads.same usable in
     let first = c.in_ok-held.ensures.reads.same second.0 in
-    answers_ids (g.S.Store.content c.args.store.now) (g.S.Store.content c.open_version.new.self) caller c.args.tn.number c.in_ok-held.held c.in_ok-opened.opened c.id_of.result c.id_of-2.result
+    answers_ids (g.S.Store.content c.args.store.now) (g.S.Store.content c.open_version.new.self)
+    caller c.args.tn.number c.in_ok-held.held c.in_ok-opened.opened c.id_of.result c.id_of-2.result
     c.id_of.ensures c.id_of-2.ensures (second.1 ∙ first.1) (c.in_ok-held.ensures.value second.0)
-    (subst (λ (m : Content). IsOpen m (Number c.args.tn.number) c.in_ok-opened.opened) first.1 (c.in_ok-opened.ensures.value usable))
+    (subst (λ (m : Content). IsOpen m (Number c.args.tn.number) c.in_ok-opened.opened) first.1
+    (c.in_ok-opened.ensures.value usable))

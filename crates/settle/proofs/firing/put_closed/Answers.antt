@@ -8,8 +8,13 @@ use Rattle.settle.proofs.firing.put_closed.Goals as goal
 
 pub returns : goal.returns
 returns c =
-    taken_tables (changes_seen c.args.changes.now) c.args.key.id c.args.key.attempt (items_of c.args.changes.now.versions) (broadcast_row_of c.args.broadcast.now) (map spid_of c.args.waiting.now) _ _ c.requires
+    taken_tables (changes_seen c.args.changes.now) c.args.key.id c.args.key.attempt
+    (items_of c.args.changes.now.versions) (broadcast_row_of c.args.broadcast.now)
+    (map spid_of c.args.waiting.now) _ _ c.requires
     refl
-    (ap (map wait_key_of) c.in_ok-downloads.ensures ∙ downloads_seen c.args.broadcast.now.minute c.args.key.id c.args.key.attempt c.args.waiting.now)
+    (ap (map wait_key_of) c.in_ok-downloads.ensures ∙ downloads_seen c.args.broadcast.now.minute
+    c.args.key.id c.args.key.attempt c.args.waiting.now)
     c.if-broadcast.false
-    ∙ ap (λ vs. closing_rows c.args.key.id c.args.key.attempt vs (broadcast_row_of c.args.broadcast.now) (map spid_of c.args.waiting.now)) (ap (λ (n : Changes). n.versions) c.requires)
+    ∙ ap (λ vs. closing_rows c.args.key.id c.args.key.attempt vs
+    (broadcast_row_of c.args.broadcast.now) (map spid_of c.args.waiting.now))
+    (ap (λ (n : Changes). n.versions) c.requires)

@@ -9,6 +9,9 @@ use Rattle.settle.proofs.FiredCode.{three_tables}
 use Rattle.settle.proofs.sending.begin_sending_each.Goals as goal
 
 pub returns : goal.returns
-returns c = three_tables (changes_seen c.args.changes.now) _ _ _ _ _ _ c.requires c.in_ok-rows_of_each.ensures
-    (c.in_ok-broadcasts_of_each.ensures ∙ broadcasts-any (windows_of c.args.windows.now) c.args.minute.number (send_of c.args.send) c.args.versions.now)
-    (c.in_ok-changes.ensures ∙ waits-any (windows_of c.args.windows.now) c.args.minute.number (map spid_of c.args.everyone.now) c.args.versions.now)
+returns c = three_tables (changes_seen c.args.changes.now) _ _ _ _ _ _ c.requires
+    c.in_ok-rows_of_each.ensures
+    (c.in_ok-broadcasts_of_each.ensures ∙ broadcasts-any (windows_of c.args.windows.now)
+    c.args.minute.number (send_of c.args.send) c.args.versions.now)
+    (c.in_ok-changes.ensures ∙ waits-any (windows_of c.args.windows.now) c.args.minute.number
+    (map spid_of c.args.everyone.now) c.args.versions.now)

@@ -10,6 +10,12 @@ use Rattle.settle.proofs.sending.begun.Goals as goal
 
 pub returns : goal.returns
 returns c =
-    ap (λ (row : BroadcastRow). let key : BroadcastKey = record { id = c.args.id; attempt = c.args.version.now.attempt } in (key, row))
-    (some_is _ _ (c.send.ensures 0 []) ∙ begun_as c.args.minute.number c.action.result (send_of c.args.send) (subject_of c.args.version.now.subject) (routings_of c.routing_for-routing.result) c.action.ensures
-    ∙ ap (begun_row c.args.minute.number (send_of c.args.send) (subject_of c.args.version.now.subject)) c.routing_for-routing.ensures)
+    ap (λ (row : BroadcastRow). let key : BroadcastKey = record {
+      id = c.args.id;
+      attempt = c.args.version.now.attempt;
+    } in (key, row))
+    (some_is _ _ (c.send.ensures 0 []) ∙ begun_as c.args.minute.number c.action.result
+    (send_of c.args.send) (subject_of c.args.version.now.subject)
+    (routings_of c.routing_for-routing.result) c.action.ensures
+    ∙ ap (begun_row c.args.minute.number (send_of c.args.send)
+    (subject_of c.args.version.now.subject)) c.routing_for-routing.ensures)

@@ -6,5 +6,6 @@ use Rattle.version.specs.Views.{no_windows}
 
 abbrev pub invariant-loop-id : goal.invariant-loop-id
 invariant-loop-id l =
-    map broadcast_seen l.broadcasts.items ++ map (begun_broadcast l.minute.number (send_of l.send)) (map (begun_of no_windows) (drop l.id-index l.versions))
+    map broadcast_seen l.broadcasts.items ++ map (begun_broadcast l.minute.number (send_of l.send))
+    (map (begun_of no_windows) (drop l.id-index l.versions))
     ≡ map (begun_broadcast l.minute.number (send_of l.send)) (map (begun_of no_windows) l.versions)

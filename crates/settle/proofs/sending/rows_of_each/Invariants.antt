@@ -5,5 +5,6 @@ use Rattle.version.specs.Views.{windows_of}
 
 abbrev pub invariant-loop-id : goal.invariant-loop-id
 invariant-loop-id l =
-    l.rows.items ++ map begun_version (map (begun_of (windows_of l.windows)) (drop l.id-index l.versions))
+    l.rows.items ++ map begun_version (map (begun_of (windows_of l.windows))
+    (drop l.id-index l.versions))
     ≡ map begun_version (map (begun_of (windows_of l.windows)) l.versions)

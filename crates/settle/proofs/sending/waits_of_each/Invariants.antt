@@ -6,5 +6,7 @@ use Rattle.version.specs.Views.{no_windows}
 
 abbrev pub invariant-loop-id : goal.invariant-loop-id
 invariant-loop-id l =
-    map wait_seen l.waits.items ++ flat_map (begun_waits l.minute.number (map spid_of l.everyone)) (map (begun_of no_windows) (drop l.id-index l.versions))
-    ≡ flat_map (begun_waits l.minute.number (map spid_of l.everyone)) (map (begun_of no_windows) l.versions)
+    map wait_seen l.waits.items ++ flat_map (begun_waits l.minute.number (map spid_of l.everyone))
+    (map (begun_of no_windows) (drop l.id-index l.versions))
+    ≡ flat_map (begun_waits l.minute.number (map spid_of l.everyone))
+    (map (begun_of no_windows) l.versions)

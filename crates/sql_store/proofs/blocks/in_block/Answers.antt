@@ -19,13 +19,23 @@ returns-clause-value g c up =
     let opened = c.in_ok-opened.opened.items in
     let mid_up = (c.in_ok-opened.ensures.looked.same up).was_open in
     let same = (c.in_ok-in_force.ensures.looked.same mid_up).now in
-    let two = subst (λ (d : Database). AreNumbers (content_in d.trees) Open block opened) same (c.in_ok-opened.ensures.value up) in
-    let listed = c.in_ok-tns.ensures ∙ ap (λ l. l ++ c.as_slice-2.result.now) c.as_slice.ensures.value ∙ ap (λ l. in_force ++ l) c.as_slice-2.ensures.value in
-    let are = c.in_ok-numbers.ensures ∙ ap (λ l. map (number_in_use l c.as_slice-5.result.now) c.as_slice-3.result.now) c.as_slice-4.ensures.value
-    ∙ ap (λ l. map (number_in_use in_force l) c.as_slice-3.result.now) c.as_slice-5.ensures.value ∙ ap (map (number_in_use in_force opened)) c.as_slice-3.ensures.value in
+    let two = subst (λ (d : Database). AreNumbers (content_in d.trees) Open block opened) same
+    (c.in_ok-opened.ensures.value up) in
+    let listed =
+    c.in_ok-tns.ensures ∙ ap (λ l. l ++ c.as_slice-2.result.now) c.as_slice.ensures.value
+    ∙ ap (λ l. in_force ++ l) c.as_slice-2.ensures.value in
+    let are = c.in_ok-numbers.ensures
+    ∙ ap (λ l. map (number_in_use l c.as_slice-5.result.now) c.as_slice-3.result.now)
+    c.as_slice-4.ensures.value
+    ∙ ap (λ l. map (number_in_use in_force l) c.as_slice-3.result.now) c.as_slice-5.ensures.value
+    ∙ ap (map (number_in_use in_force opened)) c.as_slice-3.ensures.value in
     subst (AreInBlock (content_at old) block) (sym are)
-    (block_is (content_at old) block in_force opened _ (c.in_ok-in_force.ensures.value mid_up) two c.put_in_order.ensures.rises
-    (λ x at. subst (λ l. Has l x) listed (c.put_in_order.ensures.only x at)) (λ x at. c.put_in_order.ensures.each x (subst (λ l. Has l x) (sym listed) at)))
+    (block_is (content_at old) block in_force opened _ (c.in_ok-in_force.ensures.value mid_up) two
+    c.put_in_order.ensures.rises
+    (λ x at. subst (λ l. Has l x) listed (c.put_in_order.ensures.only x at))
+    (λ x at. c.put_in_order.ensures.each x (subst (λ l. Has l x) (sym listed) at)))
 
 pub numbers-requires-2-clause-ours : goal.numbers-requires-2-clause-ours
-numbers-requires-2-clause-ours g c = looked_ours (state g.S.Store c.args.conn.now) (state g.S.Store c.numbers.new.conn) _ c.requires.ours c.in_ok-in_force.ensures.looked
+numbers-requires-2-clause-ours g c =
+    looked_ours (state g.S.Store c.args.conn.now) (state g.S.Store c.numbers.new.conn) _
+    c.requires.ours c.in_ok-in_force.ensures.looked

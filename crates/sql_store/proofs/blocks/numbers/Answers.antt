@@ -20,8 +20,19 @@ returns-clause-value g c up =
     let block = c.args.block.number in
     let was = (c.in_ok-found.ensures.looked.same up).was_open in
     let same : c.from-first.result ≡ block = omega arith in
-    let params = two_bound c.number.result c.number-2.result (block * 1000) (block * 1000 + 999) (c.number.ensures ∙ ap (λ k. Int (pos (k * 1000))) same) (c.number-2.ensures ∙ ap (λ k. Int (pos (k * 1000 + 999))) same) in
-    let asked = subst (λ q. IsListAnswer q version_in old.now.trees (bound (c.number.result ∷ c.number-2.result ∷ [])) (map version_seen found)) c.query.ensures (c.in_ok-found.ensures.value up) in
-    let answer = subst (λ p. IsListAnswer (query_by c.args.standing) version_in old.now.trees p (map version_seen found)) params asked in
-    let are = c.in_ok-tns.ensures ∙ ap (filter_map (λ (v : NumberedRow). number_by c.args.standing v.row)) c.as_slice.ensures.value in
-    numbers_whole old.now.trees c.args.standing block _ (numbers_are (bare_in old.now.trees) c.args.standing block found _ (standing_picked old.now.trees (c.requires.ours was).shaped c.args.standing (block * 1000) (block * 1000 + 999) found answer) are)
+    let params = two_bound c.number.result c.number-2.result (block * 1000) (block * 1000 + 999)
+    (c.number.ensures ∙ ap (λ k. Int (pos (k * 1000))) same) (c.number-2.ensures
+    ∙ ap (λ k. Int (pos (k * 1000 + 999))) same) in
+    let asked =
+    subst (λ q. IsListAnswer q version_in old.now.trees
+    (bound (c.number.result ∷ c.number-2.result ∷ [])) (map version_seen found)) c.query.ensures
+    (c.in_ok-found.ensures.value up) in
+    let answer =
+    subst (λ p. IsListAnswer (query_by c.args.standing) version_in old.now.trees p
+    (map version_seen found)) params asked in
+    let are = c.in_ok-tns.ensures
+    ∙ ap (filter_map (λ (v : NumberedRow). number_by c.args.standing v.row))
+    c.as_slice.ensures.value in
+    numbers_whole old.now.trees c.args.standing block _ (numbers_are (bare_in old.now.trees)
+    c.args.standing block found _ (standing_picked old.now.trees (c.requires.ours was).shaped
+    c.args.standing (block * 1000) (block * 1000 + 999) found answer) are)

@@ -11,7 +11,9 @@ returns-in_err-take-clause-writes g c =
     let a = state g.S.Store c.args.tx.now.conn.now in
     let b = state g.S.Store c.take.new.tx.conn.now in
     let fails : is_ok c.from_residual.result ≡ false = search rules in
-    subst (λ d. Writes a b d (Replaced c.args.table (bound c.args.key.now) (bound c.args.row.now))) (sym fails) (writes_nothing a b (Removed c.args.table (bound c.args.key.now)) _ c.in_err-take.ensures.writes)
+    subst (λ d. Writes a b d (Replaced c.args.table (bound c.args.key.now) (bound c.args.row.now)))
+    (sym fails) (writes_nothing a b (Removed c.args.table (bound c.args.key.now)) _
+    c.in_err-take.ensures.writes)
 
 pub returns-in_err-insert-clause-writes : goal.returns-in_err-insert-clause-writes
 returns-in_err-insert-clause-writes g c =
@@ -19,11 +21,14 @@ returns-in_err-insert-clause-writes g c =
     let b = state g.S.Store c.take.new.tx.conn.now in
     let d = state g.S.Store c.insert.new.tx.conn.now in
     let fails : is_ok c.from_residual-in_err-insert.result ≡ false = search rules in
-    subst (λ x. Writes a d x (Replaced c.args.table (bound c.args.key.now) (bound c.args.row.now))) (sym fails) (replaces a b d c.args.table (bound c.args.key.now) (bound c.args.row.now) false c.in_ok-take.ensures.writes c.in_err-insert.ensures.writes)
+    subst (λ x. Writes a d x (Replaced c.args.table (bound c.args.key.now) (bound c.args.row.now)))
+    (sym fails) (replaces a b d c.args.table (bound c.args.key.now) (bound c.args.row.now) false
+    c.in_ok-take.ensures.writes c.in_err-insert.ensures.writes)
 
 pub returns-clause-writes : goal.returns-clause-writes
 returns-clause-writes g c =
     let a = state g.S.Store c.args.tx.now.conn.now in
     let b = state g.S.Store c.take.new.tx.conn.now in
     let d = state g.S.Store c.insert.new.tx.conn.now in
-    replaces a b d c.args.table (bound c.args.key.now) (bound c.args.row.now) true c.in_ok-take.ensures.writes c.in_ok-insert.ensures.writes
+    replaces a b d c.args.table (bound c.args.key.now) (bound c.args.row.now) true
+    c.in_ok-take.ensures.writes c.in_ok-insert.ensures.writes

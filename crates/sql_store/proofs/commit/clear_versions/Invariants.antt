@@ -8,5 +8,7 @@ use Rattle.sql_store.proofs.commit.clear_versions.Given as goal
 abbrev pub invariant-loop-row : goal.invariant-loop-row
 invariant-loop-row g l = record {
   same_reference : l.tx.conn.ghost_name ≡ l.fn.tx.conn.ghost_name;
-  goes : Goes (state g.S.Store l.fn.tx.conn.now) (state g.S.Store l.tx.conn.now) (all_made (λ p. without_version p.0) (drop l.row-index l.rows)) (all_made (λ p. without_version p.0) l.rows);
+  goes : Goes (state g.S.Store l.fn.tx.conn.now) (state g.S.Store l.tx.conn.now)
+      (all_made (λ p. without_version p.0) (drop l.row-index l.rows))
+      (all_made (λ p. without_version p.0) l.rows);
 }

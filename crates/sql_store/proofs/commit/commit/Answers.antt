@@ -15,21 +15,31 @@ returns-in_err-row-clause-turned g c =
     let old = state g.S.Store c.args.conn.now in
     let new = state g.S.Store c.clock.new.conn in
     let fails : is_ok c.from_residual.result ≡ false = search rules in
-    subst (λ d. Turned old new d (IsChanged (changes_of c.args.changes.now))) (sym fails) (looked_unturned old new (IsChanged (changes_of c.args.changes.now)) c.requires.ours c.in_err-row.ensures.looked)
+    subst (λ d. Turned old new d (IsChanged (changes_of c.args.changes.now))) (sym fails)
+    (looked_unturned old new (IsChanged (changes_of c.args.changes.now)) c.requires.ours
+    c.in_err-row.ensures.looked)
 
 pub returns-in_err-row-clause-left : goal.returns-in_err-row-clause-left
-returns-in_err-row-clause-left g c = unread_leaves (state g.S.Store c.args.conn.now) (state g.S.Store c.clock.new.conn) (IsChanged (changes_of c.args.changes.now)) c.in_err-row.ensures.looked
+returns-in_err-row-clause-left g c =
+    unread_leaves (state g.S.Store c.args.conn.now) (state g.S.Store c.clock.new.conn)
+    (IsChanged (changes_of c.args.changes.now)) c.in_err-row.ensures.looked
 
 pub commit_over-requires-clause-ours : goal.commit_over-requires-clause-ours
-commit_over-requires-clause-ours g c = looked_ours (state g.S.Store c.args.conn.now) (state g.S.Store c.clock.new.conn) _ c.requires.ours c.in_ok-row.ensures.looked
+commit_over-requires-clause-ours g c =
+    looked_ours (state g.S.Store c.args.conn.now) (state g.S.Store c.clock.new.conn) _
+    c.requires.ours c.in_ok-row.ensures.looked
 
 pub returns-clause-turned : goal.returns-clause-turned
 returns-clause-turned g c =
     let old = state g.S.Store c.args.conn.now in
     let mid = state g.S.Store c.clock.new.conn in
     let new = state g.S.Store c.commit_over.new.conn in
-    looked_turned old mid new (IsChangedOver c.args.changes.now c.in_ok-row.row) (IsChanged (changes_of c.args.changes.now)) c.in_ok-row.ensures.looked
-    (λ up after turns. turns (λ moves. subst (λ (d : Database). option_map clock_row_of c.in_ok-row.row ≡ (content_in d.trees).clock) (sym (c.in_ok-row.ensures.looked.same up).now) (c.in_ok-row.ensures.value up)))
+    looked_turned old mid new (IsChangedOver c.args.changes.now c.in_ok-row.row)
+    (IsChanged (changes_of c.args.changes.now)) c.in_ok-row.ensures.looked
+    (λ up after turns. turns
+    (λ moves. subst (λ (d : Database). option_map clock_row_of c.in_ok-row.row
+    ≡ (content_in d.trees).clock) (sym (c.in_ok-row.ensures.looked.same up).now)
+    (c.in_ok-row.ensures.value up)))
     (is_ok c.commit_over.result) c.commit_over.ensures.turned
 
 pub returns-clause-left : goal.returns-clause-left
@@ -37,6 +47,10 @@ returns-clause-left g c =
     let old = state g.S.Store c.args.conn.now in
     let mid = state g.S.Store c.clock.new.conn in
     let new = state g.S.Store c.commit_over.new.conn in
-    read_leaves old mid new (IsChangedOver c.args.changes.now c.in_ok-row.row) (IsChanged (changes_of c.args.changes.now)) c.in_ok-row.ensures.looked
-    (λ up after turns. turns (λ moves. subst (λ (d : Database). option_map clock_row_of c.in_ok-row.row ≡ (content_in d.trees).clock) (sym (c.in_ok-row.ensures.looked.same up).now) (c.in_ok-row.ensures.value up)))
+    read_leaves old mid new (IsChangedOver c.args.changes.now c.in_ok-row.row)
+    (IsChanged (changes_of c.args.changes.now)) c.in_ok-row.ensures.looked
+    (λ up after turns. turns
+    (λ moves. subst (λ (d : Database). option_map clock_row_of c.in_ok-row.row
+    ≡ (content_in d.trees).clock) (sym (c.in_ok-row.ensures.looked.same up).now)
+    (c.in_ok-row.ensures.value up)))
     (is_ok c.commit_over.result) c.commit_over.ensures.turned

@@ -15,8 +15,14 @@ returns-in_err-write-clause-turned g c =
     let end = state g.S.Store c.drop-tx.new.self.0 in
     let same : c.drop-tx.new.self.0 ≡ c.conn-1.given.0 = search rules in
     let fails : is_ok c.from_residual.result ≡ false = search rules in
-    let b = begun g.S.Store c.args.conn.now c.transaction-tx.result.conn.now mid false (made c.args.changes.now c.args.row) c.transaction-tx.ensures.begun c.in_err-write.ensures.makes c.requires.ours in
-    subst (λ d. Turned old (state g.S.Store c.conn-1.given.0) d Becomes) (sym fails) (subst (λ h. Turned old (state g.S.Store h) false Becomes) same (rolled_back old mid end (made c.args.changes.now c.args.row) Becomes c.requires.ours (clean_if_open end.is_clean end.is_open (g.met.S.Store.shut_if_dirty _)) b c.drop-tx.ensures.undone c.drop-tx.ensures.survives))
+    let b = begun g.S.Store c.args.conn.now c.transaction-tx.result.conn.now mid false
+    (made c.args.changes.now c.args.row) c.transaction-tx.ensures.begun c.in_err-write.ensures.makes
+    c.requires.ours in
+    subst (λ d. Turned old (state g.S.Store c.conn-1.given.0) d Becomes) (sym fails)
+    (subst (λ h. Turned old (state g.S.Store h) false Becomes) same
+    (rolled_back old mid end (made c.args.changes.now c.args.row) Becomes c.requires.ours
+    (clean_if_open end.is_clean end.is_open (g.met.S.Store.shut_if_dirty _)) b
+    c.drop-tx.ensures.undone c.drop-tx.ensures.survives))
 
 pub returns-in_err-commit-clause-turned : goal.returns-in_err-commit-clause-turned
 returns-in_err-commit-clause-turned g c =
@@ -26,9 +32,15 @@ returns-in_err-commit-clause-turned g c =
     let end = state g.S.Store c.commit.new.self.0 in
     let same : c.commit.new.self.0 ≡ c.conn-2-1.given.0 = search rules in
     let fails : is_ok c.from_residual-in_err-commit.result ≡ false = search rules in
-    let b = begun g.S.Store c.args.conn.now c.transaction-tx.result.conn.now mid true (made c.args.changes.now c.args.row) c.transaction-tx.ensures.begun c.in_ok-write.ensures.makes c.requires.ours in
-    subst (λ d. Turned old (state g.S.Store c.conn-2-1.given.0) d Becomes) (sym fails) (subst (λ h. Turned old (state g.S.Store h) false Becomes) same (uncommitted old mid end (made c.args.changes.now c.args.row) Becomes c.requires.ours (clean_if_open end.is_clean end.is_open (g.met.S.Store.shut_if_dirty _))
-    (λ was is. changed c.args.changes.now c.args.row (content_at old) is (clock_joins old.now.trees)) b c.commit.ensures.survives _ c.in_err-commit.ensures.err))
+    let b = begun g.S.Store c.args.conn.now c.transaction-tx.result.conn.now mid true
+    (made c.args.changes.now c.args.row) c.transaction-tx.ensures.begun c.in_ok-write.ensures.makes
+    c.requires.ours in
+    subst (λ d. Turned old (state g.S.Store c.conn-2-1.given.0) d Becomes) (sym fails)
+    (subst (λ h. Turned old (state g.S.Store h) false Becomes) same
+    (uncommitted old mid end (made c.args.changes.now c.args.row) Becomes c.requires.ours
+    (clean_if_open end.is_clean end.is_open (g.met.S.Store.shut_if_dirty _))
+    (λ was is. changed c.args.changes.now c.args.row (content_at old) is
+    (clock_joins old.now.trees)) b c.commit.ensures.survives _ c.in_err-commit.ensures.err))
 
 pub returns-clause-turned : goal.returns-clause-turned
 returns-clause-turned g c =
@@ -37,5 +49,12 @@ returns-clause-turned g c =
     let mid = state g.S.Store c.write.new.tx.conn.now in
     let end = state g.S.Store c.commit.new.self.0 in
     let same : c.commit.new.self.0 ≡ c.conn-2-1.given.0 = search rules in
-    let b = begun g.S.Store c.args.conn.now c.transaction-tx.result.conn.now mid true (made c.args.changes.now c.args.row) c.transaction-tx.ensures.begun c.in_ok-write.ensures.makes c.requires.ours in
-    subst (λ h. Turned old (state g.S.Store h) true Becomes) same (committed old mid end (made c.args.changes.now c.args.row) Becomes c.requires.ours (clean_if_open end.is_clean end.is_open (g.met.S.Store.shut_if_dirty _)) (λ was is. changed c.args.changes.now c.args.row (content_at old) is (clock_joins old.now.trees)) b c.commit.ensures.survives (λ clean. (c.in_ok-commit.ensures.ok clean).1))
+    let b = begun g.S.Store c.args.conn.now c.transaction-tx.result.conn.now mid true
+    (made c.args.changes.now c.args.row) c.transaction-tx.ensures.begun c.in_ok-write.ensures.makes
+    c.requires.ours in
+    subst (λ h. Turned old (state g.S.Store h) true Becomes) same
+    (committed old mid end (made c.args.changes.now c.args.row) Becomes c.requires.ours
+    (clean_if_open end.is_clean end.is_open (g.met.S.Store.shut_if_dirty _))
+    (λ was is. changed c.args.changes.now c.args.row (content_at old) is
+    (clock_joins old.now.trees)) b c.commit.ensures.survives
+    (λ clean. (c.in_ok-commit.ensures.ok clean).1))

@@ -14,5 +14,7 @@ loop-row-preserved g c =
     let d = state g.S.Store c.put_wait.new.tx.conn.now in
     record {
       same_reference = search rules;
-      goes = goes_then a b d _ _ _ _ c.loop-row.invariant.goes c.in_ok-put_wait.ensures.makes (λ m. one_more (λ p. with_wait (wait_key_of p.0) (subject_of p.1)) c.args.rows.now c.loop-row.row-index c.row-item.result c.loop-row-test.true (search rules) m);
+      goes = goes_then a b d _ _ _ _ c.loop-row.invariant.goes c.in_ok-put_wait.ensures.makes
+          (λ m. one_more (λ p. with_wait (wait_key_of p.0) (subject_of p.1)) c.args.rows.now
+          c.loop-row.row-index c.row-item.result c.loop-row-test.true (search rules) m);
     }

@@ -10,5 +10,7 @@ use Rattle.sql_store.proofs.commit.put_waits.Given as goal
 abbrev pub invariant-loop-row : goal.invariant-loop-row
 invariant-loop-row g l = record {
   same_reference : l.tx.conn.ghost_name ≡ l.fn.tx.conn.ghost_name;
-  goes : Goes (state g.S.Store l.fn.tx.conn.now) (state g.S.Store l.tx.conn.now) (all_made (λ p. with_wait (wait_key_of p.0) (subject_of p.1)) (drop l.row-index l.rows)) (all_made (λ p. with_wait (wait_key_of p.0) (subject_of p.1)) l.rows);
+  goes : Goes (state g.S.Store l.fn.tx.conn.now) (state g.S.Store l.tx.conn.now)
+      (all_made (λ p. with_wait (wait_key_of p.0) (subject_of p.1)) (drop l.row-index l.rows))
+      (all_made (λ p. with_wait (wait_key_of p.0) (subject_of p.1)) l.rows);
 }

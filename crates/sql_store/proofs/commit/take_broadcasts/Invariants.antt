@@ -9,5 +9,7 @@ use Rattle.sql_store.proofs.commit.take_broadcasts.Given as goal
 abbrev pub invariant-loop-key : goal.invariant-loop-key
 invariant-loop-key g l = record {
   same_reference : l.tx.conn.ghost_name ≡ l.fn.tx.conn.ghost_name;
-  goes : Goes (state g.S.Store l.fn.tx.conn.now) (state g.S.Store l.tx.conn.now) (all_made (λ k. without_broadcast (broadcast_key_of k)) (drop l.key-index l.keys)) (all_made (λ k. without_broadcast (broadcast_key_of k)) l.keys);
+  goes : Goes (state g.S.Store l.fn.tx.conn.now) (state g.S.Store l.tx.conn.now)
+      (all_made (λ k. without_broadcast (broadcast_key_of k)) (drop l.key-index l.keys))
+      (all_made (λ k. without_broadcast (broadcast_key_of k)) l.keys);
 }

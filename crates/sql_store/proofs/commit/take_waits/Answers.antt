@@ -13,5 +13,7 @@ loop-key-preserved g c =
     let d = state g.S.Store c.take_wait.new.tx.conn.now in
     record {
       same_reference = search rules;
-      goes = goes_then a b d _ _ _ _ c.loop-key.invariant.goes c.in_ok-take_wait.ensures.makes (λ m. one_more (λ k. without_wait (wait_key_of k)) c.args.keys.now c.loop-key.key-index c.key-item.result c.loop-key-test.true (search rules) m);
+      goes = goes_then a b d _ _ _ _ c.loop-key.invariant.goes c.in_ok-take_wait.ensures.makes
+          (λ m. one_more (λ k. without_wait (wait_key_of k)) c.args.keys.now c.loop-key.key-index
+          c.key-item.result c.loop-key-test.true (search rules) m);
     }

@@ -13,9 +13,17 @@ returns-clause-makes g c =
     let f = state g.S.Store c.put_waits.new.tx.conn.now in
     let h = state g.S.Store c.take_broadcasts.new.tx.conn.now in
     let i = state g.S.Store c.take_waits.new.tx.conn.now in
-    let two = makes_then a b d true _ _ c.in_ok-clear_versions.ensures.makes c.in_ok-put_versions.ensures.makes in
+    let two = makes_then a b d true _ _ c.in_ok-clear_versions.ensures.makes
+    c.in_ok-put_versions.ensures.makes in
     let three = makes_then a d e true _ _ two c.in_ok-put_broadcasts.ensures.makes in
     let four = makes_then a e f true _ _ three c.in_ok-put_waits.ensures.makes in
     let five = makes_then a f h true _ _ four c.in_ok-take_broadcasts.ensures.makes in
-    alike a i true _ (lists c.args.changes.now) (λ m. rw (c.as_slice.ensures, c.as_slice-2.ensures, c.as_slice-3.ensures, c.as_slice-4.ensures.value, c.as_slice-5.ensures, c.as_slice-6.ensures) refl)
+    alike a i true _ (lists c.args.changes.now) (λ m. rw (
+      c.as_slice.ensures,
+      c.as_slice-2.ensures,
+      c.as_slice-3.ensures,
+      c.as_slice-4.ensures.value,
+      c.as_slice-5.ensures,
+      c.as_slice-6.ensures,
+    ) refl)
     (makes_then a h i true _ _ five c.in_ok-take_waits.ensures.makes)

@@ -18,9 +18,13 @@ returns-clause-value g c up =
     let old = state g.S.Store c.args.conn.now in
     let found = c.in_ok-found.found.items in
     let params = one_bound c.truth.result (bool_value true) refl c.truth.ensures in
-    let answer = subst (λ p. IsListAnswer BroadcastsByOpen broadcast_in old.now.trees p (map broadcast_seen found)) params (c.in_ok-found.ensures.value up) in
+    let answer =
+    subst (λ p. IsListAnswer BroadcastsByOpen broadcast_in old.now.trees p
+    (map broadcast_seen found)) params (c.in_ok-found.ensures.value up) in
     let are = c.in_ok-broadcasts.ensures ∙ ap (map pair_of) c.as_slice.ensures.value in
     let passed : IsTrue c.rise.result = search rules in
-    broadcasts_are (content_at old) found _ (broadcasts_picked old.now.trees (c.in_ok-found.ensures.once up) found answer)
-    (subst (λ l. IsPermutation l c.put_in_order_by_key.new.broadcasts.items) are c.put_in_order_by_key.ensures)
+    broadcasts_are (content_at old) found _ (broadcasts_picked old.now.trees
+    (c.in_ok-found.ensures.once up) found answer)
+    (subst (λ l. IsPermutation l c.put_in_order_by_key.new.broadcasts.items) are
+    c.put_in_order_by_key.ensures)
     (subst Rises c.as_slice-2.ensures.value (c.rise.ensures passed))

@@ -7,7 +7,9 @@ use Rattle.sql_store.proofs.lists.rise.Given as goal
 
 -- up to here each is below the next
 abbrev pub invariant-loop-at : goal.invariant-loop-at
-invariant-loop-at l = (0 < l.at) × ((k : ℕ) (d : BroadcastKey × Broadcast) → k + 1 < l.at → broadcast_cmp (broadcast_key_of (slice_index_or l.broadcasts k d).0) (broadcast_key_of (slice_index_or l.broadcasts (k + 1) d).0) ≡ Less)
+invariant-loop-at l = (0 < l.at) × ((k : ℕ) (d : BroadcastKey × Broadcast) → k + 1 < l.at
+    → broadcast_cmp (broadcast_key_of (slice_index_or l.broadcasts k d).0)
+    (broadcast_key_of (slice_index_or l.broadcasts (k + 1) d).0) ≡ Less)
 
 abbrev pub decreases-loop-at : goal.decreases-loop-at
 decreases-loop-at l = length l.broadcasts - l.at

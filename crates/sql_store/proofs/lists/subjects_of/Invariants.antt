@@ -4,4 +4,5 @@ use Rattle.sql_store.proofs.lists.subjects_of.Given as goal
 
 -- those passed are in the list
 abbrev pub invariant-loop-wait : goal.invariant-loop-wait
-invariant-loop-wait l = l.subjects.items ≡ map (λ (w : KeyedWait). w.subject) (take l.wait-index l.waits)
+invariant-loop-wait l =
+    l.subjects.items ≡ map (λ (w : KeyedWait). w.subject) (take l.wait-index l.waits)

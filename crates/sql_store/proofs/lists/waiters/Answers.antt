@@ -25,13 +25,22 @@ other_great false b h = refl
 
 pub returns-then-key-ge9223372036854775808-clause-value : goal.returns-then-key-ge9223372036854775808-clause-value
 returns-then-key-ge9223372036854775808-clause-value g c up =
-    let great : (nat_lt c.args.key.id 9223372036854775808 && nat_lt c.args.key.attempt 9223372036854775808) ≡ false = elim c.then-key-ge9223372036854775808.branch [
-      | then-key-ge9223372036854775808-via-then-key-ge9223372036854775808 w ↦ one_great (nat_lt c.args.key.id 9223372036854775808) (nat_lt c.args.key.attempt 9223372036854775808) (grind (arith, w.if-key-ge9223372036854775808))
-      | then-key-ge9223372036854775808-via-else-key-ge9223372036854775808+then-key-ge9223372036854775808-2 w ↦ other_great (nat_lt c.args.key.id 9223372036854775808) (nat_lt c.args.key.attempt 9223372036854775808) (grind (arith, w.if-key-ge9223372036854775808-2))
+    let great : (nat_lt c.args.key.id 9223372036854775808 && nat_lt c.args.key.attempt
+    9223372036854775808) ≡ false = elim c.then-key-ge9223372036854775808.branch [
+      | then-key-ge9223372036854775808-via-then-key-ge9223372036854775808 w ↦ one_great
+          (nat_lt c.args.key.id 9223372036854775808) (nat_lt c.args.key.attempt 9223372036854775808)
+          (grind (arith, w.if-key-ge9223372036854775808))
+      | then-key-ge9223372036854775808-via-else-key-ge9223372036854775808+then-key-ge9223372036854775808-2
+          w ↦ other_great (nat_lt c.args.key.id 9223372036854775808)
+          (nat_lt c.args.key.attempt 9223372036854775808)
+          (grind (arith, w.if-key-ge9223372036854775808-2))
     ] in
     let old = state g.S.Store c.args.conn.now in
-    subst (AreWaiters (content_at old) c.args.minute.number c.args.key.id c.args.key.attempt) (sym c.new.ensures.items)
-    (no_waiters (content_at old) c.args.minute.number c.args.key.id c.args.key.attempt (λ k. no_great_wait old.now.trees (key_at k c.args.minute.number c.args.key.id c.args.key.attempt) great))
+    subst (AreWaiters (content_at old) c.args.minute.number c.args.key.id c.args.key.attempt)
+    (sym c.new.ensures.items)
+    (no_waiters (content_at old) c.args.minute.number c.args.key.id c.args.key.attempt
+    (λ k. no_great_wait old.now.trees (key_at k c.args.minute.number c.args.key.id
+    c.args.key.attempt) great))
 
 pub returns-clause-value : goal.returns-clause-value
 returns-clause-value g c up =
@@ -42,12 +51,24 @@ returns-clause-value g c up =
     let carriers = c.in_ok-carriers.carriers.items in
     let open_mid = (c.in_ok-waits.ensures.looked.same up).was_open in
     let same = (c.in_ok-carriers.ensures.looked.same open_mid).now in
-    let answer = subst (λ p. IsListAnswer WaitsOf wait_in mid.now.trees p (map wait_seen waits)) (bound_broadcast_key _ (broadcast_key_of key) c.broadcast_key.ensures) (c.in_ok-waits.ensures.value up) in
-    let are = subst (λ (d : Database). AreCarriers (content_in d.trees) carriers) (sym same) (c.in_ok-carriers.ensures.value open_mid) in
-    let result = waiters_are (content_at mid) c.args.minute.number key.id key.attempt waits (waits_of_picked mid.now.trees (c.in_ok-waits.ensures.once up) key.id key.attempt waits answer) carriers are in
-    let there = c.in_ok-waiters.ensures ∙ ap (λ w. filter (is_waiting w c.args.minute.number) c.as_slice.result.now) c.as_slice-2.ensures.value ∙ ap (filter (is_waiting waits c.args.minute.number)) c.as_slice.ensures.value in
+    let answer = subst (λ p. IsListAnswer WaitsOf wait_in mid.now.trees p (map wait_seen waits))
+    (bound_broadcast_key _ (broadcast_key_of key) c.broadcast_key.ensures)
+    (c.in_ok-waits.ensures.value up) in
+    let are = subst (λ (d : Database). AreCarriers (content_in d.trees) carriers) (sym same)
+    (c.in_ok-carriers.ensures.value open_mid) in
+    let result = waiters_are (content_at mid) c.args.minute.number key.id key.attempt waits
+    (waits_of_picked mid.now.trees (c.in_ok-waits.ensures.once up) key.id key.attempt waits answer)
+    carriers are in
+    let there =
+    c.in_ok-waiters.ensures
+    ∙ ap (λ w. filter (is_waiting w c.args.minute.number) c.as_slice.result.now)
+    c.as_slice-2.ensures.value ∙ ap (filter (is_waiting waits c.args.minute.number))
+    c.as_slice.ensures.value in
     subst (AreWaiters (content_at old) c.args.minute.number key.id key.attempt) (sym there)
-    (subst (λ (d : Database). AreWaiters (content_in d.trees) c.args.minute.number key.id key.attempt (filter (is_waiting waits c.args.minute.number) carriers)) same result)
+    (subst (λ (d : Database). AreWaiters (content_in d.trees) c.args.minute.number key.id
+    key.attempt (filter (is_waiting waits c.args.minute.number) carriers)) same result)
 
 pub find_all-requires-clause-ours : goal.find_all-requires-clause-ours
-find_all-requires-clause-ours g c = looked_ours (state g.S.Store c.args.conn.now) (state g.S.Store c.carriers.new.conn) _ c.requires.ours c.in_ok-carriers.ensures.looked
+find_all-requires-clause-ours g c =
+    looked_ours (state g.S.Store c.args.conn.now) (state g.S.Store c.carriers.new.conn) _
+    c.requires.ours c.in_ok-carriers.ensures.looked

@@ -4,4 +4,5 @@ use Rattle.sql_store.proofs.lists.waiting_among.Given as goal
 
 -- of those passed the waiters are in the list
 abbrev pub invariant-loop-carrier : goal.invariant-loop-carrier
-invariant-loop-carrier l = l.waiters.items ≡ filter (is_waiting l.waits l.minute.number) (take l.carrier-index l.carriers)
+invariant-loop-carrier l =
+    l.waiters.items ≡ filter (is_waiting l.waits l.minute.number) (take l.carrier-index l.carriers)

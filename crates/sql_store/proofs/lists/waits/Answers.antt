@@ -16,8 +16,13 @@ pub returns-clause-value : goal.returns-clause-value
 returns-clause-value g c up =
     let old = state g.S.Store c.args.conn.now in
     let found = c.in_ok-waits.waits.items in
-    let params = one_bound c.text.result (spid_value c.args.spid.number) refl (c.text.ensures ∙ ap Text c.spid_bytes-bytes.ensures) in
-    let answer = subst (λ p. IsListAnswer WaitsFor wait_in old.now.trees p (map wait_seen found)) params (c.in_ok-waits.ensures.value up) in
+    let params = one_bound c.text.result (spid_value c.args.spid.number) refl (c.text.ensures
+    ∙ ap Text c.spid_bytes-bytes.ensures) in
+    let answer = subst (λ p. IsListAnswer WaitsFor wait_in old.now.trees p (map wait_seen found))
+    params (c.in_ok-waits.ensures.value up) in
     let are = c.in_ok-subjects.ensures ∙ ap (map subject_in_wait) c.as_slice.ensures.value in
-    awaited_are (content_at old) c.args.spid.number found _ (waits_for_picked old.now.trees (c.in_ok-waits.ensures.once up) c.args.spid found answer)
-    c.put_in_order.ensures.rises (λ x at. subst (λ l. Has l x) are (c.put_in_order.ensures.only x at)) (λ x at. c.put_in_order.ensures.each x (subst (λ l. Has l x) (sym are) at))
+    awaited_are (content_at old) c.args.spid.number found _ (waits_for_picked old.now.trees
+    (c.in_ok-waits.ensures.once up) c.args.spid found answer)
+    c.put_in_order.ensures.rises (λ x at. subst (λ l. Has l x) are
+    (c.put_in_order.ensures.only x at)) (λ x at. c.put_in_order.ensures.each x
+    (subst (λ l. Has l x) (sym are) at))

@@ -19,8 +19,15 @@ pub returns-clause-value : goal.returns-clause-value
 returns-clause-value g c up =
     let old = state g.S.Store c.args.conn.now in
     let found = c.in_ok-waits.waits.items in
-    let params = ap (λ v. bound_value v ∷ bound_value (owned c.text.result) ∷ []) c.subject.ensures ∙ ap (λ v. subject_value (subject_of c.args.of) ∷ bound_value v ∷ []) (c.text.ensures ∙ ap Text c.spid_bytes-bytes.ensures) in
-    let answer = subst (λ p. IsListAnswer WaitsAbout wait_in old.now.trees p (map wait_seen found)) params (c.in_ok-waits.ensures.value up) in
+    let params = ap (λ v. bound_value v ∷ bound_value (owned c.text.result) ∷ []) c.subject.ensures
+    ∙ ap (λ v. subject_value (subject_of c.args.of) ∷ bound_value v ∷ []) (c.text.ensures
+    ∙ ap Text c.spid_bytes-bytes.ensures) in
+    let answer = subst (λ p. IsListAnswer WaitsAbout wait_in old.now.trees p (map wait_seen found))
+    params (c.in_ok-waits.ensures.value up) in
     let are = c.in_ok-downloads.ensures ∙ ap (map download_of) c.as_slice.ensures.value in
-    about_are (content_at old) c.args.spid.number (subject_of c.args.of) found _ (waits_about_picked old.now.trees (c.in_ok-waits.ensures.once up) c.args.spid c.args.of found answer)
-    c.put_in_order.ensures.rises (λ x at. subst (λ l. Has l x) are (c.put_in_order.ensures.only x at)) (λ x at. c.put_in_order.ensures.each x (subst (λ l. Has l x) (sym are) at))
+    about_are (content_at old) c.args.spid.number (subject_of c.args.of) found _
+    (waits_about_picked old.now.trees (c.in_ok-waits.ensures.once up) c.args.spid c.args.of found
+    answer)
+    c.put_in_order.ensures.rises (λ x at. subst (λ l. Has l x) are
+    (c.put_in_order.ensures.only x at)) (λ x at. c.put_in_order.ensures.each x
+    (subst (λ l. Has l x) (sym are) at))

@@ -14,11 +14,19 @@ returns-in-Some-found-clause-value g c up =
     let old = (state g.S.Store c.args.conn.now).now in
     let second = c.in_ok-found.ensures.looked.same up in
     let first = c.in_ok-stored.ensures.looked.same second.was_open in
-    the_clock old.trees c.in_ok-stored.stored c.in-Some.row c.in_ok-found.found c.in-Some-found.windows c.in-Some.is (c.in_ok-stored.ensures.value second.was_open) c.in-Some-found.is
-    (subst (λ (d : Database). option_map windows_of c.in_ok-found.found ≡ get (content_in d.trees).sets c.in-Some.row.present) first.now (c.in_ok-found.ensures.value up))
+    the_clock old.trees c.in_ok-stored.stored c.in-Some.row c.in_ok-found.found
+    c.in-Some-found.windows c.in-Some.is (c.in_ok-stored.ensures.value second.was_open)
+    c.in-Some-found.is
+    (subst (λ (d : Database). option_map windows_of c.in_ok-found.found
+    ≡ get (content_in d.trees).sets c.in-Some.row.present) first.now
+    (c.in_ok-found.ensures.value up))
 
 pub returns-in_default-clause-value : goal.returns-in_default-clause-value
-returns-in_default-clause-value g c up = no_clock (state g.S.Store c.args.conn.now).now.trees c.in_ok-stored.stored c.in_default.is (c.in_ok-stored.ensures.value up)
+returns-in_default-clause-value g c up =
+    no_clock (state g.S.Store c.args.conn.now).now.trees c.in_ok-stored.stored c.in_default.is
+    (c.in_ok-stored.ensures.value up)
 
 pub window_set-requires-clause-ours : goal.window_set-requires-clause-ours
-window_set-requires-clause-ours g c = looked_ours (state g.S.Store c.args.conn.now) (state g.S.Store c.stored_clock.new.conn) _ c.requires.ours c.in_ok-stored.ensures.looked
+window_set-requires-clause-ours g c =
+    looked_ours (state g.S.Store c.args.conn.now) (state g.S.Store c.stored_clock.new.conn) _
+    c.requires.ours c.in_ok-stored.ensures.looked

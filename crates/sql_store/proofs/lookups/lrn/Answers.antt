@@ -3,7 +3,11 @@ use Rattle.sql_store.proofs.LookupLemmas.{lrn_is}
 use Rattle.sql_store.proofs.lookups.lrn.Goals as goal
 
 pub returns-in-Some-clause-value : goal.returns-in-Some-clause-value
-returns-in-Some-clause-value g c up = lrn_is (state g.S.Store c.args.conn.now).now.trees c.number.result c.args.lrn.number c.number.ensures c.in_ok-found.found _ c.in-Some.is (c.in_ok-found.ensures.value up)
+returns-in-Some-clause-value g c up =
+    lrn_is (state g.S.Store c.args.conn.now).now.trees c.number.result c.args.lrn.number
+    c.number.ensures c.in_ok-found.found _ c.in-Some.is (c.in_ok-found.ensures.value up)
 
 pub returns-in-None-clause-value : goal.returns-in-None-clause-value
-returns-in-None-clause-value g c up = lrn_is (state g.S.Store c.args.conn.now).now.trees c.number.result c.args.lrn.number c.number.ensures c.in_ok-found.found _ c.in-None.is (c.in_ok-found.ensures.value up)
+returns-in-None-clause-value g c up =
+    lrn_is (state g.S.Store c.args.conn.now).now.trees c.number.result c.args.lrn.number
+    c.number.ensures c.in_ok-found.found _ c.in-None.is (c.in_ok-found.ensures.value up)

@@ -5,10 +5,14 @@ use Rattle.sql_store.proofs.LookupLemmas.{next_is}
 use Rattle.sql_store.proofs.lookups.next_routing.Goals as goal
 
 pub returns-in-Some-clause-value : goal.returns-in-Some-clause-value
-returns-in-Some-clause-value g c up = next_is (state g.S.Store c.args.conn.now).now.trees c.number.result c.args.id c.number.ensures c.in_ok-found.found _ c.in-Some.is (c.in_ok-found.ensures.value up)
+returns-in-Some-clause-value g c up =
+    next_is (state g.S.Store c.args.conn.now).now.trees c.number.result c.args.id c.number.ensures
+    c.in_ok-found.found _ c.in-Some.is (c.in_ok-found.ensures.value up)
 
 pub returns-in-None-clause-value : goal.returns-in-None-clause-value
-returns-in-None-clause-value g c up = next_is (state g.S.Store c.args.conn.now).now.trees c.number.result c.args.id c.number.ensures c.in_ok-found.found _ c.in-None.is (c.in_ok-found.ensures.value up)
+returns-in-None-clause-value g c up =
+    next_is (state g.S.Store c.args.conn.now).now.trees c.number.result c.args.id c.number.ensures
+    c.in_ok-found.found _ c.in-None.is (c.in_ok-found.ensures.value up)
 
 pub returns-then-id-ge9223372036854775808-clause-value :
     goal.returns-then-id-ge9223372036854775808-clause-value

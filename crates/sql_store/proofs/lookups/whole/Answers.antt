@@ -13,12 +13,17 @@ returns-in-Some-clause-value g c up =
     let db = (state g.S.Store c.args.conn.now).now.trees in
     let same : c.found.inside.0.0 ≡ c.args.found.id = search rules in
     let sends : is_some (next_of c.args.found.row.status) ≡ true = search rules in
-    let is = subst (λ k. option_map routing_of c.in_ok-next.next ≡ get (nexts_in (db 16)) k) same (c.in_ok-next.ensures.value up) in
-    (same, routed_next db c.args.found c.in_ok-next.next c.in-Some.routing c.modified_to.result sends c.in-Some.is is c.modified_to.ensures)
+    let is = subst (λ k. option_map routing_of c.in_ok-next.next ≡ get (nexts_in (db 16)) k) same
+    (c.in_ok-next.ensures.value up) in (
+      same,
+      routed_next db c.args.found c.in_ok-next.next c.in-Some.routing c.modified_to.result sends
+          c.in-Some.is is c.modified_to.ensures,
+    )
 
 pub returns-in-None-clause-value : goal.returns-in-None-clause-value
 returns-in-None-clause-value g c up =
     let db = (state g.S.Store c.args.conn.now).now.trees in
     let same : c.found.inside.0.0 ≡ c.args.found.id = search rules in
-    let is = subst (λ k. option_map routing_of c.in_ok-next.next ≡ get (nexts_in (db 16)) k) same (c.in_ok-next.ensures.value up) in
+    let is = subst (λ k. option_map routing_of c.in_ok-next.next ≡ get (nexts_in (db 16)) k) same
+    (c.in_ok-next.ensures.value up) in
     (refl, unrouted_next db c.args.found c.in_ok-next.next c.in-None.is is)

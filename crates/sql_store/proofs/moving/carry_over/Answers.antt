@@ -13,9 +13,13 @@ returns-in-empty-clause-moves g c =
     let e = state g.S.Store c.move_rows.new.conn in
     let f = c.args.form in
     let ids = c.in_ok-ids.ids.items in
-    let none : c.in_ok-clocks.clocks.items ≡ [] = sym c.as_slice.ensures.value ∙ no_item c.as_slice.result.now c.in-empty.len_below in
-    migrated f a b d e (is_ok c.move_rows.result) ids c.in_ok-clocks.clocks.items None c.in_ok-ids.ensures.looked c.in_ok-clocks.ensures.looked c.requires.old c.in_ok-ids.ensures.value c.in_ok-clocks.ensures.value none
-    (subst (λ ids. Moves (IsRebuiltAs f ids None) d e (is_ok c.move_rows.result)) c.as_slice-in-empty.ensures.value c.move_rows.ensures.moves)
+    let none : c.in_ok-clocks.clocks.items ≡ [] =
+    sym c.as_slice.ensures.value ∙ no_item c.as_slice.result.now c.in-empty.len_below in
+    migrated f a b d e (is_ok c.move_rows.result) ids c.in_ok-clocks.clocks.items None
+    c.in_ok-ids.ensures.looked c.in_ok-clocks.ensures.looked c.requires.old
+    c.in_ok-ids.ensures.value c.in_ok-clocks.ensures.value none
+    (subst (λ ids. Moves (IsRebuiltAs f ids None) d e (is_ok c.move_rows.result))
+    c.as_slice-in-empty.ensures.value c.move_rows.ensures.moves)
 
 pub returns-in-len1-clause-moves : goal.returns-in-len1-clause-moves
 returns-in-len1-clause-moves g c =
@@ -27,6 +31,11 @@ returns-in-len1-clause-moves g c =
     let ids = c.in_ok-ids.ids.items in
     let clock = c.clock-item.result in
     let item : clock ≡ get_or c.as_slice.result.now 0 clock = search rules in
-    let one : c.in_ok-clocks.clocks.items ≡ clock ∷ [] = sym c.as_slice.ensures.value ∙ one_item c.as_slice.result.now clock c.in-len1.len_at_least c.in-len1.len_below item in
-    migrated f a b d e (is_ok c.move_rows-in-len1.result) ids c.in_ok-clocks.clocks.items (Some clock) c.in_ok-ids.ensures.looked c.in_ok-clocks.ensures.looked c.requires.old c.in_ok-ids.ensures.value c.in_ok-clocks.ensures.value one
-    (subst (λ ids. Moves (IsRebuiltAs f ids (Some clock)) d e (is_ok c.move_rows-in-len1.result)) c.as_slice-in-len1.ensures.value c.move_rows-in-len1.ensures.moves)
+    let one : c.in_ok-clocks.clocks.items ≡ clock ∷ [] =
+    sym c.as_slice.ensures.value ∙ one_item c.as_slice.result.now clock c.in-len1.len_at_least
+    c.in-len1.len_below item in
+    migrated f a b d e (is_ok c.move_rows-in-len1.result) ids c.in_ok-clocks.clocks.items
+    (Some clock) c.in_ok-ids.ensures.looked c.in_ok-clocks.ensures.looked c.requires.old
+    c.in_ok-ids.ensures.value c.in_ok-clocks.ensures.value one
+    (subst (λ ids. Moves (IsRebuiltAs f ids (Some clock)) d e (is_ok c.move_rows-in-len1.result))
+    c.as_slice-in-len1.ensures.value c.move_rows-in-len1.ensures.moves)

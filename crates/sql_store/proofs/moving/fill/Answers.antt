@@ -12,22 +12,40 @@ use Rattle.sql_store.proofs.MovingLemmas.{Both, IsChangedBy, alters_as, cleared_
 use Rattle.sql_store.proofs.moving.fill.Goals as goal
 
 module _ (xs : List ℕ) (clock : Option OldClock) where
-  one : (a b d : State) → Writes a b true (ArePutBut [] xs) → Makes b d true (first_set clock) → Alters IsInside a d true (Both (ArePutBut [] xs) (IsChangedBy (first_set clock)))
+  one : (a b d : State) → Writes a b true (ArePutBut [] xs) → Makes b d true (first_set clock)
+      → Alters IsInside a d true (Both (ArePutBut [] xs) (IsChangedBy (first_set clock)))
   one a b d put made =
-      does_then a b d IsInside IsInside (ArePutBut [] xs) (IsChangedBy (first_set clock)) true (from_writes a b true (ArePutBut [] xs) put) (from_makes b d true (first_set clock) made)
-      (λ inside w. record { is_open = w.is_open; inside = w.inside; schema = w.did.schema inside.schema; shaped = w.did.shaped inside.shaped })
+      does_then a b d IsInside IsInside (ArePutBut [] xs) (IsChangedBy (first_set clock)) true
+      (from_writes a b true (ArePutBut [] xs) put) (from_makes b d true (first_set clock) made)
+      (λ inside w. record {
+        is_open = w.is_open;
+        inside = w.inside;
+        schema = w.did.schema inside.schema;
+        shaped = w.did.shaped inside.shaped;
+      })
 
-  two : (a d e : State) → Alters IsInside a d true (Both (ArePutBut [] xs) (IsChangedBy (first_set clock))) → Writes d e true (IsCleared former.Version) → Alters IsInside a e true (Both (Both (ArePutBut [] xs) (IsChangedBy (first_set clock))) (IsCleared former.Version))
+  two : (a d e : State)
+      → Alters IsInside a d true (Both (ArePutBut [] xs) (IsChangedBy (first_set clock)))
+      → Writes d e true (IsCleared former.Version)
+      → Alters IsInside a e true (Both (Both (ArePutBut [] xs) (IsChangedBy (first_set clock)))
+      (IsCleared former.Version))
   two a d e put cleared =
-      does_then a d e IsInside IsInside (Both (ArePutBut [] xs) (IsChangedBy (first_set clock))) (IsCleared former.Version) true put (from_writes d e true (IsCleared former.Version) cleared)
-      (λ inside w. record { is_open = w.is_open; inside = w.inside; schema = w.did.2.0; shaped = w.did.2.1 })
+      does_then a d e IsInside IsInside (Both (ArePutBut [] xs) (IsChangedBy (first_set clock)))
+      (IsCleared former.Version) true put (from_writes d e true (IsCleared former.Version) cleared)
+      (λ inside w. record {
+        is_open = w.is_open;
+        inside = w.inside;
+        schema = w.did.2.0;
+        shaped = w.did.2.1;
+      })
 
 pub returns-in_err-put_each-clause-writes : goal.returns-in_err-put_each-clause-writes
 returns-in_err-put_each-clause-writes g c =
     let a = state g.S.Store c.args.tx.now.conn.now in
     let b = state g.S.Store c.put_each.new.tx.conn.now in
     let fails : is_ok c.from_residual.result ≡ false = search rules in
-    subst (λ x. Writes a b x (IsFilled c.args.ids.now c.args.clock)) (sym fails) (writes_nothing a b _ _ c.in_err-put_each.ensures.writes)
+    subst (λ x. Writes a b x (IsFilled c.args.ids.now c.args.clock)) (sym fails)
+    (writes_nothing a b _ _ c.in_err-put_each.ensures.writes)
 
 pub returns-in_err-put_first_set-clause-writes : goal.returns-in_err-put_first_set-clause-writes
 returns-in_err-put_first_set-clause-writes g c =
@@ -37,7 +55,9 @@ returns-in_err-put_first_set-clause-writes g c =
     let fails : is_ok c.from_residual-in_err-put_first_set.result ≡ false = search rules in
     let Filled = IsFilled c.args.ids.now c.args.clock in
     subst (λ x. Writes a d x Filled) (sym fails)
-    (to_writes a d false Filled (does_stop a b d IsInside IsInside (ArePutBut [] c.args.ids.now) (IsChangedBy (first_set c.args.clock)) Filled (from_writes a b true (ArePutBut [] c.args.ids.now) c.in_ok-put_each.ensures.writes)
+    (to_writes a d false Filled (does_stop a b d IsInside IsInside (ArePutBut [] c.args.ids.now)
+    (IsChangedBy (first_set c.args.clock)) Filled
+    (from_writes a b true (ArePutBut [] c.args.ids.now) c.in_ok-put_each.ensures.writes)
     (from_makes b d false (first_set c.args.clock) c.in_err-put_first_set.ensures.makes)))
 
 pub returns-in_err-clear_versions-clause-writes : goal.returns-in_err-clear_versions-clause-writes
@@ -50,7 +70,9 @@ returns-in_err-clear_versions-clause-writes g c =
     let Filled = IsFilled c.args.ids.now c.args.clock in
     let One = Both (ArePutBut [] c.args.ids.now) (IsChangedBy (first_set c.args.clock)) in
     subst (λ x. Writes a e x Filled) (sym fails)
-    (to_writes a e false Filled (does_stop a d e IsInside IsInside One (IsCleared former.Version) Filled (one c.args.ids.now c.args.clock a b d c.in_ok-put_each.ensures.writes c.in_ok-put_first_set.ensures.makes)
+    (to_writes a e false Filled (does_stop a d e IsInside IsInside One (IsCleared former.Version)
+    Filled (one c.args.ids.now c.args.clock a b d c.in_ok-put_each.ensures.writes
+    c.in_ok-put_first_set.ensures.makes)
     (from_writes d e false (IsCleared former.Version) c.in_err-clear_versions.ensures.writes)))
 
 pub returns-in_err-clear-clause-writes : goal.returns-in_err-clear-clause-writes
@@ -64,10 +86,13 @@ returns-in_err-clear-clause-writes g c =
     let clock = c.args.clock in
     let fails : is_ok c.from_residual-in_err-clear.result ≡ false = search rules in
     let Filled = IsFilled xs clock in
-    let Two = Both (Both (ArePutBut [] xs) (IsChangedBy (first_set clock))) (IsCleared former.Version) in
+    let Two = Both (Both (ArePutBut [] xs) (IsChangedBy (first_set clock)))
+    (IsCleared former.Version) in
     subst (λ x. Writes a f x Filled) (sym fails)
-    (to_writes a f false Filled (does_stop a e f IsInside IsInside Two (IsCleared former.Clock) Filled
-    (two xs clock a d e (one xs clock a b d c.in_ok-put_each.ensures.writes c.in_ok-put_first_set.ensures.makes) c.in_ok-clear_versions.ensures.writes)
+    (to_writes a f false Filled (does_stop a e f IsInside IsInside Two (IsCleared former.Clock)
+    Filled
+    (two xs clock a d e (one xs clock a b d c.in_ok-put_each.ensures.writes
+    c.in_ok-put_first_set.ensures.makes) c.in_ok-clear_versions.ensures.writes)
     (from_writes e f false (IsCleared former.Clock) c.in_err-clear.ensures.writes)))
 
 pub returns-clause-writes : goal.returns-clause-writes
@@ -79,10 +104,18 @@ returns-clause-writes g c =
     let f = state g.S.Store c.clear.new.tx.conn.now in
     let xs = c.args.ids.now in
     let clock = c.args.clock in
-    let Two = Both (Both (ArePutBut [] xs) (IsChangedBy (first_set clock))) (IsCleared former.Version) in
-    to_writes a f true (IsFilled xs clock) (alters_as a f IsInside IsInside true (Both Two (IsCleared former.Clock)) (IsFilled xs clock)
+    let Two = Both (Both (ArePutBut [] xs) (IsChangedBy (first_set clock)))
+    (IsCleared former.Version) in
+    to_writes a f true (IsFilled xs clock) (alters_as a f IsInside IsInside true
+    (Both Two (IsCleared former.Clock)) (IsFilled xs clock)
     (does_then a e f IsInside IsInside Two (IsCleared former.Clock) true
-    (two xs clock a d e (one xs clock a b d c.in_ok-put_each.ensures.writes c.in_ok-put_first_set.ensures.makes) c.in_ok-clear_versions.ensures.writes)
+    (two xs clock a d e (one xs clock a b d c.in_ok-put_each.ensures.writes
+    c.in_ok-put_first_set.ensures.makes) c.in_ok-clear_versions.ensures.writes)
     (from_writes e f true (IsCleared former.Clock) c.in_ok-clear.ensures.writes)
-    (λ inside w. let cleared = w.did.2 in record { is_open = w.is_open; inside = w.inside; schema = cleared.schema; shaped = cleared_shaped former.Version w.did.0 e.now w.did.2 w.did.1.2.1 }))
+    (λ inside w. let cleared = w.did.2 in record {
+      is_open = w.is_open;
+      inside = w.inside;
+      schema = cleared.schema;
+      shaped = cleared_shaped former.Version w.did.0 e.now w.did.2 w.did.1.2.1;
+    }))
     (λ inside. inside) (λ inside it. filled xs clock a.now f.now inside.shaped it))

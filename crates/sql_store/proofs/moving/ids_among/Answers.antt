@@ -12,29 +12,54 @@ rows-init g c = record {
   given = λ clean sql begun. ([], [], begun, refl, ([], refl, c.new-ids.ensures.items));
   same = λ clean. inl refl;
   mode = λ idle. idle;
-  survives = record { clean = omega arith; shield = λ s. s; counts = omega arith; limit = refl; closes = λ clean up. inl up; crash = λ clean db may. inl may };
+  survives = record {
+    clean = omega arith;
+    shield = λ s. s;
+    counts = omega arith;
+    limit = refl;
+    closes = λ clean up. inl up;
+    crash = λ clean db may. inl may;
+  };
 }
 
 pub returns-in_default-clause-all : goal.returns-in_default-clause-all
 returns-in_default-clause-all g c = λ clean sql plain begun.
-    let before : HasCleanDisk (state g.S.Store c.rows.rows.conn.now) = omega (arith, clean, c.next_read.ensures.survives.clean) in
+    let before : HasCleanDisk (state g.S.Store c.rows.rows.conn.now) =
+    omega (arith, clean, c.next_read.ensures.survives.clean) in
     let (rows, xs, given, are, ids) = c.rows.invariant.given before sql begun in
-    let shown = (rw (c.in_ok-row.was, c.in_default.is) at (c.next_read.ensures.reads clean)) sql rows given in
-    (rows, xs, shown_on g.S.Store c.args.rows.now.conn.now c.rows.rows.conn.now c.next_read.new.rows.conn.now (c.rows.invariant.same before) sql rows plain shown, are, ids)
+    let shown = (rw (c.in_ok-row.was, c.in_default.is) at (c.next_read.ensures.reads clean)) sql
+    rows given in (
+      rows,
+      xs,
+      shown_on g.S.Store c.args.rows.now.conn.now c.rows.rows.conn.now c.next_read.new.rows.conn.now
+          (c.rows.invariant.same before) sql rows plain shown,
+      are,
+      ids,
+    )
 
 pub rows-preserved : goal.rows-preserved
 rows-preserved g c = record {
   same_reference = search rules;
   given = λ clean sql begun.
-      let before : HasCleanDisk (state g.S.Store c.rows.rows.conn.now) = omega (arith, clean, c.next_read.ensures.survives.clean) in
+      let before : HasCleanDisk (state g.S.Store c.rows.rows.conn.now) =
+      omega (arith, clean, c.next_read.ensures.survives.clean) in
       let (rows, xs, given, are, ids) = c.rows.invariant.given before sql begun in
-      let more = (rw (c.in_ok-row.was, c.in-Some.is) at (c.next_read.ensures.reads clean)) sql rows given in
-      (rows ++ more.0 ∷ [], xs ++ (c.in-Some.row.version.id, c.in-Some.row.version.row) ∷ [], more.1, one_more old_version_in rows xs more.0 _ are more.2, more_ids c.rows.ids.items xs c.in-Some.row c.push.new.self.items (search rules) ids);
+      let more = (rw (c.in_ok-row.was, c.in-Some.is) at (c.next_read.ensures.reads clean)) sql rows
+      given in (
+        rows ++ more.0 ∷ [],
+        xs ++ (c.in-Some.row.version.id, c.in-Some.row.version.row) ∷ [],
+        more.1,
+        one_more old_version_in rows xs more.0 _ are more.2,
+        more_ids c.rows.ids.items xs c.in-Some.row c.push.new.self.items (search rules) ids,
+      );
   same = λ clean.
-      let before : HasCleanDisk (state g.S.Store c.rows.rows.conn.now) = omega (arith, clean, c.next_read.ensures.survives.clean) in
-      moved_on g.S.Store c.args.rows.now.conn.now c.rows.rows.conn.now c.next_read.new.rows.conn.now (c.rows.invariant.same before) (rw (c.in_ok-row.was) at (c.next_read.ensures.same clean));
+      let before : HasCleanDisk (state g.S.Store c.rows.rows.conn.now) =
+      omega (arith, clean, c.next_read.ensures.survives.clean) in
+      moved_on g.S.Store c.args.rows.now.conn.now c.rows.rows.conn.now c.next_read.new.rows.conn.now
+      (c.rows.invariant.same before) (rw (c.in_ok-row.was) at (c.next_read.ensures.same clean));
   mode = λ idle. c.next_read.ensures.mode (c.rows.invariant.mode idle);
-  survives = survives_then _ _ _ _ _ _ (λ _ db none. none) (λ _ db none. none) c.rows.invariant.survives c.next_read.ensures.survives;
+  survives = survives_then _ _ _ _ _ _ (λ _ db none. none) (λ _ db none. none)
+      c.rows.invariant.survives c.next_read.ensures.survives;
 }
 
 pub returns-clause-err : goal.returns-clause-err
@@ -42,6 +67,9 @@ returns-clause-err g c = λ clean. inl (c.rows.invariant.same clean)
 
 pub returns-in_err-row-clause-err : goal.returns-in_err-row-clause-err
 returns-in_err-row-clause-err g c = λ clean.
-    let before : HasCleanDisk (state g.S.Store c.rows.rows.conn.now) = omega (arith, clean, c.next_read.ensures.survives.clean) in
-    let left = rolled_on g.S.Store c.args.rows.now.conn.now c.rows.rows.conn.now c.next_read.new.rows.conn.now (c.rows.invariant.same before) (rw (c.in_err-row.was) at (c.next_read.ensures.err clean)) in
+    let before : HasCleanDisk (state g.S.Store c.rows.rows.conn.now) =
+    omega (arith, clean, c.next_read.ensures.survives.clean) in
+    let left = rolled_on g.S.Store c.args.rows.now.conn.now c.rows.rows.conn.now
+    c.next_read.new.rows.conn.now (c.rows.invariant.same before)
+    (rw (c.in_err-row.was) at (c.next_read.ensures.err clean)) in
     search rules

@@ -23,12 +23,19 @@ returns-in_err-rows-clause-looked g c =
     let new = state g.S.Store c.query.follows.lender-at-none in
     let text = all_text OldVersion in
     let held = c.query.follows.holds-at-none in
-    let fails : HasCleanDisk new → IfErr c.query.result (FailsToQuery c.text.result.now [] old new) = search rules in
+    let fails : HasCleanDisk new
+    → IfErr c.query.result (FailsToQuery c.text.result.now [] old new) = search rules in
     let kept : Survives old new (CommitsShowing c.text.result.now [] old) = search rules in
-    let survives = query_commits_nothing text [] old new (query_selects (All OldVersion)) (subst (λ t. Survives old new (CommitsShowing t [] old)) c.text.ensures kept) in
+    let survives = query_commits_nothing text [] old new (query_selects (All OldVersion))
+    (subst (λ t. Survives old new (CommitsShowing t [] old)) c.text.ensures kept) in
     let failed : is_ok c.from_residual.result ≡ false = search rules in
-    let looked : Looked old new false = table_looked {R = Unit {0}} old_version_in (λ r seen. Unit {0}) text old new (Err Device) (old_plain old_version_in OldVersion old old c.args.form tt c.requires.old) (λ was. settled_as c.args.form old (c.requires.old was))
-    (clean_if_open new.is_clean new.is_open (g.met.S.Store.shut_if_dirty _)) (λ clean. tt) (λ clean. fails_as c.text.result.now [] old new c.in_err-rows.field-0.0 (rw c.in_err-rows.was at (fails clean))) survives in
+    let looked : Looked old new false =
+    table_looked {R = Unit {0}} old_version_in (λ r seen. Unit {0}) text old new (Err Device)
+    (old_plain old_version_in OldVersion old old c.args.form tt c.requires.old)
+    (λ was. settled_as c.args.form old (c.requires.old was))
+    (clean_if_open new.is_clean new.is_open (g.met.S.Store.shut_if_dirty _)) (λ clean. tt)
+    (λ clean. fails_as c.text.result.now [] old new c.in_err-rows.field-0.0
+    (rw c.in_err-rows.was at (fails clean))) survives in
     subst (Looked old new) (sym failed) looked
 
 pub returns-clause-value : goal.returns-clause-value
@@ -41,12 +48,22 @@ returns-clause-value g c =
     let new = state g.S.Store last in
     let text = all_text OldVersion in
     let plain = old_plain old_version_in OldVersion old old c.args.form tt c.requires.old in
-    let begun : HasCleanDisk mid → HasBegun g.S.Store text [] first here = subst (λ t. HasCleanDisk mid → HasBegun g.S.Store t [] first here) c.text.ensures c.in_ok-rows.ensures.begun in
-    let all : HasCleanDisk new → IfOk c.ids_among.result (λ ids. HasReadAll old_version_in text old new (AreIdsOf ids.items)) = λ clean.
-    read_from g.S.Store text first here last plain (begun (omega (arith, clean, c.ids_among.ensures.survives.clean))) old_version_in (λ ids. AreIdsOf ids.items) c.ids_among.result (c.ids_among.ensures.all clean)
+    let begun : HasCleanDisk mid → HasBegun g.S.Store text [] first here =
+    subst (λ t. HasCleanDisk mid → HasBegun g.S.Store t [] first here) c.text.ensures
+    c.in_ok-rows.ensures.begun in
+    let all : HasCleanDisk new
+    → IfOk c.ids_among.result (λ ids. HasReadAll old_version_in text old new (AreIdsOf ids.items)) =
+    λ clean.
+    read_from g.S.Store text first here last plain
+    (begun (omega (arith, clean, c.ids_among.ensures.survives.clean))) old_version_in
+    (λ ids. AreIdsOf ids.items) c.ids_among.result (c.ids_among.ensures.all clean)
     in
-    let clean_of : IsTrue new.is_open → HasCleanDisk new = clean_if_open new.is_clean new.is_open (g.met.S.Store.shut_if_dirty _) in
-    let told : IsTrue new.is_open → IfOk c.ids_among.result (λ ids. HasIds ids.items old.now.trees) = λ up. ids_read c.args.form old new c.requires.old (λ ids. ids.items) c.ids_among.result (all (clean_of up)) in
+    let clean_of : IsTrue new.is_open → HasCleanDisk new =
+    clean_if_open new.is_clean new.is_open (g.met.S.Store.shut_if_dirty _) in
+    let told : IsTrue new.is_open
+    → IfOk c.ids_among.result (λ ids. HasIds ids.items old.now.trees) =
+    λ up. ids_read c.args.form old new c.requires.old (λ ids. ids.items) c.ids_among.result
+    (all (clean_of up)) in
     search rules
 
 pub returns-clause-looked : goal.returns-clause-looked
@@ -59,15 +76,30 @@ returns-clause-looked g c =
     let new = state g.S.Store last in
     let text = all_text OldVersion in
     let plain = old_plain old_version_in OldVersion old old c.args.form tt c.requires.old in
-    let begun : HasCleanDisk mid → HasBegun g.S.Store text [] first here = subst (λ t. HasCleanDisk mid → HasBegun g.S.Store t [] first here) c.text.ensures c.in_ok-rows.ensures.begun in
-    let all : HasCleanDisk new → IfOk c.ids_among.result (λ ids. HasReadAll old_version_in text old new (AreIdsOf ids.items)) = λ clean.
-    read_from g.S.Store text first here last plain (begun (omega (arith, clean, c.ids_among.ensures.survives.clean))) old_version_in (λ ids. AreIdsOf ids.items) c.ids_among.result (c.ids_among.ensures.all clean)
+    let begun : HasCleanDisk mid → HasBegun g.S.Store text [] first here =
+    subst (λ t. HasCleanDisk mid → HasBegun g.S.Store t [] first here) c.text.ensures
+    c.in_ok-rows.ensures.begun in
+    let all : HasCleanDisk new
+    → IfOk c.ids_among.result (λ ids. HasReadAll old_version_in text old new (AreIdsOf ids.items)) =
+    λ clean.
+    read_from g.S.Store text first here last plain
+    (begun (omega (arith, clean, c.ids_among.ensures.survives.clean))) old_version_in
+    (λ ids. AreIdsOf ids.items) c.ids_among.result (c.ids_among.ensures.all clean)
     in
-    let err : HasCleanDisk new → OnErr c.ids_among.result (IsUnchanged old new ⊎ IsRolledBack old new) = λ clean.
-    err_from g.S.Store text first here last plain (begun (omega (arith, clean, c.ids_among.ensures.survives.clean))) c.ids_among.result (c.ids_among.ensures.err clean)
+    let err : HasCleanDisk new → OnErr c.ids_among.result (IsUnchanged old new
+    ⊎ IsRolledBack old new) = λ clean.
+    err_from g.S.Store text first here last plain
+    (begun (omega (arith, clean, c.ids_among.ensures.survives.clean))) c.ids_among.result
+    (c.ids_among.ensures.err clean)
     in
-    let asked = query_commits_nothing text [] old mid (query_selects (All OldVersion)) (subst (λ t. Survives old mid (CommitsShowing t [] old)) c.text.ensures c.in_ok-rows.ensures.survives) in
-    let survives : Survives old new (λ _. ⊥) = survives_then old mid new _ _ _ (λ _ db none. none) (λ _ db none. none) asked c.ids_among.ensures.survives in
-    let looked : Looked old new (is_ok c.ids_among.result) = table_looked old_version_in (λ ids. AreIdsOf ids.items) text old new c.ids_among.result plain (λ was. settled_as c.args.form old (c.requires.old was))
+    let asked = query_commits_nothing text [] old mid (query_selects (All OldVersion))
+    (subst (λ t. Survives old mid (CommitsShowing t [] old)) c.text.ensures
+    c.in_ok-rows.ensures.survives) in
+    let survives : Survives old new (λ _. ⊥) =
+    survives_then old mid new _ _ _ (λ _ db none. none) (λ _ db none. none) asked
+    c.ids_among.ensures.survives in
+    let looked : Looked old new (is_ok c.ids_among.result) =
+    table_looked old_version_in (λ ids. AreIdsOf ids.items) text old new c.ids_among.result plain
+    (λ was. settled_as c.args.form old (c.requires.old was))
     (clean_if_open new.is_clean new.is_open (g.met.S.Store.shut_if_dirty _)) all err survives in
     search rules

@@ -10,19 +10,37 @@ use Rattle.sql_store.proofs.MovingLemmas.{Both, alters_as, alters_none, does_sto
 use Rattle.sql_store.proofs.moving.make_set_tables.Goals as goal
 
 -- the first two tables, and then the third
-two : (a b d : State) → Alters (IsBegun modify_schema) a b true (IsMade made.WindowSet) → Alters (IsBegun (schema_before made.Version)) b d true (IsMade made.Version) → Alters (IsBegun modify_schema) a d true (Both (IsMade made.WindowSet) (IsMade made.Version))
-two a b d one more = does_then a b d (IsBegun modify_schema) (IsBegun (schema_before made.Version)) (IsMade made.WindowSet) (IsMade made.Version) true one more (λ begun w. record { is_open = w.is_open; inside = w.inside; schema = w.did.schema })
+two : (a b d : State) → Alters (IsBegun modify_schema) a b true (IsMade made.WindowSet)
+    → Alters (IsBegun (schema_before made.Version)) b d true (IsMade made.Version)
+    → Alters (IsBegun modify_schema) a d true (Both (IsMade made.WindowSet) (IsMade made.Version))
+two a b d one more = does_then a b d (IsBegun modify_schema) (IsBegun (schema_before made.Version))
+    (IsMade made.WindowSet) (IsMade made.Version) true one more (λ begun w. record {
+      is_open = w.is_open;
+      inside = w.inside;
+      schema = w.did.schema;
+    })
 
-three : (a d e : State) → Alters (IsBegun modify_schema) a d true (Both (IsMade made.WindowSet) (IsMade made.Version)) → Alters (IsBegun (schema_before made.Clock)) d e true (IsMade made.Clock)
-    → Alters (IsBegun modify_schema) a e true (Both (Both (IsMade made.WindowSet) (IsMade made.Version)) (IsMade made.Clock))
-three a d e one more = does_then a d e (IsBegun modify_schema) (IsBegun (schema_before made.Clock)) (Both (IsMade made.WindowSet) (IsMade made.Version)) (IsMade made.Clock) true one more (λ begun w. record { is_open = w.is_open; inside = w.inside; schema = w.did.2.schema })
+three : (a d e : State)
+    → Alters (IsBegun modify_schema) a d true (Both (IsMade made.WindowSet) (IsMade made.Version))
+    → Alters (IsBegun (schema_before made.Clock)) d e true (IsMade made.Clock)
+    → Alters (IsBegun modify_schema) a e true
+    (Both (Both (IsMade made.WindowSet) (IsMade made.Version)) (IsMade made.Clock))
+three a d e one more = does_then a d e (IsBegun modify_schema) (IsBegun (schema_before made.Clock))
+    (Both (IsMade made.WindowSet) (IsMade made.Version)) (IsMade made.Clock) true one more
+    (λ begun w. record {
+      is_open = w.is_open;
+      inside = w.inside;
+      schema = w.did.2.schema;
+    })
 
 pub returns-in_err-make-clause-alters : goal.returns-in_err-make-clause-alters
 returns-in_err-make-clause-alters g c =
     let a = state g.S.Store c.args.tx.now.conn.now in
     let b = state g.S.Store c.make.new.tx.conn.now in
     let fails : is_ok c.from_residual.result ≡ false = search rules in
-    subst (λ x. Alters (IsBegun modify_schema) a b x (IsGrown Modify)) (sym fails) (alters_none a b (IsBegun modify_schema) (IsMade made.WindowSet) (IsGrown Modify) c.in_err-make.ensures.alters)
+    subst (λ x. Alters (IsBegun modify_schema) a b x (IsGrown Modify)) (sym fails)
+    (alters_none a b (IsBegun modify_schema) (IsMade made.WindowSet) (IsGrown Modify)
+    c.in_err-make.ensures.alters)
 
 pub returns-in_err-make-2-clause-alters : goal.returns-in_err-make-2-clause-alters
 returns-in_err-make-2-clause-alters g c =
@@ -30,7 +48,10 @@ returns-in_err-make-2-clause-alters g c =
     let b = state g.S.Store c.make.new.tx.conn.now in
     let d = state g.S.Store c.make-2.new.tx.conn.now in
     let fails : is_ok c.from_residual-in_err-make-2.result ≡ false = search rules in
-    subst (λ x. Alters (IsBegun modify_schema) a d x (IsGrown Modify)) (sym fails) (does_stop a b d (IsBegun modify_schema) (IsBegun (schema_before made.Version)) (IsMade made.WindowSet) (IsMade made.Version) (IsGrown Modify) c.in_ok-make.ensures.alters c.in_err-make-2.ensures.alters)
+    subst (λ x. Alters (IsBegun modify_schema) a d x (IsGrown Modify)) (sym fails)
+    (does_stop a b d (IsBegun modify_schema) (IsBegun (schema_before made.Version))
+    (IsMade made.WindowSet) (IsMade made.Version) (IsGrown Modify) c.in_ok-make.ensures.alters
+    c.in_err-make-2.ensures.alters)
 
 pub returns-in_err-make-3-clause-alters : goal.returns-in_err-make-3-clause-alters
 returns-in_err-make-3-clause-alters g c =
@@ -40,7 +61,10 @@ returns-in_err-make-3-clause-alters g c =
     let e = state g.S.Store c.make-3.new.tx.conn.now in
     let fails : is_ok c.from_residual-in_err-make-3.result ≡ false = search rules in
     subst (λ x. Alters (IsBegun modify_schema) a e x (IsGrown Modify)) (sym fails)
-    (does_stop a d e (IsBegun modify_schema) (IsBegun (schema_before made.Clock)) (Both (IsMade made.WindowSet) (IsMade made.Version)) (IsMade made.Clock) (IsGrown Modify) (two a b d c.in_ok-make.ensures.alters c.in_ok-make-2.ensures.alters) c.in_err-make-3.ensures.alters)
+    (does_stop a d e (IsBegun modify_schema) (IsBegun (schema_before made.Clock))
+    (Both (IsMade made.WindowSet) (IsMade made.Version)) (IsMade made.Clock) (IsGrown Modify)
+    (two a b d c.in_ok-make.ensures.alters c.in_ok-make-2.ensures.alters)
+    c.in_err-make-3.ensures.alters)
 
 pub returns-in_err-make_index-clause-alters : goal.returns-in_err-make_index-clause-alters
 returns-in_err-make_index-clause-alters g c =
@@ -51,8 +75,11 @@ returns-in_err-make_index-clause-alters g c =
     let f = state g.S.Store c.make_index.new.tx.conn.now in
     let fails : is_ok c.from_residual-in_err-make_index.result ≡ false = search rules in
     subst (λ x. Alters (IsBegun modify_schema) a f x (IsGrown Modify)) (sym fails)
-    (does_stop a e f (IsBegun modify_schema) (IsBegun (schema_after made.Clock)) (Both (Both (IsMade made.WindowSet) (IsMade made.Version)) (IsMade made.Clock)) IsIndexed (IsGrown Modify)
-    (three a d e (two a b d c.in_ok-make.ensures.alters c.in_ok-make-2.ensures.alters) c.in_ok-make-3.ensures.alters) c.in_err-make_index.ensures.alters)
+    (does_stop a e f (IsBegun modify_schema) (IsBegun (schema_after made.Clock))
+    (Both (Both (IsMade made.WindowSet) (IsMade made.Version)) (IsMade made.Clock)) IsIndexed
+    (IsGrown Modify)
+    (three a d e (two a b d c.in_ok-make.ensures.alters c.in_ok-make-2.ensures.alters)
+    c.in_ok-make-3.ensures.alters) c.in_err-make_index.ensures.alters)
 
 pub returns-clause-alters : goal.returns-clause-alters
 returns-clause-alters g c =
@@ -62,7 +89,10 @@ returns-clause-alters g c =
     let e = state g.S.Store c.make-3.new.tx.conn.now in
     let f = state g.S.Store c.make_index.new.tx.conn.now in
     let Three = Both (Both (IsMade made.WindowSet) (IsMade made.Version)) (IsMade made.Clock) in
-    alters_as a f (IsBegun modify_schema) (IsBegun modify_schema) true (Both Three IsIndexed) (IsGrown Modify)
-    (does_then a e f (IsBegun modify_schema) (IsBegun (schema_after made.Clock)) Three IsIndexed true (three a d e (two a b d c.in_ok-make.ensures.alters c.in_ok-make-2.ensures.alters) c.in_ok-make-3.ensures.alters) c.in_ok-make_index.ensures.alters
+    alters_as a f (IsBegun modify_schema) (IsBegun modify_schema) true (Both Three IsIndexed)
+    (IsGrown Modify)
+    (does_then a e f (IsBegun modify_schema) (IsBegun (schema_after made.Clock)) Three IsIndexed
+    true (three a d e (two a b d c.in_ok-make.ensures.alters c.in_ok-make-2.ensures.alters)
+    c.in_ok-make-3.ensures.alters) c.in_ok-make_index.ensures.alters
     (λ begun w. record { is_open = w.is_open; inside = w.inside; schema = w.did.2.schema }))
     (λ begun. begun) (λ begun it. grown_sets a.now f.now it)

@@ -15,9 +15,13 @@ returns-in_err-rebuild-clause-moves g c =
     let end = state g.S.Store c.drop-tx.new.self.0 in
     let same : c.drop-tx.new.self.0 ≡ c.conn-1.given.0 = search rules in
     let fails : is_ok c.from_residual.result ≡ false = search rules in
-    let b = begun_as g.S.Store f c.args.conn.now c.transaction-tx.result.conn.now mid false (IsRebuilt f xs clock) c.transaction-tx.ensures.begun c.in_err-rebuild.ensures.alters c.requires.old in
-    subst (λ d. Moves (IsRebuiltAs f xs clock) old (state g.S.Store c.conn-1.given.0) d) (sym fails) (subst (λ h. Moves (IsRebuiltAs f xs clock) old (state g.S.Store h) false) same
-    (given_up f xs clock old mid end c.requires.old (clean_if_open end.is_clean end.is_open (g.met.S.Store.shut_if_dirty _)) b c.drop-tx.ensures.undone c.drop-tx.ensures.survives))
+    let b = begun_as g.S.Store f c.args.conn.now c.transaction-tx.result.conn.now mid false
+    (IsRebuilt f xs clock) c.transaction-tx.ensures.begun c.in_err-rebuild.ensures.alters
+    c.requires.old in
+    subst (λ d. Moves (IsRebuiltAs f xs clock) old (state g.S.Store c.conn-1.given.0) d) (sym fails)
+    (subst (λ h. Moves (IsRebuiltAs f xs clock) old (state g.S.Store h) false) same
+    (given_up f xs clock old mid end c.requires.old (clean_if_open end.is_clean end.is_open
+    (g.met.S.Store.shut_if_dirty _)) b c.drop-tx.ensures.undone c.drop-tx.ensures.survives))
 
 pub returns-in_err-commit-clause-moves : goal.returns-in_err-commit-clause-moves
 returns-in_err-commit-clause-moves g c =
@@ -29,9 +33,13 @@ returns-in_err-commit-clause-moves g c =
     let end = state g.S.Store c.commit.new.self.0 in
     let same : c.commit.new.self.0 ≡ c.conn-2-1.given.0 = search rules in
     let fails : is_ok c.from_residual-in_err-commit.result ≡ false = search rules in
-    let b = begun_as g.S.Store f c.args.conn.now c.transaction-tx.result.conn.now mid true (IsRebuilt f xs clock) c.transaction-tx.ensures.begun c.in_ok-rebuild.ensures.alters c.requires.old in
-    subst (λ d. Moves (IsRebuiltAs f xs clock) old (state g.S.Store c.conn-2-1.given.0) d) (sym fails) (subst (λ h. Moves (IsRebuiltAs f xs clock) old (state g.S.Store h) false) same
-    (not_moved f xs clock old mid end c.requires.old (clean_if_open end.is_clean end.is_open (g.met.S.Store.shut_if_dirty _)) b c.commit.ensures.survives _ c.in_err-commit.ensures.err))
+    let b = begun_as g.S.Store f c.args.conn.now c.transaction-tx.result.conn.now mid true
+    (IsRebuilt f xs clock) c.transaction-tx.ensures.begun c.in_ok-rebuild.ensures.alters
+    c.requires.old in
+    subst (λ d. Moves (IsRebuiltAs f xs clock) old (state g.S.Store c.conn-2-1.given.0) d)
+    (sym fails) (subst (λ h. Moves (IsRebuiltAs f xs clock) old (state g.S.Store h) false) same
+    (not_moved f xs clock old mid end c.requires.old (clean_if_open end.is_clean end.is_open
+    (g.met.S.Store.shut_if_dirty _)) b c.commit.ensures.survives _ c.in_err-commit.ensures.err))
 
 pub returns-clause-moves : goal.returns-clause-moves
 returns-clause-moves g c =
@@ -42,5 +50,10 @@ returns-clause-moves g c =
     let mid = state g.S.Store c.rebuild.new.tx.conn.now in
     let end = state g.S.Store c.commit.new.self.0 in
     let same : c.commit.new.self.0 ≡ c.conn-2-1.given.0 = search rules in
-    let b = begun_as g.S.Store f c.args.conn.now c.transaction-tx.result.conn.now mid true (IsRebuilt f xs clock) c.transaction-tx.ensures.begun c.in_ok-rebuild.ensures.alters c.requires.old in
-    subst (λ h. Moves (IsRebuiltAs f xs clock) old (state g.S.Store h) true) same (moved f xs clock old mid end c.requires.old (clean_if_open end.is_clean end.is_open (g.met.S.Store.shut_if_dirty _)) b c.commit.ensures.survives (λ clean. (c.in_ok-commit.ensures.ok clean).1))
+    let b = begun_as g.S.Store f c.args.conn.now c.transaction-tx.result.conn.now mid true
+    (IsRebuilt f xs clock) c.transaction-tx.ensures.begun c.in_ok-rebuild.ensures.alters
+    c.requires.old in
+    subst (λ h. Moves (IsRebuiltAs f xs clock) old (state g.S.Store h) true) same
+    (moved f xs clock old mid end c.requires.old (clean_if_open end.is_clean end.is_open
+    (g.met.S.Store.shut_if_dirty _)) b c.commit.ensures.survives
+    (λ clean. (c.in_ok-commit.ensures.ok clean).1))

@@ -16,7 +16,8 @@ returns-in_err-replace-clause-writes g c =
     let old = state g.S.Store c.args.tx.now.conn.now in
     let new = state g.S.Store c.replace.new.tx.conn.now in
     let fails : is_ok c.from_residual.result ≡ false = search rules in
-    subst (λ d. Writes old new d (IsBarePut c.args.id c.args.row.now)) (sym fails) (writes_nothing old new _ _ c.in_err-replace.ensures.writes)
+    subst (λ d. Writes old new d (IsBarePut c.args.id c.args.row.now)) (sym fails)
+    (writes_nothing old new _ _ c.in_err-replace.ensures.writes)
 
 pub returns-clause-writes : goal.returns-clause-writes
 returns-clause-writes g c =
@@ -26,5 +27,8 @@ returns-clause-writes g c =
     let row = c.args.row.now in
     let fit : IsTrue c.fits.result = search rules in
     let back = c.fits.ensures.back fit in
-    writes_as old new true (Replaced Version (Int (pos id) ∷ []) (version_params id row)) (IsBarePut id row) (λ did. (did, back))
-    (subst₂ (λ k r. Writes old new true (Replaced Version k r)) (one_bound c.number.result (Int (pos id)) refl c.number.ensures) (bound_version _ id row c.version_params-params.ensures) c.in_ok-replace.ensures.writes)
+    writes_as old new true (Replaced Version (Int (pos id) ∷ []) (version_params id row))
+    (IsBarePut id row) (λ did. (did, back))
+    (subst₂ (λ k r. Writes old new true (Replaced Version k r))
+    (one_bound c.number.result (Int (pos id)) refl c.number.ensures)
+    (bound_version _ id row c.version_params-params.ensures) c.in_ok-replace.ensures.writes)

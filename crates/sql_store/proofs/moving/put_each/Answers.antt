@@ -6,7 +6,10 @@ use Rattle.sql_store.proofs.MovingLemmas.{one_left, put_none, puts_then}
 use Rattle.sql_store.proofs.moving.put_each.Goals as goal
 
 pub loop-id-init : goal.loop-id-init
-loop-id-init g c = record { same_reference = search rules; puts = put_none (state g.S.Store c.args.tx.now.conn.now) c.args.ids.now }
+loop-id-init g c = record {
+  same_reference = search rules;
+  puts = put_none (state g.S.Store c.args.tx.now.conn.now) c.args.ids.now;
+}
 
 pub loop-id-preserved : goal.loop-id-preserved
 loop-id-preserved g c =
@@ -18,5 +21,7 @@ loop-id-preserved g c =
     let within : i < length ids = search rules in
     record {
       same_reference = search rules;
-      puts = puts_then a b d (get_or ids i 0) (drop (i + 1) ids) ids (subst (λ l. Writes a b true (ArePutBut l ids)) (one_left ids i within) c.loop-id.invariant.puts) c.in_ok-put_old.ensures.writes;
+      puts = puts_then a b d (get_or ids i 0) (drop (i + 1) ids) ids
+          (subst (λ l. Writes a b true (ArePutBut l ids)) (one_left ids i within)
+          c.loop-id.invariant.puts) c.in_ok-put_old.ensures.writes;
     }

@@ -8,5 +8,6 @@ use Rattle.sql_store.proofs.moving.put_each.Given as goal
 abbrev pub invariant-loop-id : goal.invariant-loop-id
 invariant-loop-id g l = record {
   same_reference : l.tx.conn.ghost_name ≡ l.fn.tx.conn.ghost_name;
-  puts : Writes (state g.S.Store l.fn.tx.conn.now) (state g.S.Store l.tx.conn.now) true (ArePutBut (drop l.id-index l.ids) l.ids);
+  puts : Writes (state g.S.Store l.fn.tx.conn.now) (state g.S.Store l.tx.conn.now) true
+      (ArePutBut (drop l.id-index l.ids) l.ids);
 }

@@ -17,11 +17,16 @@ returns-in_err-rows-clause-writes g c =
     let b = state g.S.Store c.query_all.new.self.conn.now in
     let text = c.text.ensures in
     let key = one_bound c.number.result (Int (pos c.args.id)) refl c.number.ensures in
-    let kept : IsTrue b.is_open → Kept a b = asked_kept a b c.args.id (λ found. found.items) c.query_all.result (clean_if_open b.is_clean b.is_open (g.met.S.Store.shut_if_dirty _))
-    (subst₂ (λ t k. HasCleanDisk b → IfOk c.query_all.result (λ rows. Shown t k a b rows.items)) text key c.query_all.ensures.ok)
-    (subst₂ (λ t k. HasCleanDisk b → IfErr c.query_all.result (λ e. FailsToQuery t k a b e ⊎ IsTooLate t k a b e)) text key c.query_all.ensures.err) in
+    let kept : IsTrue b.is_open → Kept a b =
+    asked_kept a b c.args.id (λ found. found.items) c.query_all.result
+    (clean_if_open b.is_clean b.is_open (g.met.S.Store.shut_if_dirty _))
+    (subst₂ (λ t k. HasCleanDisk b → IfOk c.query_all.result (λ rows. Shown t k a b rows.items))
+    text key c.query_all.ensures.ok)
+    (subst₂ (λ t k. HasCleanDisk b → IfErr c.query_all.result (λ e. FailsToQuery t k a b e
+    ⊎ IsTooLate t k a b e)) text key c.query_all.ensures.err) in
     let fails : is_ok c.from_residual.result ≡ false = search rules in
-    subst (λ d. Writes a b d (IsOldPut c.args.id)) (sym fails) (unput a b c.args.id kept c.query_all.ensures.survives)
+    subst (λ d. Writes a b d (IsOldPut c.args.id)) (sym fails)
+    (unput a b c.args.id kept c.query_all.ensures.survives)
 
 pub returns-in_err-found-clause-writes : goal.returns-in_err-found-clause-writes
 returns-in_err-found-clause-writes g c =
@@ -29,11 +34,16 @@ returns-in_err-found-clause-writes g c =
     let b = state g.S.Store c.query_all.new.self.conn.now in
     let text = c.text.ensures in
     let key = one_bound c.number.result (Int (pos c.args.id)) refl c.number.ensures in
-    let kept : IsTrue b.is_open → Kept a b = asked_kept a b c.args.id (λ found. found.items) c.query_all.result (clean_if_open b.is_clean b.is_open (g.met.S.Store.shut_if_dirty _))
-    (subst₂ (λ t k. HasCleanDisk b → IfOk c.query_all.result (λ rows. Shown t k a b rows.items)) text key c.query_all.ensures.ok)
-    (subst₂ (λ t k. HasCleanDisk b → IfErr c.query_all.result (λ e. FailsToQuery t k a b e ⊎ IsTooLate t k a b e)) text key c.query_all.ensures.err) in
+    let kept : IsTrue b.is_open → Kept a b =
+    asked_kept a b c.args.id (λ found. found.items) c.query_all.result
+    (clean_if_open b.is_clean b.is_open (g.met.S.Store.shut_if_dirty _))
+    (subst₂ (λ t k. HasCleanDisk b → IfOk c.query_all.result (λ rows. Shown t k a b rows.items))
+    text key c.query_all.ensures.ok)
+    (subst₂ (λ t k. HasCleanDisk b → IfErr c.query_all.result (λ e. FailsToQuery t k a b e
+    ⊎ IsTooLate t k a b e)) text key c.query_all.ensures.err) in
     let fails : is_ok c.from_residual-in_err-found.result ≡ false = search rules in
-    subst (λ d. Writes a b d (IsOldPut c.args.id)) (sym fails) (unput a b c.args.id kept c.query_all.ensures.survives)
+    subst (λ d. Writes a b d (IsOldPut c.args.id)) (sym fails)
+    (unput a b c.args.id kept c.query_all.ensures.survives)
 
 pub returns-in_default-clause-writes : goal.returns-in_default-clause-writes
 returns-in_default-clause-writes g c =
@@ -41,9 +51,13 @@ returns-in_default-clause-writes g c =
     let b = state g.S.Store c.query_all.new.self.conn.now in
     let text = c.text.ensures in
     let key = one_bound c.number.result (Int (pos c.args.id)) refl c.number.ensures in
-    let kept : IsTrue b.is_open → Kept a b = asked_kept a b c.args.id (λ found. found.items) c.query_all.result (clean_if_open b.is_clean b.is_open (g.met.S.Store.shut_if_dirty _))
-    (subst₂ (λ t k. HasCleanDisk b → IfOk c.query_all.result (λ rows. Shown t k a b rows.items)) text key c.query_all.ensures.ok)
-    (subst₂ (λ t k. HasCleanDisk b → IfErr c.query_all.result (λ e. FailsToQuery t k a b e ⊎ IsTooLate t k a b e)) text key c.query_all.ensures.err) in
+    let kept : IsTrue b.is_open → Kept a b =
+    asked_kept a b c.args.id (λ found. found.items) c.query_all.result
+    (clean_if_open b.is_clean b.is_open (g.met.S.Store.shut_if_dirty _))
+    (subst₂ (λ t k. HasCleanDisk b → IfOk c.query_all.result (λ rows. Shown t k a b rows.items))
+    text key c.query_all.ensures.ok)
+    (subst₂ (λ t k. HasCleanDisk b → IfErr c.query_all.result (λ e. FailsToQuery t k a b e
+    ⊎ IsTooLate t k a b e)) text key c.query_all.ensures.err) in
     unput a b c.args.id kept c.query_all.ensures.survives
 
 pub returns-in_err-put_bare-clause-writes : goal.returns-in_err-put_bare-clause-writes
@@ -52,12 +66,18 @@ returns-in_err-put_bare-clause-writes g c =
     let b = state g.S.Store c.query_all.new.self.conn.now in
     let text = c.text.ensures in
     let key = one_bound c.number.result (Int (pos c.args.id)) refl c.number.ensures in
-    let kept : IsTrue b.is_open → Kept a b = asked_kept a b c.args.id (λ found. found.items) c.query_all.result (clean_if_open b.is_clean b.is_open (g.met.S.Store.shut_if_dirty _))
-    (subst₂ (λ t k. HasCleanDisk b → IfOk c.query_all.result (λ rows. Shown t k a b rows.items)) text key c.query_all.ensures.ok)
-    (subst₂ (λ t k. HasCleanDisk b → IfErr c.query_all.result (λ e. FailsToQuery t k a b e ⊎ IsTooLate t k a b e)) text key c.query_all.ensures.err) in
+    let kept : IsTrue b.is_open → Kept a b =
+    asked_kept a b c.args.id (λ found. found.items) c.query_all.result
+    (clean_if_open b.is_clean b.is_open (g.met.S.Store.shut_if_dirty _))
+    (subst₂ (λ t k. HasCleanDisk b → IfOk c.query_all.result (λ rows. Shown t k a b rows.items))
+    text key c.query_all.ensures.ok)
+    (subst₂ (λ t k. HasCleanDisk b → IfErr c.query_all.result (λ e. FailsToQuery t k a b e
+    ⊎ IsTooLate t k a b e)) text key c.query_all.ensures.err) in
     let d = state g.S.Store c.put_bare.new.tx.conn.now in
     let fails : is_ok c.from_residual-in_err-put_bare.result ≡ false = search rules in
-    subst (λ x. Writes a d x (IsOldPut c.args.id)) (sym fails) (read_unput a b d c.args.id c.in_ok-rows.rows.items kept c.query_all.ensures.survives _ c.in_err-put_bare.ensures.writes)
+    subst (λ x. Writes a d x (IsOldPut c.args.id)) (sym fails)
+    (read_unput a b d c.args.id c.in_ok-rows.rows.items kept c.query_all.ensures.survives _
+    c.in_err-put_bare.ensures.writes)
 
 pub returns-clause-writes : goal.returns-clause-writes
 returns-clause-writes g c =
@@ -65,11 +85,20 @@ returns-clause-writes g c =
     let b = state g.S.Store c.query_all.new.self.conn.now in
     let text = c.text.ensures in
     let key = one_bound c.number.result (Int (pos c.args.id)) refl c.number.ensures in
-    let kept : IsTrue b.is_open → Kept a b = asked_kept a b c.args.id (λ found. found.items) c.query_all.result (clean_if_open b.is_clean b.is_open (g.met.S.Store.shut_if_dirty _))
-    (subst₂ (λ t k. HasCleanDisk b → IfOk c.query_all.result (λ rows. Shown t k a b rows.items)) text key c.query_all.ensures.ok)
-    (subst₂ (λ t k. HasCleanDisk b → IfErr c.query_all.result (λ e. FailsToQuery t k a b e ⊎ IsTooLate t k a b e)) text key c.query_all.ensures.err) in
+    let kept : IsTrue b.is_open → Kept a b =
+    asked_kept a b c.args.id (λ found. found.items) c.query_all.result
+    (clean_if_open b.is_clean b.is_open (g.met.S.Store.shut_if_dirty _))
+    (subst₂ (λ t k. HasCleanDisk b → IfOk c.query_all.result (λ rows. Shown t k a b rows.items))
+    text key c.query_all.ensures.ok)
+    (subst₂ (λ t k. HasCleanDisk b → IfErr c.query_all.result (λ e. FailsToQuery t k a b e
+    ⊎ IsTooLate t k a b e)) text key c.query_all.ensures.err) in
     let d = state g.S.Store c.put_bare.new.tx.conn.now in
-    let sole : IsSole old_version_in c.in_ok-rows.rows.items (Some (c.in-Some.found.version.id, c.in-Some.found.version.row)) =
-    subst (λ rows. IsSole old_version_in rows (Some (c.in-Some.found.version.id, c.in-Some.found.version.row))) c.as_slice.ensures.value (rw c.in-Some.is at c.in_ok-found.ensures) in
+    let sole : IsSole old_version_in c.in_ok-rows.rows.items
+    (Some (c.in-Some.found.version.id, c.in-Some.found.version.row)) =
+    subst (λ rows. IsSole old_version_in rows
+    (Some (c.in-Some.found.version.id, c.in-Some.found.version.row))) c.as_slice.ensures.value
+    (rw c.in-Some.is at c.in_ok-found.ensures) in
     read_put a b d c.args.id c.in_ok-rows.rows.items kept c.query_all.ensures.survives
-    (subst₂ (λ t k. HasCleanDisk b → Shown t k a b c.in_ok-rows.rows.items) text key c.in_ok-rows.ensures.ok) c.in-Some.found.version.row c.in-Some.found.version.id sole c.in_ok-put_bare.ensures.writes
+    (subst₂ (λ t k. HasCleanDisk b → Shown t k a b c.in_ok-rows.rows.items) text key
+    c.in_ok-rows.ensures.ok) c.in-Some.found.version.row c.in-Some.found.version.id sole
+    c.in_ok-put_bare.ensures.writes

@@ -17,6 +17,9 @@ returns-clause-value g c up =
     let two = second.now ∙ first.now in
     let three = third.now ∙ two in
     registry_read db false false false false (c.in_ok-see.ensures.value second.was_open)
-    (subst (λ (d : Database). IsRead Lrn lrn_row_in d.trees false) first.now (c.in_ok-see-2.ensures.value third.was_open))
-    (subst (λ (d : Database). IsRead Code code_row_in d.trees false) two (c.in_ok-see-3.ensures.value fourth.was_open))
-    (subst (λ (d : Database). IsRead Block block_row_in d.trees false) three (c.in_ok-see-4.ensures.value up))
+    (subst (λ (d : Database). IsRead Lrn lrn_row_in d.trees false) first.now
+    (c.in_ok-see-2.ensures.value third.was_open))
+    (subst (λ (d : Database). IsRead Code code_row_in d.trees false) two
+    (c.in_ok-see-3.ensures.value fourth.was_open))
+    (subst (λ (d : Database). IsRead Block block_row_in d.trees false) three
+    (c.in_ok-see-4.ensures.value up))

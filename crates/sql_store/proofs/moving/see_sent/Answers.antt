@@ -17,8 +17,11 @@ returns-clause-value g c up =
     let first = c.in_ok-see.ensures.looked.same second.was_open in
     record {
       broadcasts = broadcasts_read db false (c.in_ok-see.ensures.value second.was_open);
-      waits = waits_read db false (subst (λ (d : Database). IsRead Wait wait_in d.trees false) first.now (c.in_ok-see-2.ensures.value third.was_open));
-      nexts = subst (λ f. AreNextsRead f db) (sym c.in-Modify.is) (nexts_read db false (subst (λ (d : Database). IsRead NextRouting next_row_in d.trees false) (second.now ∙ first.now) (c.in_ok-see-3.ensures.value up)));
+      waits = waits_read db false (subst (λ (d : Database). IsRead Wait wait_in d.trees false)
+          first.now (c.in_ok-see-2.ensures.value third.was_open));
+      nexts = subst (λ f. AreNextsRead f db) (sym c.in-Modify.is)
+          (nexts_read db false (subst (λ (d : Database). IsRead NextRouting next_row_in d.trees
+          false) (second.now ∙ first.now) (c.in_ok-see-3.ensures.value up)));
     }
 
 pub returns-in_default-clause-value : goal.returns-in_default-clause-value
@@ -29,6 +32,7 @@ returns-in_default-clause-value g c up =
     let is : c.args.form ≡ First = search rules in
     record {
       broadcasts = broadcasts_read db false (c.in_ok-see.ensures.value second.was_open);
-      waits = waits_read db false (subst (λ (d : Database). IsRead Wait wait_in d.trees false) first.now (c.in_ok-see-2.ensures.value up));
+      waits = waits_read db false (subst (λ (d : Database). IsRead Wait wait_in d.trees false)
+          first.now (c.in_ok-see-2.ensures.value up));
       nexts = subst (λ f. AreNextsRead f db) (sym is) (λ r at. absurd at);
     }

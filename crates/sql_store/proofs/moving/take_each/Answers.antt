@@ -4,7 +4,10 @@ use Rattle.sql_store.proofs.MovingLemmas.{thinned_none, thins_then}
 use Rattle.sql_store.proofs.moving.take_each.Goals as goal
 
 pub loop-id-init : goal.loop-id-init
-loop-id-init g c = record { same_reference = search rules; thins = thinned_none (state g.S.Store c.args.tx.now.conn.now) }
+loop-id-init g c = record {
+  same_reference = search rules;
+  thins = thinned_none (state g.S.Store c.args.tx.now.conn.now);
+}
 
 pub loop-id-preserved : goal.loop-id-preserved
 loop-id-preserved g c =
@@ -13,5 +16,6 @@ loop-id-preserved g c =
     let d = state g.S.Store c.take_old.new.tx.conn.now in
     record {
       same_reference = search rules;
-      thins = thins_then a b d (get_or c.args.ids.now c.loop-id.id-index 0) c.loop-id.invariant.thins c.in_ok-take_old.ensures.writes;
+      thins = thins_then a b d (get_or c.args.ids.now c.loop-id.id-index 0)
+          c.loop-id.invariant.thins c.in_ok-take_old.ensures.writes;
     }

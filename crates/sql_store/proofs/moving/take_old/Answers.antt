@@ -11,4 +11,5 @@ pub returns-clause-writes : goal.returns-clause-writes
 returns-clause-writes g c =
     let old = state g.S.Store c.args.tx.now.conn.now in
     let new = state g.S.Store c.take.new.tx.conn.now in
-    subst (λ k. Writes old new (is_ok c.take.result) (Removed OldVersion k)) (one_bound c.number.result (Int (pos c.args.id)) refl c.number.ensures) c.take.ensures.writes
+    subst (λ k. Writes old new (is_ok c.take.result) (Removed OldVersion k))
+    (one_bound c.number.result (Int (pos c.args.id)) refl c.number.ensures) c.take.ensures.writes

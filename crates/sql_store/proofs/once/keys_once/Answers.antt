@@ -8,4 +8,5 @@ pub returns : goal.returns
 returns g c = λ up.
     let ours = c.requires up in
     let db = (state g.S.Store c.args.conn.now).now.trees in
-    once.keys_once db (subst (λ k. IsSound k db) ours.schema (c.schema-schema.ensures.live up).0).obeys ours.shaped
+    once.keys_once db (subst (λ k. IsSound k db) ours.schema
+    (c.schema-schema.ensures.live up).0).obeys ours.shaped

@@ -15,9 +15,14 @@ returns-clause-value g c up =
     let downloads = c.in_ok-downloads.downloads.items in
     let mid_up = (c.in_ok-downloads.ensures.looked.same up).was_open in
     let same = (c.in_ok-waits.ensures.looked.same mid_up).now in
-    let told = subst (λ w. AreFirstTold (content_at (state g.S.Store c.queue.new.conn)) c.args.many w downloads) c.as_slice.ensures.value (c.in_ok-downloads.ensures.value up) in
-    first_are (content_at old) c.args.spid.number c.args.many ⊥ waits downloads (c.in_ok-waits.ensures.value mid_up)
-    (subst (λ (d : Database). AreFirstTold (content_in d.trees) c.args.many waits downloads) same told) (λ none. absurd none)
+    let told = subst (λ w. AreFirstTold (content_at (state g.S.Store c.queue.new.conn)) c.args.many
+    w downloads) c.as_slice.ensures.value (c.in_ok-downloads.ensures.value up) in
+    first_are (content_at old) c.args.spid.number c.args.many ⊥ waits downloads
+    (c.in_ok-waits.ensures.value mid_up)
+    (subst (λ (d : Database). AreFirstTold (content_in d.trees) c.args.many waits downloads) same
+    told) (λ none. absurd none)
 
 pub first_told-requires-clause-ours : goal.first_told-requires-clause-ours
-first_told-requires-clause-ours g c = looked_ours (state g.S.Store c.args.conn.now) (state g.S.Store c.queue.new.conn) _ c.requires.ours c.in_ok-waits.ensures.looked
+first_told-requires-clause-ours g c =
+    looked_ours (state g.S.Store c.args.conn.now) (state g.S.Store c.queue.new.conn) _
+    c.requires.ours c.in_ok-waits.ensures.looked

@@ -16,17 +16,24 @@ returns-then-len-many-clause-value g c = λ up.
     let downloads = c.in_ok-downloads.downloads.items in
     let mid_up = (c.in_ok-downloads.ensures.looked.same up).was_open in
     let same = (c.in_ok-waits.ensures.looked.same mid_up).now in
-    let told = subst (λ w. AreFirstTold (content_at (state g.S.Store c.page.new.conn)) c.args.many w downloads) c.as_slice.ensures.value (c.in_ok-downloads.ensures.value up) in
-    let first = subst (λ (d : Database). AreFirstTold (content_in d.trees) c.args.many waits downloads) same told in
-    first_are (content_at old) c.args.spid.number c.args.many (c.in_ok-waits.is_all ≡ false) waits downloads (c.in_ok-waits.ensures.value mid_up) first (λ left.
+    let told = subst (λ w. AreFirstTold (content_at (state g.S.Store c.page.new.conn)) c.args.many w
+    downloads) c.as_slice.ensures.value (c.in_ok-downloads.ensures.value up) in
+    let first =
+    subst (λ (d : Database). AreFirstTold (content_in d.trees) c.args.many waits downloads) same
+    told in
+    first_are (content_at old) c.args.spid.number c.args.many (c.in_ok-waits.is_all ≡ false) waits
+    downloads (c.in_ok-waits.ensures.value mid_up) first (λ left.
     let most : length downloads ≤ c.args.many = first.most in
     elim c.if-is_all.branch [
       | then-is_all w ↦ absurd (true≢false (sym w.if-is_all.true ∙ left))
       | else-is_all w ↦
-          let enough : (c.args.many ≤ w.len.result) = (let e = sym w.value-is ∙ c.if-len-many.true in grind arith) in
+          let enough : (c.args.many ≤ w.len.result) =
+          (let e = sym w.value-is ∙ c.if-len-many.true in grind arith) in
           let len = w.len.ensures in
           omega (arith, most, enough, len)
     ])
 
 pub first_told-requires-clause-ours : goal.first_told-requires-clause-ours
-first_told-requires-clause-ours g c = looked_ours (state g.S.Store c.args.conn.now) (state g.S.Store c.page.new.conn) _ c.requires.ours c.in_ok-waits.ensures.looked
+first_told-requires-clause-ours g c =
+    looked_ours (state g.S.Store c.args.conn.now) (state g.S.Store c.page.new.conn) _
+    c.requires.ours c.in_ok-waits.ensures.looked

@@ -16,18 +16,27 @@ loop-wait-preserved g c =
     let after = state g.S.Store c.next.new.conn in
     let next = c.in_ok-download.ensures in
     let download = c.in_ok-download.download in
-    let put : c.put_behind.new.downloads.items ≡ c.loop-wait.downloads.items ++ option_to_list download = c.in_ok-put_behind.ensures in
+    let put : c.put_behind.new.downloads.items ≡ c.loop-wait.downloads.items ++ option_to_list
+    download = c.in_ok-put_behind.ensures in
     record {
       idle = next.idle;
       looked = looked_then first before after true c.loop-wait.invariant.looked next.looked;
       told = λ up.
           let was = (next.looked.same up).was_open in
           let same = (c.loop-wait.invariant.looked.same was).now in
-          let is = subst (λ (d : Database). IsNext (content_in d.trees) c.wait-item.result download) same (next.value up) in
-          subst (AreTold (content_at first) (take (c.loop-wait.wait-index + 1) c.args.waits.now)) (sym put)
-          (told_next (content_at first) c.args.waits.now c.loop-wait.wait-index c.wait-item.result c.loop-wait-test.true c.wait-item.is c.loop-wait.downloads.items (c.loop-wait.invariant.told was) download is);
-      most = subst (λ l. length l ≤ c.args.many) (sym put) (one_more_fits c.loop-wait.downloads.items download c.args.many (let low = c.if-len-many.false in omega arith));
+          let is = subst (λ (d : Database). IsNext (content_in d.trees) c.wait-item.result download)
+          same (next.value up) in
+          subst (AreTold (content_at first) (take (c.loop-wait.wait-index + 1) c.args.waits.now))
+          (sym put)
+          (told_next (content_at first) c.args.waits.now c.loop-wait.wait-index c.wait-item.result
+          c.loop-wait-test.true c.wait-item.is c.loop-wait.downloads.items
+          (c.loop-wait.invariant.told was) download is);
+      most = subst (λ l. length l ≤ c.args.many) (sym put)
+          (one_more_fits c.loop-wait.downloads.items download c.args.many (let low =
+          c.if-len-many.false in omega arith));
     }
 
 pub next-requires-clause-ours : goal.next-requires-clause-ours
-next-requires-clause-ours g c = looked_ours (state g.S.Store c.args.conn.now) (state g.S.Store c.loop-wait.conn) true c.requires.ours c.loop-wait.invariant.looked
+next-requires-clause-ours g c =
+    looked_ours (state g.S.Store c.args.conn.now) (state g.S.Store c.loop-wait.conn) true
+    c.requires.ours c.loop-wait.invariant.looked

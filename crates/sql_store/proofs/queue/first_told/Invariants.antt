@@ -10,6 +10,8 @@ abbrev pub invariant-loop-wait : goal.invariant-loop-wait
 invariant-loop-wait g l = record {
   idle : l.conn.in_transaction ≡ false;
   looked : Looked (state g.S.Store l.fn.conn) (state g.S.Store l.conn) true;
-  told : IsTrue (state g.S.Store l.conn).is_open → AreTold (content_at (state g.S.Store l.fn.conn)) (take l.wait-index l.waits) l.downloads.items;
+  told : IsTrue (state g.S.Store l.conn).is_open
+      → AreTold (content_at (state g.S.Store l.fn.conn)) (take l.wait-index l.waits)
+      l.downloads.items;
   most : length l.downloads.items ≤ l.many;
 }

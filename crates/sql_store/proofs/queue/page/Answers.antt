@@ -19,8 +19,15 @@ pub returns-clause-value : goal.returns-clause-value
 returns-clause-value g c up =
     let old = state g.S.Store c.args.conn.now in
     let found = c.in_ok-found.found.items in
-    let params = ap (λ v. bound_value v ∷ bound_value (owned c.number.result) ∷ []) (c.text.ensures ∙ ap Text c.spid_bytes-bytes.ensures) ∙ ap (λ v. spid_value c.args.spid.number ∷ bound_value v ∷ []) c.number.ensures in
-    let answer = subst (λ p. IsListAnswer WaitsFirst wait_in old.now.trees p (map wait_seen found)) params (c.in_ok-found.ensures.value up) in
+    let params = ap (λ v. bound_value v ∷ bound_value (owned c.number.result) ∷ []) (c.text.ensures
+    ∙ ap Text c.spid_bytes-bytes.ensures)
+    ∙ ap (λ v. spid_value c.args.spid.number ∷ bound_value v ∷ []) c.number.ensures in
+    let answer = subst (λ p. IsListAnswer WaitsFirst wait_in old.now.trees p (map wait_seen found))
+    params (c.in_ok-found.ensures.value up) in
     let are = c.in_ok-waits.ensures ∙ ap (map download_of) c.as_slice.ensures.value in
-    front_queued (content_at old) c.args.spid.number found _ c.put_in_order.ensures.rises (λ x at. subst (λ l. Has l x) are (c.put_in_order.ensures.only x at)) (λ x at. c.put_in_order.ensures.each x (subst (λ l. Has l x) (sym are) at))
-    c.args.many (nat_lt c.len.result c.args.many ≡ false) (λ full. le-ltb c.len.result c.args.many (let is = c.len.ensures in omega (arith, full, is))) (front_found old.now.trees (c.in_ok-found.ensures.once up) c.args.spid c.args.many found answer)
+    front_queued (content_at old) c.args.spid.number found _ c.put_in_order.ensures.rises
+    (λ x at. subst (λ l. Has l x) are (c.put_in_order.ensures.only x at))
+    (λ x at. c.put_in_order.ensures.each x (subst (λ l. Has l x) (sym are) at))
+    c.args.many (nat_lt c.len.result c.args.many ≡ false) (λ full. le-ltb c.len.result c.args.many
+    (let is = c.len.ensures in omega (arith, full, is)))
+    (front_found old.now.trees (c.in_ok-found.ensures.once up) c.args.spid c.args.many found answer)

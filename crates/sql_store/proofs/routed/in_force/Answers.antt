@@ -17,9 +17,16 @@ returns-clause-value g c up =
     let old = state g.S.Store c.args.conn.now in
     let found = c.in_ok-found.found.items in
     let was = (c.in_ok-found.ensures.looked.same up).was_open in
-    let params = two_bound c.number.result c.number-2.result 0 9223372036854775807 c.number.ensures c.number-2.ensures in
-    let answer = subst (λ p. IsListAnswer InForceAmong version_in old.now.trees p (map version_seen found)) params (c.in_ok-found.ensures.value up) in
-    let are = c.in_ok-rows.ensures ∙ ap (filter_map (λ (v : NumberedRow). routed_in v.row)) c.as_slice.ensures.value in
+    let params = two_bound c.number.result c.number-2.result 0 9223372036854775807 c.number.ensures
+    c.number-2.ensures in
+    let answer =
+    subst (λ p. IsListAnswer InForceAmong version_in old.now.trees p (map version_seen found))
+    params (c.in_ok-found.ensures.value up) in
+    let are = c.in_ok-rows.ensures ∙ ap (filter_map (λ (v : NumberedRow). routed_in v.row))
+    c.as_slice.ensures.value in
     let passed : IsTrue c.rise.result = search rules in
-    routed_are old.now.trees found c.in_ok-rows.rows.items _ (in_force_picked old.now.trees (c.requires.ours was).shaped 0 9223372036854775807 found answer) are
-    c.put_in_order_by_subject.ensures (subst Rises c.as_slice-2.ensures.value (c.rise.ensures passed))
+    routed_are old.now.trees found c.in_ok-rows.rows.items _
+    (in_force_picked old.now.trees (c.requires.ours was).shaped 0 9223372036854775807 found answer)
+    are
+    c.put_in_order_by_subject.ensures (subst Rises c.as_slice-2.ensures.value
+    (c.rise.ensures passed))

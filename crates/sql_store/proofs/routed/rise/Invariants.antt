@@ -6,7 +6,9 @@ use Rattle.sql_store.proofs.routed.rise.Given as goal
 
 -- up to here each is below the next
 abbrev pub invariant-loop-at : goal.invariant-loop-at
-invariant-loop-at l = (0 < l.at) × ((k : ℕ) (d : RoutedRow) → k + 1 < l.at → nat_cmp (key_of (slice_index_or l.rows k d).subject) (key_of (slice_index_or l.rows (k + 1) d).subject) ≡ Less)
+invariant-loop-at l = (0 < l.at) × ((k : ℕ) (d : RoutedRow) → k + 1 < l.at
+    → nat_cmp (key_of (slice_index_or l.rows k d).subject)
+    (key_of (slice_index_or l.rows (k + 1) d).subject) ≡ Less)
 
 abbrev pub decreases-loop-at : goal.decreases-loop-at
 decreases-loop-at l = length l.rows - l.at

@@ -6,4 +6,6 @@ use Rattle.sql_store.proofs.routed.routed_rows.Given as goal
 
 -- of those passed all that is routed is in the list
 abbrev pub invariant-loop-version : goal.invariant-loop-version
-invariant-loop-version l = map routed_seen l.rows.items ≡ filter_map (λ (v : NumberedRow). routed_in v.row) (take l.version-index l.found)
+invariant-loop-version l =
+    map routed_seen l.rows.items ≡ filter_map (λ (v : NumberedRow). routed_in v.row)
+    (take l.version-index l.found)

@@ -19,6 +19,11 @@ returns-clause-makes g c =
     let n = c.args.block.number in
     let row = c.args.row.now in
     let fit : IsTrue c.fits_block.result = search rules in
-    put_made old new Block (Int (pos n) ∷ []) _ (block_params n (block_row_of row)) _ (with_block n (block_row_of row)) (one_bound c.number.result (Int (pos n)) refl (c.number.ensures ∙ ap (λ k. Int (pos k)) c.from-key.ensures))
-    (bound_block _ n (block_row_of row) (c.block_params-params.ensures ∙ ap (λ k. block_params k (block_row_of row)) c.from-key.ensures)) c.in_ok-replace.ensures.writes
-    (λ shaped did. put_block old.now new.now shaped n (block_row_of row) (block_back c.args.block row (c.fits_block.ensures fit)) did)
+    put_made old new Block (Int (pos n) ∷ []) _ (block_params n (block_row_of row)) _
+    (with_block n (block_row_of row)) (one_bound c.number.result (Int (pos n)) refl
+    (c.number.ensures ∙ ap (λ k. Int (pos k)) c.from-key.ensures))
+    (bound_block _ n (block_row_of row) (c.block_params-params.ensures
+    ∙ ap (λ k. block_params k (block_row_of row)) c.from-key.ensures))
+    c.in_ok-replace.ensures.writes
+    (λ shaped did. put_block old.now new.now shaped n (block_row_of row)
+    (block_back c.args.block row (c.fits_block.ensures fit)) did)

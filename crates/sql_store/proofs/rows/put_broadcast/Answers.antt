@@ -16,7 +16,12 @@ returns-clause-makes g c =
     let new = state g.S.Store c.replace.new.tx.conn.now in
     let k = broadcast_key_of c.args.key in
     let b = broadcast_row_of c.args.broadcast.now in
-    let low : c.args.key.id < 9223372036854775808 = grind (arith, c.if-key-ge9223372036854775808.false) in
-    let few : c.args.key.attempt < 9223372036854775808 = grind (arith, c.if-key-ge9223372036854775808-2.false) in
-    put_made old new Broadcast (broadcast_key_params k) _ (broadcast_params k b) _ (with_broadcast k b) (bound_broadcast_key _ k c.broadcast_key-columns.ensures) (bound_broadcast _ k b c.broadcast_params-params.ensures)
-    c.in_ok-replace.ensures.writes (λ shaped did. put_broadcast old.now new.now shaped k b (λ rowid. broadcast_back rowid c.args.key c.args.broadcast.now low few) did)
+    let low : c.args.key.id < 9223372036854775808 =
+    grind (arith, c.if-key-ge9223372036854775808.false) in
+    let few : c.args.key.attempt < 9223372036854775808 =
+    grind (arith, c.if-key-ge9223372036854775808-2.false) in
+    put_made old new Broadcast (broadcast_key_params k) _ (broadcast_params k b) _
+    (with_broadcast k b) (bound_broadcast_key _ k c.broadcast_key-columns.ensures)
+    (bound_broadcast _ k b c.broadcast_params-params.ensures)
+    c.in_ok-replace.ensures.writes (λ shaped did. put_broadcast old.now new.now shaped k b
+    (λ rowid. broadcast_back rowid c.args.key c.args.broadcast.now low few) did)

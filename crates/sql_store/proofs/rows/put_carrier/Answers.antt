@@ -14,5 +14,8 @@ returns-clause-makes g c =
     let old = state g.S.Store c.args.tx.now.conn.now in
     let new = state g.S.Store c.replace.new.tx.conn.now in
     let n = c.args.spid.number in
-    put_made old new Carrier (carrier_params n) _ (carrier_params n) _ (with_carrier n) (one_bound c.text.result (Text _) refl (c.text.ensures ∙ ap Text c.spid_bytes-bytes.ensures))
-    (one_bound c.text-2.result (Text _) refl (c.text-2.ensures ∙ ap Text c.spid_bytes-bytes.ensures)) c.in_ok-replace.ensures.writes (λ shaped did. put_carrier old.now new.now shaped c.args.spid did)
+    put_made old new Carrier (carrier_params n) _ (carrier_params n) _ (with_carrier n)
+    (one_bound c.text.result (Text _) refl (c.text.ensures ∙ ap Text c.spid_bytes-bytes.ensures))
+    (one_bound c.text-2.result (Text _) refl (c.text-2.ensures
+    ∙ ap Text c.spid_bytes-bytes.ensures)) c.in_ok-replace.ensures.writes
+    (λ shaped did. put_carrier old.now new.now shaped c.args.spid did)

@@ -20,5 +20,8 @@ returns-clause-makes g c =
     let few : row.next_id < 9223372036854775808 = search rules in
     let least : 0 < row.present = search rules in
     let most : row.present ≤ 1000 = search rules in
-    put_made old new Clock (Int (pos 0) ∷ []) _ (clock_params 0 (clock_of row)) _ (with_clock (clock_of row)) (one_bound c.number.result (Int (pos 0)) refl c.number.ensures)
-    (bound_clock _ 0 (clock_of row) c.clock_params.ensures) c.in_ok-replace.ensures.writes (λ shaped did. put_clock old.now new.now shaped (clock_of row) (clock_back row few least most) did)
+    put_made old new Clock (Int (pos 0) ∷ []) _ (clock_params 0 (clock_of row)) _
+    (with_clock (clock_of row)) (one_bound c.number.result (Int (pos 0)) refl c.number.ensures)
+    (bound_clock _ 0 (clock_of row) c.clock_params.ensures) c.in_ok-replace.ensures.writes
+    (λ shaped did. put_clock old.now new.now shaped (clock_of row) (clock_back row few least most)
+    did)

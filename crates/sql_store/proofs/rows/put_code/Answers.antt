@@ -16,6 +16,10 @@ returns-clause-makes g c =
     let new = state g.S.Store c.replace.new.tx.conn.now in
     let n = c.args.code.number in
     let m = c.args.owner.number in
-    put_made old new Code (Int (pos n) ∷ []) _ (owner_params n m) _ (with_code n m) (one_bound c.number-key.result (Int (pos n)) refl (c.number-key.ensures ∙ ap (λ k. Int (pos k)) c.from.ensures))
-    (two_bound c.number-key.result c.text.result (Int (pos n)) (Text _) refl refl (c.number-key.ensures ∙ ap (λ k. Int (pos k)) c.from.ensures) (c.text.ensures ∙ ap Text c.spid_bytes-bytes.ensures)) c.in_ok-replace.ensures.writes
+    put_made old new Code (Int (pos n) ∷ []) _ (owner_params n m) _ (with_code n m)
+    (one_bound c.number-key.result (Int (pos n)) refl (c.number-key.ensures
+    ∙ ap (λ k. Int (pos k)) c.from.ensures))
+    (two_bound c.number-key.result c.text.result (Int (pos n)) (Text _) refl refl
+    (c.number-key.ensures ∙ ap (λ k. Int (pos k)) c.from.ensures) (c.text.ensures
+    ∙ ap Text c.spid_bytes-bytes.ensures)) c.in_ok-replace.ensures.writes
     (λ shaped did. put_code old.now new.now shaped n m (code_back c.args.code c.args.owner) did)

@@ -16,6 +16,9 @@ returns-clause-makes g c =
     let new = state g.S.Store c.replace.new.tx.conn.now in
     let n = c.args.lrn.number in
     let m = c.args.owner.number in
-    put_made old new Lrn (Int (pos n) ∷ []) _ (owner_params n m) _ (with_lrn n m) (one_bound c.number-key.result (Int (pos n)) refl c.number-key.ensures)
-    (two_bound c.number-key.result c.text.result (Int (pos n)) (Text _) refl refl c.number-key.ensures (c.text.ensures ∙ ap Text c.spid_bytes-bytes.ensures)) c.in_ok-replace.ensures.writes
+    put_made old new Lrn (Int (pos n) ∷ []) _ (owner_params n m) _ (with_lrn n m)
+    (one_bound c.number-key.result (Int (pos n)) refl c.number-key.ensures)
+    (two_bound c.number-key.result c.text.result (Int (pos n)) (Text _) refl refl
+    c.number-key.ensures (c.text.ensures ∙ ap Text c.spid_bytes-bytes.ensures))
+    c.in_ok-replace.ensures.writes
     (λ shaped did. put_lrn old.now new.now shaped n m (lrn_back c.args.lrn c.args.owner) did)

@@ -17,7 +17,8 @@ returns-in_err-replace-clause-writes g c =
     let old = state g.S.Store c.args.tx.now.conn.now in
     let new = state g.S.Store c.replace.new.tx.conn.now in
     let fails : is_ok c.from_residual.result ≡ false = search rules in
-    subst (λ d. Writes old new d (IsNextPut c.args.id (Some (routing_of c.args.routing)))) (sym fails) (writes_nothing old new _ _ c.in_err-replace.ensures.writes)
+    subst (λ d. Writes old new d (IsNextPut c.args.id (Some (routing_of c.args.routing))))
+    (sym fails) (writes_nothing old new _ _ c.in_err-replace.ensures.writes)
 
 pub returns-clause-writes : goal.returns-clause-writes
 returns-clause-writes g c =
@@ -25,5 +26,8 @@ returns-clause-writes g c =
     let new = state g.S.Store c.replace.new.tx.conn.now in
     let id = c.args.id in
     let routing = routing_of c.args.routing in
-    writes_as old new true (Replaced NextRouting (Int (pos id) ∷ []) (next_params id routing)) (IsNextPut id (Some routing)) (λ did. (did, next_back id c.args.routing c.requires))
-    (subst₂ (λ k r. Writes old new true (Replaced NextRouting k r)) (one_bound c.number.result (Int (pos id)) refl c.number.ensures) (bound_next _ id routing c.next_params-params.ensures) c.in_ok-replace.ensures.writes)
+    writes_as old new true (Replaced NextRouting (Int (pos id) ∷ []) (next_params id routing))
+    (IsNextPut id (Some routing)) (λ did. (did, next_back id c.args.routing c.requires))
+    (subst₂ (λ k r. Writes old new true (Replaced NextRouting k r))
+    (one_bound c.number.result (Int (pos id)) refl c.number.ensures)
+    (bound_next _ id routing c.next_params-params.ensures) c.in_ok-replace.ensures.writes)

@@ -21,7 +21,9 @@ returns-in_err-replace-2-clause-makes g c =
     let mid = state g.S.Store c.replace.new.tx.conn.now in
     let new = state g.S.Store c.replace-2.new.tx.conn.now in
     let fails : is_ok c.from_residual-in_err-replace-2.result ≡ false = search rules in
-    subst (λ d. Makes old new d (with_set (clock_of c.args.row.now) (windows_of c.args.windows.now))) (sym fails) (two_stop old mid new _ _ _ c.in_ok-replace.ensures.writes c.in_err-replace-2.ensures.writes)
+    subst (λ d. Makes old new d (with_set (clock_of c.args.row.now)
+    (windows_of c.args.windows.now))) (sym fails)
+    (two_stop old mid new _ _ _ c.in_ok-replace.ensures.writes c.in_err-replace-2.ensures.writes)
 
 pub returns-clause-makes : goal.returns-clause-makes
 returns-clause-makes g c =
@@ -33,9 +35,23 @@ returns-clause-makes g c =
     let few : row.next_id < 9223372036854775808 = search rules in
     let least : 0 < row.present = search rules in
     let most : row.present ≤ 1000 = search rules in
-    let first = subst₂ (λ k r. Writes old mid true (Replaced WindowSet k r)) (one_bound c.number-key.result (Int (pos row.present)) refl (c.number-key.ensures ∙ ap (λ k. Int (pos k)) c.from.ensures)) (bound_set _ row.present windows c.set_params.ensures) c.in_ok-replace.ensures.writes in
-    let second = subst₂ (λ k r. Writes mid new true (Replaced Clock k r)) (one_bound c.number.result (Int (pos 0)) refl c.number.ensures) (bound_clock _ 0 (clock_of row) c.clock_params.ensures) c.in_ok-replace-2.ensures.writes in
-    let back = set_back (record { number = row.present; windows = c.args.windows.now }) least most in
-    two_made old mid new true (Replaced WindowSet (Int (pos row.present) ∷ []) (set_params row.present windows)) (Replaced Clock (Int (pos 0) ∷ []) (clock_params 0 (clock_of row))) (with_set (clock_of row) windows) first second
-    (λ shaped did. let b = put_set old.now mid.now shaped row.present windows back did in (b.schema, b.shaped))
-    (λ shaped did then. put_set_clock old.now mid.now new.now shaped windows (clock_of row) back (clock_back row few least most) did then)
+    let first =
+    subst₂ (λ k r. Writes old mid true (Replaced WindowSet k r))
+    (one_bound c.number-key.result (Int (pos row.present)) refl (c.number-key.ensures
+    ∙ ap (λ k. Int (pos k)) c.from.ensures)) (bound_set _ row.present windows c.set_params.ensures)
+    c.in_ok-replace.ensures.writes in
+    let second =
+    subst₂ (λ k r. Writes mid new true (Replaced Clock k r))
+    (one_bound c.number.result (Int (pos 0)) refl c.number.ensures) (bound_clock _ 0 (clock_of row)
+    c.clock_params.ensures) c.in_ok-replace-2.ensures.writes in
+    let back = set_back (record {
+      number = row.present;
+      windows = c.args.windows.now;
+    }) least most in
+    two_made old mid new true (Replaced WindowSet (Int (pos row.present) ∷ [])
+    (set_params row.present windows)) (Replaced Clock (Int (pos 0) ∷ [])
+    (clock_params 0 (clock_of row))) (with_set (clock_of row) windows) first second
+    (λ shaped did. let b = put_set old.now mid.now shaped row.present windows back did in
+    (b.schema, b.shaped))
+    (λ shaped did then. put_set_clock old.now mid.now new.now shaped windows (clock_of row) back
+    (clock_back row few least most) did then)

@@ -18,10 +18,15 @@ use Rattle.sql_store.proofs.LookupLemmas.{one_bound}
 use Rattle.sql_store.proofs.rows.put_version.Goals as goal
 
 -- what both rows make of the content
-whole_put : (old mid new : Database) → AreShaped old.trees → (id : _) (v : VersionRow) (next : Option Routing) → next_of v.status ≡ next → version_entry (version_row id v) ≡ Some (id, bare v) →
-    Replaced Version (Int (pos id) ∷ []) (version_params id v) old mid → IsNextPut id next mid new → Became new (with_version id v (content_in old.trees))
-whole_put old mid new shaped id v None sends back first second = put_plain old mid new shaped id v sends back first second
-whole_put old mid new shaped id v (Some r) sends back first second = put_modified old mid new shaped id v r sends back second.1 first second.0
+whole_put : (old mid new : Database) → AreShaped old.trees
+    → (id : _) (v : VersionRow) (next : Option Routing) → next_of v.status ≡ next
+    → version_entry (version_row id v) ≡ Some (id, bare v) →
+    Replaced Version (Int (pos id) ∷ []) (version_params id v) old mid → IsNextPut id next mid new
+    → Became new (with_version id v (content_in old.trees))
+whole_put old mid new shaped id v None sends back first second =
+    put_plain old mid new shaped id v sends back first second
+whole_put old mid new shaped id v (Some r) sends back first second =
+    put_modified old mid new shaped id v r sends back second.1 first second.0
 
 pub returns-in_err-put_next-clause-makes : goal.returns-in_err-put_next-clause-makes
 returns-in_err-put_next-clause-makes g c =
@@ -29,7 +34,8 @@ returns-in_err-put_next-clause-makes g c =
     let mid = state g.S.Store c.replace.new.tx.conn.now in
     let new = state g.S.Store c.put_next.new.tx.conn.now in
     let fails : is_ok c.from_residual-in_err-put_next.result ≡ false = search rules in
-    subst (λ d. Makes old new d (with_version c.args.id c.args.row.now)) (sym fails) (two_stop old mid new _ _ _ c.in_ok-replace.ensures.writes c.in_err-put_next.ensures.writes)
+    subst (λ d. Makes old new d (with_version c.args.id c.args.row.now)) (sym fails)
+    (two_stop old mid new _ _ _ c.in_ok-replace.ensures.writes c.in_err-put_next.ensures.writes)
 
 pub returns-clause-makes : goal.returns-clause-makes
 returns-clause-makes g c =
@@ -40,8 +46,14 @@ returns-clause-makes g c =
     let row = c.args.row.now in
     let fit : IsTrue c.fits.result = search rules in
     let back = c.fits.ensures.back fit in
-    let first = subst₂ (λ k r. Writes old mid true (Replaced Version k r)) (one_bound c.number.result (Int (pos id)) refl c.number.ensures) (bound_version _ id row c.version_params-params.ensures) c.in_ok-replace.ensures.writes in
-    let second = subst (λ (v : VersionRow). Writes mid new true (IsNextPut id (next_of v.status))) c.row.view_is c.in_ok-put_next.ensures.writes in
-    two_made old mid new true (Replaced Version (Int (pos id) ∷ []) (version_params id row)) (IsNextPut id (next_of row.status)) (with_version id row) first second
+    let first =
+    subst₂ (λ k r. Writes old mid true (Replaced Version k r))
+    (one_bound c.number.result (Int (pos id)) refl c.number.ensures)
+    (bound_version _ id row c.version_params-params.ensures) c.in_ok-replace.ensures.writes in
+    let second = subst (λ (v : VersionRow). Writes mid new true (IsNextPut id (next_of v.status)))
+    c.row.view_is c.in_ok-put_next.ensures.writes in
+    two_made old mid new true (Replaced Version (Int (pos id) ∷ []) (version_params id row))
+    (IsNextPut id (next_of row.status)) (with_version id row) first second
     (λ shaped did. version_between old.now mid.now new.now shaped id row back did)
-    (λ shaped did then. whole_put old.now mid.now new.now shaped id row (next_of row.status) refl back did then)
+    (λ shaped did then. whole_put old.now mid.now new.now shaped id row (next_of row.status) refl
+    back did then)

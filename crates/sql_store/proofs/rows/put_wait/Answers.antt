@@ -17,7 +17,11 @@ returns-clause-makes g c =
     let new = state g.S.Store c.replace.new.tx.conn.now in
     let k = wait_key_of c.args.key in
     let s = subject_of c.args.of in
-    let low : c.args.key.id < 9223372036854775808 = grind (arith, c.if-key-ge9223372036854775808.false) in
-    let few : c.args.key.attempt < 9223372036854775808 = grind (arith, c.if-key-ge9223372036854775808-2.false) in
-    put_made old new Wait (wait_key_params k) _ (wait_params k s) _ (with_wait k s) (bound_wait_key _ k c.wait_key-columns.ensures) (bound_wait _ k s c.wait_params-params.ensures)
-    c.in_ok-replace.ensures.writes (λ shaped did. put_wait old.now new.now shaped c.args.key s (λ rowid. wait_back rowid c.args.key c.args.of low few) did)
+    let low : c.args.key.id < 9223372036854775808 =
+    grind (arith, c.if-key-ge9223372036854775808.false) in
+    let few : c.args.key.attempt < 9223372036854775808 =
+    grind (arith, c.if-key-ge9223372036854775808-2.false) in
+    put_made old new Wait (wait_key_params k) _ (wait_params k s) _ (with_wait k s)
+    (bound_wait_key _ k c.wait_key-columns.ensures) (bound_wait _ k s c.wait_params-params.ensures)
+    c.in_ok-replace.ensures.writes (λ shaped did. put_wait old.now new.now shaped c.args.key s
+    (λ rowid. wait_back rowid c.args.key c.args.of low few) did)

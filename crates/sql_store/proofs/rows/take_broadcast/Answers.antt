@@ -13,4 +13,6 @@ returns-clause-makes g c =
     let old = state g.S.Store c.args.tx.now.conn.now in
     let new = state g.S.Store c.take.new.tx.conn.now in
     let k = broadcast_key_of c.args.key in
-    take_made old new Broadcast (broadcast_key_params k) _ (without_broadcast k) (bound_broadcast_key _ k c.broadcast_key.ensures) c.in_ok-take.ensures.writes (λ shaped did. take_broadcast old.now new.now shaped k did)
+    take_made old new Broadcast (broadcast_key_params k) _ (without_broadcast k)
+    (bound_broadcast_key _ k c.broadcast_key.ensures) c.in_ok-take.ensures.writes
+    (λ shaped did. take_broadcast old.now new.now shaped k did)

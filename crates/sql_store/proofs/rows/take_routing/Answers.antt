@@ -13,10 +13,13 @@ returns-in_err-take-clause-writes g c =
     let old = state g.S.Store c.args.tx.now.conn.now in
     let new = state g.S.Store c.take.new.tx.conn.now in
     let fails : is_ok c.from_residual.result ≡ false = search rules in
-    subst (λ d. Writes old new d (IsNextPut c.args.id None)) (sym fails) (writes_nothing old new _ _ c.in_err-take.ensures.writes)
+    subst (λ d. Writes old new d (IsNextPut c.args.id None)) (sym fails)
+    (writes_nothing old new _ _ c.in_err-take.ensures.writes)
 
 pub returns-clause-writes : goal.returns-clause-writes
 returns-clause-writes g c =
     let old = state g.S.Store c.args.tx.now.conn.now in
     let new = state g.S.Store c.take.new.tx.conn.now in
-    subst (λ k. Writes old new true (Removed NextRouting k)) (one_bound c.number.result (Int (pos c.args.id)) refl c.number.ensures) c.in_ok-take.ensures.writes
+    subst (λ k. Writes old new true (Removed NextRouting k))
+    (one_bound c.number.result (Int (pos c.args.id)) refl c.number.ensures)
+    c.in_ok-take.ensures.writes

@@ -17,7 +17,8 @@ returns-in_err-take_routing-clause-makes g c =
     let mid = state g.S.Store c.take.new.tx.conn.now in
     let new = state g.S.Store c.take_routing.new.tx.conn.now in
     let fails : is_ok c.from_residual-in_err-take_routing.result ≡ false = search rules in
-    subst (λ d. Makes old new d (without_version c.args.id)) (sym fails) (two_stop old mid new _ _ _ c.in_ok-take.ensures.writes c.in_err-take_routing.ensures.writes)
+    subst (λ d. Makes old new d (without_version c.args.id)) (sym fails)
+    (two_stop old mid new _ _ _ c.in_ok-take.ensures.writes c.in_err-take_routing.ensures.writes)
 
 pub returns-clause-makes : goal.returns-clause-makes
 returns-clause-makes g c =
@@ -25,7 +26,13 @@ returns-clause-makes g c =
     let mid = state g.S.Store c.take.new.tx.conn.now in
     let new = state g.S.Store c.take_routing.new.tx.conn.now in
     let id = c.args.id in
-    let first = subst (λ k. Writes old mid true (Removed Version k)) (one_bound c.number.result (Int (pos id)) refl c.number.ensures) c.in_ok-take.ensures.writes in
-    two_made old mid new true (Removed Version (Int (pos id) ∷ [])) (IsNextPut id None) (without_version id) first c.in_ok-take_routing.ensures.writes
-    (λ shaped did. (did.schema, removed_shaped Version (Int (pos id) ∷ []) old.now mid.now shaped did))
+    let first =
+    subst (λ k. Writes old mid true (Removed Version k)) (one_bound c.number.result (Int (pos id))
+    refl c.number.ensures) c.in_ok-take.ensures.writes in
+    two_made old mid new true (Removed Version (Int (pos id) ∷ [])) (IsNextPut id None)
+    (without_version id) first c.in_ok-take_routing.ensures.writes
+    (λ shaped did. (
+      did.schema,
+      removed_shaped Version (Int (pos id) ∷ []) old.now mid.now shaped did,
+    ))
     (λ shaped did then. take_version old.now mid.now new.now shaped id did then)

@@ -13,4 +13,6 @@ returns-clause-makes g c =
     let old = state g.S.Store c.args.tx.now.conn.now in
     let new = state g.S.Store c.take.new.tx.conn.now in
     let k = wait_key_of c.args.key in
-    take_made old new Wait (wait_key_params k) _ (without_wait k) (bound_wait_key _ k c.wait_key.ensures) c.in_ok-take.ensures.writes (λ shaped did. take_wait old.now new.now shaped c.args.key did)
+    take_made old new Wait (wait_key_params k) _ (without_wait k)
+    (bound_wait_key _ k c.wait_key.ensures) c.in_ok-take.ensures.writes
+    (λ shaped did. take_wait old.now new.now shaped c.args.key did)

@@ -12,24 +12,36 @@ returns-in_err-rows-clause-looked g c =
     let new = state g.S.Store c.query_all.new.self in
     let params = bound c.args.params.now in
     let fails : is_ok c.from_residual.result ≡ false = search rules in
-    subst (Looked old new) (sym fails) (looked_err c.args.query params old new c.requires.ours c.in_err-rows.field-0.0 (clean_if_open new.is_clean new.is_open (g.met.S.Store.shut_if_dirty _))
-    (subst (λ t. HasCleanDisk new → FailsToQuery t params old new c.in_err-rows.field-0.0) c.text.ensures c.in_err-rows.ensures.err) (subst (λ t. Survives old new (CommitsShowing t params old)) c.text.ensures c.query_all.ensures.survives))
+    subst (Looked old new) (sym fails) (looked_err c.args.query params old new c.requires.ours
+    c.in_err-rows.field-0.0 (clean_if_open new.is_clean new.is_open (g.met.S.Store.shut_if_dirty _))
+    (subst (λ t. HasCleanDisk new → FailsToQuery t params old new c.in_err-rows.field-0.0)
+    c.text.ensures c.in_err-rows.ensures.err)
+    (subst (λ t. Survives old new (CommitsShowing t params old)) c.text.ensures
+    c.query_all.ensures.survives))
 
 pub returns-clause-value : goal.returns-clause-value
 returns-clause-value g c up =
     let old = state g.S.Store c.args.conn.now in
     let new = state g.S.Store c.query_all.new.self in
     let params = bound c.args.params.now in
-    let clean : HasCleanDisk new = clean_if_open new.is_clean new.is_open (g.met.S.Store.shut_if_dirty _) up in
-    let shown = subst (λ t. Shown t params old new c.in_ok-rows.rows.items) c.text.ensures (c.in_ok-rows.ensures.ok clean) in
-    let looked = looked_ok c.args.query params old new c.requires.ours c.in_ok-rows.rows.items (clean_if_open new.is_clean new.is_open (g.met.S.Store.shut_if_dirty _)) (λ _. shown)
-    (subst (λ t. Survives old new (CommitsShowing t params old)) c.text.ensures c.query_all.ensures.survives) in
-    answers c.args.query params old new c.requires.ours c.in_ok-rows.rows.items (looked.same up).was_open shown
+    let clean : HasCleanDisk new =
+    clean_if_open new.is_clean new.is_open (g.met.S.Store.shut_if_dirty _) up in
+    let shown = subst (λ t. Shown t params old new c.in_ok-rows.rows.items) c.text.ensures
+    (c.in_ok-rows.ensures.ok clean) in
+    let looked = looked_ok c.args.query params old new c.requires.ours c.in_ok-rows.rows.items
+    (clean_if_open new.is_clean new.is_open (g.met.S.Store.shut_if_dirty _)) (λ _. shown)
+    (subst (λ t. Survives old new (CommitsShowing t params old)) c.text.ensures
+    c.query_all.ensures.survives) in
+    answers c.args.query params old new c.requires.ours c.in_ok-rows.rows.items
+    (looked.same up).was_open shown
 
 pub returns-clause-looked : goal.returns-clause-looked
 returns-clause-looked g c =
     let old = state g.S.Store c.args.conn.now in
     let new = state g.S.Store c.query_all.new.self in
     let params = bound c.args.params.now in
-    looked_ok c.args.query params old new c.requires.ours c.in_ok-rows.rows.items (clean_if_open new.is_clean new.is_open (g.met.S.Store.shut_if_dirty _))
-    (subst (λ t. HasCleanDisk new → Shown t params old new c.in_ok-rows.rows.items) c.text.ensures c.in_ok-rows.ensures.ok) (subst (λ t. Survives old new (CommitsShowing t params old)) c.text.ensures c.query_all.ensures.survives)
+    looked_ok c.args.query params old new c.requires.ours c.in_ok-rows.rows.items
+    (clean_if_open new.is_clean new.is_open (g.met.S.Store.shut_if_dirty _))
+    (subst (λ t. HasCleanDisk new → Shown t params old new c.in_ok-rows.rows.items) c.text.ensures
+    c.in_ok-rows.ensures.ok) (subst (λ t. Survives old new (CommitsShowing t params old))
+    c.text.ensures c.query_all.ensures.survives)

@@ -14,8 +14,10 @@ invariant-rows g l =
     let here = l.rows.conn.now in
     record {
       same_reference : l.rows.conn.ghost_name ≡ l.fn.rows.conn.ghost_name;
-      given : HasCleanDisk (state g.S.Store here) → (sql : List ℕ) → HasGiven g.S.Store sql [] first []
-          → (rows : List Row) × (xs : List g.T.Stored.Seen) × HasGiven g.S.Store sql [] here rows × AreRead g.T.Stored.seen_in rows xs × (l.blank ≡ true → xs ≡ []);
+      given : HasCleanDisk (state g.S.Store here) → (sql : List ℕ)
+          → HasGiven g.S.Store sql [] first []
+          → (rows : List Row) × (xs : List g.T.Stored.Seen) × HasGiven g.S.Store sql [] here rows
+          × AreRead g.T.Stored.seen_in rows xs × (l.blank ≡ true → xs ≡ []);
       same : HasCleanDisk (state g.S.Store here) → Unmoved g.S.Store first here;
       mode : first.in_transaction ≡ false → here.in_transaction ≡ false;
       survives : Survives (state g.S.Store first) (state g.S.Store here) (λ _. ⊥);

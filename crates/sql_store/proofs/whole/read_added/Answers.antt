@@ -14,8 +14,12 @@ returns-clause-value g c up =
     let second = c.in_ok-sets.ensures.looked.same up in
     let first = c.in_ok-nexts.ensures.looked.same second.was_open in
     subst (ReadsAdded db) (sym c.are_blank.ensures)
-    (added_told db c.in_ok-nexts.nexts c.in_ok-sets.sets (c.in_ok-nexts.ensures.value second.was_open)
-    (subst (λ (d : Database). IsRead WindowSet set_in d.trees c.in_ok-sets.sets) first.now (c.in_ok-sets.ensures.value up)))
+    (added_told db c.in_ok-nexts.nexts c.in_ok-sets.sets
+    (c.in_ok-nexts.ensures.value second.was_open)
+    (subst (λ (d : Database). IsRead WindowSet set_in d.trees c.in_ok-sets.sets) first.now
+    (c.in_ok-sets.ensures.value up)))
 
 pub read-requires-2-clause-ours : goal.read-requires-2-clause-ours
-read-requires-2-clause-ours g c = looked_ours (state g.S.Store c.args.conn.now) (state g.S.Store c.read.new.conn) _ c.requires.ours c.in_ok-nexts.ensures.looked
+read-requires-2-clause-ours g c =
+    looked_ours (state g.S.Store c.args.conn.now) (state g.S.Store c.read.new.conn) _
+    c.requires.ours c.in_ok-nexts.ensures.looked

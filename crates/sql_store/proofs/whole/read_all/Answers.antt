@@ -16,20 +16,26 @@ returns-clause-value g c up =
     let two = second.now ∙ first.now in
     let three = third.now ∙ two in
     subst (ReadsAll db) (sym c.are_blank.ensures)
-    (all_told db c.in_ok-registry.registry c.in_ok-versions.versions c.in_ok-added.added (c.in_ok-registry.ensures.value second.was_open)
-    (subst (λ (d : Database). ReadsVersions d.trees c.in_ok-versions.versions) first.now (c.in_ok-versions.ensures.value third.was_open))
-    (subst (λ (d : Database). ReadsAdded d.trees c.in_ok-added.added) two (c.in_ok-added.ensures.value fourth.was_open))
+    (all_told db c.in_ok-registry.registry c.in_ok-versions.versions c.in_ok-added.added
+    (c.in_ok-registry.ensures.value second.was_open)
+    (subst (λ (d : Database). ReadsVersions d.trees c.in_ok-versions.versions) first.now
+    (c.in_ok-versions.ensures.value third.was_open))
+    (subst (λ (d : Database). ReadsAdded d.trees c.in_ok-added.added) two
+    (c.in_ok-added.ensures.value fourth.was_open))
     (subst (λ (d : Database). IsMoved d.trees) three (c.in_ok-see_moved.ensures.value up)))
 
 pub read_versions-requires-clause-ours : goal.read_versions-requires-clause-ours
-read_versions-requires-clause-ours g c = looked_ours (state g.S.Store c.args.conn.now) (state g.S.Store c.read_registry.new.conn) _ c.requires.ours c.in_ok-registry.ensures.looked
+read_versions-requires-clause-ours g c =
+    looked_ours (state g.S.Store c.args.conn.now) (state g.S.Store c.read_registry.new.conn) _
+    c.requires.ours c.in_ok-registry.ensures.looked
 
 pub read_added-requires-clause-ours : goal.read_added-requires-clause-ours
 read_added-requires-clause-ours g c =
     let a = state g.S.Store c.args.conn.now in
     let b = state g.S.Store c.read_registry.new.conn in
     let d = state g.S.Store c.read_versions.new.conn in
-    looked_ours b d _ (looked_ours a b _ c.requires.ours c.in_ok-registry.ensures.looked) c.in_ok-versions.ensures.looked
+    looked_ours b d _ (looked_ours a b _ c.requires.ours c.in_ok-registry.ensures.looked)
+    c.in_ok-versions.ensures.looked
 
 pub see_moved-requires-clause-ours : goal.see_moved-requires-clause-ours
 see_moved-requires-clause-ours g c =
@@ -37,4 +43,6 @@ see_moved-requires-clause-ours g c =
     let b = state g.S.Store c.read_registry.new.conn in
     let d = state g.S.Store c.read_versions.new.conn in
     let e = state g.S.Store c.read_added.new.conn in
-    looked_ours d e _ (looked_ours b d _ (looked_ours a b _ c.requires.ours c.in_ok-registry.ensures.looked) c.in_ok-versions.ensures.looked) c.in_ok-added.ensures.looked
+    looked_ours d e _
+    (looked_ours b d _ (looked_ours a b _ c.requires.ours c.in_ok-registry.ensures.looked)
+    c.in_ok-versions.ensures.looked) c.in_ok-added.ensures.looked

@@ -18,16 +18,30 @@ returns-clause-value g c up =
     let two = second.now ∙ first.now in
     let three = third.now ∙ two in
     subst (ReadsRegistry db) (sym c.are_blank.ensures)
-    (registry_told db c.in_ok-carriers.carriers c.in_ok-lrns.lrns c.in_ok-codes.codes c.in_ok-blocks.blocks (c.in_ok-carriers.ensures.value second.was_open)
-    (subst (λ (d : Database). IsRead Lrn lrn_row_in d.trees c.in_ok-lrns.lrns) first.now (c.in_ok-lrns.ensures.value third.was_open))
-    (subst (λ (d : Database). IsRead Code code_row_in d.trees c.in_ok-codes.codes) two (c.in_ok-codes.ensures.value fourth.was_open))
-    (subst (λ (d : Database). IsRead Block block_row_in d.trees c.in_ok-blocks.blocks) three (c.in_ok-blocks.ensures.value up)))
+    (registry_told db c.in_ok-carriers.carriers c.in_ok-lrns.lrns c.in_ok-codes.codes
+    c.in_ok-blocks.blocks (c.in_ok-carriers.ensures.value second.was_open)
+    (subst (λ (d : Database). IsRead Lrn lrn_row_in d.trees c.in_ok-lrns.lrns) first.now
+    (c.in_ok-lrns.ensures.value third.was_open))
+    (subst (λ (d : Database). IsRead Code code_row_in d.trees c.in_ok-codes.codes) two
+    (c.in_ok-codes.ensures.value fourth.was_open))
+    (subst (λ (d : Database). IsRead Block block_row_in d.trees c.in_ok-blocks.blocks) three
+    (c.in_ok-blocks.ensures.value up)))
 
 pub read-requires-2-clause-ours : goal.read-requires-2-clause-ours
-read-requires-2-clause-ours g c = looked_ours (state g.S.Store c.args.conn.now) (state g.S.Store c.read.new.conn) _ c.requires.ours c.in_ok-carriers.ensures.looked
+read-requires-2-clause-ours g c =
+    looked_ours (state g.S.Store c.args.conn.now) (state g.S.Store c.read.new.conn) _
+    c.requires.ours c.in_ok-carriers.ensures.looked
 
 pub read-requires-3-clause-ours : goal.read-requires-3-clause-ours
-read-requires-3-clause-ours g c = looked_ours (state g.S.Store c.read.new.conn) (state g.S.Store c.read-2.new.conn) _ (looked_ours (state g.S.Store c.args.conn.now) (state g.S.Store c.read.new.conn) _ c.requires.ours c.in_ok-carriers.ensures.looked) c.in_ok-lrns.ensures.looked
+read-requires-3-clause-ours g c =
+    looked_ours (state g.S.Store c.read.new.conn) (state g.S.Store c.read-2.new.conn) _
+    (looked_ours (state g.S.Store c.args.conn.now) (state g.S.Store c.read.new.conn) _
+    c.requires.ours c.in_ok-carriers.ensures.looked) c.in_ok-lrns.ensures.looked
 
 pub read-requires-4-clause-ours : goal.read-requires-4-clause-ours
-read-requires-4-clause-ours g c = looked_ours (state g.S.Store c.read-2.new.conn) (state g.S.Store c.read-3.new.conn) _ (looked_ours (state g.S.Store c.read.new.conn) (state g.S.Store c.read-2.new.conn) _ (looked_ours (state g.S.Store c.args.conn.now) (state g.S.Store c.read.new.conn) _ c.requires.ours c.in_ok-carriers.ensures.looked) c.in_ok-lrns.ensures.looked) c.in_ok-codes.ensures.looked
+read-requires-4-clause-ours g c =
+    looked_ours (state g.S.Store c.read-2.new.conn) (state g.S.Store c.read-3.new.conn) _
+    (looked_ours (state g.S.Store c.read.new.conn) (state g.S.Store c.read-2.new.conn) _
+    (looked_ours (state g.S.Store c.args.conn.now) (state g.S.Store c.read.new.conn) _
+    c.requires.ours c.in_ok-carriers.ensures.looked) c.in_ok-lrns.ensures.looked)
+    c.in_ok-codes.ensures.looked

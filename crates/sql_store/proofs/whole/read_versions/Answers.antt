@@ -18,16 +18,30 @@ returns-clause-value g c up =
     let two = second.now ∙ first.now in
     let three = third.now ∙ two in
     subst (ReadsVersions db) (sym c.are_blank.ensures)
-    (versions_told db c.in_ok-versions.versions c.in_ok-broadcasts.broadcasts c.in_ok-waits.waits c.in_ok-clock.clock (c.in_ok-versions.ensures.value second.was_open)
-    (subst (λ (d : Database). IsRead Broadcast broadcast_in d.trees c.in_ok-broadcasts.broadcasts) first.now (c.in_ok-broadcasts.ensures.value third.was_open))
-    (subst (λ (d : Database). IsRead Wait wait_in d.trees c.in_ok-waits.waits) two (c.in_ok-waits.ensures.value fourth.was_open))
-    (subst (λ (d : Database). IsRead Clock clock_in d.trees c.in_ok-clock.clock) three (c.in_ok-clock.ensures.value up)))
+    (versions_told db c.in_ok-versions.versions c.in_ok-broadcasts.broadcasts c.in_ok-waits.waits
+    c.in_ok-clock.clock (c.in_ok-versions.ensures.value second.was_open)
+    (subst (λ (d : Database). IsRead Broadcast broadcast_in d.trees c.in_ok-broadcasts.broadcasts)
+    first.now (c.in_ok-broadcasts.ensures.value third.was_open))
+    (subst (λ (d : Database). IsRead Wait wait_in d.trees c.in_ok-waits.waits) two
+    (c.in_ok-waits.ensures.value fourth.was_open))
+    (subst (λ (d : Database). IsRead Clock clock_in d.trees c.in_ok-clock.clock) three
+    (c.in_ok-clock.ensures.value up)))
 
 pub read-requires-2-clause-ours : goal.read-requires-2-clause-ours
-read-requires-2-clause-ours g c = looked_ours (state g.S.Store c.args.conn.now) (state g.S.Store c.read.new.conn) _ c.requires.ours c.in_ok-versions.ensures.looked
+read-requires-2-clause-ours g c =
+    looked_ours (state g.S.Store c.args.conn.now) (state g.S.Store c.read.new.conn) _
+    c.requires.ours c.in_ok-versions.ensures.looked
 
 pub read-requires-3-clause-ours : goal.read-requires-3-clause-ours
-read-requires-3-clause-ours g c = looked_ours (state g.S.Store c.read.new.conn) (state g.S.Store c.read-2.new.conn) _ (looked_ours (state g.S.Store c.args.conn.now) (state g.S.Store c.read.new.conn) _ c.requires.ours c.in_ok-versions.ensures.looked) c.in_ok-broadcasts.ensures.looked
+read-requires-3-clause-ours g c =
+    looked_ours (state g.S.Store c.read.new.conn) (state g.S.Store c.read-2.new.conn) _
+    (looked_ours (state g.S.Store c.args.conn.now) (state g.S.Store c.read.new.conn) _
+    c.requires.ours c.in_ok-versions.ensures.looked) c.in_ok-broadcasts.ensures.looked
 
 pub read-requires-4-clause-ours : goal.read-requires-4-clause-ours
-read-requires-4-clause-ours g c = looked_ours (state g.S.Store c.read-2.new.conn) (state g.S.Store c.read-3.new.conn) _ (looked_ours (state g.S.Store c.read.new.conn) (state g.S.Store c.read-2.new.conn) _ (looked_ours (state g.S.Store c.args.conn.now) (state g.S.Store c.read.new.conn) _ c.requires.ours c.in_ok-versions.ensures.looked) c.in_ok-broadcasts.ensures.looked) c.in_ok-waits.ensures.looked
+read-requires-4-clause-ours g c =
+    looked_ours (state g.S.Store c.read-2.new.conn) (state g.S.Store c.read-3.new.conn) _
+    (looked_ours (state g.S.Store c.read.new.conn) (state g.S.Store c.read-2.new.conn) _
+    (looked_ours (state g.S.Store c.args.conn.now) (state g.S.Store c.read.new.conn) _
+    c.requires.ours c.in_ok-versions.ensures.looked) c.in_ok-broadcasts.ensures.looked)
+    c.in_ok-waits.ensures.looked

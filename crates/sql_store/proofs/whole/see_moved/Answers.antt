@@ -14,8 +14,12 @@ returns-clause-value g c up =
     let second = c.in_ok-clock.ensures.looked.same up in
     let first = c.in_ok-versions.ensures.looked.same second.was_open in
     let blank : c.are_blank.result ≡ true = search rules in
-    moved_told db c.in_ok-versions.versions c.in_ok-clock.clock (c.in_ok-versions.ensures.value second.was_open)
-    (subst (λ (d : Database). IsRead OldClock old_clock_in d.trees c.in_ok-clock.clock) first.now (c.in_ok-clock.ensures.value up)) (sym c.are_blank.ensures ∙ blank)
+    moved_told db c.in_ok-versions.versions c.in_ok-clock.clock (c.in_ok-versions.ensures.value
+    second.was_open)
+    (subst (λ (d : Database). IsRead OldClock old_clock_in d.trees c.in_ok-clock.clock) first.now
+    (c.in_ok-clock.ensures.value up)) (sym c.are_blank.ensures ∙ blank)
 
 pub read-requires-2-clause-ours : goal.read-requires-2-clause-ours
-read-requires-2-clause-ours g c = looked_ours (state g.S.Store c.args.conn.now) (state g.S.Store c.read.new.conn) _ c.requires.ours c.in_ok-versions.ensures.looked
+read-requires-2-clause-ours g c =
+    looked_ours (state g.S.Store c.args.conn.now) (state g.S.Store c.read.new.conn) _
+    c.requires.ours c.in_ok-versions.ensures.looked

@@ -11,31 +11,53 @@ use Rattle.store.proofs.blocks.standings.Goals as goal
 
 pub loop-key-preserved-in-Some-held_number : goal.loop-key-preserved-in-Some-held_number
 loop-key-preserved-in-Some-held_number c =
-    let next : c.loop-key.key-iterator ≡ (c.in-Some.key.now, c.in-Some.field-0-1.now) ∷ c.next.new.self = search rules in
-    let told : Some (tn_of c.in-Some-held_number.tn) ≡ held_number c.args.block.number (get c.args.tables.now.versions c.in-Some.key.now.id) = search rules in
-    marked-step only_held (λ row. row.holds) c.args.block.number c.args.tables.now.versions (c.in-Some.key.now, c.in-Some.field-0-1.now) c.next.new.self c.loop-key.numbers c.insert.new.self c.in-Some-held_number.tn
+    let next : c.loop-key.key-iterator ≡ (c.in-Some.key.now, c.in-Some.field-0-1.now)
+    ∷ c.next.new.self = search rules in
+    let told : Some (tn_of c.in-Some-held_number.tn) ≡ held_number c.args.block.number
+    (get c.args.tables.now.versions c.in-Some.key.now.id) = search rules in
+    marked-step only_held (λ row. row.holds) c.args.block.number c.args.tables.now.versions
+    (c.in-Some.key.now, c.in-Some.field-0-1.now) c.next.new.self c.loop-key.numbers
+    c.insert.new.self c.in-Some-held_number.tn
     (record { is_in_force = true; is_open = false }) told refl c.in_ok-insert.ensures.updates.0
-    ∙ ap (λ es. marked only_held (λ row. row.holds) c.args.block.number c.args.tables.now.versions es (standings_of c.loop-key.numbers)) (sym next) ∙ c.loop-key.invariant
+    ∙ ap (λ es. marked only_held (λ row. row.holds) c.args.block.number c.args.tables.now.versions
+    es (standings_of c.loop-key.numbers)) (sym next) ∙ c.loop-key.invariant
 
 pub loop-key-2-preserved-in-Some-opened_number : goal.loop-key-2-preserved-in-Some-opened_number
 loop-key-2-preserved-in-Some-opened_number c =
-    let next : c.loop-key-2.key-iterator ≡ (c.in-Some-2.key.now, c.in-Some-2.field-0-1.now) ∷ c.next-in-loop-key-2.new.self = search rules in
-    let told : Some (tn_of c.in-Some-opened_number.tn) ≡ opened_number c.args.block.number (get c.args.tables.now.versions c.in-Some-2.key.now.id) = search rules in
-    let known : c.copied.result ≡ tree.get (on tn_of nat_cmp) c.loop-key-2.numbers c.in-Some-opened_number.tn = search rules in
-    marked-step and_open (λ row. row.opens) c.args.block.number c.args.tables.now.versions (c.in-Some-2.key.now, c.in-Some-2.field-0-1.now) c.next-in-loop-key-2.new.self c.loop-key-2.numbers c.insert-in-Some-opened_number.new.self c.in-Some-opened_number.tn
-    c.and_open-standing.result told (c.and_open-standing.ensures ∙ ap and_open known) c.in_ok-insert-2.ensures.updates.0
-    ∙ ap (λ es. marked and_open (λ row. row.opens) c.args.block.number c.args.tables.now.versions es (standings_of c.loop-key-2.numbers)) (sym next) ∙ c.loop-key-2.invariant
+    let next : c.loop-key-2.key-iterator ≡ (c.in-Some-2.key.now, c.in-Some-2.field-0-1.now)
+    ∷ c.next-in-loop-key-2.new.self = search rules in
+    let told : Some (tn_of c.in-Some-opened_number.tn) ≡ opened_number c.args.block.number
+    (get c.args.tables.now.versions c.in-Some-2.key.now.id) = search rules in
+    let known : c.copied.result ≡ tree.get (on tn_of nat_cmp) c.loop-key-2.numbers
+    c.in-Some-opened_number.tn = search rules in
+    marked-step and_open (λ row. row.opens) c.args.block.number c.args.tables.now.versions
+    (c.in-Some-2.key.now, c.in-Some-2.field-0-1.now) c.next-in-loop-key-2.new.self
+    c.loop-key-2.numbers c.insert-in-Some-opened_number.new.self c.in-Some-opened_number.tn
+    c.and_open-standing.result told (c.and_open-standing.ensures ∙ ap and_open known)
+    c.in_ok-insert-2.ensures.updates.0
+    ∙ ap (λ es. marked and_open (λ row. row.opens) c.args.block.number c.args.tables.now.versions es
+    (standings_of c.loop-key-2.numbers)) (sym next) ∙ c.loop-key-2.invariant
 
 pub returns : goal.returns
 returns c =
-    let held : c.into_iter-key-iterator.result ≡ entries_between (on subject_version_of subject_version_cmp) (Included c.new.result.start) (Included c.new.result.end) c.args.tables.now.holds.entries = search rules in
-    let opened : c.into_iter-key-iterator-2.result ≡ entries_between (on subject_version_of subject_version_cmp) (Included c.new-2.result.start) (Included c.new-2.result.end) c.args.tables.now.opens.entries = search rules in
+    let held : c.into_iter-key-iterator.result ≡ entries_between
+    (on subject_version_of subject_version_cmp) (Included c.new.result.start)
+    (Included c.new.result.end) c.args.tables.now.holds.entries = search rules in
+    let opened : c.into_iter-key-iterator-2.result ≡ entries_between
+    (on subject_version_of subject_version_cmp) (Included c.new-2.result.start)
+    (Included c.new-2.result.end) c.args.tables.now.opens.entries = search rules in
     let end : c.loop-key.key-iterator ≡ [] = search rules in
     let last : c.loop-key-2.key-iterator ≡ [] = search rules in
-    let first : standings_of c.loop-key.numbers ≡ marked only_held (λ row. row.holds) c.args.block.number c.args.tables.now.versions c.into_iter-key-iterator.result empty =
-    ap (λ es. marked only_held (λ row. row.holds) c.args.block.number c.args.tables.now.versions es (standings_of c.loop-key.numbers)) (sym end) ∙ c.loop-key.invariant in
+    let first : standings_of c.loop-key.numbers ≡ marked only_held (λ row. row.holds)
+    c.args.block.number c.args.tables.now.versions c.into_iter-key-iterator.result empty =
+    ap (λ es. marked only_held (λ row. row.holds) c.args.block.number c.args.tables.now.versions es
+    (standings_of c.loop-key.numbers)) (sym end) ∙ c.loop-key.invariant in
     standings-are c.args.tables.now c.args.block.number c.requires
-    c.new.result.start c.new.result.end (search rules) (search rules) c.new-2.result.start c.new-2.result.end (search rules) (search rules)
-    c.into_iter-key-iterator.result c.into_iter-key-iterator-2.result held opened (standings_of c.loop-key-2.numbers)
-    (ap (λ es. marked and_open (λ row. row.opens) c.args.block.number c.args.tables.now.versions es (standings_of c.loop-key-2.numbers)) (sym last)
-    ∙ c.loop-key-2.invariant ∙ ap (marked and_open (λ row. row.opens) c.args.block.number c.args.tables.now.versions c.into_iter-key-iterator-2.result) first)
+    c.new.result.start c.new.result.end (search rules) (search rules) c.new-2.result.start
+    c.new-2.result.end (search rules) (search rules)
+    c.into_iter-key-iterator.result c.into_iter-key-iterator-2.result held opened
+    (standings_of c.loop-key-2.numbers)
+    (ap (λ es. marked and_open (λ row. row.opens) c.args.block.number c.args.tables.now.versions es
+    (standings_of c.loop-key-2.numbers)) (sym last)
+    ∙ c.loop-key-2.invariant ∙ ap (marked and_open (λ row. row.opens) c.args.block.number
+    c.args.tables.now.versions c.into_iter-key-iterator-2.result) first)

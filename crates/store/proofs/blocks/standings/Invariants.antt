@@ -3,13 +3,18 @@ use Rattle.std.specs.FinMap.{empty}
 use Rattle.store.specs.BlockRows.{only_held, and_open, marked, standings_of}
 use Rattle.store.proofs.blocks.standings.Given as goal
 
--- the numbers of the keys that are left, together with those that were gathered, are those of all keys
+-- the numbers of the keys that are left, together with those that were gathered, are those of all
+-- keys
 abbrev pub invariant-loop-key : goal.invariant-loop-key
 invariant-loop-key l =
-    marked only_held (λ row. row.holds) l.block.number l.tables.versions l.key-iterator (standings_of l.numbers)
-    ≡ marked only_held (λ row. row.holds) l.block.number l.tables.versions l.initial.key-iterator empty
+    marked only_held (λ row. row.holds) l.block.number l.tables.versions l.key-iterator
+    (standings_of l.numbers)
+    ≡ marked only_held (λ row. row.holds) l.block.number l.tables.versions l.initial.key-iterator
+    empty
 
 abbrev pub invariant-loop-key-2 : goal.invariant-loop-key-2
 invariant-loop-key-2 l =
-    marked and_open (λ row. row.opens) l.block.number l.tables.versions l.key-iterator (standings_of l.numbers)
-    ≡ marked and_open (λ row. row.opens) l.block.number l.tables.versions l.initial.key-iterator (standings_of l.initial.numbers)
+    marked and_open (λ row. row.opens) l.block.number l.tables.versions l.key-iterator
+    (standings_of l.numbers)
+    ≡ marked and_open (λ row. row.opens) l.block.number l.tables.versions l.initial.key-iterator
+    (standings_of l.initial.numbers)

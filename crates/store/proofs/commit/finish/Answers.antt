@@ -17,4 +17,6 @@ returns-clause-changed c = record {
 }
 
 pub returns-clause-spares : goal.returns-clause-spares
-returns-clause-spares c = beside_taken c.args.tables.now c.moved-tables.result c.take_broadcasts.new.map c.take_waits.new.waits
+returns-clause-spares c =
+    beside_taken c.args.tables.now c.moved-tables.result c.take_broadcasts.new.map
+    c.take_waits.new.waits

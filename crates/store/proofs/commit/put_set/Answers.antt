@@ -8,16 +8,22 @@ use Rattle.store.proofs.commit.put_set.Goals as goal
 
 pub returns-in_err-put-clause-refused : goal.returns-in_err-put-clause-refused
 returns-in_err-put-clause-refused c =
-    on-err c.from_residual.result (kept sets sets-is c.args.tables.now c.put.new.map c.in_err-put.ensures.err)
+    on-err c.from_residual.result (kept sets sets-is c.args.tables.now c.put.new.map
+    c.in_err-put.ensures.err)
 
 pub returns-in_ok-put-clause-put : goal.returns-in_ok-put-clause-put
 returns-in_ok-put-clause-put c =
-    subst (λ o. IsPutWithSet o c.args.tables.now (record c.args.tables.now { sets = c.put.new.map }))
+    subst (λ o. IsPutWithSet o c.args.tables.now (record c.args.tables.now {
+      sets =
+          c.put.new.map;
+    }))
     (sym c.in-Some.is)
-    (put-with_set c.args.tables.now c.put.new.map c.in-Some.field-0.number c.in-Some.field-0.windows c.in_ok-put.ensures.ok)
+    (put-with_set c.args.tables.now c.put.new.map c.in-Some.field-0.number c.in-Some.field-0.windows
+    c.in_ok-put.ensures.ok)
 
 pub returns-in_ok-put-clause-there : goal.returns-in_ok-put-clause-there
 returns-in_ok-put-clause-there c =
     subst (λ o. IsSetThere o (record c.args.tables.now { sets = c.put.new.map }))
     (sym c.in-Some.is)
-    (put-there c.args.tables.now c.put.new.map c.in-Some.field-0.number c.in-Some.field-0.windows c.in_ok-put.ensures.ok)
+    (put-there c.args.tables.now c.put.new.map c.in-Some.field-0.number c.in-Some.field-0.windows
+    c.in_ok-put.ensures.ok)

@@ -9,11 +9,18 @@ returns-clause-there c =
     let old = c.args.tables.now in
     let new = c.put_version_keys.new.tables in
     let put = c.put_version_keys.ensures in
-    let stood = have-standing old c.args.id c.args.standing c.requires.indexed c.requires.own c.requires.without in
+    let stood = have-standing old c.args.id c.args.standing c.requires.indexed c.requires.own
+    c.requires.without in
     on_ok_weaker c.put_version_keys.result (λ there. record {
-      held = has-either subject_version_of subject_version_total subject_version_exact old.holds new.holds c.args.keys.held c.args.standing.held c.unneeded.result c.unneeded.ensures.own c.unneeded.ensures.rest there.held stood.held put.keeps.0;
-      opened = has-either subject_version_of subject_version_total subject_version_exact old.opens new.opens c.args.keys.opened c.args.standing.opened c.unneeded-2.result c.unneeded-2.ensures.own c.unneeded-2.ensures.rest there.opened stood.opened put.keeps.1;
-      due = has-either due_version_of due_version_total due_version_exact old.deadlines new.deadlines c.args.keys.due c.args.standing.due c.unneeded-3.result c.unneeded-3.ensures.own c.unneeded-3.ensures.rest there.due stood.due put.keeps.2;
+      held = has-either subject_version_of subject_version_total subject_version_exact old.holds
+          new.holds c.args.keys.held c.args.standing.held c.unneeded.result c.unneeded.ensures.own
+          c.unneeded.ensures.rest there.held stood.held put.keeps.0;
+      opened = has-either subject_version_of subject_version_total subject_version_exact old.opens
+          new.opens c.args.keys.opened c.args.standing.opened c.unneeded-2.result
+          c.unneeded-2.ensures.own c.unneeded-2.ensures.rest there.opened stood.opened put.keeps.1;
+      due = has-either due_version_of due_version_total due_version_exact old.deadlines
+          new.deadlines c.args.keys.due c.args.standing.due c.unneeded-3.result
+          c.unneeded-3.ensures.own c.unneeded-3.ensures.rest there.due stood.due put.keeps.2;
     })
     put.there
 
@@ -22,7 +29,10 @@ returns-clause-adds_keys c =
     let old = c.args.tables.now in
     let new = c.put_version_keys.new.tables in
     let adds = c.put_version_keys.ensures.adds_keys in (
-      beside-all subject_version_of subject_version_total subject_version_exact new.holds old.holds c.args.keys.held c.unneeded.result c.unneeded.ensures.own adds.0,
-      beside-all subject_version_of subject_version_total subject_version_exact new.opens old.opens c.args.keys.opened c.unneeded-2.result c.unneeded-2.ensures.own adds.1,
-      beside-all due_version_of due_version_total due_version_exact new.deadlines old.deadlines c.args.keys.due c.unneeded-3.result c.unneeded-3.ensures.own adds.2,
+      beside-all subject_version_of subject_version_total subject_version_exact new.holds old.holds
+          c.args.keys.held c.unneeded.result c.unneeded.ensures.own adds.0,
+      beside-all subject_version_of subject_version_total subject_version_exact new.opens old.opens
+          c.args.keys.opened c.unneeded-2.result c.unneeded-2.ensures.own adds.1,
+      beside-all due_version_of due_version_total due_version_exact new.deadlines old.deadlines
+          c.args.keys.due c.unneeded-3.result c.unneeded-3.ensures.own adds.2,
     )

@@ -5,4 +5,6 @@ use Rattle.numbers.specs.declared.spid.Spid.{Spid}
 use Rattle.store.proofs.waiting.take_out.Goals as goal
 
 pub returns : goal.returns
-returns c = filter_same _ (λ (k : Spid). not (c.args.carrier.number == k.number)) _ (λ x r f' k. search rules) c.args.carriers.now.items c.retain.new.self.items c.retain.ensures.filtered
+returns c = filter_same _ (λ (k : Spid). not (c.args.carrier.number == k.number)) _
+    (λ x r f' k. search rules) c.args.carriers.now.items c.retain.new.self.items
+    c.retain.ensures.filtered

@@ -8,9 +8,13 @@ at_cut : (bs : List ℕ) (found : Option Cut) → cut 59 bs ≡ found → HasPar
 at_cut bs found e = rw (← e) (parts-cut 59 bs)
 
 pub returns-in-None : goal.returns-in-None
-returns-in-None c = record { parts = at_cut c.args.parameters.now None (sym c.in-None.ensures); shorter = tt }
+returns-in-None c = record {
+  parts = at_cut c.args.parameters.now None (sym c.in-None.ensures);
+  shorter = tt;
+}
 
 pub returns-in-Some : goal.returns-in-Some
 returns-in-Some c =
-    let h = at_cut c.args.parameters.now (Some (c.in-Some.first.now, c.in-Some.others.now)) (sym c.in-Some.ensures) in
+    let h = at_cut c.args.parameters.now (Some (c.in-Some.first.now, c.in-Some.others.now))
+    (sym c.in-Some.ensures) in
     record { parts = h.0; shorter = h.1 }

@@ -7,6 +7,9 @@ use Rattle.telnp.specs.Grammar.{times, name_of}
 use Rattle.telnp.proofs.parameters.repeats.Goals as goal
 
 pub returns : goal.returns
-returns c = any_from_yields_List (λ part. nat_lt 1 (times (name_of part) (parts 59 c.args.parameters.now))) _ _ c.any.result c.any.ensures.ran
-    (YieldsList-from_str_split 59 c.args.parameters.now (lit< tt) c.split.ensures.text c.split.ensures.has_more c.split.ensures.pattern)
+returns c =
+    any_from_yields_List (λ part. nat_lt 1 (times (name_of part) (parts 59 c.args.parameters.now)))
+    _ _ c.any.result c.any.ensures.ran
+    (YieldsList-from_str_split 59 c.args.parameters.now (lit< tt) c.split.ensures.text
+    c.split.ensures.has_more c.split.ensures.pattern)
     (λ x b q k. search (rules, k))

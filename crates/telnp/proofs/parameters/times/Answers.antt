@@ -9,7 +9,10 @@ use Rattle.telnp.proofs.parameters.times.Goals as goal
 pub returns : goal.returns
 returns c = let source = c.filter.ensures.source in
     count_from_yields_List c.filter.result c.count.result c.count.ensures.ran
-    (YieldsList-from_filter {s = c.filter.result} _ (λ part. same_name (name_of part) c.args.name.now)
-    (YieldsList-from_str_split {s = filter_source c.filter.result} 59 c.args.parameters.now (lit< tt)
-    (ap split_text source ∙ c.split.ensures.text) (ap split_has_more source ∙ c.split.ensures.has_more) (ap split_pattern source ∙ c.split.ensures.pattern))
+    (YieldsList-from_filter {s =
+    c.filter.result} _ (λ part. same_name (name_of part) c.args.name.now)
+    (YieldsList-from_str_split {s = filter_source c.filter.result} 59 c.args.parameters.now
+    (lit< tt)
+    (ap split_text source ∙ c.split.ensures.text) (ap split_has_more source
+    ∙ c.split.ensures.has_more) (ap split_pattern source ∙ c.split.ensures.pattern))
     c.filter.ensures.closure (λ x b q k. search (rules, k)))

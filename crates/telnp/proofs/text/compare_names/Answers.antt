@@ -8,6 +8,8 @@ use Rattle.telnp.proofs.text.compare_names.Goals as goal
 
 pub returns : goal.returns
 returns c = cmp_from_yields_List (λ x y. y ≡ x) _ nat_cmp _ c.cmp.ensures.ran
-    (YieldsList-from_map _ to_ascii_lowercase (YieldsList-from_slice c.args.a.now cc) c.map.ensures.closure (λ x r q k. search rules))
-    (λ it e. YieldsList-from_map _ to_ascii_lowercase (YieldsList-from_slice c.args.b.now cc) (ap map_callee e ∙ c.map-2.ensures.closure) (λ x r q k. search rules))
+    (YieldsList-from_map _ to_ascii_lowercase (YieldsList-from_slice c.args.a.now cc)
+    c.map.ensures.closure (λ x r q k. search rules))
+    (λ it e. YieldsList-from_map _ to_ascii_lowercase (YieldsList-from_slice c.args.b.now cc)
+    (ap map_callee e ∙ c.map-2.ensures.closure) (λ x r q k. search rules))
     (λ x y. refl)

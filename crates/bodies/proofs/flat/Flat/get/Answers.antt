@@ -9,12 +9,18 @@ blank = record { key = record { ref_ptr = (0, 0); now = [] }; value = Null }
 
 pub returns-then-eq : goal.returns-then-eq
 returns-then-eq c =
-    let same : (get_or c.as_slice-members.result.now (c.members.left - 1) blank).key.now ≡ c.args.key.now = search rules in
-    sym (found_at c.args.self.now.members.items c.as_slice-members.result.now c.as_slice-members.ensures.value c.members.left blank c.members-test.true c.members.invariant.0 c.args.key.now same) ∙ c.members.invariant.1
+    let same : (get_or c.as_slice-members.result.now (c.members.left - 1) blank).key.now
+    ≡ c.args.key.now = search rules in
+    sym (found_at c.args.self.now.members.items c.as_slice-members.result.now
+    c.as_slice-members.ensures.value c.members.left blank c.members-test.true c.members.invariant.0
+    c.args.key.now same) ∙ c.members.invariant.1
 
 pub members-preserved : goal.members-preserved
 members-preserved c =
-    let other : c.args.key.now ≡ (get_or c.as_slice-members.result.now (c.members.left - 1) blank).key.now → ⊥ = search rules in (
+    let other : c.args.key.now ≡ (get_or c.as_slice-members.result.now (c.members.left - 1)
+    blank).key.now → ⊥ = search rules in (
       omega (arith, c.members.invariant.0),
-      passed_at c.args.self.now.members.items c.as_slice-members.result.now c.as_slice-members.ensures.value c.members.left blank c.members-test.true c.members.invariant.0 c.args.key.now other ∙ c.members.invariant.1,
+      passed_at c.args.self.now.members.items c.as_slice-members.result.now
+          c.as_slice-members.ensures.value c.members.left blank c.members-test.true
+          c.members.invariant.0 c.args.key.now other ∙ c.members.invariant.1,
     )

@@ -9,7 +9,8 @@ use Rattle.bodies.proofs.flat.Flat.get.Given as goal
 abbrev pub invariant-members : goal.invariant-members
 invariant-members l =
     (l.left ≤ length l.self.members.items)
-    × (get_member l.key (members_upon no_members (take l.left l.self.members.items)) ≡ get_member l.key (members_upon no_members l.self.members.items))
+    × (get_member l.key (members_upon no_members (take l.left l.self.members.items))
+    ≡ get_member l.key (members_upon no_members l.self.members.items))
 
 abbrev pub decreases-members : goal.decreases-members
 decreases-members l = l.left

@@ -8,5 +8,6 @@ use Rattle.bodies.proofs.flat.FlatFields.has_only.Goals as goal
 pub returns : goal.returns
 returns c =
     c.are_known.ensures
-    ∙ ap (list_all (λ (m : Member). list_any (λ (s : Bor (List ℕ)). bytes_eq m.key.now s.now) c.args.allowed.now)) c.as_slice.ensures.value
+    ∙ ap (list_all (λ (m : Member). list_any (λ (s : Bor (List ℕ)). bytes_eq m.key.now s.now)
+    c.args.allowed.now)) c.as_slice.ensures.value
     ∙ only_flat c.args.allowed.now c.args.self.now.members.items

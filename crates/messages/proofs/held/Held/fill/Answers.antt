@@ -13,34 +13,54 @@ pub returns-in_err-n-clause-same : goal.returns-in_err-n-clause-same
 returns-in_err-n-clause-same g c =
     let room = c.make_room.new.self in
     on_err c.from_residual.result _
-    (same_held room c.read_at.new.buf c.deref_mut.result.now (held_bytes c.args.self.now) (with_items_is room.bytes c.read_at.new.buf (search rules)) c.deref_mut.ensures.value c.in_err-n.ensures.err c.make_room.ensures.held)
+    (same_held room c.read_at.new.buf c.deref_mut.result.now (held_bytes c.args.self.now)
+    (with_items_is room.bytes c.read_at.new.buf (search rules)) c.deref_mut.ensures.value
+    c.in_err-n.ensures.err c.make_room.ensures.held)
 
 pub returns-in_err-n-clause-left : goal.returns-in_err-n-clause-left
 returns-in_err-n-clause-left g c =
     let room = c.make_room.new.self in
     Keeps-same (held_bytes c.args.self.now) _ _ _
-    (same_held room c.read_at.new.buf c.deref_mut.result.now (held_bytes c.args.self.now) (with_items_is room.bytes c.read_at.new.buf (search rules)) c.deref_mut.ensures.value c.in_err-n.ensures.err c.make_room.ensures.held)
+    (same_held room c.read_at.new.buf c.deref_mut.result.now (held_bytes c.args.self.now)
+    (with_items_is room.bytes c.read_at.new.buf (search rules)) c.deref_mut.ensures.value
+    c.in_err-n.ensures.err c.make_room.ensures.held)
     c.in_err-n.ensures.kept
 
 pub returns-clause-left : goal.returns-clause-left
 returns-clause-left g c =
     let room = c.make_room.new.self in
     let buf : List ℕ = c.read_at.new.buf in
-    let written : (with_items room.bytes buf).items ≡ buf = with_items_is room.bytes buf (search rules) in
-    let fits : room.filled ≤ length c.deref_mut.result.now = omega (arith, room.fits, room.bytes.ok.0, ap length c.deref_mut.ensures.value) in
+    let written : (with_items room.bytes buf).items ≡ buf =
+    with_items_is room.bytes buf (search rules) in
+    let fits : room.filled ≤ length c.deref_mut.result.now = omega (
+      arith,
+      room.fits,
+      room.bytes.ok.0,
+      ap length c.deref_mut.ensures.value,
+    ) in
     Keeps-read _ _ (held_bytes c.args.self.now) _ _ _ _ _ c.in_ok-n.ensures.ok
     (ap (λ (t : List ℕ). take (room.filled + c.in_ok-n.n - room.start) (drop room.start t)) written
-    ∙ more_held room.bytes.items _ buf (held_bytes c.args.self.now) room.start room.filled _ _ _ c.in_ok-n.ensures.ok c.deref_mut.ensures.value room.begins fits c.make_room.ensures.held)
+    ∙ more_held room.bytes.items _ buf (held_bytes c.args.self.now) room.start room.filled _ _ _
+    c.in_ok-n.ensures.ok c.deref_mut.ensures.value room.begins fits c.make_room.ensures.held)
 
 pub returns-clause-end : goal.returns-clause-end
 returns-clause-end g c =
     let room = c.make_room.new.self in
     let buf : List ℕ = c.read_at.new.buf in
-    let written : (with_items room.bytes buf).items ≡ buf = with_items_is room.bytes buf (search rules) in
-    let fits : room.filled ≤ length c.deref_mut.result.now = omega (arith, room.fits, room.bytes.ok.0, ap length c.deref_mut.ensures.value) in
+    let written : (with_items room.bytes buf).items ≡ buf =
+    with_items_is room.bytes buf (search rules) in
+    let fits : room.filled ≤ length c.deref_mut.result.now = omega (
+      arith,
+      room.fits,
+      room.bytes.ok.0,
+      ap length c.deref_mut.ensures.value,
+    ) in
     λ z. (
       c.in_ok-n.ensures.ok.end z,
       none_more _ _ (held_bytes c.args.self.now) _ _ _ _ _ c.in_ok-n.ensures.ok
-          (ap (λ (t : List ℕ). take (room.filled + c.in_ok-n.n - room.start) (drop room.start t)) written
-          ∙ more_held room.bytes.items _ buf (held_bytes c.args.self.now) room.start room.filled _ _ _ c.in_ok-n.ensures.ok c.deref_mut.ensures.value room.begins fits c.make_room.ensures.held) z,
+          (ap (λ (t : List ℕ). take (room.filled + c.in_ok-n.n - room.start) (drop room.start t))
+          written
+          ∙ more_held room.bytes.items _ buf (held_bytes c.args.self.now) room.start room.filled _ _
+          _ c.in_ok-n.ensures.ok c.deref_mut.ensures.value room.begins fits
+          c.make_room.ensures.held) z,
     )

@@ -6,15 +6,18 @@ use Rattle.numbers.proofs.minute.Minute.read.Goals as goal
 -- the text of a minute is parsed as that minute, and printed again it is the text
 pub returns-in_default-clause-none : goal.returns-in_default-clause-none
 returns-in_default-clause-none c = λ n small e.
-    let parsed : c.parse.result ≡ Ok n = parse-decimal 64 n c.args.text.now _ (omega arith) (omega arith) e c.parse.ensures.value.0 in
+    let parsed : c.parse.result ≡ Ok n =
+    parse-decimal 64 n c.args.text.now _ (omega arith) (omega arith) e c.parse.ensures.value.0 in
     grind (arith, common_steps)
 
 pub returns-in_default-2-clause-none : goal.returns-in_default-2-clause-none
 returns-in_default-2-clause-none c = λ n small e.
-    let parsed : c.parse.result ≡ Ok n = parse-decimal 64 n c.args.text.now _ (omega arith) (omega arith) e c.parse.ensures.value.0 in
+    let parsed : c.parse.result ≡ Ok n =
+    parse-decimal 64 n c.args.text.now _ (omega arith) (omega arith) e c.parse.ensures.value.0 in
     grind (arith, common_steps)
 
 pub returns-in_default-3-clause-none : goal.returns-in_default-3-clause-none
 returns-in_default-3-clause-none c = λ n small e.
-    let parsed : c.parse.result ≡ Ok n = parse-decimal 64 n c.args.text.now _ (omega arith) (omega arith) e c.parse.ensures.value.0 in
+    let parsed : c.parse.result ≡ Ok n =
+    parse-decimal 64 n c.args.text.now _ (omega arith) (omega arith) e c.parse.ensures.value.0 in
     grind (arith, common_steps)

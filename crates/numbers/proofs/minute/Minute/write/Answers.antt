@@ -7,11 +7,13 @@ use Rattle.numbers.proofs.minute.Minute.write.Goals as goal
 pub returns-clause-succeeds : goal.returns-clause-succeeds
 returns-clause-succeeds c =
     let small = c.args.self.now.valid in
-    let short : length (decimal c.args.self.now.number) ≤ 13 = length-decimal-le 13 c.args.self.now.number (lit< tt) (omega arith) (omega arith) in
+    let short : length (decimal c.args.self.now.number) ≤ 13 =
+    length-decimal-le 13 c.args.self.now.number (lit< tt) (omega arith) (omega arith) in
     grind (arith, common_steps)
 
 pub returns-clause-len : goal.returns-clause-len
 returns-clause-len c =
     let small = c.args.self.now.valid in
-    let short : length (decimal c.args.self.now.number) ≤ 13 = length-decimal-le 13 c.args.self.now.number (lit< tt) (omega arith) (omega arith) in
+    let short : length (decimal c.args.self.now.number) ≤ 13 =
+    length-decimal-le 13 c.args.self.now.number (lit< tt) (omega arith) (omega arith) in
     grind (arith, common_steps)

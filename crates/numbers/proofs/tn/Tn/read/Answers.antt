@@ -11,5 +11,6 @@ weaker (Some x) f p = tt
 pub returns-clause-none : goal.returns-clause-none
 returns-clause-none c = weaker c.new.result (λ other n rule e.
     let read = c.in_ok-read_digits.ensures.some in
-    let same : c.in_ok-read_digits.field-0 ≡ n = digits_of-injective 10 c.in_ok-read_digits.field-0 n read.0 rule.0 (sym read.1 ∙ e) in
+    let same : c.in_ok-read_digits.field-0 ≡ n =
+    digits_of-injective 10 c.in_ok-read_digits.field-0 n read.0 rule.0 (sym read.1 ∙ e) in
     other (subst IsTn (sym same) rule)) c.new.ensures.none

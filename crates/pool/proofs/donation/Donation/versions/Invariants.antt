@@ -7,5 +7,6 @@ use Rattle.version.specs.Views.{set_of}
 abbrev pub invariant-loop-tn : goal.invariant-loop-tn
 invariant-loop-tn l = record {
   next : l.id ≡ l.first_id + l.tn-index;
-  made : AreProtective (set_of l.present) l.donor.number l.minute.number l.self l.first_id (map tn_subject (take l.tn-index l.numbers)) l.versions.items;
+  made : AreProtective (set_of l.present) l.donor.number l.minute.number l.self l.first_id
+      (map tn_subject (take l.tn-index l.numbers)) l.versions.items;
 }

@@ -9,20 +9,29 @@ use Rattle.register.proofs.register.Register.ids.Goals as goal
 pub returns-clause-answers : goal.returns-clause-answers
 returns-clause-answers g c = λ usable caller.
     let middle = c.ids.ensures.owes.usable usable in
-    answers_after (g.S.Store.content c.args.self.now.store) (g.S.Store.content c.settle_number.new.store) (g.S.Store.content c.ids.new.store) (Asks caller (Ids c.args.tn.number))
-    (c.in_ok-settle_number.ensures.kept middle) (c.in_ok-settle_number.ensures.settled middle) (replied (λ found. Found found.in_force found.opened) c.ids.result) (c.ids.ensures.answers usable caller)
+    answers_after (g.S.Store.content c.args.self.now.store)
+    (g.S.Store.content c.settle_number.new.store) (g.S.Store.content c.ids.new.store)
+    (Asks caller (Ids c.args.tn.number))
+    (c.in_ok-settle_number.ensures.kept middle) (c.in_ok-settle_number.ensures.settled middle)
+    (replied (λ found. Found found.in_force found.opened) c.ids.result)
+    (c.ids.ensures.answers usable caller)
 
 pub returns-clause-elsewhere : goal.returns-clause-elsewhere
 returns-clause-elsewhere g c = λ usable caller.
     let middle = c.ids.ensures.owes.usable usable in
-    leaves_after (g.S.Store.content c.args.self.now.store) (g.S.Store.content c.settle_number.new.store) (g.S.Store.content c.ids.new.store) (Asks caller (Ids c.args.tn.number))
-    (c.in_ok-settle_number.ensures.kept middle) (c.in_ok-settle_number.ensures.settled middle) (replied (λ found. Found found.in_force found.opened) c.ids.result) (c.ids.ensures.answers usable caller)
+    leaves_after (g.S.Store.content c.args.self.now.store)
+    (g.S.Store.content c.settle_number.new.store) (g.S.Store.content c.ids.new.store)
+    (Asks caller (Ids c.args.tn.number))
+    (c.in_ok-settle_number.ensures.kept middle) (c.in_ok-settle_number.ensures.settled middle)
+    (replied (λ found. Found found.in_force found.opened) c.ids.result)
+    (c.ids.ensures.answers usable caller)
 
 pub returns-in_err-settle_number-clause-owes : goal.returns-in_err-settle_number-clause-owes
 returns-in_err-settle_number-clause-owes g c = record {
   usable = search rules;
   honest = search rules;
-  stays = λ answered. absurd (fault_is_none c.from_residual.result c.in_err-settle_number.field-0.0 (search rules) answered);
+  stays = λ answered. absurd (fault_is_none c.from_residual.result c.in_err-settle_number.field-0.0
+      (search rules) answered);
   rises = search rules;
   storage = search rules;
 }

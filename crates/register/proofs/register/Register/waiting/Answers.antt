@@ -10,24 +10,37 @@ use Rattle.register.proofs.register.Register.waiting.Goals as goal
 
 pub returns-in_err-settle_all-clause-answers : goal.returns-in_err-settle_all-clause-answers
 returns-in_err-settle_all-clause-answers g c = λ usable.
-    means_fault (g.S.Store.content c.args.self.now.store) (g.S.Store.content c.settle_all.new.store) (Asks c.args.caller.number Waiting) (λ subjects. Awaited (map subject_of subjects.items))
+    means_fault (g.S.Store.content c.args.self.now.store) (g.S.Store.content c.settle_all.new.store)
+    (Asks c.args.caller.number Waiting) (λ subjects. Awaited (map subject_of subjects.items))
     c.from_residual.result c.in_err-settle_all.field-0.0 (search rules)
-    (λ st stands. (all_kept (g.S.Store.content c.args.self.now.store) (g.S.Store.content c.settle_all.new.store) (c.in_err-settle_all.ensures.kept usable) st stands).0)
+    (λ st stands. (all_kept (g.S.Store.content c.args.self.now.store)
+    (g.S.Store.content c.settle_all.new.store) (c.in_err-settle_all.ensures.kept usable) st
+    stands).0)
 
 pub returns-clause-owes : goal.returns-clause-owes
 returns-clause-owes g c =
-    owes_after g.S.Store.IsUsable g.S.Store.IsHonest g.S.Store.failed c.args.self.now.store c.settle_all.new.store c.waiting.new.store
-    (g.S.Store.content c.args.self.now.store) (g.S.Store.content c.settle_all.new.store) (Asks c.args.caller.number Waiting)
+    owes_after g.S.Store.IsUsable g.S.Store.IsHonest g.S.Store.failed c.args.self.now.store
+    c.settle_all.new.store c.waiting.new.store
+    (g.S.Store.content c.args.self.now.store) (g.S.Store.content c.settle_all.new.store)
+    (Asks c.args.caller.number Waiting)
     tt c.in_ok-settle_all.ensures.owes
-    (λ middle. all_kept (g.S.Store.content c.args.self.now.store) (g.S.Store.content c.settle_all.new.store) (c.in_ok-settle_all.ensures.kept middle))
-    (λ middle. all_settled (g.S.Store.content c.args.self.now.store) (g.S.Store.content c.settle_all.new.store) (c.in_ok-settle_all.ensures.settled middle))
+    (λ middle. all_kept (g.S.Store.content c.args.self.now.store)
+    (g.S.Store.content c.settle_all.new.store) (c.in_ok-settle_all.ensures.kept middle))
+    (λ middle. all_settled (g.S.Store.content c.args.self.now.store)
+    (g.S.Store.content c.settle_all.new.store) (c.in_ok-settle_all.ensures.settled middle))
     c.waiting.ensures.owes
 
 pub returns-clause-published : goal.returns-clause-published
 returns-clause-published g c = λ usable.
     let middle = c.waiting.ensures.owes.usable usable in
-    if_all_but (g.S.Store.content c.args.self.now.store) (g.S.Store.content c.waiting.new.store) c.args.caller.number (λ v. map subject_of v.items) c.waiting.result
-    (answers_after (g.S.Store.content c.args.self.now.store) (g.S.Store.content c.settle_all.new.store) (g.S.Store.content c.waiting.new.store) (Asks c.args.caller.number Waiting)
-    (all_kept (g.S.Store.content c.args.self.now.store) (g.S.Store.content c.settle_all.new.store) (c.in_ok-settle_all.ensures.kept middle))
-    (all_settled (g.S.Store.content c.args.self.now.store) (g.S.Store.content c.settle_all.new.store) (c.in_ok-settle_all.ensures.settled middle))
-    (replied (λ subjects. Awaited (map subject_of subjects.items)) c.waiting.result) (c.waiting.ensures.answers usable))
+    if_all_but (g.S.Store.content c.args.self.now.store) (g.S.Store.content c.waiting.new.store)
+    c.args.caller.number (λ v. map subject_of v.items) c.waiting.result
+    (answers_after (g.S.Store.content c.args.self.now.store)
+    (g.S.Store.content c.settle_all.new.store) (g.S.Store.content c.waiting.new.store)
+    (Asks c.args.caller.number Waiting)
+    (all_kept (g.S.Store.content c.args.self.now.store) (g.S.Store.content c.settle_all.new.store)
+    (c.in_ok-settle_all.ensures.kept middle))
+    (all_settled (g.S.Store.content c.args.self.now.store)
+    (g.S.Store.content c.settle_all.new.store) (c.in_ok-settle_all.ensures.settled middle))
+    (replied (λ subjects. Awaited (map subject_of subjects.items)) c.waiting.result)
+    (c.waiting.ensures.answers usable))

@@ -9,7 +9,8 @@ pub over-requires : goal.over-requires
 over-requires g c = λ clean.
     let v = g.S.Store.view c.into_store-store.result in
     let sound : v.is_broken ≡ false = let e = c.is_broken.ensures clean in search rules in
-    let is_open : IsTrue v.is_open = true_from_ne_false _ (λ shut. both_ways _ sound (g.met.S.Store.broken_if_shut _ shut)) in
+    let is_open : IsTrue v.is_open =
+    true_from_ne_false _ (λ shut. both_ways _ sound (g.met.S.Store.broken_if_shut _ shut)) in
     let kept = c.into_store-store.ensures.undone.kept clean in
     record {
       sound = sound;
@@ -25,14 +26,16 @@ returns-in-Ok-clause-opened g c = λ clean.
     let before : IsClean v = omega (arith, clean, c.in-Ok.ensures.clean) in
     let sound : v.is_broken ≡ false = let e = c.is_broken.ensures before in search rules in
     let opens = c.in-Ok.ensures.opens clean in
-    was_opened v (state g.S.Store c.in-Ok.conn) (g.met.S.Alter.listed store sound) (g.met.S.Store.ordered store sound) (c.in-Ok.ensures.trees clean) opens.0 opens.1
+    was_opened v (state g.S.Store c.in-Ok.conn) (g.met.S.Alter.listed store sound)
+    (g.met.S.Store.ordered store sound) (c.in-Ok.ensures.trees clean) opens.0 opens.1
 
 pub returns-in-Ok-clause-trees : goal.returns-in-Ok-clause-trees
 returns-in-Ok-clause-trees g c = λ clean.
     let v = g.S.Store.view c.into_store-store.result in
     let before : IsClean v = omega (arith, clean, c.in-Ok.ensures.clean) in
     let sound : v.is_broken ≡ false = let e = c.is_broken.ensures before in search rules in
-    let is_open : IsTrue v.is_open = true_from_ne_false _ (λ shut. both_ways _ sound (g.met.S.Store.broken_if_shut _ shut)) in
+    let is_open : IsTrue v.is_open =
+    true_from_ne_false _ (λ shut. both_ways _ sound (g.met.S.Store.broken_if_shut _ shut)) in
     c.in-Ok.ensures.trees clean ∙ (c.into_store-store.ensures.undone.undone is_open).0
 
 pub returns-in-Err-clause-kept : goal.returns-in-Err-clause-kept
@@ -40,5 +43,6 @@ returns-in-Err-clause-kept g c = λ clean up.
     let v = g.S.Store.view c.into_store-store.result in
     let before : IsClean v = omega (arith, clean, c.in-Err.ensures.unharmed.clean) in
     let sound : v.is_broken ≡ false = let e = c.is_broken.ensures before in search rules in
-    let is_open : IsTrue v.is_open = true_from_ne_false _ (λ shut. both_ways _ sound (g.met.S.Store.broken_if_shut _ shut)) in
+    let is_open : IsTrue v.is_open =
+    true_from_ne_false _ (λ shut. both_ways _ sound (g.met.S.Store.broken_if_shut _ shut)) in
     c.in-Err.ensures.rows clean up ∙ (c.into_store-store.ensures.undone.undone is_open).0

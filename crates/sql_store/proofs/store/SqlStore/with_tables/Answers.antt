@@ -11,7 +11,9 @@ invariant_of-result g c =
     let ok : IsTrue c.is_ours.result = search rules in
     record {
       ours = λ up.
-          let clean : HasCleanDisk s = clean_if_open s.is_clean s.is_open (g.met.S.Store.shut_if_dirty _) up in
-          opened_ours s (c.requires.opened clean) (sym c.schema.ensures.value ∙ c.is_ours.ensures ok);
+          let clean : HasCleanDisk s =
+          clean_if_open s.is_clean s.is_open (g.met.S.Store.shut_if_dirty _) up in
+          opened_ours s (c.requires.opened clean) (sym c.schema.ensures.value
+          ∙ c.is_ours.ensures ok);
       idle = c.requires.fresh.autocommit;
     }

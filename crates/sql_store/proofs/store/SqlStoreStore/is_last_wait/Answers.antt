@@ -3,4 +3,9 @@ use Rattle.sql_store.proofs.CallLemmas.{looked_ours}
 use Rattle.sql_store.proofs.store.SqlStoreStore.is_last_wait.Goals as goal
 
 pub invariant_of-self : goal.invariant_of-self
-invariant_of-self g c = record { ours = looked_ours (state g.S.Store c.args.self.now.conn) (state g.S.Store c.is_last_wait.new.conn) _ c.args.self.now.ours c.is_last_wait.ensures.looked; idle = c.is_last_wait.ensures.idle }
+invariant_of-self g c = record {
+  ours = looked_ours (state g.S.Store c.args.self.now.conn)
+      (state g.S.Store c.is_last_wait.new.conn) _ c.args.self.now.ours
+      c.is_last_wait.ensures.looked;
+  idle = c.is_last_wait.ensures.idle;
+}

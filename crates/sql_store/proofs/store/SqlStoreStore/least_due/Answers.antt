@@ -3,4 +3,8 @@ use Rattle.sql_store.proofs.CallLemmas.{looked_ours}
 use Rattle.sql_store.proofs.store.SqlStoreStore.least_due.Goals as goal
 
 pub invariant_of-self : goal.invariant_of-self
-invariant_of-self g c = record { ours = looked_ours (state g.S.Store c.args.self.now.conn) (state g.S.Store c.least_due.new.conn) _ c.args.self.now.ours c.least_due.ensures.looked; idle = c.least_due.ensures.idle }
+invariant_of-self g c = record {
+  ours = looked_ours (state g.S.Store c.args.self.now.conn) (state g.S.Store c.least_due.new.conn) _
+      c.args.self.now.ours c.least_due.ensures.looked;
+  idle = c.least_due.ensures.idle;
+}

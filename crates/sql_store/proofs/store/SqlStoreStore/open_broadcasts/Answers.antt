@@ -3,4 +3,9 @@ use Rattle.sql_store.proofs.CallLemmas.{looked_ours}
 use Rattle.sql_store.proofs.store.SqlStoreStore.open_broadcasts.Goals as goal
 
 pub invariant_of-self : goal.invariant_of-self
-invariant_of-self g c = record { ours = looked_ours (state g.S.Store c.args.self.now.conn) (state g.S.Store c.open_broadcasts.new.conn) _ c.args.self.now.ours c.open_broadcasts.ensures.looked; idle = c.open_broadcasts.ensures.idle }
+invariant_of-self g c = record {
+  ours = looked_ours (state g.S.Store c.args.self.now.conn)
+      (state g.S.Store c.open_broadcasts.new.conn) _ c.args.self.now.ours
+      c.open_broadcasts.ensures.looked;
+  idle = c.open_broadcasts.ensures.idle;
+}

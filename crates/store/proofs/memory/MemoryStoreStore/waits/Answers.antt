@@ -8,6 +8,8 @@ use Rattle.store.proofs.memory.MemoryStoreStore.waits.Goals as goal
 
 pub returns-clause-value : goal.returns-clause-value
 returns-clause-value c usable =
-    let found : IfOk c.subjects.result (λ subjects. AreAwaited (content_of c.args.self.now.tables) (spid_of c.args.spid) subjects.items) =
-    all-awaited c.args.self.now.tables (spid_of c.args.spid) (λ s. s.items) c.subjects.result c.subjects.ensures in
+    let found : IfOk c.subjects.result (λ subjects. AreAwaited (content_of c.args.self.now.tables)
+    (spid_of c.args.spid) subjects.items) =
+    all-awaited c.args.self.now.tables (spid_of c.args.spid) (λ s. s.items) c.subjects.result
+    c.subjects.ensures in
     search rules

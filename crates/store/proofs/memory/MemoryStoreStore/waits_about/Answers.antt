@@ -10,6 +10,8 @@ use Rattle.store.proofs.memory.MemoryStoreStore.waits_about.Goals as goal
 
 pub returns-clause-value : goal.returns-clause-value
 returns-clause-value c usable =
-    let found : IfOk c.about.result (λ downloads. AreWaitsAbout (content_of c.args.self.now.tables) (spid_of c.args.spid) (subject_of c.args.subject) (items_of downloads)) =
-    all-about c.args.self.now.tables (spid_of c.args.spid) (subject_of c.args.subject) items_of c.about.result c.about.ensures in
+    let found : IfOk c.about.result (λ downloads. AreWaitsAbout (content_of c.args.self.now.tables)
+    (spid_of c.args.spid) (subject_of c.args.subject) (items_of downloads)) =
+    all-about c.args.self.now.tables (spid_of c.args.spid) (subject_of c.args.subject) items_of
+    c.about.result c.about.ensures in
     search rules

@@ -13,16 +13,32 @@ use Rattle.store.proofs.queues.Queues.front.Goals as goal
 
 pub returns-then-len-many : goal.returns-then-len-many
 returns-then-len-many c =
-    let part : c.into_iter-key-iterator.result ≡ entries_between (on wait_key_of wait_cmp) (Included c.new.result.start) (Included c.new.result.end) c.self.inside.order.entries = search rules in
+    let part : c.into_iter-key-iterator.result ≡ entries_between (on wait_key_of wait_cmp)
+    (Included c.new.result.start) (Included c.new.result.end) c.self.inside.order.entries =
+    search rules in
     let full : length c.loop-key.found.items ≡ c.args.many = search rules in
-    subst (λ (m : FinMap wait_cmp Subject). AreFirst (record empty_content { waits = m; broadcasts = map_of broadcast_key_of broadcast_row_of c.args.broadcasts.now }) (spid_of c.args.carrier) c.args.many c.loop-key.found.items) c.self.view_is
-    (walked c.self.inside.waits c.self.inside.order c.args.broadcasts.now c.args.carrier c.args.many c.new.result.start c.new.result.end c.loop-key.found.items c.loop-key.key-iterator c.into_iter-key-iterator.result
-    (search rules) (search rules) c.self.invariant c.range-key-items.ensures.ordered part c.loop-key.invariant.0 (inr full) c.loop-key.invariant.1)
+    subst (λ (m : FinMap wait_cmp Subject). AreFirst (record empty_content {
+      waits = m;
+      broadcasts = map_of broadcast_key_of broadcast_row_of c.args.broadcasts.now;
+    }) (spid_of c.args.carrier) c.args.many c.loop-key.found.items) c.self.view_is
+    (walked c.self.inside.waits c.self.inside.order c.args.broadcasts.now c.args.carrier c.args.many
+    c.new.result.start c.new.result.end c.loop-key.found.items c.loop-key.key-iterator
+    c.into_iter-key-iterator.result
+    (search rules) (search rules) c.self.invariant c.range-key-items.ensures.ordered part
+    c.loop-key.invariant.0 (inr full) c.loop-key.invariant.1)
 
 pub returns : goal.returns
 returns c =
-    let part : c.into_iter-key-iterator.result ≡ entries_between (on wait_key_of wait_cmp) (Included c.new.result.start) (Included c.new.result.end) c.self.inside.order.entries = search rules in
+    let part : c.into_iter-key-iterator.result ≡ entries_between (on wait_key_of wait_cmp)
+    (Included c.new.result.start) (Included c.new.result.end) c.self.inside.order.entries =
+    search rules in
     let end : c.loop-key.key-iterator ≡ [] = search rules in
-    subst (λ (m : FinMap wait_cmp Subject). AreFirst (record empty_content { waits = m; broadcasts = map_of broadcast_key_of broadcast_row_of c.args.broadcasts.now }) (spid_of c.args.carrier) c.args.many c.loop-key.found.items) c.self.view_is
-    (walked c.self.inside.waits c.self.inside.order c.args.broadcasts.now c.args.carrier c.args.many c.new.result.start c.new.result.end c.loop-key.found.items c.loop-key.key-iterator c.into_iter-key-iterator.result
-    (search rules) (search rules) c.self.invariant c.range-key-items.ensures.ordered part c.loop-key.invariant.0 (inl end) c.loop-key.invariant.1)
+    subst (λ (m : FinMap wait_cmp Subject). AreFirst (record empty_content {
+      waits = m;
+      broadcasts = map_of broadcast_key_of broadcast_row_of c.args.broadcasts.now;
+    }) (spid_of c.args.carrier) c.args.many c.loop-key.found.items) c.self.view_is
+    (walked c.self.inside.waits c.self.inside.order c.args.broadcasts.now c.args.carrier c.args.many
+    c.new.result.start c.new.result.end c.loop-key.found.items c.loop-key.key-iterator
+    c.into_iter-key-iterator.result
+    (search rules) (search rules) c.self.invariant c.range-key-items.ensures.ordered part
+    c.loop-key.invariant.0 (inl end) c.loop-key.invariant.1)

@@ -4,4 +4,5 @@ use Rattle.store.proofs.Ordered.{none-ordered}
 use Rattle.store.proofs.queues.Queues.new.Goals as goal
 
 pub invariant_of-result : goal.invariant_of-result
-invariant_of-result c = subst (λ m. AreOrdered m (order_of c.new-2.result)) (sym c.new.ensures) (none-ordered c.new-2.result c.new-2.ensures.empty)
+invariant_of-result c = subst (λ m. AreOrdered m (order_of c.new-2.result)) (sym c.new.ensures)
+    (none-ordered c.new-2.result c.new-2.ensures.empty)

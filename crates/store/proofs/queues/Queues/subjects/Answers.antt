@@ -12,20 +12,30 @@ use Rattle.store.proofs.queues.Queues.subjects.Goals as goal
 
 pub loop-key-preserved-in-Some-get : goal.loop-key-preserved-in-Some-get
 loop-key-preserved-in-Some-get c =
-    let next : c.loop-key.key-iterator ≡ (c.in-Some.key.now, c.in-Some.field-0-1.now) ∷ c.next.new.self = search rules in
-    let told : Some (subject_of c.in-Some-get.subject) ≡ get c.args.self.now (wait_key_of c.in-Some.key.now) = search rules in
-    gathered-step c.args.self.now (c.in-Some.key.now, c.in-Some.field-0-1.now) c.next.new.self c.loop-key.subjects c.insert.new.self c.in-Some-get.subject told c.in_ok-insert.ensures.updates.0
-    ∙ ap (λ es. gathered c.args.self.now es (subjects_of c.loop-key.subjects)) (sym next) ∙ c.loop-key.invariant
+    let next : c.loop-key.key-iterator ≡ (c.in-Some.key.now, c.in-Some.field-0-1.now)
+    ∷ c.next.new.self = search rules in
+    let told : Some (subject_of c.in-Some-get.subject) ≡ get c.args.self.now
+    (wait_key_of c.in-Some.key.now) = search rules in
+    gathered-step c.args.self.now (c.in-Some.key.now, c.in-Some.field-0-1.now) c.next.new.self
+    c.loop-key.subjects c.insert.new.self c.in-Some-get.subject told
+    c.in_ok-insert.ensures.updates.0
+    ∙ ap (λ es. gathered c.args.self.now es (subjects_of c.loop-key.subjects)) (sym next)
+    ∙ c.loop-key.invariant
 
 pub returns : goal.returns
 returns c =
-    let part : c.into_iter-key-iterator.result ≡ entries_between (on wait_key_of wait_cmp) (Included c.new.result.start) (Included c.new.result.end) c.self.inside.order.entries = search rules in
+    let part : c.into_iter-key-iterator.result ≡ entries_between (on wait_key_of wait_cmp)
+    (Included c.new.result.start) (Included c.new.result.end) c.self.inside.order.entries =
+    search rules in
     let end : c.loop-key.key-iterator ≡ [] = search rules in
-    let all : subjects_of c.loop-key.subjects ≡ gathered c.args.self.now c.into_iter-key-iterator.result empty =
-    ap (λ es. gathered c.args.self.now es (subjects_of c.loop-key.subjects)) (sym end) ∙ c.loop-key.invariant in
+    let all : subjects_of c.loop-key.subjects ≡ gathered c.args.self.now
+    c.into_iter-key-iterator.result empty =
+    ap (λ es. gathered c.args.self.now es (subjects_of c.loop-key.subjects)) (sym end)
+    ∙ c.loop-key.invariant in
     if_ok
     (λ found is.
-    subjects-are c.args.self.now c.self.inside.order c.loop-key.subjects c.args.carrier c.new.result.start c.new.result.end (search rules) (search rules)
+    subjects-are c.args.self.now c.self.inside.order c.loop-key.subjects c.args.carrier
+    c.new.result.start c.new.result.end (search rules) (search rules)
     (subst (λ m. AreOrdered m (order_of c.self.inside.order)) c.self.view_is c.self.invariant)
     c.into_iter-key-iterator.result part all found.items is.0 is.1)
     c.rising.result c.rising.ensures

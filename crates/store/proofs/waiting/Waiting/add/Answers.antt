@@ -14,8 +14,15 @@ untrue false e = let no : true ≡ false = e in cc
 
 pub returns-in_ok-push-clause-added : goal.returns-in_ok-push-clause-added
 returns-in_ok-push-clause-added c =
-    let keys : (key_of c.args.self.now.subject == key_of c.args.subject) ≡ true = untrue _ (sym c.ne.ensures ∙ c.if-ne.false) in
-    let same : subject_of c.args.self.now.subject ≡ subject_of c.args.subject = subject_key-exact (subject_of c.args.self.now.subject) (subject_of c.args.subject) (equal_number (key_of c.args.self.now.subject) (key_of c.args.subject) keys) in
-    subst (λ ks. IsAdded c.args.carrier.number (subject_of c.args.subject) (subject_of c.args.self.now.subject, map spid_of c.args.self.now.carriers.items) (subject_of c.args.self.now.subject, map spid_of ks))
+    let keys : (key_of c.args.self.now.subject == key_of c.args.subject) ≡ true =
+    untrue _ (sym c.ne.ensures ∙ c.if-ne.false) in
+    let same : subject_of c.args.self.now.subject ≡ subject_of c.args.subject =
+    subject_key-exact (subject_of c.args.self.now.subject) (subject_of c.args.subject)
+    (equal_number (key_of c.args.self.now.subject) (key_of c.args.subject) keys) in
+    subst (λ ks. IsAdded c.args.carrier.number (subject_of c.args.subject) (
+      subject_of c.args.self.now.subject,
+      map spid_of c.args.self.now.carriers.items,
+    ) (subject_of c.args.self.now.subject, map spid_of ks))
     (sym c.in_ok-push.ensures.items)
-    (added (subject_of c.args.subject) c.args.carrier.number c.args.self.now.carriers.items c.args.carrier (subject_of c.args.self.now.subject) refl same)
+    (added (subject_of c.args.subject) c.args.carrier.number c.args.self.now.carriers.items
+    c.args.carrier (subject_of c.args.self.now.subject) refl same)

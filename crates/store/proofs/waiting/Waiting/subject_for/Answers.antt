@@ -8,10 +8,14 @@ use Rattle.store.proofs.waiting.Waiting.subject_for.Goals as goal
 
 pub returns-then-is_among : goal.returns-then-is_among
 returns-then-is_among c =
-    let among : list_any (λ (k : Spid). c.args.carrier.number == k.number) c.args.self.now.carriers.items ≡ true = search rules in
-    ap (λ b. cond b (Some (subject_of c.args.self.now.subject)) None) (sym (any-seen c.args.carrier.number c.args.self.now.carriers.items ∙ among))
+    let among : list_any (λ (k : Spid). c.args.carrier.number == k.number)
+    c.args.self.now.carriers.items ≡ true = search rules in
+    ap (λ b. cond b (Some (subject_of c.args.self.now.subject)) None)
+    (sym (any-seen c.args.carrier.number c.args.self.now.carriers.items ∙ among))
 
 pub returns-else-is_among : goal.returns-else-is_among
 returns-else-is_among c =
-    let among : list_any (λ (k : Spid). c.args.carrier.number == k.number) c.args.self.now.carriers.items ≡ false = search rules in
-    ap (λ b. cond b (Some (subject_of c.args.self.now.subject)) None) (sym (any-seen c.args.carrier.number c.args.self.now.carriers.items ∙ among))
+    let among : list_any (λ (k : Spid). c.args.carrier.number == k.number)
+    c.args.self.now.carriers.items ≡ false = search rules in
+    ap (λ b. cond b (Some (subject_of c.args.self.now.subject)) None)
+    (sym (any-seen c.args.carrier.number c.args.self.now.carriers.items ∙ among))

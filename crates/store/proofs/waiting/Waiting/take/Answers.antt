@@ -3,4 +3,6 @@ use Rattle.store.proofs.OneRow.{without}
 use Rattle.store.proofs.waiting.Waiting.take.Goals as goal
 
 pub returns : goal.returns
-returns c = without c.args.carrier.number c.args.self.now.carriers.items c.take_out.new.carriers.items (subject_of c.args.self.now.subject) c.take_out.ensures
+returns c =
+    without c.args.carrier.number c.args.self.now.carriers.items c.take_out.new.carriers.items
+    (subject_of c.args.self.now.subject) c.take_out.ensures

@@ -6,5 +6,7 @@ use Rattle.store.proofs.waits.Waits.about.Given as goal
 
 abbrev pub invariant-loop-key : goal.invariant-loop-key
 invariant-loop-key l =
-    items_of l.found ++ filter_map (λ e. listed_about l.self-inside.rows.entries l.carrier l.subject e.0) l.key-iterator
-    ≡ filter_map (λ e. listed_about l.self-inside.rows.entries l.carrier l.subject e.0) l.initial.key-iterator
+    items_of l.found ++ filter_map (λ e. listed_about l.self-inside.rows.entries l.carrier l.subject
+    e.0) l.key-iterator
+    ≡ filter_map (λ e. listed_about l.self-inside.rows.entries l.carrier l.subject e.0)
+    l.initial.key-iterator

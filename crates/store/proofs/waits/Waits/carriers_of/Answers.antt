@@ -15,15 +15,22 @@ is_there false x = refl
 
 pub returns-in-None : goal.returns-in-None
 returns-in-None c = λ carrier.
-    let none : row_in c.self.inside.rows.entries c.broadcast_of.result ≡ None = sym (hash-at c.self.inside.rows.entries c.broadcast_of.result) ∙ search rules in
-    ap (λ m. is_some (get m (wait_for (download_of (wait_key_of c.args.key)) carrier))) (sym c.self.view_is)
-    ∙ ap is_some (wait-at c.self.inside.rows.entries c.broadcast_of.result (wait_for (download_of (wait_key_of c.args.key)) carrier) None c.broadcast_of.ensures none)
+    let none : row_in c.self.inside.rows.entries c.broadcast_of.result ≡ None =
+    sym (hash-at c.self.inside.rows.entries c.broadcast_of.result) ∙ search rules in
+    ap (λ m. is_some (get m (wait_for (download_of (wait_key_of c.args.key)) carrier)))
+    (sym c.self.view_is)
+    ∙ ap is_some (wait-at c.self.inside.rows.entries c.broadcast_of.result
+    (wait_for (download_of (wait_key_of c.args.key)) carrier) None c.broadcast_of.ensures none)
 
 pub returns-in-Some : goal.returns-in-Some
 returns-in-Some c = λ carrier.
-    let there : row_in c.self.inside.rows.entries c.broadcast_of.result ≡ Some c.in-Some.row.now = sym (hash-at c.self.inside.rows.entries c.broadcast_of.result) ∙ search rules in
-    ap (λ m. is_some (get m (wait_for (download_of (wait_key_of c.args.key)) carrier))) (sym c.self.view_is)
-    ∙ ap is_some (wait-at c.self.inside.rows.entries c.broadcast_of.result (wait_for (download_of (wait_key_of c.args.key)) carrier) (Some c.in-Some.row.now) c.broadcast_of.ensures there)
+    let there : row_in c.self.inside.rows.entries c.broadcast_of.result ≡ Some c.in-Some.row.now =
+    sym (hash-at c.self.inside.rows.entries c.broadcast_of.result) ∙ search rules in
+    ap (λ m. is_some (get m (wait_for (download_of (wait_key_of c.args.key)) carrier)))
+    (sym c.self.view_is)
+    ∙ ap is_some (wait-at c.self.inside.rows.entries c.broadcast_of.result
+    (wait_for (download_of (wait_key_of c.args.key)) carrier) (Some c.in-Some.row.now)
+    c.broadcast_of.ensures there)
     ∙ is_there _ _
     ∙ any-seen carrier c.in-Some.row.now.carriers.items
     ∙ sym (ap (list_any (λ (k : Spid). carrier == k.number)) c.as_slice.ensures.value)

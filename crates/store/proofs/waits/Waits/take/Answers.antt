@@ -11,74 +11,145 @@ use Rattle.store.proofs.waits.Waits.take.Goals as goal
 
 pub returns-in_default-clause-before : goal.returns-in_default-clause-before
 returns-in_default-clause-before c =
-    let none : row_in c.self.inside.rows.entries c.broadcast_of-broadcast.result ≡ None = sym (hash-at c.self.inside.rows.entries c.broadcast_of-broadcast.result) ∙ search rules in
-    sym (wait-at c.self.inside.rows.entries c.broadcast_of-broadcast.result (wait_key_of c.args.key) None c.broadcast_of-broadcast.ensures none) ∙ ap (λ m. get m (wait_key_of c.args.key)) c.self.view_is
+    let none : row_in c.self.inside.rows.entries c.broadcast_of-broadcast.result ≡ None =
+    sym (hash-at c.self.inside.rows.entries c.broadcast_of-broadcast.result) ∙ search rules in
+    sym (wait-at c.self.inside.rows.entries c.broadcast_of-broadcast.result (wait_key_of c.args.key)
+    None c.broadcast_of-broadcast.ensures none) ∙ ap (λ m. get m (wait_key_of c.args.key))
+    c.self.view_is
 
 pub returns-in_default-clause-taken : goal.returns-in_default-clause-taken
 returns-in_default-clause-taken c =
-    let none : row_in c.self.inside.rows.entries c.broadcast_of-broadcast.result ≡ None = sym (hash-at c.self.inside.rows.entries c.broadcast_of-broadcast.result) ∙ search rules in
+    let none : row_in c.self.inside.rows.entries c.broadcast_of-broadcast.result ≡ None =
+    sym (hash-at c.self.inside.rows.entries c.broadcast_of-broadcast.result) ∙ search rules in
     ap (λ m. waits_of (rows_of m.entries)) c.get_mut.follows.holds-at-none ∙ c.self.view_is
     ∙ not-there c.args.self.now (wait_key_of c.args.key)
-    (ap (λ m. get m (wait_key_of c.args.key)) (sym c.self.view_is) ∙ wait-at c.self.inside.rows.entries c.broadcast_of-broadcast.result (wait_key_of c.args.key) None c.broadcast_of-broadcast.ensures none)
+    (ap (λ m. get m (wait_key_of c.args.key)) (sym c.self.view_is)
+    ∙ wait-at c.self.inside.rows.entries c.broadcast_of-broadcast.result (wait_key_of c.args.key)
+    None c.broadcast_of-broadcast.ensures none)
 
 -- ---- the last carrier of its row
 
 pub invariant_of-self-then-is_empty : goal.invariant_of-self-then-is_empty
 invariant_of-self-then-is_empty c =
-    let there : row_in c.self.inside.rows.entries c.broadcast_of-broadcast.result ≡ Some c.in-Some.row.now = sym (hash-at c.self.inside.rows.entries c.broadcast_of-broadcast.result) ∙ search rules in
-    let row : IsRow (rows_of c.self.inside.rows.entries) (rows_of (c.get_mut.follows.lender c.take.new.self).entries) (download_of (wait_key_of c.args.key)) (Some (waiting_of c.take.new.self)) =
-    row-written c.self.inside.rows.entries (c.get_mut.follows.lender c.take.new.self).entries c.broadcast_of-broadcast.result (wait_key_of c.args.key) (Some c.take.new.self) c.broadcast_of-broadcast.ensures (search rules) in
-    let gone : IsRow (rows_of c.self.inside.rows.entries) (rows_of c.remove.new.self.entries) (download_of (wait_key_of c.args.key)) None =
-    row-gone (rows_of c.self.inside.rows.entries) (rows_of (c.get_mut.follows.lender c.take.new.self).entries) (rows_of c.remove.new.self.entries) (download_of (wait_key_of c.args.key)) (Some (waiting_of c.take.new.self)) row
-    (row-written (c.get_mut.follows.lender c.take.new.self).entries c.remove.new.self.entries c.broadcast_of-broadcast.result (wait_key_of c.args.key) None c.broadcast_of-broadcast.ensures c.remove.ensures.updates.0) in
-    let own : subject_download_of c.about.result ≡ key_about (waiting_of c.in-Some.row.now).0 (download_of (wait_key_of c.args.key)) = c.about.ensures ∙ ap (λ s. key_about s (download_of (wait_key_of c.args.key))) c.take.ensures.same in
-    agrees-gone (rows_of c.self.inside.rows.entries) (rows_of c.remove.new.self.entries) (about_of c.self.inside.about) (about_of c.remove-then-is_empty.new.self) (download_of (wait_key_of c.args.key)) (waiting_of c.in-Some.row.now) gone
-    (row-at c.self.inside.rows.entries c.broadcast_of-broadcast.result (wait_key_of c.args.key) (Some c.in-Some.row.now) c.broadcast_of-broadcast.ensures there)
-    (key-written c.self.inside.about c.remove-then-is_empty.new.self c.about.result (key_about (waiting_of c.in-Some.row.now).0 (download_of (wait_key_of c.args.key))) None own c.remove-then-is_empty.ensures.updates.0) c.self.invariant
+    let there : row_in c.self.inside.rows.entries c.broadcast_of-broadcast.result
+    ≡ Some c.in-Some.row.now =
+    sym (hash-at c.self.inside.rows.entries c.broadcast_of-broadcast.result) ∙ search rules in
+    let row : IsRow (rows_of c.self.inside.rows.entries)
+    (rows_of (c.get_mut.follows.lender c.take.new.self).entries)
+    (download_of (wait_key_of c.args.key)) (Some (waiting_of c.take.new.self)) =
+    row-written c.self.inside.rows.entries (c.get_mut.follows.lender c.take.new.self).entries
+    c.broadcast_of-broadcast.result (wait_key_of c.args.key) (Some c.take.new.self)
+    c.broadcast_of-broadcast.ensures (search rules) in
+    let gone : IsRow (rows_of c.self.inside.rows.entries) (rows_of c.remove.new.self.entries)
+    (download_of (wait_key_of c.args.key)) None =
+    row-gone (rows_of c.self.inside.rows.entries)
+    (rows_of (c.get_mut.follows.lender c.take.new.self).entries) (rows_of c.remove.new.self.entries)
+    (download_of (wait_key_of c.args.key)) (Some (waiting_of c.take.new.self)) row
+    (row-written (c.get_mut.follows.lender c.take.new.self).entries c.remove.new.self.entries
+    c.broadcast_of-broadcast.result (wait_key_of c.args.key) None c.broadcast_of-broadcast.ensures
+    c.remove.ensures.updates.0) in
+    let own : subject_download_of c.about.result ≡ key_about (waiting_of c.in-Some.row.now).0
+    (download_of (wait_key_of c.args.key)) =
+    c.about.ensures ∙ ap (λ s. key_about s (download_of (wait_key_of c.args.key)))
+    c.take.ensures.same in
+    agrees-gone (rows_of c.self.inside.rows.entries) (rows_of c.remove.new.self.entries)
+    (about_of c.self.inside.about) (about_of c.remove-then-is_empty.new.self)
+    (download_of (wait_key_of c.args.key)) (waiting_of c.in-Some.row.now) gone
+    (row-at c.self.inside.rows.entries c.broadcast_of-broadcast.result (wait_key_of c.args.key)
+    (Some c.in-Some.row.now) c.broadcast_of-broadcast.ensures there)
+    (key-written c.self.inside.about c.remove-then-is_empty.new.self c.about.result
+    (key_about (waiting_of c.in-Some.row.now).0 (download_of (wait_key_of c.args.key))) None own
+    c.remove-then-is_empty.ensures.updates.0) c.self.invariant
 
 pub returns-then-is_empty-clause-before : goal.returns-then-is_empty-clause-before
 returns-then-is_empty-clause-before c =
-    let there : row_in c.self.inside.rows.entries c.broadcast_of-broadcast.result ≡ Some c.in-Some.row.now = sym (hash-at c.self.inside.rows.entries c.broadcast_of-broadcast.result) ∙ search rules in
-    c.subject_for-before.ensures ∙ sym (wait-at c.self.inside.rows.entries c.broadcast_of-broadcast.result (wait_key_of c.args.key) (Some c.in-Some.row.now) c.broadcast_of-broadcast.ensures there) ∙ ap (λ m. get m (wait_key_of c.args.key)) c.self.view_is
+    let there : row_in c.self.inside.rows.entries c.broadcast_of-broadcast.result
+    ≡ Some c.in-Some.row.now =
+    sym (hash-at c.self.inside.rows.entries c.broadcast_of-broadcast.result) ∙ search rules in
+    c.subject_for-before.ensures
+    ∙ sym (wait-at c.self.inside.rows.entries c.broadcast_of-broadcast.result
+    (wait_key_of c.args.key) (Some c.in-Some.row.now) c.broadcast_of-broadcast.ensures there)
+    ∙ ap (λ m. get m (wait_key_of c.args.key)) c.self.view_is
 
 pub returns-then-is_empty-clause-taken : goal.returns-then-is_empty-clause-taken
 returns-then-is_empty-clause-taken c =
-    let there : row_in c.self.inside.rows.entries c.broadcast_of-broadcast.result ≡ Some c.in-Some.row.now = sym (hash-at c.self.inside.rows.entries c.broadcast_of-broadcast.result) ∙ search rules in
-    let row : IsRow (rows_of c.self.inside.rows.entries) (rows_of (c.get_mut.follows.lender c.take.new.self).entries) (download_of (wait_key_of c.args.key)) (Some (waiting_of c.take.new.self)) =
-    row-written c.self.inside.rows.entries (c.get_mut.follows.lender c.take.new.self).entries c.broadcast_of-broadcast.result (wait_key_of c.args.key) (Some c.take.new.self) c.broadcast_of-broadcast.ensures (search rules) in
-    let gone : IsRow (rows_of c.self.inside.rows.entries) (rows_of c.remove.new.self.entries) (download_of (wait_key_of c.args.key)) None =
-    row-gone (rows_of c.self.inside.rows.entries) (rows_of (c.get_mut.follows.lender c.take.new.self).entries) (rows_of c.remove.new.self.entries) (download_of (wait_key_of c.args.key)) (Some (waiting_of c.take.new.self)) row
-    (row-written (c.get_mut.follows.lender c.take.new.self).entries c.remove.new.self.entries c.broadcast_of-broadcast.result (wait_key_of c.args.key) None c.broadcast_of-broadcast.ensures c.remove.ensures.updates.0) in
-    let nobody : c.take.new.self.carriers.items ≡ [] = none-left c.take.new.self.carriers.items (search rules) in
-    gone-waits (rows_of c.self.inside.rows.entries) (rows_of c.remove.new.self.entries) (wait_key_of c.args.key) (waiting_of c.in-Some.row.now) (waiting_of c.take.new.self)
-    (row-at c.self.inside.rows.entries c.broadcast_of-broadcast.result (wait_key_of c.args.key) (Some c.in-Some.row.now) c.broadcast_of-broadcast.ensures there) gone c.take.ensures (ap (map spid_of) nobody)
+    let there : row_in c.self.inside.rows.entries c.broadcast_of-broadcast.result
+    ≡ Some c.in-Some.row.now =
+    sym (hash-at c.self.inside.rows.entries c.broadcast_of-broadcast.result) ∙ search rules in
+    let row : IsRow (rows_of c.self.inside.rows.entries)
+    (rows_of (c.get_mut.follows.lender c.take.new.self).entries)
+    (download_of (wait_key_of c.args.key)) (Some (waiting_of c.take.new.self)) =
+    row-written c.self.inside.rows.entries (c.get_mut.follows.lender c.take.new.self).entries
+    c.broadcast_of-broadcast.result (wait_key_of c.args.key) (Some c.take.new.self)
+    c.broadcast_of-broadcast.ensures (search rules) in
+    let gone : IsRow (rows_of c.self.inside.rows.entries) (rows_of c.remove.new.self.entries)
+    (download_of (wait_key_of c.args.key)) None =
+    row-gone (rows_of c.self.inside.rows.entries)
+    (rows_of (c.get_mut.follows.lender c.take.new.self).entries) (rows_of c.remove.new.self.entries)
+    (download_of (wait_key_of c.args.key)) (Some (waiting_of c.take.new.self)) row
+    (row-written (c.get_mut.follows.lender c.take.new.self).entries c.remove.new.self.entries
+    c.broadcast_of-broadcast.result (wait_key_of c.args.key) None c.broadcast_of-broadcast.ensures
+    c.remove.ensures.updates.0) in
+    let nobody : c.take.new.self.carriers.items ≡ [] =
+    none-left c.take.new.self.carriers.items (search rules) in
+    gone-waits (rows_of c.self.inside.rows.entries) (rows_of c.remove.new.self.entries)
+    (wait_key_of c.args.key) (waiting_of c.in-Some.row.now) (waiting_of c.take.new.self)
+    (row-at c.self.inside.rows.entries c.broadcast_of-broadcast.result (wait_key_of c.args.key)
+    (Some c.in-Some.row.now) c.broadcast_of-broadcast.ensures there) gone c.take.ensures
+    (ap (map spid_of) nobody)
     ∙ ap (λ (m : FinMap wait_cmp Subject). set m (wait_key_of c.args.key) None) c.self.view_is
 
 -- ---- a carrier among others
 
 pub invariant_of-self-else-is_empty : goal.invariant_of-self-else-is_empty
 invariant_of-self-else-is_empty c =
-    let there : row_in c.self.inside.rows.entries c.broadcast_of-broadcast.result ≡ Some c.in-Some.row.now = sym (hash-at c.self.inside.rows.entries c.broadcast_of-broadcast.result) ∙ search rules in
-    let row : IsRow (rows_of c.self.inside.rows.entries) (rows_of (c.get_mut.follows.lender c.take.new.self).entries) (download_of (wait_key_of c.args.key)) (Some (waiting_of c.take.new.self)) =
-    row-written c.self.inside.rows.entries (c.get_mut.follows.lender c.take.new.self).entries c.broadcast_of-broadcast.result (wait_key_of c.args.key) (Some c.take.new.self) c.broadcast_of-broadcast.ensures (search rules) in
-    agrees-kept (rows_of c.self.inside.rows.entries) (rows_of (c.get_mut.follows.lender c.take.new.self).entries) (about_of c.self.inside.about) (download_of (wait_key_of c.args.key)) (waiting_of c.in-Some.row.now) (waiting_of c.take.new.self) row
-    (row-at c.self.inside.rows.entries c.broadcast_of-broadcast.result (wait_key_of c.args.key) (Some c.in-Some.row.now) c.broadcast_of-broadcast.ensures there) c.take.ensures.same c.self.invariant
+    let there : row_in c.self.inside.rows.entries c.broadcast_of-broadcast.result
+    ≡ Some c.in-Some.row.now =
+    sym (hash-at c.self.inside.rows.entries c.broadcast_of-broadcast.result) ∙ search rules in
+    let row : IsRow (rows_of c.self.inside.rows.entries)
+    (rows_of (c.get_mut.follows.lender c.take.new.self).entries)
+    (download_of (wait_key_of c.args.key)) (Some (waiting_of c.take.new.self)) =
+    row-written c.self.inside.rows.entries (c.get_mut.follows.lender c.take.new.self).entries
+    c.broadcast_of-broadcast.result (wait_key_of c.args.key) (Some c.take.new.self)
+    c.broadcast_of-broadcast.ensures (search rules) in
+    agrees-kept (rows_of c.self.inside.rows.entries)
+    (rows_of (c.get_mut.follows.lender c.take.new.self).entries) (about_of c.self.inside.about)
+    (download_of (wait_key_of c.args.key)) (waiting_of c.in-Some.row.now)
+    (waiting_of c.take.new.self) row
+    (row-at c.self.inside.rows.entries c.broadcast_of-broadcast.result (wait_key_of c.args.key)
+    (Some c.in-Some.row.now) c.broadcast_of-broadcast.ensures there) c.take.ensures.same
+    c.self.invariant
 
 pub returns-else-is_empty-clause-before : goal.returns-else-is_empty-clause-before
 returns-else-is_empty-clause-before c =
-    let there : row_in c.self.inside.rows.entries c.broadcast_of-broadcast.result ≡ Some c.in-Some.row.now = sym (hash-at c.self.inside.rows.entries c.broadcast_of-broadcast.result) ∙ search rules in
-    c.subject_for-before.ensures ∙ sym (wait-at c.self.inside.rows.entries c.broadcast_of-broadcast.result (wait_key_of c.args.key) (Some c.in-Some.row.now) c.broadcast_of-broadcast.ensures there) ∙ ap (λ m. get m (wait_key_of c.args.key)) c.self.view_is
+    let there : row_in c.self.inside.rows.entries c.broadcast_of-broadcast.result
+    ≡ Some c.in-Some.row.now =
+    sym (hash-at c.self.inside.rows.entries c.broadcast_of-broadcast.result) ∙ search rules in
+    c.subject_for-before.ensures
+    ∙ sym (wait-at c.self.inside.rows.entries c.broadcast_of-broadcast.result
+    (wait_key_of c.args.key) (Some c.in-Some.row.now) c.broadcast_of-broadcast.ensures there)
+    ∙ ap (λ m. get m (wait_key_of c.args.key)) c.self.view_is
 
 pub returns-else-is_empty-clause-taken : goal.returns-else-is_empty-clause-taken
 returns-else-is_empty-clause-taken c =
-    let there : row_in c.self.inside.rows.entries c.broadcast_of-broadcast.result ≡ Some c.in-Some.row.now = sym (hash-at c.self.inside.rows.entries c.broadcast_of-broadcast.result) ∙ search rules in
-    let row : IsRow (rows_of c.self.inside.rows.entries) (rows_of (c.get_mut.follows.lender c.take.new.self).entries) (download_of (wait_key_of c.args.key)) (Some (waiting_of c.take.new.self)) =
-    row-written c.self.inside.rows.entries (c.get_mut.follows.lender c.take.new.self).entries c.broadcast_of-broadcast.result (wait_key_of c.args.key) (Some c.take.new.self) c.broadcast_of-broadcast.ensures (search rules) in
-    without-waits (rows_of c.self.inside.rows.entries) (rows_of (c.get_mut.follows.lender c.take.new.self).entries) (wait_key_of c.args.key) (waiting_of c.in-Some.row.now) (waiting_of c.take.new.self)
-    (row-at c.self.inside.rows.entries c.broadcast_of-broadcast.result (wait_key_of c.args.key) (Some c.in-Some.row.now) c.broadcast_of-broadcast.ensures there) row c.take.ensures
+    let there : row_in c.self.inside.rows.entries c.broadcast_of-broadcast.result
+    ≡ Some c.in-Some.row.now =
+    sym (hash-at c.self.inside.rows.entries c.broadcast_of-broadcast.result) ∙ search rules in
+    let row : IsRow (rows_of c.self.inside.rows.entries)
+    (rows_of (c.get_mut.follows.lender c.take.new.self).entries)
+    (download_of (wait_key_of c.args.key)) (Some (waiting_of c.take.new.self)) =
+    row-written c.self.inside.rows.entries (c.get_mut.follows.lender c.take.new.self).entries
+    c.broadcast_of-broadcast.result (wait_key_of c.args.key) (Some c.take.new.self)
+    c.broadcast_of-broadcast.ensures (search rules) in
+    without-waits (rows_of c.self.inside.rows.entries)
+    (rows_of (c.get_mut.follows.lender c.take.new.self).entries) (wait_key_of c.args.key)
+    (waiting_of c.in-Some.row.now) (waiting_of c.take.new.self)
+    (row-at c.self.inside.rows.entries c.broadcast_of-broadcast.result (wait_key_of c.args.key)
+    (Some c.in-Some.row.now) c.broadcast_of-broadcast.ensures there) row c.take.ensures
     ∙ ap (λ (m : FinMap wait_cmp Subject). set m (wait_key_of c.args.key) None) c.self.view_is
 
 -- ---- nothing is there
 
 pub invariant_of-self : goal.invariant_of-self
-invariant_of-self c = subst (λ m. Agrees (rows_of m.entries) (about_of c.self.inside.about)) (sym c.get_mut.follows.holds-at-none) c.self.invariant
+invariant_of-self c = subst (λ m. Agrees (rows_of m.entries) (about_of c.self.inside.about))
+    (sym c.get_mut.follows.holds-at-none) c.self.invariant

@@ -6,5 +6,7 @@ use Rattle.version.proofs.version.Version.rerouted.Goals as goal
 pub returns : goal.returns
 returns c = record {
   subject = c.entering.ensures.subject;
-  version = λ id broadcasts windows. ap (λ (x : Version). let y : Version = record x { routing = Some (routing_of c.args.routing) } in y) (c.entering.ensures.version id broadcasts windows);
+  version = λ id broadcasts windows. ap (λ (x : Version). let y : Version =
+      record x { routing = Some (routing_of c.args.routing) } in
+      y) (c.entering.ensures.version id broadcasts windows);
 }

@@ -8,11 +8,18 @@ use Rattle.version.proofs.version.Version.sending.Goals as goal
 pub returns : goal.returns
 returns c fits everyone =
     let next : c.saturating_add.result ≡ c.args.self.now.attempt + 1 = search rules in
-    let entered = subst (λ s. Becomes (enters (set_of c.args.present.now) s c.args.minute.number) c.args.self.now c.entering.result) c.from.ensures c.entering.ensures in
+    let entered =
+    subst (λ s. Becomes (enters (set_of c.args.present.now) s c.args.minute.number) c.args.self.now
+    c.entering.result) c.from.ensures c.entering.ensures in
     record {
       subject = entered.subject;
       version = λ id broadcasts windows.
-          let after : Version = sent (set_of c.args.present.now) (send_of c.args.send) everyone c.args.minute.number (version_of id broadcasts windows c.args.self.now) in
-          ap (λ (x : Version). let y : Version = record x { attempt = c.saturating_add.result; broadcasts = after.broadcasts } in y) (entered.version id broadcasts windows)
+          let after : Version =
+          sent (set_of c.args.present.now) (send_of c.args.send) everyone c.args.minute.number
+          (version_of id broadcasts windows c.args.self.now) in
+          ap (λ (x : Version). let y : Version = record x {
+            attempt = c.saturating_add.result;
+            broadcasts = after.broadcasts;
+          } in y) (entered.version id broadcasts windows)
           ∙ ap (λ n. let y : Version = record after { attempt = n } in y) next;
     }
