@@ -301,6 +301,8 @@ pub fn serve<S: Store, T: Ticks, R: Read, W: Write>(
     reader: &mut R,
     writer: &mut W,
 ) -> Result<Served, Fault>
+    // where the reader tells its bytes: each message, its answer, and what was read, handed in and
+    // written as serving ends
     ensures serves { S.IsUsable register.new.store → (st : State)
         → Stands (S.content register.old.store) st
         → IfSome (R.remaining reader.old)
@@ -314,15 +316,18 @@ pub fn serve<S: Store, T: Ticks, R: Read, W: Write>(
           had = W.contents writer.old;
           has = W.contents writer.new;
         })) }
+    // a store that shut on the way: the answers up to the first that tells of it are those of a run
     ensures until { S.IsUsable register.old.store → S.IsHonest register.new.store
         → S.IsUsable register.new.store
         ⊎ ((st : State) → Stands (S.content register.old.store) st
         → IfSome (R.remaining reader.old)
         (λ input. WritesUntil options.now.clock_route (S.failed register.old.store) st input
         (T.told ticks.old) (W.contents writer.old) (W.contents writer.new))) }
+    // where it tells none: what stands is what some run of the machine leads to
     ensures state { S.IsUsable register.new.store → (st : State)
         → Stands (S.content register.old.store) st
         → Follows st (S.content register.new.store) }
+    // no serving mends a store, and no failure is forgotten
     ensures usable { S.IsUsable register.new.store → S.IsUsable register.old.store }
     ensures rises { S.failed register.old.store ≤ S.failed register.new.store }
     ensures honest { S.IsHonest register.new.store → S.IsHonest register.old.store }

@@ -65,13 +65,16 @@ impl<S: Start> SqlStore<FileStore<FileFrom<S>>> {
     ) -> Result<StoreAt<S>, (FileFault, UnopenedAt<S>)>
         ensures open { IfOk result (λ s. HasCleanDisk (file_state s.conn) → IsTrue (file_state
             s.conn).is_open) }
+        // of a file that has no byte yet
         ensures new { IfOk result (λ s. HasCleanDisk (file_state s.conn)
             → (image_at S.Start).db ≡ []
             → content_in (file_state s.conn).now.trees ≡ empty_content) }
+        // of a file that holds a database, by the tables that this lists
         ensures taken { IfOk result (λ s. HasCleanDisk (file_state s.conn) → (db : Trees)
             → HoldsDatabase (image_at S.Start) db
             → IsTakenAs (windows_of windows.now) db (file_state s.conn).now.trees) }
         ensures none { IfOk result (λ s. s.failures ≡ 0) }
+        // nothing of it is lost, and other windows are told only of a file that had others
         ensures refused { IfErr result (λ e. (db : Trees) → HoldsDatabase (image_at S.Start) db
             → IsRefusedAt over_files (windows_of windows.now) db e.0 e.1) }
     {
@@ -110,6 +113,7 @@ impl<D: Disk + Drop> SqlStore<FileStore<D>> {
     /// `Storage` where the device failed, with the database: what was committed stands in the file
     /// and its log then.
     pub fn close_files(self) -> Result<Files<D>, (StoreFault, FileStore<D>)>
+        // the file alone holds the last commit, now and after a crash
         ensures copied { IfOk result (λ files. AreClean D.Disk files.log files.db
             → IsCopied self.conn files) }
         ensures usable { IfOk result (λ files. IsTrue (D.Disk.is_usable files.log)

@@ -315,6 +315,7 @@ impl<S: Alter + Drop> SqlStore<S> {
     ) -> Result<SqlStore<S>, (FileFault, Refused<S>)>
         ensures open { IfOk result (λ s. HasCleanDisk (state S.Store s.conn) → IsTrue (state
             S.Store s.conn).is_open) }
+        // by the tables that the last commit lists: what is not committed is rolled back
         ensures taken { IfOk result (λ s. HasCleanDisk (state S.Store s.conn)
             → IsTakenAs (windows_of windows.now) (state S.Store conn).committed.trees
             (state S.Store s.conn).now.trees) }
@@ -323,9 +324,11 @@ impl<S: Alter + Drop> SqlStore<S> {
             → HasCleanDisk (state S.Store conn)) }
         ensures err_honest { IfErr result (λ e. IsCleanYet S.Store e.1
             → HasCleanDisk (state S.Store conn)) }
+        // where it lists tables: those of an empty database may have been made
         ensures kept { IfErr result (λ e. ¬ IsSound no_schema (state S.Store conn).committed.trees
             → StandsYet S.Store e.1
             → trees_of S.Store e.1 ≡ (state S.Store conn).committed.trees) }
+        // a crash leaves what it might before, or, of an earlier form, the moved database whole
         ensures crash { IfErr result (λ e. ¬ IsSound no_schema (state S.Store conn).committed.trees
             → IsCleanYet S.Store e.1 → (db : Trees) → may_leave_of S.Store e.1 db
             → (state S.Store conn).may_leave db
