@@ -17,8 +17,8 @@ use arrayvec::ArrayVec;
 use messages::read_number;
 
 // Of each byte whether it stands for itself in a text, a row for 32 of them: a printable character
-// of ASCII that is no quote and no backslash does. They are looked up, which takes half of what four
-// comparisons take.
+// of ASCII that is no quote and no backslash does. They are looked up, which takes half of what
+// four comparisons take.
 static PLAIN: [u8; 256] = *b"\
     00000000000000000000000000000000\
     11011111111111111111111111111111\

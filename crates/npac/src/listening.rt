@@ -79,8 +79,8 @@ fn serve_stream<C: Read, W: Write, S: Store, T: Ticks>(
 /// Accepts one connection and serves it, with no clock route. A connection that is refused counts
 /// as one that could not be read. One that says nothing for half a minute ends.
 ///
-/// What a socket said and was told no clause can say. The rows stand afterwards for a state that some
-/// list of the machine's inputs leads to.
+/// What a socket said and was told no clause can say. The rows stand afterwards for a state that
+/// some list of the machine's inputs leads to.
 pub fn serve_next<L: OpenListener, S: Store, T: Ticks>(
     alloc: Global,
     listener: &L,

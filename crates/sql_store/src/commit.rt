@@ -155,8 +155,8 @@ fn donate<S: Alter>(
     }
 }
 
-// The clock's row as it was stands in `row`: a move keeps its set, and a set its minute and its next
-// id.
+// The clock's row as it was stands in `row`: a move keeps its set, and a set its minute and its
+// next id.
 fn set_clock<S: Alter>(
     tx: &mut Transaction<'_, S>,
     moved: Option<ClockMove>,

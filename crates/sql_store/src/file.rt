@@ -46,17 +46,18 @@ pub type StoreAt<S> = SqlStore<FileStore<FileFrom<S>>>;
 pub type UnopenedAt<S> = Unopened<FileStore<FileFrom<S>>, Option<Leftover<FileFrom<S>>>>;
 
 impl<S: Start> SqlStore<FileStore<FileFrom<S>>> {
-    /// Opens the file at a path, or makes it: a new one is an empty store, one of this form has what
-    /// it had, and one of an earlier form is made one of this form first, in one transaction, where
-    /// it was made with these windows. `start` says what is supposed of the file, and of a write that
-    /// a crash cuts off, as `sqlite` says. The database is checked once, and each row read once.
+    /// Opens the file at a path, or makes it: a new one is an empty store, one of this form has
+    /// what it had, and one of an earlier form is made one of this form first, in one transaction,
+    /// where it was made with these windows. `start` says what is supposed of the file, and of a
+    /// write that a crash cuts off, as `sqlite` says. The database is checked once, and each row
+    /// read once.
     ///
     /// # Errors
     ///
     /// `WindowsDiffer` where the file is of an earlier form and was made with other windows;
     /// `Storage` where it cannot be opened as a database, is none of ours, has a row that does not
-    /// read, or the device failed; `NoMemory`. A database that lists tables and is refused is handed
-    /// back with what it had.
+    /// read, or the device failed; `NoMemory`. A database that lists tables and is refused is
+    /// handed back with what it had.
     pub fn at(
         rt: &HostRuntime,
         path: &str,

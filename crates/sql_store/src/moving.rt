@@ -233,8 +233,8 @@ fn rebuild<S: Alter>(
     Ok(())
 }
 
-// Puts the versions with these ids and the clock's row into the tables of this form, which it makes,
-// and empties those of the earlier one: in one transaction.
+// Puts the versions with these ids and the clock's row into the tables of this form, which it
+// makes, and empties those of the earlier one: in one transaction.
 fn move_rows<S: Alter>(
     conn: &mut Connection<S>,
     form: Form,
@@ -375,8 +375,8 @@ fn see_registry<S: Alter>(conn: &mut Connection<S>, form: Form) -> Result<(), Fa
     Ok(())
 }
 
-// What is sent: the broadcasts, the downloads that wait, and the routings that versions send, if the
-// form has a table of those.
+// What is sent: the broadcasts, the downloads that wait, and the routings that versions send, if
+// the form has a table of those.
 #[tactic(auto, using(crate::proofs::MovingLemmas::old_still))]
 fn see_sent<S: Alter>(conn: &mut Connection<S>, form: Form) -> Result<(), Fault>
     requires old { IsTrue (state S.Store conn.old).is_open

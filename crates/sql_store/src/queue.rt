@@ -125,8 +125,8 @@ fn first_told<S: Alter>(
     Ok(downloads)
 }
 
-// The first downloads, by the first rows alone, or nothing where some of those have no broadcast and
-// others may be left.
+// The first downloads, by the first rows alone, or nothing where some of those have no broadcast
+// and others may be left.
 fn first_page<S: Alter>(
     conn: &mut Connection<S>,
     spid: Spid,

@@ -46,8 +46,8 @@ fn answered(alloc: Global, held: &Held, said: &Said<'_>) -> Option<(Vec<u8>, Vec
 
 const SHOWN: Said<'static> = ("NPAC", "/versions/4", "");
 
-// A file of the form is taken, has then the rows that it had before it was made one of that form, and
-// its register goes on as before; what is no store yet is not adopted.
+// A file of the form is taken, has then the rows that it had before it was made one of that form,
+// and its register goes on as before; what is no store yet is not adopted.
 fn is_moved(alloc: Global, form: &[&str]) -> Option<bool> {
     let held = files(alloc)?;
     let rows = rows_in(alloc, &held)?;
@@ -76,8 +76,8 @@ fn files_of_earlier_forms_are_moved(rt: HostRuntime) {
 const OTHERS: &str =
     "initial_concurrence = 60\nfinal_concurrence = 60\nconflict_restriction = 30\nconflict_resolution = 120\nconflict_expiration = 1000\ncancellation_initial = 60\ncancellation_final = 60\npending_retention = 500\nbroadcast = 16\n";
 
-// Why a file is not opened, if it is not; and whether its register then goes on as before, once these
-// statements have run.
+// Why a file is not opened, if it is not; and whether its register then goes on as before, once
+// these statements have run.
 fn is_refused_whole(
     alloc: Global,
     held: &Held,
@@ -168,8 +168,8 @@ fn a_row_that_does_not_read_stays_in_its_form(rt: HostRuntime) {
 
 // ---- a stop at each call of its files while one is moved
 
-// Whether the file is of the earlier form still, or of this one with these rows; and its register goes
-// on as before.
+// Whether the file is of the earlier form still, or of this one with these rows; and its register
+// goes on as before.
 fn is_of_one_form(alloc: Global, held: &Held, rows: &[u8], before: &(Vec<u8>, Vec<u8>)) -> bool {
     let Some((refused, left)) = done_in(alloc, held, PLAIN, Offer::Adopt) else {
         return false;

@@ -29,8 +29,8 @@ struct After {
 }
 
 // What a run without a stop shows: the bytes before the request, the rows before it and after each
-// of its commits, its answer, and that to what is asked then; and how many calls the files take until
-// the register is opened, and until the request is answered.
+// of its commits, its answer, and that to what is asked then; and how many calls the files take
+// until the register is opened, and until the request is answered.
 #[derive(Drop)]
 struct Told {
     held: Held,
@@ -161,7 +161,8 @@ pub fn calls_of<D: Deed>(alloc: Global, held: &Held, options: Options, deed: D) 
     Some(calls_taken(files))
 }
 
-/// What a stop leaves: the bytes of both files, as they were read last and as they were last synced.
+/// What a stop leaves: the bytes of both files, as they were read last and as they were last
+/// synced.
 #[derive(Drop)]
 pub struct Left {
     seen: Held,

@@ -113,8 +113,8 @@ fn another_wait() -> Option<WaitKey> {
     })
 }
 
-// Whether a clock, a carrier, a routing number, a code and a block stand under the sample's keys, and
-// the first set of windows.
+// Whether a clock, a carrier, a routing number, a code and a block stand under the sample's keys,
+// and the first set of windows.
 fn registered(store: &mut MemoryStore, sample: &Sample) -> Option<[bool; 6]> {
     Some([
         store.clock().ok()?.is_some(),

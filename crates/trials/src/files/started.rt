@@ -1,4 +1,5 @@
-//! What these tests share: a register over memory with three carriers, and what it does with a file.
+//! What these tests share: a register over memory with three carriers, and what it does with a
+//! file.
 use crate::commands::does;
 use crate::port::new_register;
 use bulk::{BulkFault, export, run_file};
