@@ -3,7 +3,6 @@
 #![tactic(auto)]
 
 #[cfg(test)]
-mod counted;
 #[cfg(test)]
 mod deeds;
 #[cfg(test)]

@@ -1,5 +1,4 @@
 //! What a call settles of a register over a database: the subjects that it reads, and no other.
-use crate::counted::Counted;
 use crate::said::{Said, Story, WINDOWS, message, windows_of};
 use api::{NoTicks, Options, serve};
 use register::Register;
@@ -7,6 +6,7 @@ use settle::Store;
 use sql_store::SqlStore;
 use std::alloc::{AllocError, Global};
 use std::cell::Cell;
+use store::Counted;
 
 // Two carriers, and a code that one of them holds.
 static OPENING: Story<'static> = &[

@@ -1,5 +1,4 @@
 //! Windows that end together, of which each firing is broken off: its commit fails.
-use crate::counted::Counted;
 use crate::port::{
     FIRST_PORT, Said, answer, asked, is_answered, is_served, new_register, opened, served,
     stream_of,
@@ -8,7 +7,7 @@ use register::Register;
 use settle::Store;
 use std::alloc::{AllocError, Global};
 use std::cell::Cell;
-use store::{Failing, Flaky, MemoryStore};
+use store::{Counted, Failing, Flaky, MemoryStore};
 
 // How many versions there are.
 const COUNT: u64 = 10;

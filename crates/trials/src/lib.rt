@@ -8,7 +8,6 @@ mod broken_off;
 #[cfg(test)]
 mod commands;
 #[cfg(test)]
-mod counted;
 #[cfg(test)]
 mod cuts;
 #[cfg(test)]

@@ -1,11 +1,10 @@
 //! What a call settles: the subjects that it reads, and no other.
-use crate::counted::Counted;
 use crate::port::{FIRST_PORT, Said, Texts, answer, asked, is_answered, is_served, opened};
 use register::Register;
 use settle::Store;
 use std::alloc::{AllocError, Global};
 use std::cell::Cell;
-use store::MemoryStore;
+use store::{Counted, MemoryStore};
 
 // The old provider's create of a number, due at 300.
 fn offer(alloc: Global, line: u64, out: &mut String) -> Result<(), AllocError> {

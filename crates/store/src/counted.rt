@@ -10,7 +10,8 @@ use std::cell::Cell;
 use version::NumberInUse;
 use windows::Windows;
 
-/// Another store, and how many commits it was asked for.
+/// A store over another one, and how many commits it was asked for, by whoever holds the count. It
+/// is for tests of what stands above. How it counts no clause says.
 #[derive(Drop)]
 pub struct Counted<'a, S: Store> {
     pub store: S,
