@@ -11,8 +11,8 @@ use Rattle.meaning.specs.Refusals.{Asks, Waiting, npac, refusal, tests}
 use Rattle.meaning.specs.RefusalNumbers.{number_of}
 use Rattle.calls.specs.Calls.{refused_with}
 use Rattle.register.specs.Answers.{AnswersAs, Stands}
-use Rattle.register.proofs.Copied.{known_by}
-use Rattle.register.proofs.Fetched.{may_fetch}
+use Rattle.register.proofs.Downloads.Copied.{known_by}
+use Rattle.register.proofs.Downloads.Fetched.{may_fetch}
 use Rattle.bulk.specs.Findings.{awaited}
 
 -- who may ask

@@ -106,7 +106,7 @@ fn may_release<S: Store>(store: &mut S, caller: Spid) -> Result<bool, StoreFault
 
 /// A carrier gives a block back to the pool. The reply has the ids of the versions that protect the
 /// used numbers, by rising number.
-#[tactic(auto, using(crate::proofs::Deciding::decides_fault))]
+#[tactic(auto, using(crate::proofs::EveryCall::Deciding::decides_fault))]
 pub fn donate<S: Store>(
     alloc: Global,
     store: &mut S,
@@ -150,7 +150,7 @@ pub fn donate<S: Store>(
 
 /// The administrator gives a donated block to a carrier. The reply shows the block's version, which
 /// sends its create.
-#[tactic(auto, using(crate::proofs::Deciding::decides_fault))]
+#[tactic(auto, using(crate::proofs::EveryCall::Deciding::decides_fault))]
 pub fn assign<S: Store>(
     alloc: Global,
     store: &mut S,
@@ -191,7 +191,7 @@ pub fn assign<S: Store>(
 
 /// The holder of a block, or the administrator, gives it back to the pool. The reply shows the
 /// block's version, which sends its delete.
-#[tactic(auto, using(crate::proofs::Deciding::decides_fault))]
+#[tactic(auto, using(crate::proofs::EveryCall::Deciding::decides_fault))]
 pub fn release<S: Store>(
     alloc: Global,
     store: &mut S,

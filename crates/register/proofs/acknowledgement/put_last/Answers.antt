@@ -12,7 +12,7 @@ use Rattle.settle.specs.Views.{broadcast_key_of, broadcast_row_of, wait_key_of}
 use Rattle.settle.specs.Fired.{retired_rows}
 use Rattle.version.specs.Acknowledging.{is_sending, completes}
 use Rattle.register.specs.Acknowledging.{answered_row, own_rows, acknowledging}
-use Rattle.register.proofs.Receipts.{answered_seen}
+use Rattle.register.proofs.Downloads.Receipts.{answered_seen}
 use Rattle.register.proofs.acknowledgement.put_last.Goals as goal
 
 abbrev told : BroadcastKeyCode × Broadcast → BroadcastKey × BroadcastRow

@@ -4,7 +4,7 @@ use Rattle.settle.proofs.Risen.{risen-since}
 use Rattle.settle.specs.Views.{block_row_of}
 use Rattle.settle.specs.declared.store.StoreFault.TheVariants.{Storage}
 use Rattle.register.specs.Blocks.{IsRowThere, last_id}
-use Rattle.register.proofs.BlockRow.{last_is_there}
+use Rattle.register.proofs.OnBlocks.BlockRow.{last_is_there}
 use Rattle.register.proofs.blocks.read_block.Goals as goal
 
 pub returns-in_err-last-clause-reads : goal.returns-in_err-last-clause-reads

@@ -12,8 +12,8 @@ use Rattle.settle.specs.Views.{clock_row_of}
 use Rattle.version.proofs.Ends.{windows_are}
 use Rattle.version.specs.Views.{windows_of}
 use Rattle.register.specs.Settling.{AnswersSettled}
-use Rattle.register.proofs.Deciding.{decides_refused}
-use Rattle.register.proofs.SetsPut.{sets_not_admin, sets_full, answers_sets}
+use Rattle.register.proofs.EveryCall.Deciding.{decides_refused}
+use Rattle.register.proofs.Registering.SetsPut.{sets_not_admin, sets_full, answers_sets}
 use Rattle.register.proofs.clock.set_windows.Goals as goal
 
 -- the next number is far from where it would stay

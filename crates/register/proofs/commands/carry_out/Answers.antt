@@ -5,10 +5,10 @@ use Rattle.settle.proofs.Risen.{risen-since}
 use Rattle.calls.specs.Calls.{reply_of}
 use Rattle.register.specs.Crashes.{ComesSettled}
 use Rattle.register.specs.Requesting.{request_of}
-use Rattle.register.proofs.Composed.{answers_fault}
+use Rattle.register.proofs.EveryCall.Composed.{answers_fault}
 use Rattle.settle.proofs.Faults.{fault_is_none}
-use Rattle.register.proofs.Deciding.{carried, carried_refused}
-use Rattle.register.proofs.Left.{comes, left_kept}
+use Rattle.register.proofs.EveryCall.Deciding.{carried, carried_refused}
+use Rattle.register.proofs.EveryCall.Left.{comes, left_kept}
 use Rattle.settle.proofs.Faults.{same_refusal, storage_by}
 use Rattle.register.proofs.commands.carry_out.Goals as goal
 

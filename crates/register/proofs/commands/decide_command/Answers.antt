@@ -1,5 +1,5 @@
 use Rattle.settle.proofs.ReadOn.{reads_saying}
-use Rattle.register.proofs.Unfailing.{stored}
+use Rattle.register.proofs.EveryCall.Unfailing.{stored}
 use Rattle.register.proofs.commands.decide_command.Goals as goal
 
 pub returns-in-RegisterCarrier-clause-reads : goal.returns-in-RegisterCarrier-clause-reads

@@ -8,9 +8,9 @@ use Rattle.pool.specs.Assignments.{command_of as assignment_of}
 use Rattle.settle.specs.Changes.{IsChanged}
 use Rattle.settle.specs.Views.{clock_row_of}
 use Rattle.calls.specs.Calls.{reply_of, view_of}
-use Rattle.register.proofs.Assigned.{answers_assigned, answers_assignment_refused, assignment_never}
-use Rattle.register.proofs.BlockCalled.{answers_unfound, has_found, holder_unknown}
-use Rattle.register.proofs.Deciding.{decides_err, decides_fault, decides_replied}
+use Rattle.register.proofs.OnBlocks.Assigned.{answers_assigned, answers_assignment_refused, assignment_never}
+use Rattle.register.proofs.OnBlocks.BlockCalled.{answers_unfound, has_found, holder_unknown}
+use Rattle.register.proofs.EveryCall.Deciding.{decides_err, decides_fault, decides_replied}
 use Rattle.settle.proofs.ReadOn.{reads_fault, reads_on, reads_refused}
 use Rattle.settle.proofs.Faults.{same_refusal}
 use Rattle.register.proofs.pooling.assign.Goals as goal

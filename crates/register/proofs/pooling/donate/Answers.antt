@@ -12,10 +12,10 @@ use Rattle.settle.specs.Sending.{begun_of, sending_each}
 use Rattle.settle.specs.Views.{clock_row_of}
 use Rattle.calls.specs.Calls.{reply_of}
 use Rattle.register.specs.Pooling.{pooling}
-use Rattle.register.proofs.BlockCalled.{answers_unfound, donor_unknown, has_found}
-use Rattle.register.proofs.BlockCommands.{donated_row}
-use Rattle.register.proofs.Deciding.{decides_fault, decides_replied}
-use Rattle.register.proofs.Donated.{answers_donated, answers_donation_refused}
+use Rattle.register.proofs.OnBlocks.BlockCalled.{answers_unfound, donor_unknown, has_found}
+use Rattle.register.proofs.OnBlocks.BlockCommands.{donated_row}
+use Rattle.register.proofs.EveryCall.Deciding.{decides_fault, decides_replied}
+use Rattle.register.proofs.OnBlocks.Donated.{answers_donated, answers_donation_refused}
 use Rattle.register.proofs.pooling.donate.Goals as goal
 
 pub returns-in_err-found-clause-decides : goal.returns-in_err-found-clause-decides

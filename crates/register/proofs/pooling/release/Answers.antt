@@ -10,10 +10,10 @@ use Rattle.settle.specs.Changes.{IsChanged}
 use Rattle.settle.specs.Stepping.{stepping}
 use Rattle.settle.specs.Views.{clock_row_of}
 use Rattle.calls.specs.Calls.{reply_of, view_of}
-use Rattle.register.proofs.BlockCalled.{answers_unfound, has_found, releaser_unknown}
-use Rattle.register.proofs.Deciding.{decides_err, decides_fault, decides_replied}
+use Rattle.register.proofs.OnBlocks.BlockCalled.{answers_unfound, has_found, releaser_unknown}
+use Rattle.register.proofs.EveryCall.Deciding.{decides_err, decides_fault, decides_replied}
 use Rattle.settle.proofs.ReadOn.{reads_fault, reads_on, reads_refused}
-use Rattle.register.proofs.Released.{answers_release_refused, answers_released, release_never}
+use Rattle.register.proofs.OnBlocks.Released.{answers_release_refused, answers_released, release_never}
 use Rattle.settle.proofs.Faults.{same_refusal}
 use Rattle.register.proofs.pooling.release.Goals as goal
 

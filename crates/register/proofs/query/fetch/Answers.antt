@@ -1,8 +1,8 @@
 use Rattle.std.proofs.Common.{false, sym, ◌∙◌, subst}
 use Rattle.meaning.specs.Refusals.{Asks, Fetch}
 use Rattle.settle.specs.Reads.{AreFirst}
-use Rattle.register.proofs.Composed.{answers_refused_same}
-use Rattle.register.proofs.Fetched.{fetch_refused, answers_fetched}
+use Rattle.register.proofs.EveryCall.Composed.{answers_refused_same}
+use Rattle.register.proofs.Downloads.Fetched.{fetch_refused, answers_fetched}
 use Rattle.register.proofs.query.fetch.Goals as goal
 
 pub returns-then-not-branch-clause-answers : goal.returns-then-not-branch-clause-answers

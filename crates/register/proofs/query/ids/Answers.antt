@@ -2,7 +2,7 @@ use Rattle.std.proofs.Common.{subst, ◌∙◌}
 use Rattle.meaning.specs.Content.{Content}
 use Rattle.numbers.specs.Subjects.{Number}
 use Rattle.settle.specs.Reads.{IsOpen}
-use Rattle.register.proofs.IdsFound.{answers_ids}
+use Rattle.register.proofs.Asking.IdsFound.{answers_ids}
 use Rattle.register.proofs.query.ids.Goals as goal
 
 pub returns-clause-answers : goal.returns-clause-answers

@@ -1,8 +1,8 @@
 use Rattle.std.proofs.Common.{false, sym, ◌∙◌, subst}
 use Rattle.meaning.specs.Refusals.{Asks, Waiting}
 use Rattle.settle.specs.Reads.{AreAwaited}
-use Rattle.register.proofs.Composed.{answers_refused_same}
-use Rattle.register.proofs.Awaited.{waiting_refused, answers_awaited}
+use Rattle.register.proofs.EveryCall.Composed.{answers_refused_same}
+use Rattle.register.proofs.Downloads.Awaited.{waiting_refused, answers_awaited}
 use Rattle.register.proofs.query.waiting.Goals as goal
 
 pub returns-then-not-branch-clause-answers : goal.returns-then-not-branch-clause-answers

@@ -2,7 +2,7 @@ use Rattle.std.proofs.Common.{subst, sym}
 use Rattle.std.proofs.lemmas.Result.{on_ok_weaker}
 use Rattle.settle.specs.Reads.{AreInBlock}
 use Rattle.register.specs.Settling.{KeepsOthers, SettlesThose, is_any_of}
-use Rattle.register.proofs.BlockSettled.{numbers_kept, block_kept, block_settled}
+use Rattle.register.proofs.OnBlocks.BlockSettled.{numbers_kept, block_kept, block_settled}
 use Rattle.register.proofs.settling.settle_block.Goals as goal
 
 pub returns-in_err-settle_numbers-clause-kept : goal.returns-in_err-settle_numbers-clause-kept

@@ -1,7 +1,7 @@
 use Rattle.std.proofs.Common.{rules, ◌≡◌, ◌+◌, ◌∷◌, drop, subst, arith}
 use Rattle.settle.proofs.Rest.{rest_at}
-use Rattle.register.proofs.BlockSettled.{SettlesUpTo, next_kept, next_settled}
-use Rattle.register.proofs.Left.{left_settled, left_then}
+use Rattle.register.proofs.OnBlocks.BlockSettled.{SettlesUpTo, next_kept, next_settled}
+use Rattle.register.proofs.EveryCall.Left.{left_settled, left_then}
 use Rattle.register.proofs.settling.settle_numbers.Goals as goal
 
 pub returns-in_err-settle_subject-clause-kept : goal.returns-in_err-settle_subject-clause-kept

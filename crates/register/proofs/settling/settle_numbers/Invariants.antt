@@ -1,7 +1,7 @@
 use Rattle.std.proofs.Common.{◌≤◌, drop}
 use Rattle.settle.specs.Owing.{Leaves}
 use Rattle.register.specs.Crashes.{StaysAs}
-use Rattle.register.proofs.BlockSettled.{SettlesUpTo}
+use Rattle.register.proofs.OnBlocks.BlockSettled.{SettlesUpTo}
 use Rattle.register.proofs.settling.settle_numbers.Given as goal
 
 abbrev pub invariant-loop-number : goal.invariant-loop-number

@@ -2,9 +2,9 @@ use Rattle.std.proofs.Common.{map, rules}
 use Rattle.meaning.specs.Machine.{Fetched}
 use Rattle.meaning.specs.Refusals.{Asks, Fetch}
 use Rattle.calls.specs.Calls.{download_of, replied}
-use Rattle.register.proofs.Before.{all_kept, all_settled, answers_after, owes_after}
-use Rattle.register.proofs.ClockMoved.{means_fault}
-use Rattle.register.proofs.Copied.{if_published}
+use Rattle.register.proofs.EveryCall.Before.{all_kept, all_settled, answers_after, owes_after}
+use Rattle.register.proofs.Registering.ClockMoved.{means_fault}
+use Rattle.register.proofs.Downloads.Copied.{if_published}
 use Rattle.register.proofs.register.Register.fetch.Goals as goal
 
 pub returns-in_err-settle_all-clause-answers : goal.returns-in_err-settle_all-clause-answers

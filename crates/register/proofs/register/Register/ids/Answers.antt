@@ -2,7 +2,7 @@ use Rattle.std.proofs.Common.{rules}
 use Rattle.meaning.specs.Machine.{Found}
 use Rattle.meaning.specs.Refusals.{Asks, Ids}
 use Rattle.calls.specs.Calls.{replied}
-use Rattle.register.proofs.Before.{answers_after, leaves_after}
+use Rattle.register.proofs.EveryCall.Before.{answers_after, leaves_after}
 use Rattle.settle.proofs.Faults.{fault_is_none}
 use Rattle.register.proofs.register.Register.ids.Goals as goal
 

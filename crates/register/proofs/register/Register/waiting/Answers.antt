@@ -3,9 +3,9 @@ use Rattle.meaning.specs.Machine.{Awaited}
 use Rattle.meaning.specs.Refusals.{Asks, Waiting}
 use Rattle.numbers.specs.Views.{subject_of}
 use Rattle.calls.specs.Calls.{replied}
-use Rattle.register.proofs.Before.{all_kept, all_settled, answers_after, owes_after}
-use Rattle.register.proofs.ClockMoved.{means_fault}
-use Rattle.register.proofs.Awaited.{if_all_but}
+use Rattle.register.proofs.EveryCall.Before.{all_kept, all_settled, answers_after, owes_after}
+use Rattle.register.proofs.Registering.ClockMoved.{means_fault}
+use Rattle.register.proofs.Downloads.Awaited.{if_all_but}
 use Rattle.register.proofs.register.Register.waiting.Goals as goal
 
 pub returns-in_err-settle_all-clause-answers : goal.returns-in_err-settle_all-clause-answers

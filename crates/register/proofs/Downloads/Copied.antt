@@ -1,0 +1,66 @@
+-- A carrier that fetches and is answered nothing holds what was published to it.
+use Rattle.std.proofs.Common.{◌≡◌, ◌<◌, ℕ, zero, suc, Bool, true, false, List, [], ◌∷◌, map, Option, Some, None, refl, ap, sym, ◌∙◌, arith}
+use Rattle.std.specs.Prelude.{◌==◌, take, Result, Ok, Err, IfOk}
+use Rattle.std.specs.List.{list_any}
+use Rattle.numbers.specs.Subjects.{subject_eq}
+use Rattle.meaning.specs.declared.refusal.Refusal.{Refusal}
+use Rattle.meaning.specs.Content.{Content}
+use Rattle.meaning.specs.Laws.{IsState}
+use Rattle.meaning.specs.Machine.{Refused, Fetched, out, refused_or}
+use Rattle.meaning.specs.Reading.{State, Download, is_carrier, queue}
+use Rattle.meaning.specs.Refusals.{Asks, Fetch, npac, refusal}
+use Rattle.meaning.proofs.Copies.Law.{copy_is_published}
+use Rattle.meaning.proofs.Copies.InForce.{copy_is_in_force}
+use Rattle.delivery.specs.declared.download.Download.{Download as DownloadCode}
+use Rattle.calls.specs.Calls.{download_of, replied}
+use Rattle.register.specs.Answers.{Stands, AnswersAs}
+use Rattle.register.specs.Fetching.{HoldsWhatWasPublished}
+use Rattle.register.proofs.Downloads.Fetched.{may_fetch, fetch_by}
+
+none_taken : (n : ℕ) (ds : List Download) → 0 < n → take n ds ≡ [] → ds ≡ []
+none_taken n [] some e = refl
+none_taken zero (d ∷ ds) some e = absurd (omega (arith, some))
+none_taken (suc n) (d ∷ ds) some e = let f : d ∷ take n ds ≡ [] = e in cc
+
+pub known_by : (known is_admin : Bool) → may_fetch known is_admin ≡ None → known ≡ true
+known_by true is_admin e = refl
+known_by false is_admin e = let f : ◌≡◌ {A = Option ℕ} (Some 1) None = e in cc
+
+-- what the machine answered, where it answered downloads
+told : (number : Option ℕ) (xs ys : List Download) → Fetched xs ≡ refused_or number (Fetched ys)
+    → (number ≡ None) × (ys ≡ xs)
+told None xs ys e = (refl, (let f : Fetched xs ≡ Fetched ys = e in cc))
+told (Some k) xs ys e = let f : Fetched xs ≡ Refused k = e in cc
+
+pub holds_published : (old new : Content) (caller many : ℕ) (downloads : List DownloadCode)
+    → AnswersAs old new (Asks caller (Fetch many)) (Some (Fetched (map download_of downloads)))
+    → downloads ≡ [] → 0 < many →
+    (st : State) → Stands old st → HoldsWhatWasPublished st caller
+unfolding out
+holds_published old new caller many downloads answers none some st stands =
+    let is : IsState st = record {
+      windows = stands.represents.windows;
+      history = stands.represents.history;
+    } in
+    let reply = told (refusal st (Asks caller (Fetch many))) (map download_of downloads)
+    (take many (queue st caller)) (answers st stands).0 in
+    let empty : queue st caller ≡ [] =
+    none_taken many (queue st caller) some (reply.1 ∙ ap (map download_of) none) in
+    let known : is_carrier st caller ≡ true =
+    known_by (is_carrier st caller) (caller == npac) (sym (fetch_by st caller many) ∙ reply.0) in
+    record {
+      published =
+          λ s. copy_is_published st is caller s known
+          (ap (list_any (λ (d : Download). subject_eq d.subject s)) empty);
+      in_force = λ closed s. copy_is_in_force st is caller known empty closed s;
+    }
+
+pub if_published : {V : Type 0} (old new : Content) (caller many : ℕ) (items : V
+    → List DownloadCode) (r : Result V Refusal)
+    → AnswersAs old new (Asks caller (Fetch many))
+    (replied (λ v. Fetched (map download_of (items v))) r) →
+    (st : State) → Stands old st → 0 < many
+    → IfOk r (λ v. items v ≡ [] → HoldsWhatWasPublished st caller)
+if_published old new caller many items (Ok v) answers st stands some =
+    λ none. holds_published old new caller many (items v) answers none some st stands
+if_published old new caller many items (Err refusal) answers st stands some = tt

@@ -1,0 +1,275 @@
+-- What an assignment leaves and answers, over contents.
+use Rattle.std.proofs.Common.{◌≡◌, ℕ, ◌+◌, ◌≤◌, Bool, true, false, cond, ◌||◌, List, [], ◌∷◌, Option, Some, None, refl, ap, sym, ◌∙◌, subst}
+use Rattle.std.specs.Prelude.{nat_lt, is_none, option_map, if◌then◌else◌}
+use Rattle.std.specs.List.{list_any}
+use Rattle.std.specs.FinMap.{get, keys}
+use Rattle.numbers.specs.Subjects.{Subject, Block, subject_eq}
+use Rattle.numbers.specs.Views.{subject_of}
+use Rattle.numbers.specs.declared.cic.Cic.{Cic}
+use Rattle.meaning.specs.declared.refusal.Refusal.{Refusal}
+use Rattle.meaning.specs.declared.refusal.Refusal.TheVariants.{Storage}
+use Rattle.meaning.specs.Statuses.{Create}
+use Rattle.meaning.specs.Changes.{sent}
+use Rattle.meaning.specs.Conditions.{limit}
+use Rattle.meaning.specs.Content.{ClockRow, Content, stored_block}
+use Rattle.meaning.specs.History.{Commands, donor_of, made_version, next_id, with_made}
+use Rattle.meaning.specs.Machine.{Shown, accepted, answer_of}
+use Rattle.meaning.specs.Reading.{State, View, record_now, view_of, set_now}
+use Rattle.meaning.specs.RefusalNumbers.{number_of}
+use Rattle.meaning.specs.Refusals.{Requests, is_in_block, refusal}
+use Rattle.meaning.specs.Versions.{Version, version_with}
+use Rattle.meaning.proofs.Accepted.{accepted_command}
+use Rattle.meaning.proofs.Entered.{subject_eq-refl}
+use Rattle.numbers.proofs.Small.{same_number, or_second}
+use Rattle.version.specs.declared.version.Version.{Version as VersionCode}
+use Rattle.version.specs.Views.{IsSeen, version_of}
+use Rattle.settle.specs.Changes.{ClockMove, IsChanged}
+use Rattle.settle.specs.Sending.{Begun, begun_of, sending_each}
+use Rattle.pool.specs.declared.assignment.Assignment.{Assignment}
+use Rattle.pool.specs.declared.facts.BlockFacts.{BlockFacts}
+use Rattle.pool.specs.Assignments.{IsAssigned, assignment_refusal, assignment_tests, command_of as assigned}
+use Rattle.pool.specs.Facts.{carrier_number}
+use Rattle.pool.proofs.BlockRefused.{assignment_refused}
+use Rattle.calls.specs.Calls.{refused_with}
+use Rattle.register.specs.declared.blocks.BlockRead.{BlockRead}
+use Rattle.register.specs.Answers.{Stands}
+use Rattle.register.specs.Pooling.{pooling}
+use Rattle.register.specs.Settling.{AnswersSettled, AreSettled, LeavesOthers, is_of_block}
+use Rattle.register.proofs.OnBlocks.BlockCalled.{HasFound, not_past}
+use Rattle.register.proofs.OnBlocks.BlockCommands.{assigned_row, assignment-blocks, assignment-makes, unsent_block}
+use Rattle.register.proofs.OnBlocks.BlockFacts.{block_facts_are}
+use Rattle.register.proofs.EveryCall.Composed.{Views, answers_accepted, answers_refused_same}
+use Rattle.register.proofs.Records.MadeSent.{AreBegun, bare}
+use Rattle.register.proofs.OnVersions.OnVersion.{clock_is_of, clock_of, shown_is}
+use Rattle.register.proofs.Records.Pooled.{made-records, pooled-leaves, pooled-stands}
+use Rattle.register.proofs.EveryCall.Unfailing.{never_storage}
+
+is_there : {A : Type 0} (o : Option A) → is_none o ≡ false → (x : A) × (o ≡ Some x)
+is_there None e = cc
+is_there (Some x) e = (x, refl)
+
+-- an assignment is not refused with storage
+pub assignment_never : (caller : ℕ) (facts : BlockFacts) (r : Refusal)
+    → Some (number_of r) ≡ assignment_refusal caller facts → r ≡ Storage → ⊥
+assignment_never caller facts r is storage =
+    never_storage (assignment_tests caller facts)
+    (refl, (refl, (refl, (refl, (refl, (refl, (refl, tt))))))) (sym is
+    ∙ ap (λ x. Some (number_of x)) storage)
+
+module _ (old new : Content) (caller : ℕ) (a : Assignment) (clock : ClockRow) (read : BlockRead)
+    (facts : BlockFacts) (has : HasFound old caller a.block.number (assigned a) clock read
+    facts) where
+  refused_read : (st : State) → Stands old st
+      → AreSettled old st (Requests caller (Commands (assigned a)))
+      → refusal st (Requests caller (Commands (assigned a))) ≡ assignment_refusal caller facts
+  refused_read st stands settled =
+      assignment_refused st caller facts a (block_facts_are st old stands a.block.number settled
+      read has.is_read clock has.clock_is caller (assigned a) facts has.are refl)
+      ∙ ap (λ b. if b then Some 1 else assignment_refusal caller facts) (has.known st stands)
+
+  pub answers_assignment_refused : (k : ℕ) → new ≡ old → Some k ≡ assignment_refusal caller facts
+      → AnswersSettled old new (Requests caller (Commands (assigned a))) (refused_with k)
+  answers_assignment_refused k same refused =
+      answers_refused_same old new (Requests caller (Commands (assigned a))) k same
+      (λ st stands settled. refused_read st stands settled ∙ sym refused)
+
+  module _ (version : VersionCode) (everyone : List ℕ) (view : View)
+      (accepts : None ≡ assignment_refusal caller facts) (is : IsAssigned clock.present clock.minute
+      a (carrier_number facts.donor) version)
+      (are_all : everyone ≡ keys old.carriers)
+      (views : Views clock.present.windows clock clock.next_id version view)
+      (changed : clock.next_id + 1 ≤ limit
+      → IsChanged
+      (pooling (sending_each clock.minute Create (begun_of clock.present.windows
+      (clock.next_id, version) ∷ []) everyone)
+      (assigned_row a.block.number version.old_provider.number clock.next_id)
+      (record { minute = clock.minute; next_id = clock.next_id + 1 })) old new) where
+    module _ (st : State) (stands : Stands old st)
+        (settled : AreSettled old st (Requests caller (Commands (assigned a)))) where
+      abbrev cic : Option ℕ
+      cic = option_map (λ (x : Cic). x.number) a.routing.cic
+
+      abbrev donor : Option ℕ
+      donor = donor_of a.block.number st.history
+
+      abbrev blank : ℕ → Version
+      blank = unsent_block (set_now st) (donor_of a.block.number st.history) a.holder.number st.now
+          a.routing.lrn.number (option_map (λ (x : Cic). x.number) a.routing.cic)
+
+      abbrev after_it : State
+      after_it = accepted st (Requests caller (Commands (assigned a)))
+
+      abbrev first : ℕ
+      first = next_id st.windows st.history
+
+      none : refusal st (Requests caller (Commands (assigned a))) ≡ None
+      none = refused_read st stands settled ∙ sym accepts
+
+      same_clock : clock ≡ clock_of st
+      same_clock = clock_is_of old st clock stands.represents has.clock_is
+
+      donor_is : carrier_number facts.donor ≡ donor_of a.block.number st.history
+      donor_is = (block_facts_are st old stands a.block.number settled read has.is_read clock
+          has.clock_is caller (assigned a) facts has.are refl).donor
+
+      -- the version as the definitions make it
+      made : (id : ℕ) (cs : List ℕ)
+          → version_of id (sent (set_now st) Create cs st.now (blank id)).broadcasts
+          (set_now st).windows version ≡ sent (set_now st) Create cs st.now (blank id)
+      made id cs =
+          subst (λ d. IsSeen version (made_version (set_now st) id caller st.now cs d
+          (Commands (assigned a)))) donor_is
+          (subst (λ (k : ClockRow). IsSeen version
+          (made_version k.present id caller k.minute cs (carrier_number facts.donor)
+          (Commands (assigned a)))) same_clock (is.version id caller cs))
+
+      begun : List Begun
+      begun = begun_of (set_now st).windows (next_id st.windows st.history, version) ∷ []
+
+      are : AreBegun (set_now st) st.now everyone blank (λ id. refl) (λ id. refl) (λ id. refl)
+          (next_id st.windows st.history)
+          (begun_of (set_now st).windows (next_id st.windows st.history, version) ∷ [])
+      are = (refl, ap bare (made (next_id st.windows st.history) []), tt)
+
+      the_donor : (d : ℕ) × (donor_of a.block.number st.history ≡ Some d)
+      the_donor =
+          is_there (donor_of a.block.number st.history) (accepted_command st caller (assigned a)
+          none).not_found
+
+      donor_named : version.old_provider.number ≡ the_donor.0
+      donor_named = ap (λ (v : Version). v.old_provider) (made (next_id st.windows st.history) [])
+          ∙ ap (λ o. (unsent_block (set_now st) o a.holder.number st.now a.routing.lrn.number cic
+          0).old_provider) the_donor.1
+
+      room : clock.next_id + 1 ≤ limit
+      room =
+          let test : nat_lt limit (next_id st.windows st.history + 1) ≡ false =
+          or_second false (nat_lt limit (next_id st.windows st.history + 1))
+          (accepted_command st caller (assigned a) none).full in
+          subst (λ k. k + 1 ≤ limit) (ap (λ (k : ClockRow). k.next_id) (sym same_clock))
+          (not_past (next_id st.windows st.history + 1) test)
+
+      abbrev next : ClockMove
+      next = record { minute = st.now; next_id = next_id st.windows st.history + 1 }
+
+      put : IsChanged
+          (pooling (sending_each st.now Create
+          (begun_of (set_now st).windows (next_id st.windows st.history, version) ∷ []) everyone)
+          (assigned_row a.block.number the_donor.0 (next_id st.windows st.history)) next) old new
+      put = subst
+          (λ d. IsChanged
+          (pooling (sending_each st.now Create
+          (begun_of (set_now st).windows (next_id st.windows st.history, version) ∷ []) everyone)
+          (assigned_row a.block.number d (next_id st.windows st.history)) next) old new) donor_named
+          (subst (λ (k : ClockRow). IsChanged
+          (pooling (sending_each k.minute Create
+          (begun_of k.present.windows (k.next_id, version) ∷ []) everyone)
+          (assigned_row a.block.number version.old_provider.number k.next_id)
+          (record { minute = k.minute; next_id = k.next_id + 1 })) old new) same_clock
+          (changed room))
+
+      blocks : (k : ℕ)
+          → get new.blocks k ≡ stored_block (accepted st (Requests caller (Commands (assigned a))))
+          k
+      blocks k = put.blocks k ∙ assignment-blocks st old caller a.block.number a.holder.number
+          a.routing.lrn.number cic the_donor.0 stands the_donor.1 k
+
+      here : (t : Subject) → list_any (subject_eq t) (Block a.block.number ∷ []) ≡ true
+          → is_of_block a.block.number st t ≡ true
+      here t named = go (subject_eq t (Block a.block.number)) named
+        where
+          go : (b : Bool) → (b || false) ≡ true → (b || is_in_block a.block.number t) ≡ true
+          go true e = refl
+          go false e = cc
+
+      within : (t : Subject) → is_of_block a.block.number st t ≡ false
+          → list_any (subject_eq t) (Block a.block.number ∷ []) ≡ false
+      within t other = go (subject_eq t (Block a.block.number)) other
+        where
+          go : (b : Bool) → (b || is_in_block a.block.number t) ≡ false → (b || false) ≡ false
+          go false e = refl
+          go true e = cc
+
+      assigned-stands : Stands new after_it
+      assigned-stands =
+          pooled-stands st caller (Commands (assigned a)) (Block a.block.number ∷ []) blank
+          (assignment-makes st caller a.block.number a.holder.number a.routing.lrn.number cic)
+          old new (begun_of (set_now st).windows (next_id st.windows st.history, version) ∷ [])
+          everyone (assigned_row a.block.number the_donor.0 (next_id st.windows st.history)) next
+          stands none
+          are (refl, tt) (ap (λ t. t ∷ []) is.subject) are_all put
+          (λ t named. settled t (here t named)) blocks refl
+
+      assigned-leaves : LeavesOthers old new st (Requests caller (Commands (assigned a)))
+      assigned-leaves =
+          pooled-leaves st caller (Commands (assigned a)) (Block a.block.number ∷ []) blank
+          (assignment-makes st caller a.block.number a.holder.number a.routing.lrn.number cic)
+          old new (begun_of (set_now st).windows (next_id st.windows st.history, version) ∷ [])
+          everyone (assigned_row a.block.number the_donor.0 (next_id st.windows st.history)) next
+          stands none
+          are (refl, tt) (ap (λ t. t ∷ []) is.subject) are_all put
+          (λ t named. settled t (here t named)) blocks refl within
+
+      -- ---- the answer
+
+      abbrev made_one : Version
+      made_one = sent (set_now st) Create (record_now st (Block a.block.number)).carriers st.now
+          (blank (next_id st.windows st.history))
+
+      in_front : version_with (next_id st.windows st.history)
+          (record_now after_it (Block a.block.number)) ≡ Some made_one
+      in_front =
+          ap (version_with (next_id st.windows st.history))
+          (made-records st caller (Commands (assigned a)) (Block a.block.number ∷ []) blank
+          (assignment-makes st caller a.block.number a.holder.number a.routing.lrn.number cic)
+          (Block a.block.number))
+          ∙ ap (λ b. version_with (next_id st.windows st.history) (record {
+            carriers = (record_now st (Block a.block.number)).carriers;
+            versions = with_made (if b then Some (next_id st.windows st.history)
+                else None) (λ id. sent (set_now st) Create
+                (record_now st (Block a.block.number)).carriers st.now (blank id))
+                (record_now st (Block a.block.number)).versions;
+          })) (subject_eq-refl (Block a.block.number))
+          ∙ ap (λ b. cond b (Some made_one) (version_with (next_id st.windows st.history)
+          (record_now st (Block a.block.number)))) (same_number (next_id st.windows st.history))
+
+      seen_as : view ≡ view_of after_it (record {
+        subject = Block a.block.number;
+        version = made_one;
+      })
+      seen_as =
+          views after_it made_one.broadcasts (ap (λ (k : ClockRow). k.minute) (sym same_clock))
+          ∙ ap (λ (k : ClockRow). view_of after_it
+          (record {
+            subject = subject_of version.subject;
+            version =
+                version_of clock.next_id made_one.broadcasts k.present.windows version;
+          })) same_clock
+          ∙ ap (λ k. view_of after_it (record {
+            subject = subject_of version.subject;
+            version = version_of k made_one.broadcasts (set_now st).windows version;
+          })) (ap (λ (k : ClockRow). k.next_id) same_clock)
+          ∙ ap (λ t. view_of after_it (record {
+            subject = t;
+            version = version_of (next_id st.windows st.history) made_one.broadcasts
+                (set_now st).windows version;
+          })) is.subject
+          ∙ ap (λ v. view_of after_it (record { subject = Block a.block.number; version = v }))
+          (made (next_id st.windows st.history) (record_now st (Block a.block.number)).carriers)
+
+      assigned-answer : Shown (Some view) ≡ answer_of st after_it
+          (Requests caller (Commands (assigned a)))
+      assigned-answer =
+          ap (λ x. Shown (Some x)) seen_as
+          ∙ sym (shown_is after_it (Block a.block.number) (next_id st.windows st.history) made_one
+          assigned-stands.represents.history in_front)
+
+    pub answers_assigned : AnswersSettled old new (Requests caller (Commands (assigned a)))
+        (Some (Shown (Some view)))
+    answers_assigned = answers_accepted old new (Requests caller (Commands (assigned a)))
+        (Shown (Some view)) (λ st stands settled. (
+          none st stands settled,
+          assigned-answer st stands settled,
+          assigned-stands st stands settled,
+          assigned-leaves st stands settled,
+        ))

@@ -1,0 +1,154 @@
+-- The facts of a block that are read are those of the state.
+use Rattle.std.proofs.Common.{◌≡◌, ℕ, Bool, true, false, not, ◌||◌, List, [], ◌∷◌, Option, Some, None, refl, ap, sym, ◌∙◌, subst, inl, is_some}
+use Rattle.std.specs.Prelude.{option_map}
+use Rattle.std.specs.FinMap.{get}
+use Rattle.numbers.specs.Digits.{block_code_of}
+use Rattle.numbers.specs.Subjects.{Subject, Block}
+use Rattle.meaning.specs.Versions.{Version, last_version, first_of_versions}
+use Rattle.meaning.specs.Commands.{Command, RegisterCarrier, RegisterRoutingNumber, OpenCode, OldProviderCreate, NewProviderCreate, OnVersion, Donate, Assign, Release, SetWindows}
+use Rattle.meaning.specs.Conditions.{is_the}
+use Rattle.meaning.specs.History.{donor_of, lrn_owner}
+use Rattle.meaning.specs.Reading.{State, record_now, set_now}
+use Rattle.meaning.specs.Refusals.{block_named, bad_lrn}
+use Rattle.meaning.specs.Content.{Content, BlockRow, ClockRow, row_of}
+use Rattle.meaning.proofs.Lists.{Among}
+use Rattle.numbers.proofs.Small.{some_is}
+use Rattle.meaning.proofs.Entered.{subject_eq-refl}
+use Rattle.meaning.proofs.Protected.{undonated}
+use Rattle.meaning.proofs.Copies.Queue.{found_by_id}
+use Rattle.version.specs.declared.version.Version.{Version as VersionCode}
+use Rattle.version.specs.Facts.{Sees}
+use Rattle.version.specs.Views.{version_of}
+use Rattle.settle.specs.declared.rows.BlockRow.{BlockRow as BlockRowCode}
+use Rattle.settle.specs.Settling.{IsSettled}
+use Rattle.settle.specs.Views.{block_row_of, version_row_of}
+use Rattle.settle.proofs.KeptRows.{row_there}
+use Rattle.pool.specs.declared.facts.BlockFacts.{BlockFacts}
+use Rattle.pool.specs.Blocks.{BlockFactsAre, NumbersAre}
+use Rattle.pool.specs.Facts.{carrier_number, has_open_port}
+use Rattle.register.specs.Answers.{Stands}
+use Rattle.register.specs.Blocks.{IsBlockRead, AreBlockFacts, IsLast, last_id, is_routing_good}
+use Rattle.register.specs.Settling.{is_of_block}
+use Rattle.register.specs.declared.blocks.BlockRead.{BlockRead}
+use Rattle.register.proofs.OnBlocks.BlockRow.{named_is}
+use Rattle.register.proofs.OnBlocks.BlockNumbers.{numbers_are, ports_are}
+use Rattle.register.proofs.OnVersions.OnVersion.{clock_is_of}
+use Rattle.register.proofs.OnVersions.RowVersion.{row_version}
+
+-- ---- the donor
+
+abbrev donor_in : Option BlockRow → Option ℕ
+donor_in o = option_map (λ (row : BlockRow). row.donor) o
+
+donor_read : (o : Option BlockRowCode)
+    → carrier_number (option_map (λ (row : BlockRowCode). row.donor) o)
+    ≡ donor_in (option_map block_row_of o)
+donor_read None = refl
+donor_read (Some row) = refl
+
+donor_stored : (donor last : Option ℕ)
+    → donor_in (option_map (λ d. record { donor = d; last = last }) donor) ≡ donor
+donor_stored None last = refl
+donor_stored (Some d) last = refl
+
+-- ---- the routing number
+
+not_not : (b : Bool) → b ≡ not (not b)
+not_not true = refl
+not_not false = refl
+
+-- the routing number of a command on a block
+pub routing_is : (st : State) (c : Content) → Stands c st → (caller : ℕ) (command : Command)
+    → is_some (block_named command) ≡ true
+    → is_routing_good c caller command ≡ not (bad_lrn st caller command)
+routing_is st c stands caller (Donate block used lrn cic) on =
+    ap (is_the caller) (stands.represents.lrns lrn)
+    ∙ not_not (is_the caller (lrn_owner lrn st.history))
+routing_is st c stands caller (Assign block holder lrn cic) on =
+    ap (is_the holder) (stands.represents.lrns lrn)
+    ∙ not_not (is_the holder (lrn_owner lrn st.history))
+routing_is st c stands caller (Release block) on = refl
+routing_is st c stands caller (NewProviderCreate tn old_provider new_provider due lrn cic) on = cc
+routing_is st c stands caller (RegisterCarrier spid) on = cc
+routing_is st c stands caller (RegisterRoutingNumber lrn) on = cc
+routing_is st c stands caller (OpenCode code spid) on = cc
+routing_is st c stands caller (OldProviderCreate tn old_provider new_provider due authorized) on =
+    cc
+routing_is st c stands caller (OnVersion id change) on = cc
+routing_is st c stands caller (SetWindows windows) on = cc
+
+-- ---- the version made last
+
+pub first_among : (vs : List Version) (v : Version) → first_of_versions vs ≡ Some v → Among v vs
+first_among [] v is = cc
+first_among (u ∷ us) v is = inl (sym (some_is u v is))
+
+module _ (st : State) (c : Content) (stands : Stands c st) (block : ℕ) (settled : (s : Subject)
+    → is_of_block block st s ≡ true → IsSettled c st s) where
+  pub block_due : IsSettled c st (Block block)
+  block_due = settled (Block block) (ap (λ b. b || false) (subject_eq-refl (Block block)))
+
+  -- what was read by the id of the version made last
+  seen_by_id : (v : Version) → last_version (record_now st (Block block)) ≡ Some v
+      → (e : Option (ℕ × VersionCode)) → IsLast c (Some v.id) e
+      → Sees (option_map (λ p. p.1) e) (Some v)
+  seen_by_id v last None is = absurd is
+  seen_by_id v last (Some e) is =
+      let there = row_there (set_now st) (Block block) c (record_now st (Block block))
+      block_due.shows v.id v
+      (found_by_id st stands.represents.history (Block block) v
+      (first_among (record_now st (Block block)).versions v last)) in
+      ap (λ (u : VersionCode). version_of v.id v.broadcasts v.held.windows u) (sym is.3)
+      ∙ row_version (Block block) v is.1 (some_is (version_row_of is.1) (row_of (Block block) v)
+      (sym is.2 ∙ there))
+
+  none_by_id : (e : Option (ℕ × VersionCode)) → IsLast c None e
+      → Sees (option_map (λ p. p.1) e) None
+  none_by_id None is = tt
+  none_by_id (Some e) is = absurd is
+
+  last_seen : (row : Option BlockRowCode) (e : Option (ℕ × VersionCode))
+      → option_map block_row_of row ≡ get c.blocks block → IsLast c (last_id row) e →
+      Sees (option_map (λ p. p.1) e) (last_version (record_now st (Block block)))
+  last_seen row e is last =
+      go (donor_of block st.history) refl (last_version (record_now st (Block block))) refl
+      (subst (λ o. IsLast c o e) (named_is st c stands.represents block row is) last)
+    where
+      go : (donor : Option ℕ) → donor_of block st.history ≡ donor → (o : Option Version)
+          → last_version (record_now st (Block block)) ≡ o →
+          IsLast c (elim donor [ Some d ↦ option_map (λ (v : Version). v.id) o | None ↦ None ]) e
+          → Sees (option_map (λ p. p.1) e) o
+      go None f o g by =
+          let none : last_version (record_now st (Block block)) ≡ None =
+          ap first_of_versions (undonated st.windows block st.history st.now
+          stands.represents.history f) in
+          subst (Sees (option_map (λ p. p.1) e)) (sym none ∙ g) (none_by_id e by)
+      go (Some d) f None g by = none_by_id e by
+      go (Some d) f (Some v) g by = seen_by_id v g e by
+
+  -- ---- all facts
+
+  module _ (read : BlockRead) (is : IsBlockRead c block read) (clock : ClockRow) (clock_is : c.clock
+      ≡ Some clock) (caller : ℕ) (command : Command) (facts : BlockFacts)
+      (are : AreBlockFacts read (is_routing_good c caller command) clock.next_id facts)
+      (on_block : is_some (block_named command) ≡ true) where
+    pub block_facts_are : BlockFactsAre st caller block command facts
+    block_facts_are = record {
+      code = ap carrier_number are.code ∙ is.code ∙ stands.represents.codes (block_code_of block);
+      lrn = are.lrn ∙ routing_is st c stands caller command on_block;
+      donor = ap carrier_number are.donor ∙ donor_read read.row
+          ∙ ap donor_in (is.row ∙ stands.represents.blocks block)
+          ∙ donor_stored (donor_of block st.history) (option_map (λ (v : Version). v.id)
+          (last_version (record_now st (Block block))));
+      last = subst (λ o. Sees o (last_version (record_now st (Block block)))) (sym are.last)
+          (last_seen read.row read.last is.row is.last);
+      ports = ap has_open_port are.numbers ∙ ports_are st c stands block settled read.numbers.items
+          is.numbers caller;
+      next_id = are.next_id ∙ ap (λ (k : ClockRow). k.next_id)
+          (clock_is_of c st clock stands.represents clock_is);
+    }
+
+    pub facts_numbers_are : NumbersAre st block facts.numbers.now
+    facts_numbers_are =
+        subst (NumbersAre st block) (sym are.numbers) (numbers_are st c stands block settled
+        read.numbers.items is.numbers)

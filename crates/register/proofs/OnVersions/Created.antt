@@ -1,0 +1,222 @@
+-- What a create answers and leaves, over contents.
+use Rattle.std.proofs.Common.{◌≡◌, ℕ, ◌+◌, ◌≤◌, Bool, true, false, cond, List, [], ◌∷◌, Option, Some, None, refl, ap, sym, ◌∙◌, subst, arith}
+use Rattle.std.specs.Prelude.{◌^◌, ◌-◌, min, find, option_map, if◌then◌else◌}
+use Rattle.numbers.specs.Digits.{block_of}
+use Rattle.numbers.specs.Subjects.{Subject, Number, Block}
+use Rattle.meaning.specs.Windows.{Windows, WindowSet}
+use Rattle.meaning.specs.Versions.{Version, Broadcast}
+use Rattle.meaning.specs.Judge.{is_over}
+use Rattle.meaning.specs.Laws.{IsQuiet}
+use Rattle.meaning.specs.History.{Commands, next_id}
+use Rattle.meaning.specs.Reading.{State, record_now}
+use Rattle.meaning.specs.Conditions.{limit, holds_of}
+use Rattle.meaning.specs.Refusals.{Requests, refusal}
+use Rattle.meaning.specs.Machine.{shown, reply_of}
+use Rattle.meaning.specs.Content.{Content, ClockRow}
+use Rattle.meaning.proofs.Creates.{if_holds}
+use Rattle.meaning.proofs.Shown.{some_is}
+use Rattle.version.specs.declared.version.Version.{Version as VersionCode}
+use Rattle.version.specs.declared.create.Create.{Create as CreateCode}
+use Rattle.version.specs.declared.create.CreateFacts.{CreateFacts}
+use Rattle.version.specs.declared.create.Creator.{Creator}
+use Rattle.version.specs.declared.create.Creator.TheVariants.{OldProvider, NewProvider}
+use Rattle.version.specs.declared.create.Created.TheVariants.{First, Second}
+use Rattle.version.specs.Views.{version_of, seen, Becomes, IsSeen}
+use Rattle.version.specs.Creates.{command_by, command_of, create_refusal, lacks, is_lacked, with_create, answered_by, IsMade, IsCreated}
+use Rattle.version.specs.Facts.{Sees}
+use Rattle.settle.specs.Settling.{IsSettled}
+use Rattle.register.specs.Answers.{Stands}
+use Rattle.register.specs.Settling.{AnswersSettled, AreSettled, is_of_number, settles_for}
+use Rattle.calls.specs.Calls.{refused_with}
+use Rattle.register.specs.Serving.{AreRead, IsHeld, IsOpened}
+use Rattle.register.proofs.EveryCall.Composed.{answers_refused_same, first_refusal}
+use Rattle.register.proofs.OnVersions.OnVersion.{LeavesRegistry}
+use Rattle.register.proofs.EveryCall.Settled.{number_of_number}
+use Rattle.register.proofs.OnVersions.FactsRead.{are_known, unknown_is, refused_by_facts}
+use Rattle.numbers.proofs.Small.{same_number}
+
+-- ---- the subjects that a create settles
+
+create_settles : (creator : Creator) (tn old_provider new_provider due : ℕ) (st : State)
+    (s : Subject) →
+    settles_for (command_by creator tn old_provider new_provider due) st s ≡ is_of_number tn st s
+create_settles (OldProvider authorized) tn old_provider new_provider due st s = refl
+create_settles (NewProvider routing) tn old_provider new_provider due st s = refl
+
+pub create_settled : (old : Content) (st : State) (caller : ℕ) (c : CreateCode)
+    → AreSettled old st (Requests caller (Commands (command_of c))) →
+    (s : Subject) → is_of_number c.tn.number st s ≡ true → IsSettled old st s
+create_settled old st caller c settled s is =
+    settled s (create_settles c.creator c.tn.number c.old_provider.number c.new_provider.number
+    c.due.number st s ∙ is)
+
+pub settles_number : (st : State) (c : CreateCode)
+    → settles_for (command_of c) st (Number c.tn.number) ≡ true
+settles_number st c =
+    create_settles c.creator c.tn.number c.old_provider.number c.new_provider.number c.due.number st
+    (Number c.tn.number) ∙ number_of_number st c.tn.number
+
+-- ---- what was read, and refusals
+
+pub record HasRead (old : Content) (caller : ℕ) (c : CreateCode) (clock : ClockRow)
+    (held : Option VersionCode) (opened : Option (ℕ × VersionCode)) (block : Option VersionCode)
+    (facts : CreateFacts) : Type 0 where
+  pub known : are_known old c caller ≡ true
+  pub clock_is : old.clock ≡ Some clock
+  pub is_held : IsHeld old (Number c.tn.number) held
+  pub is_opened : IsOpened old (Number c.tn.number) opened
+  pub is_block : IsHeld old (Block (block_of c.tn.number)) block
+  pub read : AreRead old c clock.next_id held opened block facts
+
+-- the number's rows were read of one content and the rest of another, both as the first was
+pub has_read : (old first second : Content) (caller : ℕ) (c : CreateCode) (clock : ClockRow)
+    (held : Option VersionCode) (opened : Option (ℕ × VersionCode)) (block : Option VersionCode)
+    (facts : CreateFacts) →
+    first ≡ old → second ≡ old → are_known old c caller ≡ true → old.clock ≡ Some clock →
+    IsHeld first (Number c.tn.number) held → IsOpened first (Number c.tn.number) opened
+    → IsHeld first (Block (block_of c.tn.number)) block →
+    AreRead second c clock.next_id held opened block facts
+    → HasRead old caller c clock held opened block facts
+has_read old first second caller c clock held opened block facts one two known clock_is is_held
+    is_opened is_block read = record {
+      known = known;
+      clock_is = clock_is;
+      is_held = subst (λ (m : Content). IsHeld m (Number c.tn.number) held) one is_held;
+      is_opened = subst (λ (m : Content). IsOpened m (Number c.tn.number) opened) one is_opened;
+      is_block = subst (λ (m : Content). IsHeld m (Block (block_of c.tn.number)) block) one
+          is_block;
+      read = subst (λ (m : Content). AreRead m c clock.next_id held opened block facts) two read;
+    }
+
+pub refused_as : (st : State) (old : Content) (caller : ℕ) (c : CreateCode) (clock : ClockRow)
+    (held : Option VersionCode) (opened : Option (ℕ × VersionCode)) (block : Option VersionCode)
+    (facts : CreateFacts) →
+    HasRead old caller c clock held opened block facts → Stands old st
+    → AreSettled old st (Requests caller (Commands (command_of c)))
+    → refusal st (Requests caller (Commands (command_of c))) ≡ create_refusal clock.present.windows
+    clock.minute caller c facts
+refused_as st old caller c clock held opened block facts has stands settled =
+    refused_by_facts st old caller c clock held opened block facts stands
+    (create_settled old st caller c settled) has.known has.clock_is has.is_held has.is_opened
+    has.is_block has.read
+
+pub answers_create_refused : (old new : Content) (caller : ℕ) (c : CreateCode) (clock : ClockRow)
+    (held : Option VersionCode) (opened : Option (ℕ × VersionCode)) (block : Option VersionCode)
+    (facts : CreateFacts) (k : ℕ) →
+    new ≡ old → HasRead old caller c clock held opened block facts
+    → Some k ≡ create_refusal clock.present.windows clock.minute caller c facts →
+    AnswersSettled old new (Requests caller (Commands (command_of c))) (refused_with k)
+answers_create_refused old new caller c clock held opened block facts k same has refused =
+    answers_refused_same old new (Requests caller (Commands (command_of c))) k same
+    (λ st stands settled. refused_as st old caller c clock held opened block facts has stands
+    settled ∙ sym refused)
+
+pub answers_create_unknown : (old new : Content) (caller : ℕ) (c : CreateCode) → new ≡ old
+    → are_known old c caller ≡ false
+    → AnswersSettled old new (Requests caller (Commands (command_of c))) (refused_with 1)
+answers_create_unknown old new caller c same unknown =
+    answers_refused_same old new (Requests caller (Commands (command_of c))) 1 same
+    (λ st stands settled. first_refusal st caller (command_of c) (unknown_is st old c caller stands
+    unknown))
+
+-- ---- a version put
+
+-- ---- the request of a create
+
+pub create-registry : (creator : Creator) (caller tn old_provider new_provider due : ℕ)
+    → LeavesRegistry caller (Commands (command_by creator tn old_provider new_provider due))
+create-registry (OldProvider authorized) caller tn old_provider new_provider due = record {
+  carrier = refl;
+  lrn = λ k. refl;
+  code = λ k. refl;
+  donor = λ k. refl;
+  lines = tt;
+  unset = refl;
+}
+create-registry (NewProvider routing) caller tn old_provider new_provider due = record {
+  carrier = refl;
+  lrn = λ k. refl;
+  code = λ k. refl;
+  donor = λ k. refl;
+  lines = tt;
+  unset = refl;
+}
+
+abbrev pub id_or : Option Version → ℕ → ℕ
+id_or o next = elim o [ Some v ↦ v.id | None ↦ next ]
+
+pub reply_by : (creator : Creator) (st new : State) (caller tn old_provider new_provider due : ℕ) →
+    reply_of st new caller (command_by creator tn old_provider new_provider due)
+    ≡ shown new
+    (id_or (find (lacks creator old_provider new_provider) (record_now st (Number tn)).versions)
+    (next_id st.windows st.history))
+reply_by (OldProvider authorized) st new caller tn old_provider new_provider due = refl
+reply_by (NewProvider routing) st new caller tn old_provider new_provider due = refl
+
+-- a version lacks a create whatever its id, its broadcasts and its windows
+pub lacks_seen : (w : Windows) (creator : Creator) (old_provider new_provider id : ℕ)
+    (broadcasts : List Broadcast) (u : VersionCode) →
+    lacks creator old_provider new_provider (version_of id broadcasts w u)
+    ≡ lacks creator old_provider new_provider (seen u)
+lacks_seen w (OldProvider authorized) old_provider new_provider id broadcasts u = refl
+lacks_seen w (NewProvider routing) old_provider new_provider id broadcasts u = refl
+
+pub lacks_as : (c : CreateCode) (u : VersionCode) (v : Version) → IsSeen u v →
+    lacks c.creator c.old_provider.number c.new_provider.number v ≡ is_lacked c (seen u)
+lacks_as c u v is = ap (lacks c.creator c.old_provider.number c.new_provider.number) (sym is)
+    ∙ lacks_seen v.held.windows c.creator c.old_provider.number c.new_provider.number v.id
+    v.broadcasts u
+
+pub none_answers : (c : CreateCode) (o : Option (ℕ × VersionCode)) (p : Option Version) →
+    Sees (option_map (λ e. e.1) o) p → answered_by c o ≡ None →
+    holds_of (lacks c.creator c.old_provider.number c.new_provider.number) p ≡ false
+none_answers c None None sees none = refl
+none_answers c (Some e) (Some v) sees none = lacks_as c e.1 v sees
+    ∙ go (is_lacked c (seen e.1)) none
+  where
+    go : (b : Bool) → (if b then Some e else None) ≡ None → b ≡ false
+    go true is = cc
+    go false is = refl
+none_answers c None (Some v) sees none = absurd sees
+none_answers c (Some e) None sees none = absurd sees
+
+pub if_holds-none : (test : Version → Bool) (p : Option Version) → holds_of test p ≡ false
+    → if_holds test p ≡ None
+if_holds-none test None none = refl
+if_holds-none test (Some v) none = ap (λ b. if b then Some v else None) none
+
+pub first_created : (w : WindowSet) (minute : ℕ) (c : CreateCode) (o : Option (ℕ × VersionCode))
+    (m : VersionCode) → IsCreated w minute c o (First m) → (o ≡ None) × IsMade w minute c m
+first_created w minute c None m is = (refl, is)
+first_created w minute c (Some e) m is = absurd is
+
+-- the id of a second create is the open version's, which lacks the create
+pub second_created : (w : WindowSet) (minute : ℕ) (c : CreateCode) (o : Option (ℕ × VersionCode))
+    (id : ℕ) (m : VersionCode) → IsCreated w minute c (answered_by c o) (Second id m) →
+    (u : VersionCode) × (o ≡ Some (id, u)) × (is_lacked c (seen u) ≡ true)
+    × Becomes (with_create w c.creator minute) u m
+second_created w minute c None id m is = absurd is
+second_created w minute c (Some e) id m is = go (is_lacked c (seen e.1)) refl is
+  where
+    go : (b : Bool) → is_lacked c (seen e.1) ≡ b → IsCreated w minute c (if b then Some e
+        else None) (Second id m) →
+        (u : VersionCode) × (Some e ≡ Some (id, u)) × (is_lacked c (seen u) ≡ true)
+        × Becomes (with_create w c.creator minute) u m
+    go true lacking made = (e.1, ap (λ k. Some (k, e.1)) (sym made.0), lacking, made.1)
+    go false lacking made = absurd made
+
+pub found_quiet : (w : WindowSet) (now : ℕ) (f : Version → Bool) (vs : List Version) (v : Version)
+    → find f vs ≡ Some v → IsQuiet now vs → is_over now v v.status ≡ false
+found_quiet w now f [] v found quiet = cc
+found_quiet w now f (u ∷ us) v found quiet =
+    go (λ g. found_quiet w now f us v g quiet.1) (f u) found
+  where
+    go : (find f us ≡ Some v → is_over now v v.status ≡ false) → (b : Bool)
+        → cond b (Some u) (find f us) ≡ Some v → is_over now v v.status ≡ false
+    go later true g = subst (λ (x : Version). is_over now x x.status ≡ false) (some_is u v g)
+        quiet.0
+    go later false g = later g
+
+-- the next id is far from where it would stay
+pub one_more : (n more : ℕ) → n ≤ limit → more ≡ min (n + 1) (2 ^ 64 - 1) → more ≡ n + 1
+one_more n more below is = omega arith

@@ -1,0 +1,256 @@
+-- The facts that a create reads are those of the state.
+use Rattle.std.proofs.Common.{◌≡◌, ℕ, Bool, true, false, not, ◌&&◌, ◌||◌, Option, Some, None, refl, ap, sym, ◌∙◌, subst}
+use Rattle.std.specs.Prelude.{find, is_some, is_none, option_map, if◌then◌else◌}
+use Rattle.std.specs.FinMap.{get}
+use Rattle.numbers.specs.Digits.{code_of, block_of}
+use Rattle.numbers.specs.Subjects.{Subject, Number, Block}
+use Rattle.meaning.specs.Versions.{Version, in_force, version_in_force, open_version, is_open}
+use Rattle.meaning.specs.History.{Commands, donor_of, lrn_owner}
+use Rattle.meaning.specs.Reading.{State, Server, ByVersion, ByBlock, InPool, ByCode, record_now, serving, served_by_block, protected_by, is_served_by, is_carrier, set_now}
+use Rattle.meaning.specs.Conditions.{holds_of, is_the, is_delete_sent}
+use Rattle.meaning.specs.Refusals.{Requests, unknown_carrier, bad_lrn, is_in_pool, refusal}
+use Rattle.meaning.specs.Content.{Content, ClockRow}
+use Rattle.version.specs.declared.version.Version.{Version as VersionCode}
+use Rattle.version.specs.declared.create.Create.{Create as CreateCode}
+use Rattle.version.specs.declared.create.CreateFacts.{CreateFacts}
+use Rattle.version.specs.declared.create.Creator.{Creator}
+use Rattle.version.specs.declared.create.Creator.TheVariants.{OldProvider, NewProvider}
+use Rattle.version.specs.Creates.{command_by, command_of, create_refusal}
+use Rattle.version.specs.Facts.{FactsAre, Sees}
+use Rattle.version.proofs.CreateRefused.{create_refused}
+use Rattle.settle.specs.Settling.{IsSettled}
+use Rattle.numbers.specs.declared.spid.Spid.{Spid}
+use Rattle.version.specs.Views.{seen}
+use Rattle.pool.specs.Facts.{carrier_number}
+use Rattle.pool.specs.Serving.{ServingFactsAre, carrier_of, served_by_code, served_by_version}
+use Rattle.pool.proofs.Served.{serving-is}
+use Rattle.register.specs.Answers.{Stands}
+use Rattle.register.specs.Serving.{AreRead, IsHeld, IsOpened, is_lrn_good, is_released}
+use Rattle.register.proofs.OnVersions.OnVersion.{clock_is_of}
+use Rattle.register.specs.Settling.{is_of_number}
+use Rattle.register.proofs.EveryCall.Settled.{number_of_number, block_of_number}
+use Rattle.register.proofs.Asking.Columns.{IsFound, opened_is, held_is}
+
+-- ---- what was found is seen
+
+sees_found : (st : State) (s : Subject) (f : Version → Bool) (e : Option (ℕ × VersionCode))
+    → IsFound st s f e → Sees (option_map (λ p. p.1) e) (find f (record_now st s).versions)
+sees_found st s f None is = subst (Sees None) (sym is) tt
+sees_found st s f (Some e) is = subst (Sees (Some e.1)) (sym is.1) is.3
+
+sees_held : (st : State) (c : Content) (s : Subject) (o : Option VersionCode) → Stands c st
+    → IsSettled c st s → IsHeld c s o → Sees o (version_in_force (record_now st s))
+sees_held st c s o stands due held =
+    subst (λ x. Sees x (version_in_force (record_now st s))) held.2 (sees_found st s in_force held.0
+    (held_is st c s o stands due held))
+
+sees_opened : (st : State) (c : Content) (s : Subject) (o : Option (ℕ × VersionCode)) → Stands c st
+    → IsSettled c st s → IsOpened c s o
+    → Sees (option_map (λ p. p.1) o) (open_version s (record_now st s))
+sees_opened st c s o stands due is =
+    sees_found st s (is_open s) o (opened_is st c s o stands due is)
+
+-- ---- carriers
+
+known_by : (st : State) (creator : Creator) (caller tn old_provider new_provider due : ℕ) →
+    unknown_carrier st
+    (Requests caller (Commands (command_by creator tn old_provider new_provider due)))
+    ≡ ((not (is_carrier st old_provider) || (not (is_carrier st new_provider) || false))
+    || (not (is_carrier st caller) && true))
+known_by st (OldProvider authorized) caller tn old_provider new_provider due = refl
+known_by st (NewProvider routing) caller tn old_provider new_provider due = refl
+
+-- a carrier that is not registered, and none
+carriers_unknown : (a b c : Bool) → (a && (b && c)) ≡ false
+    → ((not a || (not b || false)) || (not c && true)) ≡ true
+carriers_unknown true true true e = cc
+carriers_unknown true true false e = refl
+carriers_unknown true false c e = refl
+carriers_unknown false b c e = refl
+
+carriers_known : (a b c : Bool) → (a && (b && c)) ≡ true
+    → ((not a || (not b || false)) || (not c && true)) ≡ false
+carriers_known true true true e = refl
+carriers_known true true false e = cc
+carriers_known true false c e = cc
+carriers_known false b c e = cc
+
+abbrev pub are_known : Content → CreateCode → ℕ → Bool
+are_known old c caller =
+    is_some (get old.carriers c.old_provider.number)
+    && (is_some (get old.carriers c.new_provider.number) && is_some (get old.carriers caller))
+
+known_are : (st : State) (old : Content) (c : CreateCode) (caller : ℕ) (b : Bool) → Stands old st
+    → are_known old c caller ≡ b →
+    (is_carrier st c.old_provider.number && (is_carrier st c.new_provider.number && is_carrier st
+    caller)) ≡ b
+known_are st old c caller b stands known =
+    ap (λ x. x && (is_carrier st c.new_provider.number && is_carrier st caller))
+    (sym (stands.represents.carriers c.old_provider.number))
+    ∙ ap (λ x. is_some (get old.carriers c.old_provider.number) && (x && is_carrier st caller))
+    (sym (stands.represents.carriers c.new_provider.number))
+    ∙ ap (λ x. is_some (get old.carriers c.old_provider.number)
+    && (is_some (get old.carriers c.new_provider.number) && x))
+    (sym (stands.represents.carriers caller))
+    ∙ known
+
+pub unknown_is : (st : State) (old : Content) (c : CreateCode) (caller : ℕ) → Stands old st
+    → are_known old c caller ≡ false
+    → unknown_carrier st (Requests caller (Commands (command_of c))) ≡ true
+unknown_is st old c caller stands known =
+    known_by st c.creator caller c.tn.number c.old_provider.number c.new_provider.number
+    c.due.number
+    ∙ carriers_unknown (is_carrier st c.old_provider.number) (is_carrier st c.new_provider.number)
+    (is_carrier st caller) (known_are st old c caller false stands known)
+
+known_is : (st : State) (old : Content) (c : CreateCode) (caller : ℕ) → Stands old st
+    → are_known old c caller ≡ true → unknown_carrier st (Requests caller (Commands (command_of c)))
+    ≡ false
+known_is st old c caller stands known =
+    known_by st c.creator caller c.tn.number c.old_provider.number c.new_provider.number
+    c.due.number
+    ∙ carriers_known (is_carrier st c.old_provider.number) (is_carrier st c.new_provider.number)
+    (is_carrier st caller) (known_are st old c caller true stands known)
+
+-- ---- the routing number
+
+not_not : (b : Bool) → b ≡ not (not b)
+not_not true = refl
+not_not false = refl
+
+lrn_by : (st : State) (old : Content) → ((k : ℕ) → get old.lrns k ≡ lrn_owner k st.history)
+    → (creator : Creator) (caller tn old_provider new_provider due : ℕ) →
+    is_lrn_good old creator new_provider
+    ≡ not (bad_lrn st caller (command_by creator tn old_provider new_provider due))
+lrn_by st old lrns (OldProvider authorized) caller tn old_provider new_provider due = refl
+lrn_by st old lrns (NewProvider routing) caller tn old_provider new_provider due =
+    ap (is_the new_provider) (lrns routing.lrn.number)
+    ∙ not_not (is_the new_provider (lrn_owner routing.lrn.number st.history))
+
+-- ---- who serves
+
+is_some_mapped : {A B : Type 0} (f : A → B) (o : Option A) → is_some (option_map f o) ≡ is_some o
+is_some_mapped f None = refl
+is_some_mapped f (Some x) = refl
+
+is_none_mapped : {A B : Type 0} (f : A → B) (o : Option A) → is_none o ≡ is_none (option_map f o)
+is_none_mapped f None = refl
+is_none_mapped f (Some x) = refl
+
+-- where its code is opened, nobody serves a number only in the pool
+by_code_is : (block : Option Version) (donated : Bool) (code : Option ℕ) → is_some code ≡ true →
+    is_none (carrier_of (if donated then served_by_block block else ByCode code))
+    ≡ is_in_pool (if donated then served_by_block block else ByCode code)
+by_code_is (Some v) true code is = refl
+by_code_is None true code is = refl
+by_code_is block false (Some k) is = refl
+by_code_is block false None is = cc
+
+in_pool_is : (held opened : Option Version) (other : Server)
+    → is_none (carrier_of other) ≡ is_in_pool other →
+    is_none (carrier_of (served_by_version held (protected_by opened other)))
+    ≡ is_in_pool (served_by_version held (protected_by opened other))
+in_pool_is (Some v) opened other same = refl
+in_pool_is None None other same = same
+in_pool_is None (Some v) other same = go v.protective
+  where
+    go : (b : Bool) → is_none (carrier_of (if b then ByVersion v.new_provider else other))
+        ≡ is_in_pool (if b then ByVersion v.new_provider else other)
+    go true = refl
+    go false = same
+
+served_is : (k : ℕ) (server : Server) → is_the k (carrier_of server) ≡ is_served_by k server
+served_is k (ByVersion c) = refl
+served_is k (ByBlock c) = refl
+served_is k InPool = refl
+served_is k (ByCode None) = refl
+served_is k (ByCode (Some c)) = refl
+
+-- ---- the block
+
+released_is : (o : Option VersionCode) (p : Option Version) → Sees o p
+    → is_released o ≡ holds_of is_delete_sent (option_map (λ (v : Version). v.status) p)
+released_is None None sees = refl
+released_is (Some u) (Some v) sees = ap (λ (x : Version). is_delete_sent x.status) sees
+released_is None (Some v) sees = absurd sees
+released_is (Some u) None sees = absurd sees
+
+-- ---- all facts
+
+module _ (st : State) (old : Content) (caller : ℕ) (c : CreateCode) (clock : ClockRow)
+    (held : Option VersionCode) (opened : Option (ℕ × VersionCode)) (block : Option VersionCode)
+    (facts : CreateFacts)
+    (stands : Stands old st) (settled : (s : Subject) → is_of_number c.tn.number st s ≡ true
+    → IsSettled old st s) (known : are_known old c caller ≡ true) (clock_is : old.clock
+    ≡ Some clock)
+    (is_held : IsHeld old (Number c.tn.number) held) (is_opened : IsOpened old (Number c.tn.number)
+    opened) (is_block : IsHeld old (Block (block_of c.tn.number)) block)
+    (read : AreRead old c clock.next_id held opened block facts) where
+  -- what tells who serves the number is so in the state
+  they_serve : ServingFactsAre st c.tn.number read.server.0
+  they_serve =
+      let row = read.server.1 in
+      record {
+        in_force = subst (λ o. Sees o (version_in_force (record_now st (Number c.tn.number))))
+            (sym row.in_force)
+            (sees_held st old (Number c.tn.number) held stands
+            (settled (Number c.tn.number) (number_of_number st c.tn.number)) is_held);
+        opened = subst
+            (λ o. Sees o (open_version (Number c.tn.number) (record_now st (Number c.tn.number))))
+            (sym row.opened)
+            (sees_opened st old (Number c.tn.number) opened stands
+            (settled (Number c.tn.number) (number_of_number st c.tn.number)) is_opened);
+        donated = row.donated ∙ ap is_some (stands.represents.blocks (block_of c.tn.number))
+            ∙ is_some_mapped _ (donor_of (block_of c.tn.number) st.history);
+        block = subst
+            (λ o. Sees o (version_in_force (record_now st (Block (block_of c.tn.number)))))
+            (sym row.block)
+            (sees_held st old (Block (block_of c.tn.number)) block stands
+            (settled (Block (block_of c.tn.number)) (block_of_number st c.tn.number)) is_block);
+        code = row.code ∙ stands.represents.codes (code_of c.tn.number);
+      }
+
+  server_is : carrier_number facts.server ≡ carrier_of (serving st c.tn.number)
+  server_is = read.server.2 ∙ ap carrier_of (serving-is st c.tn.number read.server.0 they_serve)
+
+  nobody_is : facts.is_code_open ≡ true → is_none facts.server ≡ is_in_pool (serving st c.tn.number)
+  nobody_is is =
+      is_none_mapped (λ (s : Spid). s.number) facts.server ∙ ap is_none read.server.2
+      ∙ in_pool_is (option_map seen read.server.0.in_force) (option_map seen read.server.0.opened)
+      (served_by_code read.server.0)
+      (by_code_is (option_map seen read.server.0.block_in_force) read.server.0.is_donated
+      (carrier_number read.server.0.code_holder) (ap is_some read.server.1.code ∙ sym read.code
+      ∙ is))
+      ∙ ap is_in_pool (serving-is st c.tn.number read.server.0 they_serve)
+
+  pub facts_are : FactsAre st caller c facts
+  facts_are = record {
+    code = read.code ∙ ap is_some (stands.represents.codes (code_of c.tn.number));
+    lrn = read.lrn ∙ lrn_by st old stands.represents.lrns c.creator caller c.tn.number
+        c.old_provider.number c.new_provider.number c.due.number;
+    pool = nobody_is;
+    server = λ is. ap (is_the c.old_provider.number) server_is ∙ served_is c.old_provider.number
+        (serving st c.tn.number);
+    opened = subst (λ o. Sees (option_map (λ e. e.1) o) (open_version (Number c.tn.number)
+        (record_now st (Number c.tn.number)))) (sym read.opened)
+        (sees_opened st old (Number c.tn.number) opened stands
+        (settled (Number c.tn.number) (number_of_number st c.tn.number)) is_opened);
+    in_force = subst (λ o. Sees o (version_in_force (record_now st (Number c.tn.number))))
+        (sym read.in_force) (sees_held st old (Number c.tn.number) held stands
+        (settled (Number c.tn.number) (number_of_number st c.tn.number)) is_held);
+    block = read.block
+        ∙ released_is block (version_in_force (record_now st (Block (block_of c.tn.number))))
+        (sees_held st old (Block (block_of c.tn.number)) block stands
+        (settled (Block (block_of c.tn.number)) (block_of_number st c.tn.number)) is_block);
+    next_id = read.next_id ∙ ap (λ (k : ClockRow). k.next_id)
+        (clock_is_of old st clock stands.represents clock_is);
+  }
+
+  -- so a create is refused as they say
+  pub refused_by_facts : refusal st (Requests caller (Commands (command_of c))) ≡ create_refusal
+      clock.present.windows clock.minute caller c facts
+  refused_by_facts = create_refused st caller c facts facts_are stands.represents.history
+      ∙ ap (λ b. if b then Some 1 else create_refusal (set_now st).windows st.now caller c facts)
+      (known_is st old c caller stands known)
+      ∙ ap (λ (k : ClockRow). create_refusal k.present.windows k.minute caller c facts)
+      (sym (clock_is_of old st clock stands.represents clock_is))

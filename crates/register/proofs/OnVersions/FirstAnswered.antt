@@ -1,0 +1,260 @@
+-- What a first create answers and leaves, over contents.
+use Rattle.std.proofs.Common.{◌≡◌, ℕ, ◌+◌, ◌≤◌, false, cond, [], ◌∷◌, Option, Some, None, refl, ap, sym, ◌∙◌, subst}
+use Rattle.std.specs.Prelude.{◌==◌, option_map}
+use Rattle.std.specs.List.{list_any}
+use Rattle.numbers.specs.Subjects.{Subject, Number, Block, subject_eq}
+use Rattle.numbers.specs.Views.{subject_of}
+use Rattle.meaning.specs.Versions.{Version, Record, version_with, open_version, last_version}
+use Rattle.meaning.specs.History.{Request, Commands, made_version, makes, next_id, donor_of, assigned_block}
+use Rattle.meaning.specs.Reading.{State, View, record_now, view_of, set_now}
+use Rattle.meaning.specs.Conditions.{limit, holds_of}
+use Rattle.meaning.specs.Refusals.{Requests, refusal}
+use Rattle.meaning.specs.Machine.{Shown, accepted, answer_of, shown}
+use Rattle.meaning.specs.Content.{Content, ClockRow, ClockShows}
+use Rattle.meaning.proofs.Creates.{found_is_open, any_is_open}
+use Rattle.meaning.proofs.Entered.{next_id-below, sound_now}
+use Rattle.version.specs.declared.version.Version.{Version as VersionCode}
+use Rattle.version.specs.declared.create.Create.{Create as CreateCode}
+use Rattle.version.specs.declared.create.CreateFacts.{CreateFacts}
+use Rattle.version.specs.declared.create.Created.TheVariants.{First}
+use Rattle.version.specs.Views.{version_of, seen_by}
+use Rattle.version.specs.Creates.{command_of, create_refusal, lacks, answered_by, IsMade, IsCreated}
+use Rattle.settle.specs.Changes.{IsChanged, ClockMove}
+use Rattle.settle.specs.Settling.{IsSettled}
+use Rattle.register.specs.Answers.{Stands}
+use Rattle.register.specs.Settling.{AnswersSettled, AreSettled, LeavesOthers}
+use Rattle.settle.specs.Sending.{putting}
+use Rattle.register.proofs.EveryCall.Composed.{answers_accepted, Views}
+use Rattle.register.proofs.OnVersions.OnVersion.{IsOnOne, clock_of, clock_is_of, on_version-stands, others_stay, shown_is}
+use Rattle.register.proofs.OnVersions.FactsRead.{facts_are}
+use Rattle.register.proofs.Records.Touched.{clock-moves}
+use Rattle.register.proofs.EveryCall.HeldSets.{windows-now}
+use Rattle.register.proofs.OnVersions.FirstCreate.{made-record, made-elsewhere, made-next_id, next_is_free, putting-are, made-shows, made-quiet, made-id, made-unsent, create-leaves, create-makes, create-concerns}
+use Rattle.register.proofs.OnVersions.SecondCreate.{lacking-open, create-carrier}
+use Rattle.register.proofs.EveryCall.Settled.{number_of_number, leaves_but}
+use Rattle.register.proofs.OnVersions.Created.{create_settled, settles_number, HasRead, refused_as, create-registry, id_or, reply_by, none_answers, if_holds-none, first_created}
+use Rattle.numbers.proofs.Small.{same_number}
+
+module _ (st : State) (old new : Content) (caller : ℕ) (c : CreateCode) (next : ClockMove)
+    (stands : Stands old st) (due : IsSettled old st (Number c.tn.number))
+    (none : refusal st (Requests caller (Commands (command_of c))) ≡ None)
+    (lacking : holds_of (lacks c.creator c.old_provider.number c.new_provider.number)
+    (open_version (Number c.tn.number) (record_now st (Number c.tn.number))) ≡ false)
+    (next_is : next ≡ record { minute = st.now; next_id = next_id st.windows st.history + 1 }) where
+  abbrev s : Subject
+  s = Number c.tn.number
+
+  abbrev request : Request
+  request = Commands (command_of c)
+
+  abbrev after_it : State
+  after_it = accepted st (Requests caller request)
+
+  abbrev id : ℕ
+  id = next_id st.windows st.history
+
+  abbrev made : Version
+  made = made_version (set_now st) (next_id st.windows st.history) caller st.now
+      (record_now st (Number c.tn.number)).carriers
+      (donor_of (assigned_block (Commands (command_of c))) st.history) (Commands (command_of c))
+
+  abbrev first_record : Record
+  first_record = record {
+    carriers = (record_now st (Number c.tn.number)).carriers;
+    versions = made ∷ (record_now st (Number c.tn.number)).versions;
+  }
+
+  none_lacks : list_any (lacks c.creator c.old_provider.number c.new_provider.number)
+      (record_now st s).versions ≡ false
+  none_lacks = any_is_open s (lacks c.creator c.old_provider.number c.new_provider.number)
+      (lacking-open c.creator c.tn.number c.old_provider.number c.new_provider.number)
+      (record_now st s).versions (sound_now st stands.represents.history s) ∙ lacking
+
+  one_made : makes request (record_now st) ≡ s ∷ []
+  one_made = create-makes c.creator st c.tn.number c.old_provider.number c.new_provider.number
+      c.due.number false none_lacks
+
+  record_is : record_now after_it s ≡ first_record
+  record_is =
+      made-record st caller request s one_made (create-carrier c.creator c.tn.number
+      c.old_provider.number c.new_provider.number c.due.number)
+      (create-leaves (set_now st) c.creator s caller st.now c.tn.number c.old_provider.number
+      c.new_provider.number c.due.number (record_now st s).carriers (record_now st s).versions
+      none_lacks)
+
+  elsewhere : (t : Subject) → subject_eq s t ≡ false → record_now after_it t ≡ record_now st t
+  elsewhere t apart =
+      made-elsewhere st caller request s one_made t apart (create-concerns c.creator t c.tn.number
+      c.old_provider.number c.new_provider.number c.due.number (record_now st t).versions apart)
+
+  on_one : IsOnOne st caller request s id
+  on_one = record {
+    elsewhere = elsewhere;
+    free = λ t apart. next_is_free st stands.represents.history t;
+    last = λ b. ap (λ (r : Record). option_map (λ (v : Version). v.id) (last_version r))
+        (elsewhere (Block b) refl);
+  }
+
+  module _ (changed : IsChanged (putting (next_id st.windows st.history) (Number c.tn.number) made
+      (Some next)) old new) where
+    clock_after : ClockShows new.clock after_it
+    clock_after = clock-moves st caller request
+        (create-registry c.creator caller c.tn.number c.old_provider.number c.new_provider.number
+        c.due.number).unset old new stands next changed.clock
+        (next_is ∙ ap (λ k. let m : ClockMove = record { minute = st.now; next_id = k } in m)
+        (sym (made-next_id st caller request s one_made)))
+
+    first-stands : Stands new after_it
+    first-stands = on_version-stands st old new caller request s id (putting id s made (Some next))
+        first_record
+        (create-registry c.creator caller c.tn.number c.old_provider.number c.new_provider.number
+        c.due.number) stands none on_one clock_after (putting-are id (set_now st) s made
+        (Some next)) changed record_is
+        (made-shows (set_now st) s id made (record_now st s) (Some next) old new changed
+        (made-id (set_now st) c.creator id caller st.now c.tn.number c.old_provider.number
+        c.new_provider.number c.due.number (record_now st s).carriers
+        (donor_of (assigned_block request) st.history))
+        (made-unsent (set_now st) c.creator id caller st.now c.tn.number c.old_provider.number
+        c.new_provider.number c.due.number (record_now st s).carriers
+        (donor_of (assigned_block request) st.history))
+        (next_is_free st stands.represents.history s) due.shows) (
+          made-quiet (set_now st) (windows-now old st stands.represents) c.creator id caller st.now
+              c.tn.number c.old_provider.number c.new_provider.number c.due.number
+              (record_now st s).carriers (donor_of (assigned_block request) st.history),
+          due.quiet,
+        )
+
+    first-leaves : LeavesOthers old new st (Requests caller request)
+    first-leaves = leaves_but old new st (Requests caller request) s (settles_number st c)
+        (others_stay st old new caller request s id (putting id s made (Some next)) first_record
+        (create-registry c.creator caller c.tn.number c.old_provider.number c.new_provider.number
+        c.due.number) stands none on_one clock_after (putting-are id (set_now st) s made
+        (Some next)) changed)
+
+    in_front : version_with id (record_now after_it s) ≡ Some made
+    in_front = ap (version_with id) record_is
+        ∙ ap (λ k. cond (k == id) (Some made) (version_with id (record_now st s)))
+        (made-id (set_now st) c.creator id caller st.now c.tn.number c.old_provider.number
+        c.new_provider.number c.due.number (record_now st s).carriers
+        (donor_of (assigned_block request) st.history))
+        ∙ ap (λ b. cond b (Some made) (version_with id (record_now st s))) (same_number id)
+
+    first-answer : (view : View) → view ≡ view_of after_it (record { subject = s; version = made })
+        → Shown (Some view) ≡ answer_of st after_it (Requests caller request)
+    first-answer view is =
+        ap (λ x. Shown (Some x)) is
+        ∙ sym (shown_is after_it s id made first-stands.represents.history in_front)
+        ∙ ap (λ o. shown after_it (id_or o id))
+        (sym (found_is_open s (lacks c.creator c.old_provider.number c.new_provider.number)
+        (lacking-open c.creator c.tn.number c.old_provider.number c.new_provider.number)
+        (record_now st s).versions (sound_now st stands.represents.history s)
+        ∙ if_holds-none (lacks c.creator c.old_provider.number c.new_provider.number)
+        (open_version s (record_now st s)) lacking))
+        ∙ sym (reply_by c.creator st after_it caller c.tn.number c.old_provider.number
+        c.new_provider.number c.due.number)
+
+pub answers_first : (old new : Content) (caller : ℕ) (c : CreateCode) (clock : ClockRow)
+    (next : ClockMove) (held : Option VersionCode) (opened : Option (ℕ × VersionCode))
+    (block : Option VersionCode) (facts : CreateFacts) (m : VersionCode) (view : View) →
+    HasRead old caller c clock held opened block facts → None
+    ≡ create_refusal clock.present.windows clock.minute caller c facts →
+    IsCreated clock.present clock.minute c (answered_by c facts.opened) (First m) →
+    (clock.next_id ≤ limit → next ≡ record { minute = clock.minute; next_id = clock.next_id + 1 }) →
+    IsChanged (putting clock.next_id (subject_of m.subject) (seen_by clock.present.windows m)
+    (Some next)) old new →
+    Views clock.present.windows clock clock.next_id m view →
+    AnswersSettled old new (Requests caller (Commands (command_of c))) (Some (Shown (Some view)))
+answers_first old new caller c clock next held opened block facts m view has accepts created next_is
+    changed views =
+    answers_accepted old new (Requests caller (Commands (command_of c))) (Shown (Some view)) each
+  where
+    first : (answered_by c facts.opened ≡ None) × IsMade clock.present clock.minute c m
+    first = first_created clock.present clock.minute c (answered_by c facts.opened) m created
+
+    each : (st : State) → Stands old st
+        → AreSettled old st (Requests caller (Commands (command_of c)))
+        → (refusal st (Requests caller (Commands (command_of c))) ≡ None)
+        × (Shown (Some view) ≡ answer_of st
+        (accepted st (Requests caller (Commands (command_of c))))
+        (Requests caller (Commands (command_of c))))
+        × Stands new (accepted st (Requests caller (Commands (command_of c))))
+        × LeavesOthers old new st (Requests caller (Commands (command_of c)))
+    each st stands settled = (
+      none,
+      first-answer st old new caller c next stands due none lacking next_now change view
+          (views after_it [] (sym now)
+          ∙ ap (λ t. view_of after_it (record
+          { subject = t; version = version_of clock.next_id [] clock.present.windows m }))
+          first.1.subject
+          ∙ ap (λ (k : ClockRow). view_of after_it
+          (record {
+            subject = Number c.tn.number;
+            version =
+                version_of k.next_id [] k.present.windows m;
+          })) same_clock
+          ∙ ap (λ x. view_of after_it (record { subject = Number c.tn.number; version = x }))
+          version),
+      first-stands st old new caller c next stands due none lacking next_now change,
+      first-leaves st old new caller c next stands due none lacking next_now change,
+    )
+      where
+        after_it : State
+        after_it = accepted st (Requests caller (Commands (command_of c)))
+
+        due : IsSettled old st (Number c.tn.number)
+        due = create_settled old st caller c settled (Number c.tn.number)
+            (number_of_number st c.tn.number)
+
+        same_clock : clock ≡ clock_of st
+        same_clock = clock_is_of old st clock stands.represents has.clock_is
+
+        now : clock.minute ≡ st.now
+        now = ap (λ (k : ClockRow). k.minute) same_clock
+
+        the_id : clock.next_id ≡ next_id st.windows st.history
+        the_id = ap (λ (k : ClockRow). k.next_id) same_clock
+
+        none : refusal st (Requests caller (Commands (command_of c))) ≡ None
+        none = refused_as st old caller c clock held opened block facts has stands settled
+            ∙ sym accepts
+
+        lacking : holds_of (lacks c.creator c.old_provider.number c.new_provider.number)
+            (open_version (Number c.tn.number) (record_now st (Number c.tn.number))) ≡ false
+        lacking = none_answers c facts.opened (open_version (Number c.tn.number)
+            (record_now st (Number c.tn.number)))
+            (facts_are st old caller c clock held opened block facts stands
+            (create_settled old st caller c settled) has.known has.clock_is has.is_held
+            has.is_opened has.is_block has.read).opened first.0
+
+        below : clock.next_id ≤ limit
+        below = subst (λ k. k ≤ limit) (sym the_id) (next_id-below st.windows st.history st.now
+            stands.represents.history)
+
+        next_now : next ≡ record { minute = st.now; next_id = next_id st.windows st.history + 1 }
+        next_now = next_is below ∙ ap (λ (k : ClockRow). let x : ClockMove =
+            record { minute = k.minute; next_id = k.next_id + 1 } in x) same_clock
+
+        made_now : IsMade (set_now st) st.now c m
+        made_now = subst (λ (k : ClockRow). IsMade k.present k.minute c m) same_clock first.1
+
+        version : version_of (next_id st.windows st.history) [] (set_now st).windows m
+            ≡ made_version (set_now st) (next_id st.windows st.history) caller st.now
+            (record_now st (Number c.tn.number)).carriers
+            (donor_of (assigned_block (Commands (command_of c))) st.history)
+            (Commands (command_of c))
+        version = made_now.version (next_id st.windows st.history) caller
+            (record_now st (Number c.tn.number)).carriers
+            (donor_of (assigned_block (Commands (command_of c))) st.history)
+
+        change : IsChanged (putting (next_id st.windows st.history) (Number c.tn.number)
+            (made_version (set_now st) (next_id st.windows st.history) caller st.now
+            (record_now st (Number c.tn.number)).carriers
+            (donor_of (assigned_block (Commands (command_of c))) st.history)
+            (Commands (command_of c))) (Some next)) old new
+        change = subst (λ (x : Version). IsChanged (putting (next_id st.windows st.history)
+            (Number c.tn.number) x (Some next)) old new) version
+            (subst (λ t. IsChanged (putting (next_id st.windows st.history) t
+            (seen_by (set_now st).windows m) (Some next)) old new) first.1.subject
+            (subst (λ (k : ClockRow). IsChanged
+            (putting k.next_id (subject_of m.subject) (seen_by k.present.windows m) (Some next))
+            old new) same_clock changed))

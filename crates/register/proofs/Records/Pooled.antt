@@ -1,0 +1,353 @@
+-- A request that makes versions which begin to send as they are made, and changes none that is
+-- there.
+use Rattle.std.proofs.Common.{◌≡◌, ◌≤◌, ℕ, suc, ◌+◌, Bool, true, false, ◌||◌, List, [], ◌∷◌, ◌++◌, map, length, Option, Some, None, refl, ap, sym, ◌∙◌, subst, arith}
+use Rattle.std.specs.Prelude.{⊤, nat_le, flat_map, is_some, if◌then◌else◌}
+use Rattle.std.specs.List.{list_any}
+use Rattle.std.specs.FinMap.{get, keys}
+use Rattle.std.proofs.lemmas.Bool.Decides.{nat_tests}
+use Rattle.numbers.specs.Subjects.{Subject, subject_eq}
+use Rattle.meaning.specs.Statuses.{Create}
+use Rattle.meaning.specs.Versions.{Version, Record, in_force, is_among, version_with}
+use Rattle.meaning.specs.Changes.{changed_at, sent}
+use Rattle.meaning.specs.Laws.{IsQuiet}
+use Rattle.meaning.specs.Content.{BlockRow, BroadcastKey, BroadcastRow, Content, SameRows, Shows, VersionRow, WaitKey, stored_block}
+use Rattle.meaning.specs.History.{HasValues, Request, assigned_block, carrier_added, carrier_named, carriers, code_holder, code_named, done_to, donor_of, effect, after, meaning, id_among, lrn_named, lrn_owner, made_by, made_version, makes, next_after, next_id, or_else, with_made, windows_named}
+use Rattle.meaning.specs.Machine.{IsHistory, accepted}
+use Rattle.meaning.specs.Reading.{State, record_now, set_now}
+use Rattle.meaning.specs.Refusals.{Requests, refusal}
+use Rattle.meaning.proofs.Entered.{given_now, judged-now, subject_eq-refl}
+use Rattle.meaning.proofs.Ids.{fresh}
+use Rattle.meaning.proofs.Lists.{everywhere}
+use Rattle.meaning.proofs.Minutes.{changed_at-same}
+use Rattle.meaning.proofs.Settling.{newborn}
+use Rattle.numbers.proofs.Small.{or_first, or_second, or_right}
+use Rattle.settle.specs.Changes.{IsChanged, wait_put, ClockMove}
+use Rattle.settle.specs.Sending.{Begun, begun_version, begun_broadcast, begun_waits, sending_each}
+use Rattle.settle.specs.Settling.{IsSettled}
+use Rattle.settle.proofs.AsideMany.{AreAmong, ArePutsAmong, among_lagging}
+use Rattle.settle.proofs.Applied.{Puts, same_shows, sent_in_turn, sent_puts}
+use Rattle.register.specs.Answers.{Stands}
+use Rattle.register.specs.Pooling.{pooling}
+use Rattle.register.specs.Settling.{LeavesOthers, settles}
+use Rattle.register.proofs.OnVersions.FirstCreate.{none_with_id}
+use Rattle.register.proofs.Records.MadeSent.{AreApart, AreBegun, each_shown}
+use Rattle.register.proofs.Records.Sent.{carriers_agree}
+use Rattle.register.proofs.Records.Touched.{RegistryShows, clock-moves, clock-written, touched-leaves, touched-stands}
+use Rattle.register.proofs.EveryCall.HeldSets.{windows-now}
+
+-- the request makes versions of these subjects, `blank` before they are sent, and nothing else but
+-- a block's row
+pub record MakesSent (st : State) (caller : ℕ) (request : Request) (news : List Subject) (blank : ℕ
+    → Version) : Type 0 where
+  pub carrier : carrier_named request ≡ None
+  pub lrn : (k : ℕ) → lrn_named k caller request ≡ None
+  pub code : (k : ℕ) → code_named k request ≡ None
+  pub lines : HasValues request
+  pub unset : windows_named request ≡ None
+  pub makes : makes request (record_now st) ≡ news
+  pub does : (s : Subject) (everyone : List ℕ) (v : Version)
+      → done_to (set_now st) s caller st.now everyone request v ≡ v
+  pub made : (id : ℕ) (everyone : List ℕ) → made_version (set_now st) id caller st.now everyone
+      (donor_of (assigned_block request) st.history) request ≡ sent (set_now st) Create everyone
+      st.now (blank id)
+  pub is_id : (id : ℕ) → (blank id).id ≡ id
+  pub unsent : (id : ℕ) → (blank id).broadcasts ≡ []
+  pub quiet_before : (id : ℕ) → in_force (blank id) ≡ false
+
+more : (xs ys : List Subject) → length (xs ++ ys) ≡ length xs + length ys
+more [] ys = omega arith
+more (x ∷ xs) ys = let later : length (xs ++ ys) ≡ length xs + length ys = more xs ys in omega arith
+
+-- each of them is of a subject that is touched
+abbrev AllTouched : (Subject → Bool) → List Begun → Type 0
+AllTouched touched [] = ⊤
+AllTouched touched (b ∷ bs) = (touched b.subject ≡ true) × AllTouched touched bs
+
+all_within : (whole rest : List Begun)
+    → ((t : Subject) → list_any (subject_eq t) (map (λ (b : Begun). b.subject) rest) ≡ true
+    → list_any (subject_eq t) (map (λ (b : Begun). b.subject) whole) ≡ true) →
+    AllTouched (λ t. list_any (subject_eq t) (map (λ (b : Begun). b.subject) whole)) rest
+all_within whole [] within = tt
+all_within whole (b ∷ bs) within = (
+  within b.subject
+      (ap (λ x. x || list_any (subject_eq b.subject) (map (λ (y : Begun). y.subject) bs))
+      (subject_eq-refl b.subject)),
+  all_within whole bs
+      (λ t there. within t (or_right (subject_eq t b.subject)
+      (list_any (subject_eq t) (map (λ (y : Begun). y.subject) bs)) there)),
+)
+
+all_named : (bs : List Begun) (ss : List Subject) → map (λ (b : Begun). b.subject) bs ≡ ss
+    → AllTouched (λ t. list_any (subject_eq t) ss) bs
+all_named bs ss is =
+    subst (λ xs. AllTouched (λ t. list_any (subject_eq t) xs) bs) is
+    (all_within bs bs (λ t there. there))
+
+at_least : (n k : ℕ) → n ≤ k → nat_le n k ≡ true
+at_least n k above = grind (arith, nat_tests)
+
+puts_joined : {K R : Type 0} (key : K → ℕ) (subject : R → Subject) (mine : ℕ
+    → Bool) (touched : Subject → Bool) (ps qs : List (K × R)) →
+    ArePutsAmong key subject mine touched ps → ArePutsAmong key subject mine touched qs
+    → ArePutsAmong key subject mine touched (ps ++ qs)
+puts_joined key subject mine touched [] qs first second = second
+puts_joined key subject mine touched (p ∷ ps) qs first second = (
+  first.0,
+  first.1,
+  puts_joined key subject mine touched ps qs first.2 second,
+)
+
+module _ (st : State) (caller : ℕ) (request : Request) (news : List Subject) (blank : ℕ
+    → Version) (sends : MakesSent st caller request news blank) where
+  abbrev after_it : State
+  after_it = accepted st (Requests caller request)
+
+  abbrev first : ℕ
+  first = next_id st.windows st.history
+
+  -- the record of each subject has its new version in front, if it has one
+  abbrev record_after : Subject → Record
+  record_after t = record {
+    carriers = (record_now st t).carriers;
+    versions = with_made (id_among t (next_id st.windows st.history) news)
+        (λ id. sent (set_now st) Create (record_now st t).carriers st.now (blank id))
+        (record_now st t).versions;
+  }
+
+  same_made : (cs : List ℕ) (o : Option ℕ) (vs : List Version) →
+      with_made o (λ id. made_version (set_now st) id caller st.now cs
+      (donor_of (assigned_block request) st.history) request) vs ≡ with_made o
+      (λ id. sent (set_now st) Create cs st.now (blank id)) vs
+  same_made cs None vs = refl
+  same_made cs (Some id) vs = ap (λ v. v ∷ vs) (sends.made id cs)
+
+  pub made-records : (t : Subject) → record_now after_it t ≡ record_after t
+  unfolding meaning after effect
+  made-records t =
+      judged-now (set_now after_it) st.now
+      (effect (set_now st) t (id_among t (next_after (made_by st.windows st.history))
+      (makes request (record_now st))) (donor_of (assigned_block request) st.history)
+      (record { minute = st.now; caller = caller; request = request }) (record_now st t))
+      ∙ ap (λ new. effect (set_now st) t (id_among t (next_after (made_by st.windows st.history))
+      new) (donor_of (assigned_block request) st.history) (record {
+        minute = st.now;
+        caller = caller;
+        request = request;
+      }) (record_now st t)) sends.makes
+      ∙ ap (λ o. record {
+        carriers = carrier_added o (record_now st t).carriers;
+        versions = with_made (id_among t (next_after (made_by st.windows st.history)) news)
+            (λ id. made_version (set_now st) id caller st.now (record_now st t).carriers
+            (donor_of (assigned_block request) st.history) request)
+            (changed_at (set_now st) st.now (done_to (set_now st) t caller st.now
+            (record_now st t).carriers request) (record_now st t).versions);
+      }) sends.carrier
+      ∙ ap (λ vs. record {
+        carriers = (record_now st t).carriers;
+        versions = with_made (id_among t (next_after (made_by st.windows st.history)) news)
+            (λ id. made_version (set_now st) id caller st.now (record_now st t).carriers
+            (donor_of (assigned_block request) st.history) request) vs;
+      }) (changed_at-same (set_now st) st.now (done_to (set_now st) t caller st.now
+      (record_now st t).carriers request) (record_now st t).versions
+      (everywhere (sends.does t (record_now st t).carriers) (record_now st t).versions))
+      ∙ ap (λ vs. record { carriers = (record_now st t).carriers; versions = vs })
+      (same_made (record_now st t).carriers (id_among t (next_after (made_by st.windows st.history))
+      news) (record_now st t).versions)
+
+  -- as many ids are given as versions are made
+  pub made-ids : next_id st.windows after_it.history ≡ next_id st.windows st.history + length news
+  unfolding meaning after
+  made-ids =
+      ap (λ new. 1 + length (made_by st.windows st.history ++ new)) sends.makes
+      ∙ (let all : length (made_by st.windows st.history ++ news)
+      ≡ length (made_by st.windows st.history) + length news =
+      more (made_by st.windows st.history) news in omega arith)
+
+  unmade : (t : Subject) (k : ℕ) (ss : List Subject) → list_any (subject_eq t) ss ≡ false
+      → id_among t k ss ≡ None
+  unmade t k [] none = refl
+  unmade t k (s ∷ ss) none =
+      ap (λ b. if b then Some k else id_among t (suc k) ss)
+      (or_first (subject_eq t s) (list_any (subject_eq t) ss) none)
+      ∙ unmade t (suc k) ss (or_second (subject_eq t s) (list_any (subject_eq t) ss) none)
+
+  -- a subject of which none is made keeps its record
+  pub unmade-same : (t : Subject) → list_any (subject_eq t) news ≡ false
+      → record_now after_it t ≡ record_now st t
+  unmade-same t none =
+      made-records t
+      ∙ ap (λ o. record {
+        carriers = (record_now st t).carriers;
+        versions = with_made o (λ id. sent (set_now st) Create (record_now st t).carriers st.now
+            (blank id)) (record_now st t).versions;
+      }) (unmade t first news none)
+
+  -- the new ids are free
+  pub above_free : IsHistory st.windows st.history st.now → (t : Subject) (k : ℕ)
+      → next_id st.windows st.history ≤ k → version_with k (record_now st t) ≡ None
+  above_free history t k above =
+      none_with_id k (record_now st t).versions (fresh (made_by st.windows st.history) t
+      (record_now st t).versions k (given_now st history t) above)
+
+  -- ---- rows
+
+  module _ (old new : Content) (begun : List Begun) (everyone : List ℕ)
+      (block : Option (ℕ × BlockRow)) (clock : ClockMove)
+      (stands : Stands old st) (none : refusal st (Requests caller request) ≡ None)
+      (are : AreBegun (set_now st) st.now everyone blank sends.is_id sends.unsent sends.quiet_before
+      first begun) (apart : AreApart (set_now st) st.now everyone blank sends.is_id sends.unsent
+      sends.quiet_before begun)
+      (subjects : map (λ (b : Begun). b.subject) begun ≡ news) (are_all : everyone
+      ≡ keys old.carriers)
+      (changed : IsChanged (pooling (sending_each st.now Create begun everyone) block clock) old
+      new) where
+    puts : Puts (sending_each st.now Create begun everyone) old new
+    puts = record {
+      versions = changed.versions;
+      broadcasts = changed.broadcasts;
+      waits = changed.waits;
+    }
+
+    -- a subject that was settled is shown as it stands afterwards
+    pub pooled-shows : (t : Subject) → IsSettled old st t → Shows new t (record_now after_it t)
+    pooled-shows t settled =
+        subst (Shows new t) (ap (λ ss. record {
+          carriers = (record_now st t).carriers;
+          versions = with_made (id_among t first ss) (λ id. sent (set_now st) Create
+              (record_now st t).carriers st.now (blank id)) (record_now st t).versions;
+        }) subjects ∙ sym (made-records t))
+        (same_shows (sending_each st.now Create begun everyone) old
+        (sent_in_turn (set_now st) st.now Create everyone begun old) new
+        (sent_puts (set_now st) st.now Create everyone begun old) puts (set_now st) t _
+        (each_shown (set_now st) st.now everyone blank sends.is_id sends.unsent sends.quiet_before
+        begun first old t (record_now st t) are apart (above_free stands.represents.history t)
+        (λ k. carriers_agree old st everyone stands.represents are_all t k) settled.shows))
+
+    -- and nothing of it is over
+    pub pooled-quiet : (t : Subject) → IsSettled old st t
+        → IsQuiet st.now (record_now after_it t).versions
+    pooled-quiet t settled =
+        subst (λ (r : Record). IsQuiet st.now r.versions) (sym (made-records t))
+        (go (id_among t first news))
+      where
+        go : (o : Option ℕ)
+            → IsQuiet st.now (with_made o (λ id. sent (set_now st) Create (record_now st t).carriers
+            st.now (blank id)) (record_now st t).versions)
+        go None = settled.quiet
+        go (Some id) = (
+          newborn (set_now st).windows.broadcast st.now
+              (windows-now old st stands.represents).broadcast,
+          settled.quiet,
+        )
+
+    pub pooled-settled : (t : Subject) → IsSettled old st t → IsSettled new after_it t
+    pooled-settled t settled = record {
+      shows = pooled-shows t settled;
+      quiet = pooled-quiet t settled;
+    }
+
+    -- ---- the rows of all others
+
+    abbrev is_new : Subject → Bool
+    is_new t = list_any (subject_eq t) news
+
+    abbrev mine : ℕ → Bool
+    mine k = nat_le (next_id st.windows st.history) k
+
+    puts_among : {K R : Type 0} (key : K → ℕ) (subject : R → Subject) (row : Begun → K × R)
+        → ((b : Begun) → key (row b).0 ≡ b.id) → ((b : Begun) → subject (row b).1 ≡ b.subject) →
+        (bs : List Begun) (touched : Subject → Bool) → AllTouched touched bs → (from : ℕ)
+        → next_id st.windows st.history ≤ from →
+        AreBegun (set_now st) st.now everyone blank sends.is_id sends.unsent sends.quiet_before from
+        bs → ArePutsAmong key subject mine touched (map row bs)
+    puts_among key subject row its_key its_subject [] touched all from above are_begun = tt
+    puts_among key subject row its_key its_subject (b ∷ bs) touched all from above are_begun = (
+      ap mine (its_key b ∙ are_begun.0) ∙ at_least (next_id st.windows st.history) from above,
+      ap touched (its_subject b) ∙ all.0,
+      puts_among key subject row its_key its_subject bs touched all.1 (suc from) (omega arith)
+          are_begun.2,
+    )
+
+    waits_one : (b : Begun) (touched : Subject → Bool) → touched b.subject ≡ true → mine b.id ≡ true
+        → (cs : List ℕ) →
+        ArePutsAmong (λ (k : WaitKey). k.id) (λ (t : Subject). t) mine touched
+        (map (wait_put st.now b.id b.version.attempt b.subject) cs)
+    waits_one b touched is its [] = tt
+    waits_one b touched is its (c ∷ cs) = (its, is, waits_one b touched is its cs)
+
+    waits_among : (bs : List Begun) (touched : Subject → Bool) → AllTouched touched bs → (from : ℕ)
+        → next_id st.windows st.history ≤ from →
+        AreBegun (set_now st) st.now everyone blank sends.is_id sends.unsent sends.quiet_before from
+        bs →
+        ArePutsAmong (λ (k : WaitKey). k.id) (λ (t : Subject). t) mine touched
+        (flat_map (begun_waits st.now everyone) bs)
+    waits_among [] touched all from above are_begun = tt
+    waits_among (b ∷ bs) touched all from above are_begun =
+        puts_joined (λ (k : WaitKey). k.id) (λ (t : Subject). t) mine touched
+        (begun_waits st.now everyone b) (flat_map (begun_waits st.now everyone) bs)
+        (waits_one b touched all.0 (ap mine are_begun.0 ∙ at_least (next_id st.windows st.history)
+        from above) everyone)
+        (waits_among bs touched all.1 (suc from) (omega arith) are_begun.2)
+
+    are_among : AreAmong mine is_new (pooling (sending_each st.now Create begun everyone) block
+        clock)
+    are_among =
+        let all = all_named begun news subjects in
+        record {
+          versions = puts_among (λ (k : ℕ). k) (λ (v : VersionRow). v.subject) (begun_version)
+              (λ b. refl) (λ b. refl) begun is_new all first (omega arith) are;
+          broadcasts = puts_among (λ (k : BroadcastKey). k.id) (λ (x : BroadcastRow). x.subject)
+              (begun_broadcast st.now Create) (λ b. refl) (λ b. refl) begun is_new all first
+              (omega arith) are;
+          waits = waits_among begun is_new all first (omega arith) are;
+          taken_broadcasts = tt;
+          taken_waits = tt;
+        }
+
+    not_below : (k : ℕ) → nat_le (next_id st.windows st.history) k ≡ true
+        → next_id st.windows st.history ≤ k
+    not_below k is = grind (arith, nat_tests)
+
+    elsewhere : (t : Subject) → is_new t ≡ false → (record_now after_it t ≡ record_now st t)
+        × SameRows t old new
+    elsewhere t other = (
+      unmade-same t other,
+      among_lagging st old new (pooling (sending_each st.now Create begun everyone) block clock)
+          mine is_new are_among changed t (stands.represents.subjects t) other
+          (λ k is. above_free stands.represents.history t k (not_below k is)),
+    )
+
+    -- ---- the state after it
+
+    -- what is left to show: that each subject of which a version is made was settled, the block's
+    -- row, and the clock's
+    module _ (due : (t : Subject) → is_new t ≡ true → IsSettled old st t) (blocks : (k : ℕ)
+        → get new.blocks k ≡ stored_block after_it k)
+        (next_is : clock ≡ record {
+          minute = st.now;
+          next_id = next_id st.windows st.history + length news;
+        }) where
+      registry : RegistryShows new after_it
+      registry = record {
+        clock = clock-moves st caller request sends.unset old new stands clock changed.clock
+            (next_is ∙ ap (λ k. let m : ClockMove = record { minute = st.now; next_id = k } in m)
+            (sym made-ids));
+        written = ap is_some changed.clock ∙ clock-written (Some clock) None old.clock
+            stands.written;
+        carriers = λ k. ap is_some (changed.carriers k) ∙ stands.represents.carriers k
+            ∙ sym (ap (λ o. is_among k (carrier_added o (carriers st.history))) sends.carrier);
+        lrns = λ k. changed.lrns k ∙ stands.represents.lrns k
+            ∙ sym (ap (λ o. or_else o (lrn_owner k st.history)) (sends.lrn k));
+        codes = λ k. changed.codes k ∙ stands.represents.codes k
+            ∙ sym (ap (λ o. or_else o (code_holder k st.history)) (sends.code k));
+        blocks = blocks;
+      }
+
+      pub pooled-stands : Stands new after_it
+      pooled-stands = touched-stands st old new caller request is_new stands none sends.lines
+          sends.unset changed.sets registry elsewhere (λ t is. pooled-settled t (due t is))
+
+      pub pooled-leaves : ((t : Subject) → settles st (Requests caller request) t ≡ false
+          → is_new t ≡ false) → LeavesOthers old new st (Requests caller request)
+      pooled-leaves within = touched-leaves st old new caller request is_new stands none sends.lines
+          sends.unset changed.sets registry elsewhere (λ t is. pooled-settled t (due t is)) within

@@ -1,0 +1,200 @@
+-- A request that touches some subjects: the state after it is represented where their rows show
+-- their records and the rows of all others stay.
+use Rattle.std.proofs.Common.{◌≡◌, ℕ, Bool, true, false, None, refl, sym, subst, arith, Option, Some, ap, ◌∙◌}
+use Rattle.std.specs.Prelude.{is_some, option_map}
+use Rattle.std.specs.FinMap.{get}
+use Rattle.numbers.specs.Subjects.{Subject}
+use Rattle.meaning.specs.Content.{Content, Lags, ClockShows, SameRows, stored_block, ClockRow, stored_set}
+use Rattle.meaning.specs.History.{Request, HasValues, carriers, lrn_owner, code_holder, next_id, windows_named, set_added}
+use Rattle.meaning.specs.Machine.{IsHistory, accepted}
+use Rattle.meaning.specs.Reading.{State, record_now, set_now}
+use Rattle.meaning.specs.Refusals.{Requests, refusal}
+use Rattle.meaning.specs.Versions.{is_among, version_with}
+use Rattle.meaning.proofs.Represented.{same_rows_lag}
+use Rattle.settle.specs.Changes.{Changes, ClockMove, IsChanged, clock_after}
+use Rattle.settle.specs.Settling.{IsSettled}
+use Rattle.settle.proofs.AsideMany.{AreAmong, among_lagging}
+use Rattle.register.specs.Answers.{Stands}
+use Rattle.register.specs.Settling.{LeavesOthers, settles}
+use Rattle.register.proofs.EveryCall.Settled.{due_lags}
+use Rattle.meaning.proofs.SettingWindows.{sets-same}
+use Rattle.meaning.specs.Windows.{WindowSet}
+
+-- the registry's rows and the clock's are those of the state
+pub record RegistryShows (c : Content) (st : State) : Type 0 where
+  pub clock : ClockShows c.clock st
+  pub written : is_some c.clock ≡ true
+  pub carriers : (k : ℕ) → is_some (get c.carriers k) ≡ is_among k (carriers st.history)
+  pub lrns : (k : ℕ) → get c.lrns k ≡ lrn_owner k st.history
+  pub codes : (k : ℕ) → get c.codes k ≡ code_holder k st.history
+  pub blocks : (k : ℕ) → get c.blocks k ≡ stored_block st k
+
+-- where a request sets no windows, the present set stays
+pub present-stays : (st : State) (caller : ℕ) (request : Request) → windows_named request ≡ None
+    → set_now (accepted st (Requests caller request)) ≡ set_now st
+present-stays st caller request unset = ap (λ o. set_added o (set_now st)) unset
+
+-- so where the clock's row is moved alone, to the next id after it, it is the row of the state
+-- after
+pub clock-moves : (st : State) (caller : ℕ) (request : Request) → windows_named request ≡ None →
+    (old new : Content) → Stands old st → (m : ClockMove) → new.clock
+    ≡ clock_after (Some m) None old.clock →
+    m ≡ record {
+      minute = st.now;
+      next_id = next_id st.windows
+          (accepted st (Requests caller request)).history;
+    } →
+    ClockShows new.clock (accepted st (Requests caller request))
+clock-moves st caller request unset old new stands m moved is =
+    go old.clock stands.represents.clock stands.written moved
+  where
+    after_it : State
+    after_it = accepted st (Requests caller request)
+
+    row : ClockMove → WindowSet → ClockRow
+    row k p = record { minute = k.minute; next_id = k.next_id; present = p }
+
+    last : ClockMove
+    last = record {
+      minute = st.now;
+      next_id =
+          next_id st.windows (accepted st (Requests caller request)).history;
+    }
+
+    go : (o : Option ClockRow) → ClockShows o st → is_some o ≡ true → new.clock
+        ≡ clock_after (Some m) None o →
+        ClockShows new.clock (accepted st (Requests caller request))
+    go None shows written e = let never : true ≡ false = sym written in cc
+    go (Some r) shows written e = subst (λ o. ClockShows o after_it) (sym e)
+        (ap (λ k. row k r.present) is
+        ∙ ap (row last) (ap (λ (k : ClockRow). k.present) shows
+        ∙ sym (present-stays st caller request unset)))
+
+-- and where it stays and no id is given
+pub clock-stays : (st : State) (caller : ℕ) (request : Request) → windows_named request ≡ None →
+    next_id st.windows (accepted st (Requests caller request)).history
+    ≡ next_id st.windows st.history →
+    (old new : Content) → Stands old st → new.clock ≡ old.clock →
+    ClockShows new.clock (accepted st (Requests caller request))
+clock-stays st caller request unset ids old new stands same =
+    go old.clock stands.represents.clock stands.written same
+  where
+    after_it : State
+    after_it = accepted st (Requests caller request)
+
+    row : ℕ → WindowSet → ClockRow
+    row k p = record { minute = st.now; next_id = k; present = p }
+
+    go : (o : Option ClockRow) → ClockShows o st → is_some o ≡ true → new.clock ≡ o →
+        ClockShows new.clock (accepted st (Requests caller request))
+    go None shows written e = let never : true ≡ false = sym written in cc
+    go (Some r) shows written e = subst (λ o. ClockShows o after_it) (sym e)
+        (shows ∙ ap (λ k. row k (set_now st)) (sym ids)
+        ∙ ap (row (next_id st.windows (accepted st (Requests caller request)).history))
+        (sym (present-stays st caller request unset)))
+
+-- a clock's row that was written stays so
+pub clock-written : (m : Option ClockMove) (set : Option WindowSet) (o : Option ClockRow) →
+    is_some o ≡ true →
+    is_some (clock_after m set o) ≡ true
+clock-written None None o is = is
+clock-written (Some m) None (Some row) is = refl
+clock-written (Some m) None None is = is
+clock-written None (Some set) (Some row) is = refl
+clock-written None (Some set) None is = is
+clock-written (Some m) (Some set) o is = refl
+
+-- and so do those of every number
+sets-stay : (st : State) (caller : ℕ) (request : Request) → windows_named request ≡ None
+    → (o n : Option ClockRow) → is_some o ≡ true → is_some n ≡ true → (k : ℕ) →
+    stored_set o st k ≡ stored_set n (accepted st (Requests caller request)) k
+sets-stay st caller request unset (Some a) (Some b) was is k =
+    sym (ap (option_map (λ (x : WindowSet). x.windows)) (sets-same st.windows (record {
+      minute = st.now;
+      caller = caller;
+      request = request;
+    }) st.history k unset))
+sets-stay st caller request unset None n was is k = cc
+sets-stay st caller request unset (Some a) None was is k = cc
+
+module _ (st : State) (old new : Content) (caller : ℕ) (request : Request) (touched : Subject
+    → Bool)
+    (stands : Stands old st) (none : refusal st (Requests caller request) ≡ None)
+    (lines : HasValues request)
+    (unset : windows_named request ≡ None) (same_sets : (k : ℕ) → get new.sets k ≡ get old.sets k)
+    (registry : RegistryShows new (accepted st (Requests caller request)))
+    (elsewhere : (t : Subject) → touched t ≡ false
+    → (record_now (accepted st (Requests caller request)) t ≡ record_now st t) × SameRows t old new)
+    (here : (t : Subject) → touched t ≡ true → IsSettled new (accepted st (Requests caller request))
+    t) where
+  abbrev after_it : State
+  after_it = accepted st (Requests caller request)
+
+  pub history_after : IsHistory st.windows after_it.history st.now
+  history_after = (omega arith, lines, none, stands.represents.history)
+
+  lags_at : (t : Subject) (b : Bool) → touched t ≡ b
+      → Lags st.windows (set_now after_it) new st.now t (record_now after_it t)
+  lags_at t false e =
+      subst (λ (p : WindowSet). Lags st.windows p new st.now t (record_now after_it t))
+      (sym (present-stays st caller request unset))
+      (subst (Lags st.windows (set_now st) new st.now t) (sym (elsewhere t e).0)
+      (same_rows_lag st.windows (set_now st) st.now t old new (record_now st t) (elsewhere t e).1
+      (stands.represents.subjects t)))
+  lags_at t true e = due_lags new after_it history_after t (here t e).shows (here t e).quiet
+
+  pub touched-stands : Stands new after_it
+  touched-stands = record {
+    represents = record {
+      windows = stands.represents.windows;
+      early = stands.represents.early;
+      history = history_after;
+      clock = registry.clock;
+      sets = λ k. same_sets k ∙ stands.represents.sets k ∙ sets-stay st caller request unset
+          old.clock new.clock stands.written registry.written k;
+      carriers = registry.carriers;
+      lrns = registry.lrns;
+      codes = registry.codes;
+      blocks = registry.blocks;
+      subjects = λ t. lags_at t (touched t) refl;
+    };
+    written = registry.written;
+  }
+
+  -- where it settles what it touches
+  pub touched-leaves : ((t : Subject) → settles st (Requests caller request) t ≡ false
+      → touched t ≡ false) → LeavesOthers old new st (Requests caller request)
+  touched-leaves within t other = (elsewhere t (within t other)).1
+
+-- ---- many versions in one commit
+
+-- the changes are of the versions with these ids, which are of the subjects that are touched
+module _ (st : State) (old new : Content) (caller : ℕ) (request : Request) (mine : ℕ
+    → Bool) (touched : Subject → Bool) (changes : Changes)
+    (stands : Stands old st) (are : AreAmong mine touched changes) (changed : IsChanged changes old
+    new)
+    (same : (t : Subject) → touched t ≡ false → record_now (accepted st (Requests caller request)) t
+    ≡ record_now st t)
+    (free : (t : Subject) → touched t ≡ false → (k : ℕ) → mine k ≡ true
+    → version_with k (record_now st t) ≡ None) where
+  many_aside : (t : Subject) → touched t ≡ false
+      → (record_now (accepted st (Requests caller request)) t ≡ record_now st t)
+      × SameRows t old new
+  many_aside t apart = (
+    same t apart,
+    among_lagging st old new changes mine touched are changed t (stands.represents.subjects t) apart
+        (free t apart),
+  )
+
+  pub many-stand : refusal st (Requests caller request) ≡ None → HasValues request
+      → windows_named request ≡ None → ((k : ℕ) → get new.sets k ≡ get old.sets k)
+      → RegistryShows new (accepted st (Requests caller request)) →
+      ((t : Subject) → touched t ≡ true → IsSettled new (accepted st (Requests caller request)) t)
+      → Stands new (accepted st (Requests caller request))
+  many-stand none lines unset same_sets registry here =
+      touched-stands st old new caller request touched stands none lines unset same_sets registry
+      many_aside here
+
+  pub many-leave : ((t : Subject) → settles st (Requests caller request) t ≡ false
+      → touched t ≡ false) → LeavesOthers old new st (Requests caller request)
+  many-leave within t other = (many_aside t (within t other)).1

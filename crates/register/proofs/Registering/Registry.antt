@@ -1,0 +1,264 @@
+-- What the registration of a routing number and the opening of a code leave, over contents.
+use Rattle.std.proofs.Common.{◌≡◌, ℕ, ◌+◌, ◌≤◌, Bool, true, false, not, ◌&&◌, ◌||◌, [], ◌∷◌, Option, Some, None, refl, ap, sym, ◌∙◌, subst, arith}
+use Rattle.std.specs.Prelude.{◌==◌, nat_lt, is_some, option_map, if◌then◌else◌}
+use Rattle.std.specs.FinMap.{get}
+use Rattle.std.proofs.lemmas.Bool.Decides.{nat_tests}
+use Rattle.numbers.specs.Subjects.{Subject, Block}
+use Rattle.meaning.specs.Commands.{RegisterRoutingNumber, OpenCode}
+use Rattle.meaning.specs.Conditions.{limit}
+use Rattle.meaning.specs.Versions.{Version, last_version, is_among}
+use Rattle.meaning.specs.History.{Request, Commands, HasValues, next_id, carriers, donor_of, lrn_owner, code_holder, or_else, makes, donor_named, windows_named}
+use Rattle.meaning.specs.Reading.{State, record_now, is_carrier, set_now}
+use Rattle.meaning.specs.Refusals.{Requests, refusal, tests, first_that_holds, npac}
+use Rattle.meaning.specs.Machine.{LrnAdded, CodeOpened, accepted}
+use Rattle.meaning.specs.Content.{Content, VersionRow, BroadcastRow, BlockRow, ClockRow, BroadcastKey, WaitKey, Represents, ClockShows, SameRows, of_subject}
+use Rattle.meaning.specs.Concerns.{concerns}
+use Rattle.meaning.proofs.Entered.{entered-elsewhere, next_id-same, next_id-below}
+use Rattle.settle.specs.Changes.{IsChanged, no_changes}
+use Rattle.register.specs.Answers.{Stands}
+use Rattle.register.specs.Settling.{AnswersSettled}
+use Rattle.register.proofs.Records.Touched.{touched-stands, present-stays}
+use Rattle.register.proofs.EveryCall.Composed.{answers_accepted}
+
+-- ---- an entry that concerns no subject, and rows of the registry alone
+
+module _ (st : State) (old new : Content) (caller : ℕ) (request : Request) (stands : Stands old st)
+    (unmade : makes request (record_now st) ≡ []) (apart : (t : Subject)
+    → concerns request t (record_now st t).versions ≡ false) (lines : HasValues request)
+    (unset : windows_named request ≡ None)
+    (accepts : refusal st (Requests caller request) ≡ None) (begun : st.history ≡ [] → ⊥) where
+  abbrev after_it : State
+  after_it = accepted st (Requests caller request)
+
+  same_record : (t : Subject) → record_now after_it t ≡ record_now st t
+  same_record t = entered-elsewhere st caller request t unmade (apart t)
+
+  module _ (versions : (k : ℕ) → get new.versions k ≡ get old.versions k)
+      (broadcasts : (k : BroadcastKey) → get new.broadcasts k ≡ get old.broadcasts k)
+      (waits : (k : WaitKey) → get new.waits k ≡ get old.waits k) (blocks : (k : ℕ)
+      → get new.blocks k ≡ get old.blocks k) (clock : new.clock ≡ old.clock) (same_sets : (k : ℕ)
+      → get new.sets k ≡ get old.sets k)
+      (no_donor : (b : ℕ) → donor_named b caller request ≡ None)
+      (carriers_are : (k : ℕ)
+      → is_some (get new.carriers k) ≡ is_among k (carriers after_it.history))
+      (lrns_are : (k : ℕ) → get new.lrns k ≡ lrn_owner k after_it.history) (codes_are : (k : ℕ)
+      → get new.codes k ≡ code_holder k after_it.history) where
+    pub same_rows : (t : Subject) → SameRows t old new
+    same_rows t = record {
+      versions = λ k. ap (of_subject t (λ (x : VersionRow). x.subject)) (versions k);
+      broadcasts =
+          λ k a. ap (of_subject t (λ (x : BroadcastRow). x.subject)) (broadcasts (record {
+            id = k;
+            attempt = a;
+          }));
+      waits = λ c m k a. ap (of_subject t (λ u. u)) (waits (record {
+        carrier = c;
+        minute = m;
+        id =
+            k;
+        attempt = a;
+      }));
+    }
+
+    clock_at : (o : Option ClockRow) → ClockShows o st → old.clock ≡ o
+        → ClockShows new.clock after_it
+    clock_at None shows e = absurd (begun shows.0)
+    clock_at (Some row) shows e = subst (λ o. ClockShows o after_it) (sym (clock ∙ e))
+        (shows ∙ ap (λ k. let row : ClockRow = record {
+          minute = st.now;
+          next_id = k;
+          present = set_now st;
+        } in row) (sym (next_id-same st caller request unmade))
+        ∙ ap (λ p. let row : ClockRow = record {
+          minute = st.now;
+          next_id = next_id st.windows after_it.history;
+          present = p;
+        } in row) (sym (present-stays st caller request unset)))
+
+    pub registry_stands : Stands new after_it
+    registry_stands = touched-stands st old new caller request (λ t. false) stands accepts lines
+        unset same_sets (record {
+          clock = clock_at old.clock stands.represents.clock refl;
+          written = ap is_some clock ∙ stands.written;
+          carriers = carriers_are;
+          lrns = lrns_are;
+          codes = codes_are;
+          blocks = λ b. blocks b ∙ stands.represents.blocks b
+              ∙ sym (ap (λ r. option_map (λ donor. let row : BlockRow = record {
+                donor = donor;
+                last = option_map (λ (u : Version). u.id) (last_version r);
+              } in row) (donor_of b st.history)) (same_record (Block b)))
+              ∙ sym (ap (λ o. option_map (λ donor. let row : BlockRow = record {
+                donor = donor;
+                last = option_map (λ (u : Version). u.id)
+                    (last_version (record_now after_it (Block b)));
+              } in row) (or_else o (donor_of b st.history))) (no_donor b));
+        }) (λ t e. (same_record t, same_rows t)) (λ t e. let never : true ≡ false = sym e in cc)
+
+-- the test of ids at the end of the table
+pub ids_left : (st : State) (c : Content) → Represents c st
+    → nat_lt limit (next_id st.windows st.history + 0) ≡ false
+ids_left st c rep =
+    let below : next_id st.windows st.history ≤ limit =
+    next_id-below st.windows st.history st.now rep.history in
+    grind (arith, nat_tests)
+
+-- where a carrier is known, something was done
+pub has_begun : (st : State) (caller : ℕ) → is_carrier st caller ≡ true → st.history ≡ [] → ⊥
+has_begun st caller known h = let no : true ≡ false =
+    sym known ∙ ap (λ l. is_carrier (record st { history = l }) caller) h in cc
+
+-- ---- a routing number
+
+abbrev lrn_table : State → Bool → Option ℕ → Option ℕ
+lrn_table st known owner =
+    first_that_holds ((1, not known && true) ∷ (6, is_some owner)
+    ∷ (28, nat_lt limit (next_id st.windows st.history + 0)) ∷ [])
+
+lrn_tests : (st : State) (caller lrn : ℕ)
+    → refusal st (Requests caller (Commands (RegisterRoutingNumber lrn))) ≡ lrn_table st
+    (is_carrier st caller) (lrn_owner lrn st.history)
+unfolding tests
+lrn_tests st caller lrn = refl
+
+module _ (old : Content) (caller lrn : ℕ) where
+  pub lrn_unknown : is_some (get old.carriers caller) ≡ false → (st : State) → Stands old st
+      → refusal st (Requests caller (Commands (RegisterRoutingNumber lrn))) ≡ Some 1
+  lrn_unknown unknown st stands =
+      lrn_tests st caller lrn ∙ ap (λ b. lrn_table st b (lrn_owner lrn st.history))
+      (sym (stands.represents.carriers caller) ∙ unknown)
+
+  pub lrn_is_taken : is_some (get old.carriers caller) ≡ true → is_some (get old.lrns lrn) ≡ true
+      → (st : State) → Stands old st →
+      refusal st (Requests caller (Commands (RegisterRoutingNumber lrn))) ≡ Some 6
+  lrn_is_taken known taken st stands =
+      lrn_tests st caller lrn ∙ ap (λ b. lrn_table st b (lrn_owner lrn st.history))
+      (sym (stands.represents.carriers caller) ∙ known)
+      ∙ ap (λ b. if b then Some 6 else lrn_table st true None)
+      (ap is_some (sym (stands.represents.lrns lrn)) ∙ taken)
+
+  lrn_accepted : is_some (get old.carriers caller) ≡ true → get old.lrns lrn ≡ None → (st : State)
+      → Stands old st → refusal st (Requests caller (Commands (RegisterRoutingNumber lrn))) ≡ None
+  lrn_accepted known free st stands =
+      lrn_tests st caller lrn ∙ ap (λ b. lrn_table st b (lrn_owner lrn st.history))
+      (sym (stands.represents.carriers caller) ∙ known)
+      ∙ ap (lrn_table st true) (sym (stands.represents.lrns lrn) ∙ free)
+      ∙ ap (λ b. if b then Some 28 else None) (ids_left st old stands.represents)
+
+pub answers_lrn : (old new : Content) (caller lrn : ℕ) → is_some (get old.carriers caller) ≡ true
+    → get old.lrns lrn ≡ None →
+    IsChanged (record no_changes { lrn = Some (lrn, caller) }) old new
+    → AnswersSettled old new (Requests caller (Commands (RegisterRoutingNumber lrn)))
+    (Some (LrnAdded lrn caller))
+answers_lrn old new caller lrn known free changed =
+    answers_accepted old new (Requests caller (Commands (RegisterRoutingNumber lrn)))
+    (LrnAdded lrn caller) (λ st stands settled. (
+      lrn_accepted old caller lrn known free st stands,
+      refl,
+      registry_stands st old new caller (Commands (RegisterRoutingNumber lrn)) stands refl
+          (λ t. refl) tt refl (lrn_accepted old caller lrn known free st stands)
+          (has_begun st caller (sym (stands.represents.carriers caller) ∙ known))
+          changed.versions changed.broadcasts changed.waits changed.blocks changed.clock
+          changed.sets (λ b. refl)
+          (λ k. ap is_some (changed.carriers k) ∙ stands.represents.carriers k)
+          (λ k. changed.lrns k ∙ owner st stands k (lrn == k))
+          (λ k. changed.codes k ∙ stands.represents.codes k),
+      λ t other. same_rows st old new caller (Commands (RegisterRoutingNumber lrn)) stands refl
+          (λ t. refl) tt refl (lrn_accepted old caller lrn known free st stands)
+          (has_begun st caller (sym (stands.represents.carriers caller) ∙ known))
+          changed.versions changed.broadcasts changed.waits changed.blocks changed.clock
+          changed.sets (λ b. refl)
+          (λ k. ap is_some (changed.carriers k) ∙ stands.represents.carriers k)
+          (λ k. changed.lrns k ∙ owner st stands k (lrn == k))
+          (λ k. changed.codes k ∙ stands.represents.codes k) t,
+    ))
+  where
+    owner : (st : State) → Stands old st → (k : ℕ) (b : Bool)
+        → (if b then Some caller else get old.lrns k) ≡ or_else (if b then Some caller
+        else None) (lrn_owner k st.history)
+    owner st stands k true = refl
+    owner st stands k false = stands.represents.lrns k
+
+-- ---- a code
+
+abbrev code_table : State → (known is_admin : Bool) → Option ℕ → Option ℕ
+code_table st known is_admin holder =
+    first_that_holds ((1, (not known || false) || false) ∷ (2, not is_admin) ∷ (5, is_some holder)
+    ∷ (28, nat_lt limit (next_id st.windows st.history + 0)) ∷ [])
+
+code_tests : (st : State) (caller code spid : ℕ) →
+    refusal st (Requests caller (Commands (OpenCode code spid))) ≡ code_table st
+    (is_carrier st spid) (caller == npac) (code_holder code st.history)
+unfolding tests
+code_tests st caller code spid = refl
+
+module _ (old : Content) (caller code spid : ℕ) where
+  pub code_unknown : is_some (get old.carriers spid) ≡ false → (st : State) → Stands old st
+      → refusal st (Requests caller (Commands (OpenCode code spid))) ≡ Some 1
+  code_unknown unknown st stands =
+      code_tests st caller code spid
+      ∙ ap (λ b. code_table st b (caller == npac) (code_holder code st.history))
+      (sym (stands.represents.carriers spid) ∙ unknown)
+
+  by_caller : is_some (get old.carriers spid) ≡ true → (b : Bool) → (caller == npac) ≡ b
+      → (st : State) → Stands old st →
+      refusal st (Requests caller (Commands (OpenCode code spid))) ≡ code_table st true b
+      (code_holder code st.history)
+  by_caller known b is st stands =
+      code_tests st caller code spid
+      ∙ ap (λ c. code_table st c (caller == npac) (code_holder code st.history))
+      (sym (stands.represents.carriers spid) ∙ known)
+      ∙ ap (λ c. code_table st true c (code_holder code st.history)) is
+
+  pub code_not_admin : is_some (get old.carriers spid) ≡ true → (caller == npac) ≡ false
+      → (st : State) → Stands old st → refusal st (Requests caller (Commands (OpenCode code spid)))
+      ≡ Some 2
+  code_not_admin known other st stands = by_caller known false other st stands
+
+  pub code_is_taken : is_some (get old.carriers spid) ≡ true → (caller == npac) ≡ true
+      → is_some (get old.codes code) ≡ true → (st : State) → Stands old st →
+      refusal st (Requests caller (Commands (OpenCode code spid))) ≡ Some 5
+  code_is_taken known admin taken st stands = by_caller known true admin st stands
+      ∙ ap (λ b. if b then Some 5 else code_table st true true None)
+      (ap is_some (sym (stands.represents.codes code)) ∙ taken)
+
+  code_accepted : is_some (get old.carriers spid) ≡ true → (caller == npac) ≡ true
+      → get old.codes code ≡ None → (st : State) → Stands old st →
+      refusal st (Requests caller (Commands (OpenCode code spid))) ≡ None
+  code_accepted known admin free st stands = by_caller known true admin st stands
+      ∙ ap (code_table st true true) (sym (stands.represents.codes code) ∙ free)
+      ∙ ap (λ b. if b then Some 28 else None) (ids_left st old stands.represents)
+
+pub answers_code : (old new : Content) (caller code spid : ℕ)
+    → is_some (get old.carriers spid) ≡ true → (caller == npac) ≡ true → get old.codes code ≡ None →
+    IsChanged (record no_changes { code = Some (code, spid) }) old new
+    → AnswersSettled old new (Requests caller (Commands (OpenCode code spid)))
+    (Some (CodeOpened code spid))
+answers_code old new caller code spid known admin free changed =
+    answers_accepted old new (Requests caller (Commands (OpenCode code spid)))
+    (CodeOpened code spid) (λ st stands settled. (
+      code_accepted old caller code spid known admin free st stands,
+      refl,
+      registry_stands st old new caller (Commands (OpenCode code spid)) stands refl (λ t. refl) tt
+          refl (code_accepted old caller code spid known admin free st stands)
+          (has_begun st spid (sym (stands.represents.carriers spid) ∙ known))
+          changed.versions changed.broadcasts changed.waits changed.blocks changed.clock
+          changed.sets (λ b. refl)
+          (λ k. ap is_some (changed.carriers k) ∙ stands.represents.carriers k)
+          (λ k. changed.lrns k ∙ stands.represents.lrns k)
+          (λ k. changed.codes k ∙ holder st stands k (code == k)),
+      λ t other. same_rows st old new caller (Commands (OpenCode code spid)) stands refl (λ t. refl)
+          tt refl (code_accepted old caller code spid known admin free st stands)
+          (has_begun st spid (sym (stands.represents.carriers spid) ∙ known))
+          changed.versions changed.broadcasts changed.waits changed.blocks changed.clock
+          changed.sets (λ b. refl)
+          (λ k. ap is_some (changed.carriers k) ∙ stands.represents.carriers k)
+          (λ k. changed.lrns k ∙ stands.represents.lrns k)
+          (λ k. changed.codes k ∙ holder st stands k (code == k)) t,
+    ))
+  where
+    holder : (st : State) → Stands old st → (k : ℕ) (b : Bool)
+        → (if b then Some spid else get old.codes k) ≡ or_else (if b then Some spid
+        else None) (code_holder k st.history)
+    holder st stands k true = refl
+    holder st stands k false = stands.represents.codes k
