@@ -107,9 +107,7 @@ Run-then offered from between to st mid end input rest left [] x run cuts stays 
   subst (λ (n : ℕ). Step offered x.tick n to st x.request x.body x.answer end) run.0
       (subst (λ (s : State). Step offered x.tick between to s x.request x.body x.answer end) run.1
       step),
-  refl,
-  refl,
-  refl,
+  (refl, refl, refl),
 )
 Run-then offered from between to st mid end input rest left (y ∷ ys) x run cuts stays step = (
   run.0,

@@ -628,9 +628,7 @@ unasked_carried from to old new caller uri read result body parts back h same sh
     answered_or_short from to st caller uri (told result body) (success (uri_text uri)) new
     (inr (inr (
       sym (h st s).0,
-      read,
-      parts,
-      inl (back, ap (λ (t : List ℕ). success (uri_text t)) (sym parts.same)),
+      (read, parts, inl (back, ap (λ (t : List ℕ). success (uri_text t)) (sym parts.same))),
     )))
     (stays new st caller Knows (h st s).1) (told_or_short result body (uri_text uri) same short)
 

@@ -152,31 +152,70 @@ commands_differ : (st : State) (caller : ℕ) (c : Command) → AllDiffer (comma
 unfolding refusal_text failure_text
 commands_differ st caller c = (
   by_number 1 refl,
-  by_number 2 refl,
-  by_number 3 refl,
-  by_number 4 refl,
-  by_number 5 refl,
-  by_number 6 refl,
-  by_number 7 refl,
-  by_number 8 refl,
-  by_number 9 refl,
-  by_number 10 refl,
-  by_number 11 refl,
-  by_number 12 refl,
-  by_number 13 refl,
-  by_number 14 refl,
-  by_number 15 refl,
-  by_number 16 refl,
-  by_number 17 refl,
-  by_number 18 refl,
-  by_number 19 refl,
-  by_number 20 refl,
-  by_number 21 refl,
-  by_number 22 refl,
-  by_number 23 refl,
-  by_number 24 refl,
-  full,
-  tt,
+  (
+    by_number 2 refl,
+    (
+      by_number 3 refl,
+      (
+        by_number 4 refl,
+        (
+          by_number 5 refl,
+          (
+            by_number 6 refl,
+            (
+              by_number 7 refl,
+              (
+                by_number 8 refl,
+                (
+                  by_number 9 refl,
+                  (
+                    by_number 10 refl,
+                    (
+                      by_number 11 refl,
+                      (
+                        by_number 12 refl,
+                        (
+                          by_number 13 refl,
+                          (
+                            by_number 14 refl,
+                            (
+                              by_number 15 refl,
+                              (
+                                by_number 16 refl,
+                                (
+                                  by_number 17 refl,
+                                  (
+                                    by_number 18 refl,
+                                    (
+                                      by_number 19 refl,
+                                      (
+                                        by_number 20 refl,
+                                        (
+                                          by_number 21 refl,
+                                          (
+                                            by_number 22 refl,
+                                            (by_number 23 refl, (by_number 24 refl, (full, tt))),
+                                          ),
+                                        ),
+                                      ),
+                                    ),
+                                  ),
+                                ),
+                              ),
+                            ),
+                          ),
+                        ),
+                      ),
+                    ),
+                  ),
+                ),
+              ),
+            ),
+          ),
+        ),
+      ),
+    ),
+  ),
 )
 
 acknowledgements_differ : (st : State) (caller id attempt : ℕ)
@@ -184,10 +223,7 @@ acknowledgements_differ : (st : State) (caller id attempt : ℕ)
 unfolding tests refusal_text failure_text
 acknowledgements_differ st caller id attempt = (
   by_number 1 refl,
-  by_number 10 refl,
-  by_number 25 refl,
-  by_number 26 refl,
-  tt,
+  (by_number 10 refl, (by_number 25 refl, (by_number 26 refl, tt))),
 )
 
 moments_differ : (st : State) (minute : ℕ) → AllDiffer (tests st (Moment minute))

@@ -236,7 +236,9 @@ part_audited st carrier o had has in_force waiting findings sent k fault kind ro
     (finds st carrier bytes in_force waiting findings held.0 held.1 held.2 one) in
     inr (
       kind,
-      sent,
-      found,
-      subst (EndsWithin had has audit_header (map finding_line sent)) (sym rows) part,
+      (
+        sent,
+        found,
+        subst (EndsWithin had has audit_header (map finding_line sent)) (sym rows) part,
+      ),
     )) file

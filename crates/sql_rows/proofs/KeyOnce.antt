@@ -44,8 +44,7 @@ broadcasts_once db obeys shaped = λ r s k a b at there is also.
     number_read (column r 2) k.attempt one.attempt in
     broadcast_once db obeys shaped r s at there (agree_from plain (1 ∷ 2 ∷ []) s r (
       (number_read (column s 1) k.id two.id ∙ sym id, ap is_null id),
-      (number_read (column s 2) k.attempt two.attempt ∙ sym attempt, ap is_null attempt),
-      tt,
+      ((number_read (column s 2) k.attempt two.attempt ∙ sym attempt, ap is_null attempt), tt),
     ))
 
 pub waits_once : (db : Trees) → Obeys the_schema db → IsShaped Table (db 10)
@@ -61,10 +60,13 @@ waits_once db obeys shaped = λ r s k a b at there is also.
     number_read (column r 4) k.attempt one.attempt in
     wait_once db obeys shaped r s at there (agree_from plain (1 ∷ 2 ∷ 3 ∷ 4 ∷ []) s r (
       (spid_read (column s 1) k.carrier two.carrier ∙ sym carrier, ap is_null carrier),
-      (minute_read (column s 2) k.minute two.minute ∙ sym minute, ap is_null minute),
-      (number_read (column s 3) k.id two.id ∙ sym id, ap is_null id),
-      (number_read (column s 4) k.attempt two.attempt ∙ sym attempt, ap is_null attempt),
-      tt,
+      (
+        (minute_read (column s 2) k.minute two.minute ∙ sym minute, ap is_null minute),
+        (
+          (number_read (column s 3) k.id two.id ∙ sym id, ap is_null id),
+          ((number_read (column s 4) k.attempt two.attempt ∙ sym attempt, ap is_null attempt), tt),
+        ),
+      ),
     ))
 
 pub carriers_once : (db : Trees) → Obeys the_schema db → IsShaped Table (db 0)

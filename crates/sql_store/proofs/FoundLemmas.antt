@@ -51,26 +51,44 @@ module _ (db : Trees) (none : IsEmpty db) where
   empty_old_shaped : (f : Form) → AreOldShaped f db
   empty_old_shaped First = (
     empty_at 0 (omega arith),
-    empty_at 2 (omega arith),
-    empty_at 3 (omega arith),
-    empty_at 4 (omega arith),
-    empty_at 5 (omega arith),
-    empty_at 8 (omega arith),
-    empty_at 10 (omega arith),
-    empty_at 12 (omega arith),
-    tt,
+    (
+      empty_at 2 (omega arith),
+      (
+        empty_at 3 (omega arith),
+        (
+          empty_at 4 (omega arith),
+          (
+            empty_at 5 (omega arith),
+            (
+              empty_at 8 (omega arith),
+              (empty_at 10 (omega arith), (empty_at 12 (omega arith), tt)),
+            ),
+          ),
+        ),
+      ),
+    ),
   )
   empty_old_shaped Modify = (
     empty_at 0 (omega arith),
-    empty_at 2 (omega arith),
-    empty_at 3 (omega arith),
-    empty_at 4 (omega arith),
-    empty_at 5 (omega arith),
-    empty_at 8 (omega arith),
-    empty_at 10 (omega arith),
-    empty_at 12 (omega arith),
-    empty_at 16 (omega arith),
-    tt,
+    (
+      empty_at 2 (omega arith),
+      (
+        empty_at 3 (omega arith),
+        (
+          empty_at 4 (omega arith),
+          (
+            empty_at 5 (omega arith),
+            (
+              empty_at 8 (omega arith),
+              (
+                empty_at 10 (omega arith),
+                (empty_at 12 (omega arith), (empty_at 16 (omega arith), tt)),
+              ),
+            ),
+          ),
+        ),
+      ),
+    ),
   )
 
 -- the laws of a store hold of what was found in a file

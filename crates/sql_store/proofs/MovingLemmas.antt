@@ -177,14 +177,25 @@ first_of old mid new both = record {
   nexts = both.2.nexts ∙ both.1.blank;
   same = (
     both.2.same.0 ∙ both.1.others.0,
-    both.2.same.1.0 ∙ both.1.others.1.0,
-    both.2.same.1.1.0 ∙ both.1.others.1.1.0,
-    both.2.same.1.1.1.0 ∙ both.1.others.1.1.1.0,
-    both.2.same.1.1.1.1.0 ∙ both.1.others.1.1.1.1.0,
-    both.2.same.1.1.1.1.1.0 ∙ both.1.others.1.1.1.1.1.0,
-    both.2.same.1.1.1.1.1.1.0 ∙ both.1.others.1.1.1.1.1.1.0,
-    both.2.same.1.1.1.1.1.1.1.0 ∙ both.1.others.1.1.1.1.1.1.1.0,
-    tt,
+    (
+      both.2.same.1.0 ∙ both.1.others.1.0,
+      (
+        both.2.same.1.1.0 ∙ both.1.others.1.1.0,
+        (
+          both.2.same.1.1.1.0 ∙ both.1.others.1.1.1.0,
+          (
+            both.2.same.1.1.1.1.0 ∙ both.1.others.1.1.1.1.0,
+            (
+              both.2.same.1.1.1.1.1.0 ∙ both.1.others.1.1.1.1.1.0,
+              (
+                both.2.same.1.1.1.1.1.1.0 ∙ both.1.others.1.1.1.1.1.1.0,
+                (both.2.same.1.1.1.1.1.1.1.0 ∙ both.1.others.1.1.1.1.1.1.1.0, tt),
+              ),
+            ),
+          ),
+        ),
+      ),
+    ),
   );
 }
 
@@ -210,19 +221,35 @@ grown_sets old new it =
           ∙ a.others.1.1.1.1.1.1.1.1.0;
       same = (
         d.0 ∙ c.others.0 ∙ b.others.0 ∙ a.others.0,
-        d.1.0 ∙ c.others.1.0 ∙ b.others.1.0 ∙ a.others.1.0,
-        d.1.1.0 ∙ c.others.1.1.0 ∙ b.others.1.1.0 ∙ a.others.1.1.0,
-        d.1.1.1.0 ∙ c.others.1.1.1.0 ∙ b.others.1.1.1.0 ∙ a.others.1.1.1.0,
-        d.1.1.1.1.0 ∙ c.others.1.1.1.1.0 ∙ b.others.1.1.1.1.0 ∙ a.others.1.1.1.1.0,
-        d.1.1.1.1.1.0 ∙ c.others.1.1.1.1.1.0 ∙ b.others.1.1.1.1.1.0
-            ∙ a.others.1.1.1.1.1.0,
-        d.1.1.1.1.1.1.0 ∙ c.others.1.1.1.1.1.1.0 ∙ b.others.1.1.1.1.1.1.0
-            ∙ a.others.1.1.1.1.1.1.0,
-        d.1.1.1.1.1.1.1.0 ∙ c.others.1.1.1.1.1.1.1.0 ∙ b.others.1.1.1.1.1.1.1.0
-            ∙ a.others.1.1.1.1.1.1.1.0,
-        d.1.1.1.1.1.1.1.1.0 ∙ c.others.1.1.1.1.1.1.1.1.0
-            ∙ b.others.1.1.1.1.1.1.1.1.0 ∙ a.others.1.1.1.1.1.1.1.1.0,
-        tt,
+        (
+          d.1.0 ∙ c.others.1.0 ∙ b.others.1.0 ∙ a.others.1.0,
+          (
+            d.1.1.0 ∙ c.others.1.1.0 ∙ b.others.1.1.0 ∙ a.others.1.1.0,
+            (
+              d.1.1.1.0 ∙ c.others.1.1.1.0 ∙ b.others.1.1.1.0 ∙ a.others.1.1.1.0,
+              (
+                d.1.1.1.1.0 ∙ c.others.1.1.1.1.0 ∙ b.others.1.1.1.1.0 ∙ a.others.1.1.1.1.0,
+                (
+                  d.1.1.1.1.1.0 ∙ c.others.1.1.1.1.1.0 ∙ b.others.1.1.1.1.1.0
+                      ∙ a.others.1.1.1.1.1.0,
+                  (
+                    d.1.1.1.1.1.1.0 ∙ c.others.1.1.1.1.1.1.0 ∙ b.others.1.1.1.1.1.1.0
+                        ∙ a.others.1.1.1.1.1.1.0,
+                    (
+                      d.1.1.1.1.1.1.1.0 ∙ c.others.1.1.1.1.1.1.1.0 ∙ b.others.1.1.1.1.1.1.1.0
+                          ∙ a.others.1.1.1.1.1.1.1.0,
+                      (
+                        d.1.1.1.1.1.1.1.1.0 ∙ c.others.1.1.1.1.1.1.1.1.0
+                            ∙ b.others.1.1.1.1.1.1.1.1.0 ∙ a.others.1.1.1.1.1.1.1.1.0,
+                        tt,
+                      ),
+                    ),
+                  ),
+                ),
+              ),
+            ),
+          ),
+        ),
       );
     }
 

@@ -93,27 +93,51 @@ pub old_shaped_by_laws : (f : Form) (v : View) → IsListed (v.trees catalog_tre
 old_shaped_by_laws First v listed ordered sound = let l =
     (laid_out listed (objects_rise v listed ordered) sound.lists.listed).tables in (
       subst (λ s. IsShaped s (v.trees 0)) l.0 (ordered 0),
-      subst (λ s. IsShaped s (v.trees 2)) l.1.0 (ordered 2),
-      subst (λ s. IsShaped s (v.trees 3)) l.1.1.0 (ordered 3),
-      subst (λ s. IsShaped s (v.trees 4)) l.1.1.1.0 (ordered 4),
-      subst (λ s. IsShaped s (v.trees 5)) l.1.1.1.1.0 (ordered 5),
-      subst (λ s. IsShaped s (v.trees 8)) l.1.1.1.1.1.0 (ordered 8),
-      subst (λ s. IsShaped s (v.trees 10)) l.1.1.1.1.1.1.0 (ordered 10),
-      subst (λ s. IsShaped s (v.trees 12)) l.1.1.1.1.1.1.1.0 (ordered 12),
-      tt,
+      (
+        subst (λ s. IsShaped s (v.trees 2)) l.1.0 (ordered 2),
+        (
+          subst (λ s. IsShaped s (v.trees 3)) l.1.1.0 (ordered 3),
+          (
+            subst (λ s. IsShaped s (v.trees 4)) l.1.1.1.0 (ordered 4),
+            (
+              subst (λ s. IsShaped s (v.trees 5)) l.1.1.1.1.0 (ordered 5),
+              (
+                subst (λ s. IsShaped s (v.trees 8)) l.1.1.1.1.1.0 (ordered 8),
+                (
+                  subst (λ s. IsShaped s (v.trees 10)) l.1.1.1.1.1.1.0 (ordered 10),
+                  (subst (λ s. IsShaped s (v.trees 12)) l.1.1.1.1.1.1.1.0 (ordered 12), tt),
+                ),
+              ),
+            ),
+          ),
+        ),
+      ),
     )
 old_shaped_by_laws Modify v listed ordered sound = let l =
     (laid_out listed (objects_rise v listed ordered) sound.lists.listed).tables in (
       subst (λ s. IsShaped s (v.trees 0)) l.0 (ordered 0),
-      subst (λ s. IsShaped s (v.trees 2)) l.1.0 (ordered 2),
-      subst (λ s. IsShaped s (v.trees 3)) l.1.1.0 (ordered 3),
-      subst (λ s. IsShaped s (v.trees 4)) l.1.1.1.0 (ordered 4),
-      subst (λ s. IsShaped s (v.trees 5)) l.1.1.1.1.0 (ordered 5),
-      subst (λ s. IsShaped s (v.trees 8)) l.1.1.1.1.1.0 (ordered 8),
-      subst (λ s. IsShaped s (v.trees 10)) l.1.1.1.1.1.1.0 (ordered 10),
-      subst (λ s. IsShaped s (v.trees 12)) l.1.1.1.1.1.1.1.0 (ordered 12),
-      subst (λ s. IsShaped s (v.trees 16)) l.1.1.1.1.1.1.1.1.0 (ordered 16),
-      tt,
+      (
+        subst (λ s. IsShaped s (v.trees 2)) l.1.0 (ordered 2),
+        (
+          subst (λ s. IsShaped s (v.trees 3)) l.1.1.0 (ordered 3),
+          (
+            subst (λ s. IsShaped s (v.trees 4)) l.1.1.1.0 (ordered 4),
+            (
+              subst (λ s. IsShaped s (v.trees 5)) l.1.1.1.1.0 (ordered 5),
+              (
+                subst (λ s. IsShaped s (v.trees 8)) l.1.1.1.1.1.0 (ordered 8),
+                (
+                  subst (λ s. IsShaped s (v.trees 10)) l.1.1.1.1.1.1.0 (ordered 10),
+                  (
+                    subst (λ s. IsShaped s (v.trees 12)) l.1.1.1.1.1.1.1.0 (ordered 12),
+                    (subst (λ s. IsShaped s (v.trees 16)) l.1.1.1.1.1.1.1.1.0 (ordered 16), tt),
+                  ),
+                ),
+              ),
+            ),
+          ),
+        ),
+      ),
     )
 
 pub AreOldShaped-prop : (f : Form) (db : Trees) → IsProp (AreOldShaped f db)
