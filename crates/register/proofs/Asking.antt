@@ -1,0 +1,6 @@
+-- Questions, and what is found by a column.
+pub mod Alone
+pub mod Columns
+pub mod IdsFound
+pub mod Questions
+pub mod VersionShown

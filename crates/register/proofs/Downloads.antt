@@ -1,0 +1,8 @@
+-- What waits for a carrier, and its acknowledgements.
+pub mod Acknowledged
+pub mod Answering
+pub mod Awaited
+pub mod Copied
+pub mod Fetched
+pub mod Queued
+pub mod Receipts

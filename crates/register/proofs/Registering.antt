@@ -1,0 +1,8 @@
+-- Carriers, routing numbers, codes, the windows and the clock.
+pub mod ClockMoved
+pub mod Joined
+pub mod JoinedWaits
+pub mod Registered
+pub mod Registry
+pub mod SetsPut
+pub mod Starting
