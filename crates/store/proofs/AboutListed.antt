@@ -153,9 +153,11 @@ module _ (rows : List (RowKeyCode × WaitingCode)) (carrier : Spid) (subject : S
               download_in k,
               ap (λ b. cond b (listed_about rows carrier subject k) None) (within k d here.0 same)
                   ∙ waits k d is same,
-              ap (λ (v : SubjectDownload). v.minute) same,
-              ap (λ (v : SubjectDownload). v.id) same,
-              ap (λ (v : SubjectDownload). v.attempt) same,
+              (
+                ap (λ (v : SubjectDownload). v.minute) same,
+                ap (λ (v : SubjectDownload). v.id) same,
+                ap (λ (v : SubjectDownload). v.attempt) same,
+              ),
             ))
             about.entries q.2 in
             (m.0, contained m.0 found (subst (Among m.0) (sym all) m.1), m.2.0, m.2.1, m.2.2);

@@ -242,9 +242,11 @@ module _ (waits : FinMap wait_cmp Subject) (order : BTreeMap WaitKeyCode (Unit {
             download_told k t.0,
             ap (λ b. cond b (told broadcasts k) None) (within carrier.number lo hi low high k minute
                 id attempt same small.0 small.1 small.2) ∙ t.1,
-            ap (λ (v : WaitKey). v.minute) same,
-            ap (λ (v : WaitKey). v.id) same,
-            ap (λ (v : WaitKey). v.attempt) same,
+            (
+              ap (λ (v : WaitKey). v.minute) same,
+              ap (λ (v : WaitKey). v.id) same,
+              ap (λ (v : WaitKey). v.attempt) same,
+            ),
           ))
           order.entries q.2 in
           (m.0, subst (Among m.0) (sym all) m.1, m.2)

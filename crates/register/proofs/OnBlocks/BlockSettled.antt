@@ -140,9 +140,7 @@ module _ (c : Content) (block : ℕ) (numbers : List NumberInUse) (are : AreInBl
   rest_settled stands (Number n) inside other =
       none-due st c stands.represents (Number n) (
         (None, (λ id row found opens. unlisted (inr (id, row, found, opens))), refl),
-        None,
-        (λ id row found holds. unlisted (inl (id, row, found, holds))),
-        refl,
+        (None, (λ id row found holds. unlisted (inl (id, row, found, holds))), refl),
       )
     where
       unlisted : Holds c (Number n) ⊎ Opens c (Number n) → ⊥

@@ -121,12 +121,14 @@ module _ (st : State) (c : Content) (stands : Stands c st) (settled : (s : Subje
               row.e.version.routing;
         } in x) its ∙ ap (λ o. let x : InForce = record { subject = r.subject; routing = o } in
             x) routed.1,
-        row.id,
-        row_of row.e.subject row.e.version,
-        row_there (set_now st) row.e.subject c (record_now st row.e.subject)
-            (settled row.e.subject).shows row.id row.e.version found,
-        ap (λ b. subject_if b row.e.subject) row.force ∙ ap (λ t. Some t) its,
-        routed.1,
+        (
+          row.id,
+          row_of row.e.subject row.e.version,
+          row_there (set_now st) row.e.subject c (record_now st row.e.subject)
+              (settled row.e.subject).shows row.id row.e.version found,
+          ap (λ b. subject_if b row.e.subject) row.force ∙ ap (λ t. Some t) its,
+          routed.1,
+        ),
       )
 
   module _ (rows : List RoutedRow) (are : AreInForce c rows) where
