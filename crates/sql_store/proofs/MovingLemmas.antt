@@ -25,7 +25,7 @@ use Rattle.sqlite_trees.specs.declared.store.Shape.TheVariants.{Table as AsTable
 use Rattle.meaning.specs.Content.{ClockRow, Content, VersionRow}
 use Rattle.version.specs.Views.{windows_of}
 use Rattle.meaning.specs.Windows.{Windows}
-use Rattle.numbers.proofs.Small.{same_number}
+use Rattle.numbers.proofs.Small.{same_number as itself}
 use Rattle.sql_rows.specs.Clocks.{StoredClock, old_clock_of, with_windows}
 use Rattle.sql_rows.specs.Content.{content_in, old_clock_in, stored_clock, versions_in}
 use Rattle.sql_rows.specs.Former.{content_with, old_clock, old_versions_in}
@@ -982,15 +982,15 @@ are_same v w =
 
 are_itself : (w : Windows) → are_same w w ≡ true
 are_itself w = rw (
-  same_number w.initial_concurrence,
-  same_number w.final_concurrence,
-  same_number w.conflict_restriction,
-  same_number w.conflict_resolution,
-  same_number w.conflict_expiration,
-  same_number w.cancellation_initial,
-  same_number w.cancellation_final,
-  same_number w.pending_retention,
-  same_number w.broadcast,
+  itself w.initial_concurrence,
+  itself w.final_concurrence,
+  itself w.conflict_restriction,
+  itself w.conflict_resolution,
+  itself w.conflict_expiration,
+  itself w.cancellation_initial,
+  itself w.cancellation_final,
+  itself w.pending_retention,
+  itself w.broadcast,
 ) refl
 
 pub same_told : (v w : Windows) (told : Bool) → told ≡ are_same v w → told ≡ false → v ≢ w

@@ -1,12 +1,12 @@
 -- What a donation leaves and answers, over contents.
-use Rattle.std.proofs.Common.{◌≡◌, ℕ, suc, ◌+◌, ◌≤◌, ◌<◌, Bool, true, false, List, [], ◌∷◌, map, length, Some, None, refl, ap, sym, ◌∙◌, subst, inl, inr}
+use Rattle.std.proofs.Common.{◌≡◌, ℕ, suc, ◌+◌, ◌≤◌, ◌<◌, Bool, true, false, List, [], ◌∷◌, ◌++◌, map, length, Some, None, refl, ap, sym, ◌∙◌, subst, inl, inr}
 use Rattle.std.specs.Prelude.{◌==◌, ◌≢◌, nat_lt, filter, is_none, Result, Err, if◌then◌else◌}
 use Rattle.std.specs.List.{list_any}
 use Rattle.std.specs.FinMap.{get, keys}
 use Rattle.numbers.specs.Digits.{block_of, number_in}
 use Rattle.numbers.specs.Subjects.{Subject, Number, Block, subject_eq}
 use Rattle.meaning.specs.declared.refusal.Refusal.{Refusal}
-use Rattle.meaning.specs.declared.refusal.Refusal.TheVariants.{NoMemory}
+use Rattle.meaning.specs.declared.refusal.Refusal.TheVariants.{NoMemory, Storage}
 use Rattle.meaning.specs.Statuses.{Create}
 use Rattle.meaning.specs.Conditions.{limit}
 use Rattle.meaning.specs.Content.{ClockRow, Content, stored_block}
@@ -25,7 +25,7 @@ use Rattle.settle.specs.Changes.{ClockMove, IsChanged}
 use Rattle.settle.specs.Sending.{Begun, begun_of, sending_each}
 use Rattle.pool.specs.declared.donation.Donation.{Donation}
 use Rattle.pool.specs.declared.facts.BlockFacts.{BlockFacts}
-use Rattle.pool.specs.Donations.{AreProtective, IsPlanned, command_of as donated, donation_refusal, lines_of, made_numbers, used_by}
+use Rattle.pool.specs.Donations.{AreProtective, IsPlanned, block_tests, command_of as donated, donation_refusal, donor_tests, lines_of, made_numbers, used_by}
 use Rattle.pool.specs.Facts.{in_force_numbers}
 use Rattle.pool.proofs.BlockRefused.{are_lines, donation_makes, donation_refused, rising-lines}
 use Rattle.calls.specs.Calls.{replied}
@@ -38,10 +38,20 @@ use Rattle.register.proofs.OnBlocks.BlockCommands.{donated_row, donation-blocks,
 use Rattle.register.proofs.OnBlocks.BlockFacts.{block_facts_are, facts_numbers_are}
 use Rattle.register.proofs.OnBlocks.BlockNumbers.{in_this_block}
 use Rattle.register.proofs.EveryCall.Composed.{answers_accepted}
+use Rattle.register.proofs.EveryCall.Unfailing.{never_storage}
 use Rattle.register.proofs.OnVersions.OnVersion.{clock_is_of, clock_of}
 use Rattle.register.proofs.OnBlocks.Planned.{Once, cic_of, once-apart, planned-begun, planned-subjects, used_once}
 use Rattle.register.proofs.Records.Pooled.{pooled-leaves, pooled-stands}
 use Rattle.meaning.specs.Windows.{WindowSet}
+
+-- a donation is not refused with storage
+pub donation_never : (caller : ℕ) (d : Donation) (facts : BlockFacts) (r : Refusal)
+    → (r ≢ NoMemory → donation_refusal caller d facts ≡ Some (number_of r)) → r ≡ Storage → ⊥
+donation_never caller d facts r says storage =
+    never_storage (donor_tests caller facts ++ block_tests (used_by d) facts)
+    (refl, (refl, (refl, (refl, (refl, (refl, (refl, tt)))))))
+    (says (λ none. let clash : Storage ≡ NoMemory = sym storage ∙ none in cc)
+    ∙ ap (λ x. Some (number_of x)) storage)
 
 -- ---- the used numbers are of the block
 

@@ -1,5 +1,5 @@
 use Rattle.std.proofs.Common.{rules, ◌≡◌, ◌+◌, ◌≤◌, map, length, ap, refl, ◌∙◌, subst}
-use Rattle.std.specs.Prelude.{option_map}
+use Rattle.std.specs.Prelude.{Err, option_map}
 use Rattle.std.specs.FinMap.{get, keys}
 use Rattle.numbers.specs.declared.cic.Cic.{Cic}
 use Rattle.meaning.specs.Statuses.{Create}
@@ -15,7 +15,9 @@ use Rattle.register.specs.Pooling.{pooling}
 use Rattle.register.proofs.OnBlocks.BlockCalled.{answers_unfound, donor_unknown, has_found}
 use Rattle.register.proofs.OnBlocks.BlockCommands.{donated_row}
 use Rattle.register.proofs.EveryCall.Deciding.{decides_fault, decides_replied}
-use Rattle.register.proofs.OnBlocks.Donated.{answers_donated, answers_donation_refused}
+use Rattle.register.proofs.OnBlocks.Donated.{answers_donated, answers_donation_refused, donation_never}
+use Rattle.settle.proofs.Faults.{same_refusal}
+use Rattle.settle.proofs.ReadOn.{reads_fault, reads_on, reads_refused}
 use Rattle.register.proofs.pooling.donate.Goals as goal
 
 pub returns-in_err-found-clause-decides : goal.returns-in_err-found-clause-decides
@@ -101,3 +103,18 @@ returns-in_err-put_made-clause-decides g c = λ usable. decides_fault _ _ _
 pub returns-in_err-is_lrn_good-clause-decides : goal.returns-in_err-is_lrn_good-clause-decides
 returns-in_err-is_lrn_good-clause-decides g c = λ usable. decides_fault _ _ _
     c.from_residual-in_err-is_lrn_good.result c.in_err-is_lrn_good.field-0.0 (search rules)
+
+pub returns-in_err-is_lrn_good-clause-reads : goal.returns-in_err-is_lrn_good-clause-reads
+returns-in_err-is_lrn_good-clause-reads g c =
+    reads_fault (reads_on c.in_ok-is_known.ensures.reads tt c.in_ok-found.ensures.reads tt) tt
+    c.in_err-is_lrn_good.ensures.reads c.from_residual-in_err-is_lrn_good.result
+    c.in_err-is_lrn_good.field-0.0 (search rules) (ap Err)
+
+pub returns-in_err-plan-clause-reads : goal.returns-in_err-plan-clause-reads
+returns-in_err-plan-clause-reads g c =
+    reads_refused (reads_on (reads_on c.in_ok-is_known.ensures.reads tt c.in_ok-found.ensures.reads
+    tt) tt c.in_ok-is_lrn_good.ensures.reads tt)
+    (λ says. donation_never c.args.caller.number c.args.donation.now c.facts-facts.result
+    c.in_err-plan.field-0.0 c.in_err-plan.ensures.refused
+    (same_refusal c.in_err-plan.field-0.0 c.from_residual-in_err-plan.result
+    (search rules) says.says))
