@@ -205,10 +205,11 @@ const ACTIVATED_AGAIN: Said<'static> = ("AAAA", "/subscriptionVersionActivate", 
 
 const LATE: Said<'static> = ("BBBB", "/downloads/acknowledge", r#"{"attempt":2,"id":1}"#);
 
+// The windows that the register was opened with, as it is opened with them again.
 const NINE: Said<'static> = (
     "NPAC",
     "/windows",
-    r#"{"broadcast":30,"cancellation_final":60,"cancellation_initial":60,"conflict_expiration":1000,"conflict_resolution":120,"conflict_restriction":30,"final_concurrence":10,"initial_concurrence":10,"pending_retention":500}"#,
+    r#"{"broadcast":15,"cancellation_final":60,"cancellation_initial":60,"conflict_expiration":1000,"conflict_resolution":120,"conflict_restriction":30,"final_concurrence":60,"initial_concurrence":60,"pending_retention":500}"#,
 );
 
 /// A number in force with a carrier code, which is being taken from it, and a block of which three
@@ -375,8 +376,8 @@ pub static LATE_ACKNOWLEDGEMENT: Trial<'static> = Trial {
     again: LATE,
 };
 
-/// The windows are set anew. Set once more they would be a further set, so that a version is asked
-/// for in its place.
+/// The windows are set anew, which makes a further set of the same ones. Set once more they would be
+/// a third, so that a version is asked for in its place.
 pub static NEW_WINDOWS: Trial<'static> = Trial {
     stories: &[OPENING, CREATED],
     steps: &[],
