@@ -7,7 +7,9 @@ those that were not, until a check refuses none of them: what is left then is pr
 
 What became of an edit as it has to is written into the file tests/refused, with a checksum of all that it stands on: the edit, the
 sources, definitions and proofs of its crate and of those below. With --changed only those are tried that stand there with no such
-checksum, so that the gate pays for what changed alone.
+checksum, so that the gate pays for what changed alone. The file tests/untried names those that were refused when they were last tried,
+and wait to be tried over the sources as they are: with --changed they are passed over and counted. One that does as it has to is taken
+out of that file.
 
 An edit is a file crates/NAME/wrong-bodies/*.edit, of the form of must-fail edits: a line 'file: src/lib.rt', then pairs of lines
 'old: TEXT' and 'new: TEXT', each TEXT once in that file, all in one function. An edit whose name begins with 'harmless' changes no
@@ -29,6 +31,7 @@ SOURCES = ("src", "specs", "proofs")
 PARTS = (*SOURCES, "out")
 LANES = 2
 RECORD = "tests/refused"
+WAITING = "tests/untried"
 NOTING = threading.Lock()
 
 
@@ -151,6 +154,14 @@ def read_record():
         return dict(line.split() for line in file)
 
 
+def read_waiting():
+    """The edits that wait to be tried over the sources as they are."""
+    if not os.path.isfile(WAITING):
+        return set()
+    with open(WAITING, encoding="utf-8") as file:
+        return set(file.read().split())
+
+
 def note(crate, sums):
     """Puts the edits of the crate that did as they have to into the record, and takes out those that are no more."""
     kept = {name: it for name, it in read_record().items() if name.partition("/")[0] != crate or os.path.isfile(
@@ -158,6 +169,13 @@ def note(crate, sums):
     kept |= {f"{crate}/{name}": it for name, it in sums.items()}
     with open(RECORD, "w", encoding="utf-8") as file:
         file.writelines(f"{name} {it}\n" for name, it in sorted(kept.items()))
+    waiting = read_waiting()
+    if left := waiting - {f"{crate}/{name}" for name in sums}:
+        if left != waiting:
+            with open(WAITING, "w", encoding="utf-8") as file:
+                file.writelines(f"{name}\n" for name in sorted(left))
+    elif waiting:
+        os.remove(WAITING)
 
 
 # ---- checks
@@ -309,6 +327,11 @@ def main():
     tried = {it: edits_of(it) for it in names}
     if only_changed:
         tried = {it: unnoted(it, all_below(crates, it), edits) for it, edits in tried.items()}
+        waiting = read_waiting()
+        passed = sum(f"{it}/{edit.name}" in waiting for it, edits in tried.items() for edit in edits)
+        tried = {it: [edit for edit in edits if f"{it}/{edit.name}" not in waiting] for it, edits in tried.items()}
+        if passed:
+            print(f"{passed} wrong bodies were not tried since what they stand on changed (tests/untried)", flush=True)
     left = sum(map(len, tried.values()))
     print(f"{left} wrong bodies to try" + (", the others were seen refused as they stand" if only_changed else ""), flush=True)
     sys.exit(0 if in_lanes(tasks_of(crates, {it: edits for it, edits in tried.items() if edits})) else 1)
