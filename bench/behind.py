@@ -1,75 +1,52 @@
-"""Acknowledgements that are refused, since an earlier download of the same number waits, behind N downloads of other numbers."""
-import os
-import subprocess
-import sys
-import tempfile
+"""Refusals a second of an acknowledgement that comes too early, behind N downloads of other numbers, and 100 N.
 
-from measure import rested
-from ports import CARRIERS, PROGRAM, WINDOWS, message, opening, port
+    bench/run behind [N]      (1000 where it is left out; needs the built program)
+
+A carrier of ten, for which a delete and then a create of one number wait and N downloads of other numbers, acknowledges
+the create again and again, which is refused. Seconds of the processor are counted. The best of three runs each.
+"""
+from lib.measure import best, counts, folder
+from lib.messages import acknowledgement, clock, count_of, on_version
+from lib.numbers import CARRIERS, opening, port
+from lib.program import Fed
+from lib.report import of_processor, print_growth
 
 CALLER = CARRIERS[3]
-TRIES = 20000
+TRIES = 20_000
 # the broadcast window of the examples
 CLOSED = 15
 
 
-def acknowledge(carrier, version, attempt):
-    return message(carrier, "/downloads/acknowledge", f'{{"attempt":{attempt},"id":{version}}}')
-
-
 def sent_later(place, version):
     """A port up to its activation, in the minute in which the first window has ended."""
-    for text, _ in zip(port(place), range(2)):
-        body = text.split("\r\n\r\n")[1].replace('"due":0', f'"due":{CLOSED}')
-        path = text.split()[1]
-        caller = text.split("x-spid: ")[1][:4]
-        yield message(caller, path, body)
-    new = next(port(place)).split("x-spid: ")[1][:4]
-    yield message(new, "/subscriptionVersionActivate", f'{{"id":{version}}}')
+    return port(place)._replace(version=version).sent(CLOSED)
 
 
 def twice():
     """The first number is ported, disconnected, and ported again: of it a delete and a create wait for the caller."""
-    yield from port(0)
-    new = next(port(0)).split("x-spid: ")[1][:4]
-    yield message(new, "/subscriptionVersionDisconnect", '{"id":1}')
-    for carrier in CARRIERS:
-        if carrier != CALLER:
-            yield acknowledge(carrier, 1, 2)
-    yield message("NPAC", "/clock", f'{{"minute":{CLOSED}}}')
+    first = port(0)
+    yield from first.whole()
+    yield on_version(first.new, "Disconnect", 1)
+    yield from first.acknowledged([carrier for carrier in CARRIERS if carrier != CALLER], attempt=2)
+    yield clock(CLOSED)
     yield from sent_later(0, 2)
 
 
 def refusing_time(count, answers):
-    with open(answers, "wb") as out:
-        program = subprocess.Popen([PROGRAM, "feed", "--windows", WINDOWS], stdin=subprocess.PIPE, stdout=out)
-
-        def feed(texts):
-            program.stdin.write("".join(texts).encode())
-            program.stdin.flush()
-            return rested(program)
-
-        feed(opening())
-        feed(twice())
-        before = feed(text for place in range(1, count + 1) for text in sent_later(place, place + 2))
-        taken = feed(acknowledge(CALLER, 2, 1) for _ in range(TRIES)) - before
-        program.stdin.close()
-        assert program.wait() == 0
-    with open(answers, "rb") as out:
-        text = out.read()
-    assert text.count(b'{"error"') == text.count(b'{"error":"out_of_order"') == TRIES, text[-400:]
+    with Fed(answers) as fed:
+        fed.feed(opening())
+        fed.feed(twice())
+        fed.feed(text for place in range(1, count + 1) for text in sent_later(place, place + 2))
+        taken = fed.feed([acknowledgement(CALLER, 2)] * TRIES)
+    assert count_of(answers, b'{"error"') == count_of(answers, b'{"error":"out_of_order"') == TRIES
     return taken
 
 
-def main():
-    least = int(sys.argv[1])
-    rates = []
-    with tempfile.TemporaryDirectory() as folder:
+def main(words):
+    (least,) = counts(words, 1_000)
+    times = []
+    with folder() as held:
         for count in (least, 100 * least):
-            taken = min(refusing_time(count, os.path.join(folder, "answers")) for _ in range(3))
-            rates.append(TRIES / taken)
-            print(f"behind {count} downloads of other numbers: {rates[-1]:,.0f} refusals/s of processor time")
-    print(f"time for each, behind a hundred times as many: {rates[0] / rates[1]:.2f} times")
-
-
-main()
+            times.append(best(3, lambda: refusing_time(count, held / "answers")))
+            print(f"behind {count} downloads of other numbers: {of_processor(TRIES, 'refusals', times[-1])}")
+    print_growth("time for each, behind a hundred times as many", times)

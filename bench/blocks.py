@@ -1,12 +1,17 @@
-"""N blocks from the donation to the holder, and the time and memory that the program takes for them.
+"""Messages a second and peak memory, of N blocks from the donation to the holder, and of 10 N.
 
-Each block takes the next 101 ids: one for each line in use, by rising number, and one for the block itself. Everything comes in
-minute 0, so that no window ends.
+    bench/run blocks [N]      (100 where it is left out; needs the built program)
+
+Each is donated with a hundred lines in use and assigned, every broadcast of it acknowledged by ten carriers, and at
+the end twenty numbers of each are queried. Each answer is compared byte for byte with what the rules say. The best of
+three runs each.
+
+Each block takes the next 101 ids: one for each line in use, by rising number, and one for the block itself. Everything
+comes in minute 0, so that no window ends.
 """
-import sys
-
-from ports import CARRIERS, message
-from told import answer, compare
+from lib.measure import compare, counts
+from lib.messages import acknowledgement, answer, said, text_of
+from lib.numbers import CARRIERS, lrn_of
 
 BLOCKS_OF_A_CODE = 10
 CODES_OF_AN_AREA = 800
@@ -14,12 +19,8 @@ USED = 100
 QUERIED = 10
 
 
-def lrn_of(carrier):
-    return f"20244{CARRIERS.index(carrier)}0000"
-
-
 class Block:
-    """The block at a place: its code, its donor, its holder, and the lines in use, which are all that end with one digit."""
+    """The block at a place: its code, donor and holder, and the lines in use, which are all that end with one digit."""
 
     def __init__(self, place):
         code, self.digit = divmod(place, BLOCKS_OF_A_CODE)
@@ -32,31 +33,28 @@ class Block:
 
     def version(self, version, subject, new, status):
         """What is answered to a call on a version of this block or of a number of it."""
-        return answer(
-            f'{{"attempt":1,"cic":null,"due":0,"id":{version},"lrn":"{lrn_of(new)}","new":"{new}","old":"{self.donor}",'
-            f'"phase":null,"release":null,"since":0,"status":"{status}","subject":"{subject}"}}'
-        )
+        return {
+            "attempt": 1, "cic": None, "due": 0, "id": version, "lrn": lrn_of(new), "new": new, "old": self.donor,
+            "phase": None, "release": None, "since": 0, "status": status, "subject": subject,
+        }
 
     def acknowledged(self, version, subject, new):
         """Every carrier acknowledges, and with the last one the version is active."""
+        told = {it: answer(text_of(self.version(version, subject, new, it))) for it in ("sending", "active")}
         for carrier in CARRIERS:
-            status = "active" if carrier == CARRIERS[-1] else "sending"
-            asked = message(carrier, "/downloads/acknowledge", f'{{"attempt":1,"id":{version}}}')
-            yield asked, self.version(version, subject, new, status)
+            yield acknowledgement(carrier, version), told["active" if carrier == CARRIERS[-1] else "sending"]
 
     def donated(self):
-        ids = range(self.first_id, self.first_id + USED)
-        used = ",".join(f'"{line}"' for line in self.used)
-        body = f'{{"block":"{self.text}","lrn":"{lrn_of(self.donor)}","used":[{used}]}}'
-        told = f'{{"block":"{self.text}","ids":[{",".join(map(str, ids))}]}}'
-        yield message(self.donor, "/blocks/donate", body), answer(told)
+        ids = list(range(self.first_id, self.first_id + USED))
+        body = {"block": self.text, "lrn": lrn_of(self.donor), "used": self.used}
+        yield said(self.donor, "/blocks/donate", body, {"block": self.text, "ids": ids})
         for version, line in zip(ids, self.used):
             yield from self.acknowledged(version, f"{self.text}{line}", self.donor)
 
     def assigned(self):
         version = self.first_id + USED
-        body = f'{{"block":"{self.text}","holder":"{self.holder}","lrn":"{lrn_of(self.holder)}"}}'
-        yield message("NPAC", "/blocks/assign", body), self.version(version, self.text, self.holder, "sending")
+        body = {"block": self.text, "holder": self.holder, "lrn": lrn_of(self.holder)}
+        yield said("NPAC", "/blocks/assign", body, self.version(version, self.text, self.holder, "sending"))
         yield from self.acknowledged(version, self.text, self.holder)
 
     def queried(self):
@@ -64,30 +62,28 @@ class Block:
         for turn in range(QUERIED):
             for digit, provider in ((self.digit, self.donor), ((self.digit + 1) % 10, self.holder)):
                 uri = f"tel:+1{self.text}{100 * turn + digit:03}"
-                told = f'{{"uri":"{uri};npdi;rn=+1{lrn_of(provider)}"}}'
-                yield message(CARRIERS[turn], "/query", f'{{"uri":"{uri}"}}'), answer(told)
+                yield said(CARRIERS[turn], "/query", {"uri": uri}, {"uri": f"{uri};npdi;rn=+1{lrn_of(provider)}"})
 
 
 def opening():
     for carrier in CARRIERS:
-        yield message("NPAC", "/carriers", f'{{"spid":"{carrier}"}}'), answer(f'{{"rows":[],"spid":"{carrier}"}}')
-        body = f'{{"lrn":"{lrn_of(carrier)}"}}'
-        yield message(carrier, "/lrns", body), answer(f'{body[:-1]},"spid":"{carrier}"}}')
+        yield said("NPAC", "/carriers", {"spid": carrier}, {"rows": [], "spid": carrier})
+        yield said(carrier, "/lrns", {"lrn": lrn_of(carrier)}, {"lrn": lrn_of(carrier), "spid": carrier})
 
 
-def asked_and_told(count):
+def rows(count):
     """Each message, and its answer."""
     yield from opening()
     for place in range(count):
         block = Block(place)
         if block.digit == 0:
-            body = f'{{"code":"{block.code}","spid":"{block.donor}"}}'
-            yield message("NPAC", "/codes", body), answer(body)
+            body = {"code": block.code, "spid": block.donor}
+            yield said("NPAC", "/codes", body, body)
         yield from block.donated()
         yield from block.assigned()
     for place in range(count):
         yield from Block(place).queried()
 
 
-if __name__ == "__main__":
-    compare(int(sys.argv[1]), 10, "blocks", asked_and_told)
+def main(words):
+    compare(*counts(words, 100), 10, "blocks", rows)

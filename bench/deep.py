@@ -1,84 +1,46 @@
-"""The stream of N open broadcasts that a newcomer is a recipient of, and what the program takes for it."""
-import os
-import resource
-import subprocess
-import sys
-import tempfile
+"""Messages a second and peak memory, of N/2 and N open broadcasts, under a stack of 1 MiB.
 
-from ports import PROGRAM, WINDOWS, message, opening, port
+    bench/run deep [N]      (100000 where it is left out, 1000000 at most; needs the built program)
+
+N activations that nobody acknowledges, the registration of one more carrier, which so becomes a recipient of N open
+broadcasts in one commit, and its acknowledgement of each. Each answer is looked at. One run each.
+"""
+import resource
+from itertools import repeat
+
+from lib.measure import counts, over_streams
+from lib.messages import acknowledgement, registered, shown, shows
+from lib.numbers import opening, port
+from lib.program import command_line, run
+from lib.report import of_processor, print_growth
 
 STACK = 1024 * 1024
 NEWCOMER = "ZZZZ"
+SENT = shown("pending", "pending", "sending")
 
 
-def activations(count):
-    """The first three messages of each port, its acknowledgements left out, and the status after each."""
+def rows(count):
+    """Each message, and what its answer has to show."""
+    yield from zip(opening(), repeat("{"))
     for place in range(count):
-        create, concurrence, activation = list(port(place))[:3]
-        yield create, "pending"
-        yield concurrence, "pending"
-        yield activation, "sending"
-
-
-def acknowledgements(count):
+        yield from zip(port(place).sent(), SENT)
+    yield registered(NEWCOMER), f'{{"rows":[],"spid":"{NEWCOMER}"}}'
     for version in range(1, count + 1):
-        yield message(NEWCOMER, "/downloads/acknowledge", f'{{"attempt":1,"id":{version}}}'), "sending"
+        yield acknowledgement(NEWCOMER, version), SENT[-1]
 
 
-def write_stream(path, count):
-    """Writes the messages. What each answer's body has to hold, in their order."""
-    wanted = []
-    with open(path, "w", newline="") as stream:
-        for text in opening():
-            stream.write(text)
-            wanted.append(b"{")
-        for text, status in activations(count):
-            stream.write(text)
-            wanted.append(f'"status":"{status}"'.encode())
-        stream.write(message("NPAC", "/carriers", f'{{"spid":"{NEWCOMER}"}}'))
-        wanted.append(f'{{"rows":[],"spid":"{NEWCOMER}"}}'.encode())
-        for text, status in acknowledgements(count):
-            stream.write(text)
-            wanted.append(f'"status":"{status}"'.encode())
-    return wanted
+def under_small_stack(stream, answers):
+    def limit():
+        resource.setrlimit(resource.RLIMIT_STACK, (STACK, STACK))
+
+    return run(command_line("feed"), stream, answers, preexec_fn=limit)
 
 
-def check(path, wanted):
-    """Each message is answered 200, with what its body has to hold."""
-    with open(path, "rb") as file:
-        answers = file.read().split(b"HTTP/1.1 ")[1:]
-    assert len(answers) == len(wanted), (len(answers), len(wanted))
-    for place, (answer, held) in enumerate(zip(answers, wanted)):
-        assert answer.startswith(b"200 OK\r\n") and held in answer, (place, answer, held)
-
-
-def small_stack():
-    resource.setrlimit(resource.RLIMIT_STACK, (STACK, STACK))
-
-
-def run(path, answers):
-    """Seconds of the processor, and the peak memory in kilobytes."""
-    with open(path, "rb") as stream, open(answers, "wb") as written:
-        program = subprocess.Popen([PROGRAM, "feed", "--windows", WINDOWS], stdin=stream, stdout=written, preexec_fn=small_stack)
-        _, status, usage = os.wait4(program.pid, 0)
-    assert status == 0, status
-    return usage.ru_utime + usage.ru_stime, usage.ru_maxrss
-
-
-def main():
-    count = int(sys.argv[1])
+def main(words):
+    (count,) = counts(words, 100_000)
     times = []
-    with tempfile.TemporaryDirectory() as folder:
-        path, answers = os.path.join(folder, "stream"), os.path.join(folder, "answers")
-        for versions in (count // 2, count):
-            wanted = write_stream(path, versions)
-            processor, peak = run(path, answers)
-            check(answers, wanted)
-            times.append(processor)
-            print(f"{versions} open broadcasts, {len(wanted)} messages, a stack of {STACK // 1024} KiB: "
-                  f"{len(wanted) / processor:,.0f} messages/s of processor time, peak {peak / 1024:.1f} MiB")
-    print(f"time for twice as many: {times[1] / times[0]:.2f} times")
-
-
-if __name__ == "__main__":
-    main()
+    for versions, taken, messages in over_streams((count // 2, count), rows, shows, under_small_stack):
+        times.append(taken.processor)
+        print(f"{versions} open broadcasts, {messages} messages, a stack of {STACK // 1024} KiB: "
+              f"{of_processor(messages, 'messages', taken.processor)}, peak {taken.peak:.1f} MiB", flush=True)
+    print_growth("time for twice as many", times)

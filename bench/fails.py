@@ -1,4 +1,11 @@
-"""Each call of a store that fails in turn, and each cut of each message, in all stories."""
+"""That stories are answered as they should be where any call of their store fails, and where a message is cut.
+
+    bench/run fails [NAME ..]      (all stories where none is named; needs the built player of stories:
+                                    cd crates/stories && rt run -- opening)
+
+Each call of a store fails in turn, once and from then on, over memory and over a database, and each message is cut
+after each of its bytes. The gate does the same with some of the calls of a database and some of the stories cut.
+"""
 import re
 import subprocess
 import sys
@@ -6,7 +13,6 @@ import time
 from concurrent.futures import ThreadPoolExecutor
 from pathlib import Path
 
-sys.path.insert(0, "tests")
 import stories
 
 PROGRAM = Path("crates/stories/out/stories").resolve()
@@ -14,7 +20,7 @@ TOLD = re.compile(r"story \S+, (\d+) cuts\nstory \S+, (\d+) calls of memory\nsto
 
 
 def played(name):
-    """How many cuts a story has, and how many calls of memory and of a database; or none, if something is answered otherwise."""
+    """A story's cuts, calls of memory and calls of a database; or none, if something is answered otherwise."""
     ran = subprocess.run([PROGRAM, "--each", name], cwd=stories.CRATE / "data", capture_output=True, check=False)
     heard = ran.stdout.decode(errors="replace")
     wanted = "".join(piece.text for piece in stories.told(name)[1])
@@ -32,8 +38,6 @@ def main(names):
             print(f"{name}: {count[0]} cuts, {count[1]} calls of memory, {count[2]} of a database", flush=True)
             counts.append(count)
     cuts, memory, database = (sum(column) for column in zip(*counts))
-    print(f"{len(names)} stories: {memory} calls of memory and {database} of a database failed in turn, each once and then always")
+    failed = f"{memory} calls of memory and {database} of a database failed in turn, each once and then always"
+    print(f"{len(names)} stories: {failed}")
     print(f"{cuts} cuts; {time.monotonic() - start:.0f} seconds on two processors")
-
-
-main(sys.argv[1:])

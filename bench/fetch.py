@@ -1,83 +1,63 @@
-"""A carrier's queue of N downloads, fetched and acknowledged to its end, and the processor's time that it takes."""
-import os
-import re
-import subprocess
-import sys
-import tempfile
+"""Acknowledgements a second and peak memory, of a queue of N downloads, and of one of 10 N.
 
-from measure import rested
-from ports import CARRIERS, PROGRAM, WINDOWS, message, opening, port
+    bench/run fetch [N [file]]      (10000 where it is left out; needs the built program)
+
+One carrier of ten, for which the downloads wait, fetches a hundred at a time and acknowledges them, to the end. Seconds
+of the processor are counted, the fetches in them. In memory the best of three runs each; with the word `file` the
+register stands in one, and each runs once.
+"""
+import re
+
+from lib.measure import counts, folder
+from lib.messages import acknowledgement, question
+from lib.numbers import CARRIERS, opening, port
+from lib.program import Fed, high_water
+from lib.report import of_processor, print_growth
 
 CALLER = CARRIERS[3]
 AT_ONCE = 100
 
 
-def sent(place):
-    """A port up to its activation: three messages."""
-    for text, _ in zip(port(place), range(3)):
-        yield text
-
-
-def fetch():
-    return f"GET /downloads/{AT_ONCE} HTTP/1.1\r\nx-spid: {CALLER}\r\n\r\n"
-
-
 def to_the_end(count):
     """A hundred fetched and a hundred acknowledged by turns, and a last fetch of nothing."""
+    fetch = question(CALLER, f"/downloads/{AT_ONCE}")
     for first in range(0, count, AT_ONCE):
-        yield fetch()
+        yield fetch
         for version in range(first + 1, min(first + AT_ONCE, count) + 1):
-            yield message(CALLER, "/downloads/acknowledge", f'{{"attempt":1,"id":{version}}}')
-    yield fetch()
+            yield acknowledgement(CALLER, version)
+    yield fetch
 
 
 def check(answers, count):
     """Each fetch has the ids that are next, and the last has none."""
-    with open(answers, "rb") as out:
-        text = out.read()
+    text = answers.read_bytes()
     bodies = re.findall(rb'\{"downloads":\[(.*?)\]\}', text)
     ids = [int(number) for body in bodies for number in re.findall(rb'"id":(\d+)', body)]
     assert ids == list(range(1, count + 1)) and bodies[-1] == b"", (len(ids), bodies[-1][:200])
     assert text.count(b'{"error"') == 0, text[-400:]
 
 
-def peak(process):
-    with open(f"/proc/{process.pid}/status") as status:
-        return int(re.search(r"VmHWM:\s*(\d+)", status.read()).group(1)) / 1024
-
-
-def fetching_time(count, answers, file):
-    with open(answers, "wb") as out:
-        words = [PROGRAM, "feed", "--windows", WINDOWS, *(["--db", file] if file else [])]
-        program = subprocess.Popen(words, stdin=subprocess.PIPE, stdout=out)
-
-        def feed(texts):
-            program.stdin.write("".join(texts).encode())
-            program.stdin.flush()
-            return rested(program)
-
-        feed(opening())
-        before = feed(text for place in range(count) for text in sent(place))
-        taken = feed(to_the_end(count)) - before
-        memory = peak(program)
-        program.stdin.close()
-        assert program.wait() == 0
+def fetching(count, answers, words):
+    """The seconds that all fetches and acknowledgements take, and the peak memory."""
+    with Fed(answers, *words) as fed:
+        fed.feed(opening())
+        fed.feed(text for place in range(count) for text in port(place).sent())
+        taken = fed.feed(to_the_end(count))
+        memory = high_water(fed.process)
     check(answers, count)
     return taken, memory
 
 
-def main():
-    least = int(sys.argv[1])
-    files = sys.argv[2:] == ["file"]
-    rates = []
-    with tempfile.TemporaryDirectory(dir=".") as folder:
+def main(words):
+    in_file = words[1:] == ["file"]
+    (least,) = counts(words[:1] if in_file else words, 10_000)
+    times = []
+    with folder(within=".") as held:
         for count in (least, 10 * least):
-            named = [os.path.join(folder, f"{count}-{turn}.db") if files else None for turn in range(1 if files else 3)]
-            runs = [fetching_time(count, os.path.join(folder, "answers"), file) for file in named]
-            taken = min(run[0] for run in runs)
-            rates.append(count / taken)
-            print(f"{count} downloads: {rates[-1]:,.0f} acknowledgements/s of processor time, {runs[0][1]:.0f} MiB at most")
-    print(f"time for each, with ten times as many: {rates[0] / rates[1]:.2f} times")
-
-
-main()
+            kept = ["--db", held / f"{count}.db"] if in_file else []
+            runs = [fetching(count, held / "answers", kept) for _ in range(1 if in_file else 3)]
+            taken = min(runs)[0]
+            times.append(taken / count)
+            rate = of_processor(count, "acknowledgements", taken)
+            print(f"{count} downloads: {rate}, {runs[0][1]:.0f} MiB at most")
+    print_growth("time for each, with ten times as many", times)

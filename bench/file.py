@@ -1,34 +1,44 @@
-"""A register in a file, beside stock SQLite with the same statements."""
+"""Messages and queries a second of a register in a file, beside stock SQLite, and how long a large file takes to open.
+
+    bench/run file [N [M [V [PROGRAM]]]]      (1000, 10000 and 4000 where they are left out; needs the built program
+                                               and strace)
+
+N ports and then M queries of their numbers are fed to the program over a file, and the same SQL, a transaction for
+each message, is given to stock SQLite (Python's module). With PROGRAM, another one that takes the same words is timed
+beside. Then a file of V versions in force, which stock SQLite wrote, is opened; and the same file made one of the
+first form, which is moved. Seconds on the clock are counted.
+"""
 import hashlib
-import os
 import sqlite3
 import subprocess
-import sys
-import tempfile
-import time
 
-from ports import CARRIERS, PROGRAM, WINDOWS, opening, port
-from queries import number_of, query
+from lib.measure import counts, folder, timed
+from lib.messages import count_of
+from lib.numbers import CARRIERS, opening, port, query
+from lib.program import PROGRAM, command_line, run
 
-VERSION = ("id, subject, old, new, due, lrn, cic, old_at, new_at, status, sends, since, attempt, release, spent, protective, "
-           "cancelled_by, deadline, holds, opens, held")
-BROADCAST = "id, attempt, minute, subject, action, lrn, cic, open, any"
-WAIT = "spid, minute, id, attempt, subject"
+VERSION = ("id, subject, old, new, due, lrn, cic, old_at, new_at, status, sends, since, attempt, release, spent, "
+           "protective, cancelled_by, deadline, holds, opens")
+COLUMNS = {
+    "version2": f"{VERSION}, held", "broadcast": "id, attempt, minute, subject, action, lrn, cic, open, any",
+    "wait": "spid, minute, id, attempt, subject", "clock2": "one, now, next_id, present", "window_set": "*",
+    "carrier": "spid", "lrn": "lrn, spid", "code": "code, spid", "block": "block, donor, last",
+}
+ROUTED = b";npdi;rn=+120244"
 
 
-def insert(table, columns):
+def insert(table):
+    columns = COLUMNS[table]
     return f"INSERT INTO {table} ({columns}) VALUES ({', '.join('?' * len(columns.split(',')))})"
 
 
 def version_row(place, status, sends="none", attempt=0, deadline=None):
     """The row of a port's version: it is in force where it is active, and open before."""
-    code, line = place % 100, place // 100
-    old, new = CARRIERS[code % 10], CARRIERS[(code + 1 + line % 9) % 10]
-    subject = int(number_of(place))
-    nobody = -2 - place
+    it = port(place)
+    subject, nobody = int(it.tn), -2 - place
     kept = (subject, nobody) if status == "active" else (nobody, subject)
-    routing = int(f"20244{CARRIERS.index(new)}0000")
-    return (place + 1, subject, old, new, 0, routing, None, 0, 0, status, sends, 0, attempt, None, 0, 0, None, deadline, *kept, 1)
+    begun = (it.version, subject, it.old, it.new, 0, int(it.lrn), None, 0, 0, status, sends, 0, attempt)
+    return (*begun, None, 0, 0, None, deadline, *kept, 1)
 
 
 class Peer:
@@ -39,8 +49,8 @@ class Peer:
         self.database.execute("PRAGMA journal_mode = WAL")
         self.database.execute("PRAGMA synchronous = FULL")
 
-    def ask(self, text, *values):
-        return self.database.execute(text, values).fetchall()
+    def ask(self, table, which="", *values):
+        return self.database.execute(f"SELECT {COLUMNS[table]} FROM {table} {which}", values).fetchall()
 
     def commit(self, *statements):
         self.database.execute("BEGIN IMMEDIATE")
@@ -50,100 +60,82 @@ class Peer:
 
     def clock(self):
         """What is read of the clock: its row, and the present set of windows."""
-        self.ask("SELECT one, now, next_id, present FROM clock2 WHERE one = ?", 0)
-        self.ask("SELECT * FROM window_set WHERE number = ?", 1)
+        self.ask("clock2", "WHERE one = ?", 0)
+        self.ask("window_set", "WHERE number = ?", 1)
 
     def settle(self):
         self.clock()
-        self.ask(f"SELECT {VERSION} FROM version2 WHERE deadline >= 0 AND deadline <= ? ORDER BY deadline LIMIT 1", 0)
+        self.ask("version2", "WHERE deadline >= 0 AND deadline <= ? ORDER BY deadline LIMIT 1", 0)
 
     def number(self, subject):
         """What is read of a number and its block."""
         for key in ("holds", "opens"):
-            self.ask(f"SELECT {VERSION} FROM version2 WHERE {key} = ?", subject)
-        self.ask("SELECT block, donor, last FROM block WHERE block = ?", subject // 1000)
-        self.ask("SELECT code, spid FROM code WHERE code = ?", subject // 10_000)
+            self.ask("version2", f"WHERE {key} = ?", subject)
+        self.ask("block", "WHERE block = ?", subject // 1000)
+        self.ask("code", "WHERE code = ?", subject // 10_000)
 
     def put_version(self, row):
         taken = [(f"DELETE FROM {table} WHERE id = ?", row[:1]) for table in ("version2", "next_routing")]
-        return [*taken, (insert("version2", VERSION), row)]
+        return [*taken, (insert("version2"), row)]
 
     def create(self, row, is_first):
         self.settle()
         self.clock()
         for carrier in row[2:4]:
-            self.ask("SELECT spid FROM carrier WHERE spid = ?", carrier)
+            self.ask("carrier", "WHERE spid = ?", carrier)
         self.number(row[1])
-        self.ask("SELECT lrn, spid FROM lrn WHERE lrn = ?", row[5])
+        self.ask("lrn", "WHERE lrn = ?", row[5])
         moved = []
         if is_first:
             self.clock()
-            moved = [("DELETE FROM clock2 WHERE one = 0", ()), (insert("clock2", "one, now, next_id, present"), (0, 0, row[0] + 1, 1))]
+            moved = [("DELETE FROM clock2 WHERE one = 0", ()), (insert("clock2"), (0, 0, row[0] + 1, 1))]
         self.commit(*self.put_version(row), *moved)
 
     def activate(self, row):
         self.settle()
-        self.ask(f"SELECT {VERSION} FROM version2 WHERE id = ?", row[0])
+        self.ask("version2", "WHERE id = ?", row[0])
         self.clock()
-        carriers = self.ask("SELECT spid FROM carrier")
         broadcast = (row[0], 1, 0, row[1], "create", row[5], None, 1, 0)
-        waits = [(insert("wait", WAIT), (carrier, 0, row[0], 1, row[1])) for (carrier,) in carriers]
-        self.commit(*self.put_version(row), (insert("broadcast", BROADCAST), broadcast), *waits)
+        waits = [(insert("wait"), (carrier, 0, row[0], 1, row[1])) for (carrier,) in self.ask("carrier")]
+        self.commit(*self.put_version(row), (insert("broadcast"), broadcast), *waits)
 
     def acknowledge(self, carrier, row, is_last):
         self.settle()
-        self.ask("SELECT spid FROM carrier WHERE spid = ?", carrier)
-        self.ask(f"SELECT {VERSION} FROM version2 WHERE id = ?", row[0])
-        self.ask(f"SELECT {BROADCAST} FROM broadcast WHERE id = ? AND attempt = ?", row[0], 1)
-        self.ask(f"SELECT {WAIT} FROM wait WHERE subject = ? AND spid = ?", row[1], carrier)
-        self.ask(f"SELECT {WAIT} FROM wait WHERE id = ? AND attempt = ?", row[0], 1)
-        self.ask("SELECT spid FROM carrier")
+        self.ask("carrier", "WHERE spid = ?", carrier)
+        self.ask("version2", "WHERE id = ?", row[0])
+        self.ask("broadcast", "WHERE id = ? AND attempt = ?", row[0], 1)
+        self.ask("wait", "WHERE subject = ? AND spid = ?", row[1], carrier)
+        self.ask("wait", "WHERE id = ? AND attempt = ?", row[0], 1)
+        self.ask("carrier")
         taken = [
             ("DELETE FROM broadcast WHERE id = ? AND attempt = ?", (row[0], 1)),
             ("DELETE FROM wait WHERE spid = ? AND minute = ? AND id = ? AND attempt = ?", (carrier, 0, row[0], 1)),
         ]
         broadcast = (row[0], 1, 0, row[1], "create", row[5], None, 1, 1)
-        self.commit(*taken, *(self.put_version(row) if is_last else [(insert("broadcast", BROADCAST), broadcast)]))
+        self.commit(*taken, *(self.put_version(row) if is_last else [(insert("broadcast"), broadcast)]))
 
     def port(self, place):
         self.create(version_row(place, "pending", deadline=60), True)
         self.create(version_row(place, "pending", deadline=500), False)
         sending = version_row(place, "sending", "create", 1, 15)
         self.activate(sending)
-        for carrier in CARRIERS:
-            is_last = carrier == CARRIERS[-1]
-            self.acknowledge(carrier, version_row(place, "active", "none", 1) if is_last else sending, is_last)
+        for carrier in CARRIERS[:-1]:
+            self.acknowledge(carrier, sending, False)
+        self.acknowledge(CARRIERS[-1], version_row(place, "active", "none", 1), True)
 
     def query(self, caller, subject):
         self.settle()
-        self.ask("SELECT spid FROM carrier WHERE spid = ?", caller)
+        self.ask("carrier", "WHERE spid = ?", caller)
         self.number(subject)
 
 
-def timed(work):
-    begun = time.monotonic()
-    work()
-    return time.monotonic() - begun
-
-
-def feed(program, file, texts, answers="/dev/null"):
-    """Feeds messages to the program over the file: its peak memory in MiB."""
-    with open(answers, "wb") as out:
-        words = [program, "feed", "--windows", WINDOWS, "--db", file]
-        process = subprocess.Popen(words, stdin=subprocess.PIPE, stdout=out)
-        process.stdin.write("".join(texts).encode())
-        process.stdin.close()
-        _, status, usage = os.wait4(process.pid, 0)
-    assert status == 0, (words, status)
-    return usage.ru_maxrss / 1024
-
-
-def state_of(file):
-    return [(name, os.stat(name).st_mtime_ns, os.stat(name).st_size) for name in (file, file + "-wal") if os.path.exists(name)]
+def feed(file, texts, program=PROGRAM, **more):
+    """Feeds messages to a program over the file, and tells what it took."""
+    return run(command_line("feed", "--db", file, program=program), "".join(texts).encode(), **more)
 
 
 def rows_of(file):
-    """A digest of the rows that a file has, table by table: the rows themselves would count as memory of each program begun from here."""
+    """A digest of the rows that a file has, table by table."""
     database = sqlite3.connect(file)
     tables = [name for name, in database.execute("SELECT name FROM sqlite_schema WHERE type = 'table' ORDER BY name")]
     digest = hashlib.sha256()
@@ -156,56 +148,52 @@ def rows_of(file):
     return digest.hexdigest()
 
 
-def ports_and_queries(programs, folder, ports, many):
+def ports_and_queries(programs, held, ports, many):
     asked = [query(turn, ports) for turn in range(many)]
+    texts = [text for place in range(ports) for text in port(place).whole()]
     for place, program in enumerate(programs):
-        file = os.path.join(folder, f"{place}.db")
-        feed(program, file, opening())
-        texts = [text for number in range(ports) for text in port(number)]
-        taken = timed(lambda: feed(program, file, texts))
-        print(f"{program}: {len(texts) / taken:,.0f} messages a second of ports", end="", flush=True)
-        answers = os.path.join(folder, "answers")
-        taken = timed(lambda: feed(program, file, asked, answers))
-        with open(answers, "rb") as out:
-            assert sum(line.count(b";npdi;rn=+120244") for line in out) == many
-        print(f", {many / taken:,.0f} queries a second", flush=True)
+        file, answers = held / f"{place}.db", held / "answers"
+        feed(file, opening(), program)
+        rate = len(texts) / feed(file, texts, program).wall
+        print(f"{program}: {rate:,.0f} messages a second of ports", end="", flush=True)
+        rate = many / feed(file, asked, program, answers=answers).wall
+        assert count_of(answers, ROUTED) == many
+        print(f", {rate:,.0f} queries a second", flush=True)
 
 
-def peer(folder, ports, many):
+def peer(held, ports, many):
     """The same of stock SQLite, and whether it then has the rows that the program wrote."""
-    file = os.path.join(folder, "peer.db")
-    feed(PROGRAM, file, opening())
+    file = held / "peer.db"
+    feed(file, opening())
     stock = Peer(file)
     taken = timed(lambda: [stock.port(place) for place in range(ports)])
     print(f"stock SQLite: {13 * ports / taken:,.0f} transactions a second of ports", end="", flush=True)
-    taken = timed(lambda: [stock.query(CARRIERS[turn % 10], int(number_of(turn * 7919 % ports))) for turn in range(many)])
+    queried = [(CARRIERS[turn % 10], int(port(turn * 7919 % ports).tn)) for turn in range(many)]
+    taken = timed(lambda: [stock.query(*it) for it in queried])
     stock.database.close()
-    same = "the same rows" if rows_of(file) == rows_of(os.path.join(folder, "0.db")) else "OTHER ROWS"
+    same = "the same rows" if rows_of(file) == rows_of(held / "0.db") else "OTHER ROWS"
     print(f", {many / taken:,.0f} queries a second; {same} as the program's", flush=True)
 
 
-def queries_write_nothing(folder, ports):
-    file = os.path.join(folder, "0.db")
+def queries_write_nothing(held, ports):
+    file, calls = held / "0.db", held / "calls"
     before = rows_of(file)
-    traced = os.path.join(folder, "calls")
-    words = ["strace", "-f", "-e", "trace=pwrite64,fdatasync", "-o", traced, PROGRAM, "feed", "--windows", WINDOWS, "--db", file]
-    counts = []
+    words = ["strace", "-f", "-e", "trace=pwrite64,fdatasync", "-o", calls, *command_line("feed", "--db", file)]
+    found = []
     for many in (1, 1_000):
         texts = "".join(query(turn, ports) for turn in range(many))
         subprocess.run(words, input=texts.encode(), stdout=subprocess.DEVNULL, check=True)
-        with open(traced, encoding="utf-8") as calls:
-            counts.append(sum(1 for call in calls if "(" in call))
+        found.append(sum(1 for call in calls.read_text("utf-8").splitlines() if "(" in call))
     assert rows_of(file) == before
-    print(f"writes and syncs while 1 query is answered, and 1,000: {counts[0]} and {counts[1]}", flush=True)
+    print(f"writes and syncs while 1 query is answered, and 1,000: {found[0]} and {found[1]}", flush=True)
 
 
-def written(folder, name, versions):
+def written(file, versions):
     """A file of so many versions in force, written by stock SQLite."""
-    file = os.path.join(folder, name)
-    feed(PROGRAM, file, opening())
+    feed(file, opening())
     database = sqlite3.connect(file)
     database.execute("PRAGMA journal_mode = WAL")
-    database.executemany(insert("version2", VERSION), (version_row(place, "active", "none", 1) for place in range(versions)))
+    database.executemany(insert("version2"), (version_row(place, "active", "none", 1) for place in range(versions)))
     database.execute("UPDATE clock2 SET next_id = ?", (versions + 1,))
     database.commit()
     database.close()
@@ -213,47 +201,45 @@ def written(folder, name, versions):
 
 
 def one_query(file, versions):
-    """The file opened for one query: the seconds, and the peak memory in MiB."""
-    peak = []
-    taken = timed(lambda: peak.append(feed(PROGRAM, file, [query(1, versions)])))
-    return f"{taken:.1f} s, {peak[0]:,.0f} MiB"
+    """What it takes to open a file for one query."""
+    taken = feed(file, [query(1, versions)])
+    return f"{taken.wall:.1f} s, {taken.peak:,.0f} MiB"
 
 
-def open_large(folder, versions):
-    file = written(folder, "large.db", versions)
-    size = os.path.getsize(file) / 2**20
+def open_large(held, versions):
+    file = written(held / "large.db", versions)
+    size = file.stat().st_size / 2**20
     print(f"a file of {versions:,} versions, {size:,.0f} MiB: opened in {one_query(file, versions)}", flush=True)
 
 
 # What makes a file one of the first form: it knows no modify, and no sets of windows.
 FIRST_FORM = f"""
-    INSERT INTO version SELECT {VERSION.removesuffix(", held")} FROM version2;
-    INSERT INTO clock SELECT one, now, next_id, initial_concurrence, final_concurrence, conflict_restriction, conflict_resolution,
-        conflict_expiration, cancellation_initial, cancellation_final, pending_retention, broadcast FROM clock2, window_set;
+    INSERT INTO version SELECT {VERSION} FROM version2;
+    INSERT INTO clock SELECT one, now, next_id, initial_concurrence, final_concurrence, conflict_restriction,
+        conflict_resolution, conflict_expiration, cancellation_initial, cancellation_final, pending_retention, broadcast
+        FROM clock2, window_set;
     DROP TABLE clock2; DROP TABLE version2; DROP TABLE window_set; DROP TABLE next_routing;
 """
 
 
-def move_large(folder, versions):
+def move_large(held, versions):
     """The same file made one of the first form, which is moved as it is opened, and has the rows then that it had."""
-    file = written(folder, "earlier.db", versions)
+    file = written(held / "earlier.db", versions)
     before = rows_of(file)
     database = sqlite3.connect(file)
     database.executescript(FIRST_FORM)
     database.close()
     moved = one_query(file, versions)
     same = "the rows that it had" if rows_of(file) == before else "OTHER ROWS"
-    print(f"the same file of the first form: moved in {moved}; {same}; opened again in {one_query(file, versions)}", flush=True)
+    again = one_query(file, versions)
+    print(f"the same file of the first form: moved in {moved}; {same}; opened again in {again}", flush=True)
 
 
-def main():
-    ports, many, versions = map(int, sys.argv[1:4])
-    with tempfile.TemporaryDirectory(dir=".") as folder:
-        ports_and_queries([PROGRAM, *sys.argv[4:]], folder, ports, many)
-        peer(folder, ports, many)
-        queries_write_nothing(folder, ports)
-        open_large(folder, versions)
-        move_large(folder, versions)
-
-
-main()
+def main(words):
+    ports, many, versions = counts(words[:3], 1_000, 10_000, 4_000)
+    with folder(within=".") as held:
+        ports_and_queries([PROGRAM, *words[3:]], held, ports, many)
+        peer(held, ports, many)
+        queries_write_nothing(held, ports)
+        open_large(held, versions)
+        move_large(held, versions)

@@ -1,10 +1,19 @@
-"""What each crate takes of the processors while the gate runs, looked up in /proc twice a second."""
+"""What each crate takes of the processors while the gate proves all from nothing.
+
+    bench/run gate [WORDS ..]      (the command that is run: rt ci --anew where it is left out; wants a clean clone)
+
+That is its proof, that of its tests, its must-fail edits, and what else it starts (compilers, tests, programs), looked
+up in /proc twice a second; and how long the whole took, on how many processors, and how much of them other work had.
+What is proved anew is what is counted: some 140 processor minutes on a busy machine.
+"""
 import os
 import re
 import subprocess
 import sys
 import time
 from dataclasses import dataclass
+
+from lib.report import print_head, print_row
 
 TICKS = os.sysconf("SC_CLK_TCK")
 PARTS = ("proof", "tests", "edits", "else")
@@ -20,8 +29,8 @@ class Process:
 
     def crate(self):
         """The crate that it works for: the one that its line names, or in whose folder it runs, else its parent's."""
-        found = re.search(r"--crate-name (\w+)", self.words) or re.search(r"/crates/(\w+)", f"{self.folder} {self.words}")
-        if found:
+        named = re.search(r"--crate-name (\w+)", self.words)
+        if found := named or re.search(r"/crates/(\w+)", f"{self.folder} {self.words}"):
             return found[1]
         return self.parent.crate() if self.parent else "the gate itself"
 
@@ -87,23 +96,19 @@ def table_of(seen):
 
 def show(table, wall, whole):
     ours = sum(sum(row.values()) for row in table.values())
-    print("| Crate | " + " | ".join(PARTS) + " | together |\n|---|" + "---|" * (len(PARTS) + 1))
+    print_head("Crate", *PARTS, "together")
     for crate, row in sorted(table.items(), key=lambda it: -sum(it[1].values())):
         cells = [f"{row[part]:,.0f}" if row[part] >= 0.5 else "" for part in PARTS]
-        print(f"| `{crate}` | " + " | ".join(cells) + f" | {sum(row.values()):,.0f} |")
+        print_row(f"`{crate}`", *cells, f"{sum(row.values()):,.0f}")
     print(f"\n{ours / 60:.1f} processor minutes in {wall / 60:.1f} minutes on {os.cpu_count()} processors;"
           f" other work had {max(whole - ours, 0) / 60:.1f} processor minutes of them meanwhile")
 
 
-def main():
+def main(words):
     began, before = time.monotonic(), busy()
-    gate, seen = subprocess.Popen(sys.argv[1:], stdin=subprocess.DEVNULL), {}
+    gate, seen = subprocess.Popen(words or ["rt", "ci", "--anew"], stdin=subprocess.DEVNULL), {}
     while gate.poll() is None:
         look(gate.pid, seen)
         time.sleep(0.5)
     show(table_of(seen), time.monotonic() - began, busy() - before)
     sys.exit(gate.returncode)
-
-
-if __name__ == "__main__":
-    main()

@@ -1,36 +1,28 @@
-"""N numbers that are ported and routed anew, under windows that are set anew, and the time that the program takes for them.
+"""Messages a second and peak memory, of N ported numbers routed anew while the windows are set anew, and of 4 N.
 
-They come in rounds, at most so many as there can be sets of windows. Each round sets the windows, ports its numbers and modifies
-their routings; then the clock goes to the end of the broadcasts' window, and the numbers are looked at and queried.
+    bench/run modifies [N]      (5000 where it is left out; needs the built program)
+
+A third of the modifies is acknowledged by every carrier, a third by some in time and by the others later, a third by
+nobody. Each answer is compared byte for byte with what the rules say. The best of three runs each.
+
+The numbers come in rounds, at most so many as there can be sets of windows. Each round sets the windows, ports its
+numbers and modifies their routings; then the clock goes to the end of the broadcasts' window, and the numbers are
+looked at and queried.
 """
-import json
-import sys
+from lib.measure import compare, counts
+from lib.messages import acknowledgement, answer, message, question, said, text_of
+from lib.numbers import CARRIERS, lrn_of, port
 
-from blocks import lrn_of
-from ports import CARRIERS, message
-from told import answer, compare
-
+CODES = 200
 MOST_ROUNDS = 900
 MINUTES = {
-    "broadcast": 15, "cancellation_final": 60, "cancellation_initial": 60, "conflict_expiration": 1000, "conflict_resolution": 120,
+    "cancellation_final": 60, "cancellation_initial": 60, "conflict_expiration": 1000, "conflict_resolution": 120,
     "conflict_restriction": 30, "final_concurrence": 60, "initial_concurrence": 60, "pending_retention": 500,
 }
 
 
-def text_of(value):
-    return json.dumps(value, separators=(",", ":"), sort_keys=True)
-
-
-def said(caller, path, body, told):
-    return message(caller, path, text_of(body)), answer(text_of(told))
-
-
-def got(caller, path, told):
-    return f"GET {path} HTTP/1.1\r\nx-spid: {caller}\r\n\r\n", answer(text_of(told))
-
-
 def other_lrn_of(carrier):
-    return f"20244{CARRIERS.index(carrier)}0001"
+    return f"{lrn_of(carrier)[:-1]}1"
 
 
 def opening():
@@ -38,62 +30,60 @@ def opening():
         yield said("NPAC", "/carriers", {"spid": carrier}, {"rows": [], "spid": carrier})
         for lrn in (lrn_of(carrier), other_lrn_of(carrier)):
             yield said(carrier, "/lrns", {"lrn": lrn}, {"lrn": lrn, "spid": carrier})
-    for code in range(200):
+    for code in range(CODES):
         opened = {"code": f"202{200 + code}", "spid": CARRIERS[code % 10]}
         yield said("NPAC", "/codes", opened, opened)
 
 
 class Number:
-    """The number at a place, which is ported at a minute as the next version, and how many acknowledge its modify in time."""
+    """The number at a place, ported at a minute as the next version, and how many acknowledge its modify in time."""
 
     def __init__(self, place, minute):
-        code, line = place % 200, place // 200
-        self.tn = f"202{200 + code}{line:04}"
-        self.old, self.new = CARRIERS[code % 10], CARRIERS[(code + 1 + line % 9) % 10]
+        self.port, self.minute = port(place, CODES), minute
+        self.id, self.other_lrn = self.port.version, other_lrn_of(self.port.new)
         self.version = {
-            "attempt": 0, "cic": None, "due": minute, "id": place + 1, "lrn": lrn_of(self.new), "new": self.new, "old": self.old,
-            "phase": "initial", "release": None, "since": minute, "status": "pending", "subject": self.tn,
+            "attempt": 0, "cic": None, "due": minute, "id": self.id, "lrn": self.port.lrn, "new": self.port.new,
+            "old": self.port.old, "phase": "initial", "release": None, "since": minute, "status": "pending",
+            "subject": self.port.tn,
         }
         self.in_time = (10, 4, 0)[place % 3]
 
-    def now(self, **changes):
+    def told(self, asked, **changes):
+        """A message, and its answer: the version with what the message changes."""
         self.version |= changes
-        return self.version
+        return asked, answer(text_of(self.version))
 
-    def acknowledged(self, attempt, carriers, last):
+    def acknowledged(self, attempt, carriers, **last):
         for carrier in carriers:
-            asked = {"attempt": attempt, "id": self.version["id"]}
-            yield said(carrier, "/downloads/acknowledge", asked, self.now(**last) if carrier == CARRIERS[-1] else self.version)
+            asked = acknowledgement(carrier, self.id, attempt)
+            yield self.told(asked, **last if carrier == CARRIERS[-1] else {})
 
     def ported(self):
-        parties = {"due": self.version["due"], "new": self.new, "old": self.old, "tn": self.tn}
-        create = parties | {"lrn": lrn_of(self.new)}
-        yield said(self.new, "/subscriptionVersionNewSP-Create", create, self.version)
-        yield said(self.old, "/subscriptionVersionOldSP-Create", parties | {"authorized": True}, self.now(phase=None))
-        sent = {"id": self.version["id"]}
-        yield said(self.new, "/subscriptionVersionActivate", sent, self.now(attempt=1, status="sending"))
-        yield from self.acknowledged(1, CARRIERS, {"status": "active"})
+        yield self.told(self.port.new_create(self.minute))
+        yield self.told(self.port.old_create(self.minute), phase=None)
+        yield self.told(self.port.activation(), attempt=1, status="sending")
+        yield from self.acknowledged(1, CARRIERS, status="active")
 
     def modified(self):
-        asked = {"id": self.version["id"], "lrn": other_lrn_of(self.new)}
-        yield said(self.new, "/subscriptionVersionModify", asked, self.now(attempt=2, status="sending"))
-        whole = {"status": "active", "lrn": other_lrn_of(self.new)}
-        yield from self.acknowledged(2, CARRIERS[: self.in_time], whole)
+        body = text_of({"id": self.id, "lrn": self.other_lrn})
+        asked = message(self.port.new, "/subscriptionVersionModify", body)
+        yield self.told(asked, attempt=2, status="sending")
+        yield from self.acknowledged(2, CARRIERS[: self.in_time], status="active", lrn=self.other_lrn)
 
     def closed(self, minute):
         """What the end of the window has made of it, and the later acknowledgements."""
         if self.in_time == 0:
-            self.now(status="active", since=minute)
+            self.version |= {"status": "active", "since": minute}
         elif self.in_time < len(CARRIERS):
-            self.now(status="partial-failure", since=minute, lrn=other_lrn_of(self.new))
-        yield got(self.old, f"/versions/{self.version['id']}", self.version)
+            self.version |= {"status": "partial-failure", "since": minute, "lrn": self.other_lrn}
+        yield self.told(question(self.port.old, f"/versions/{self.id}"))
         if 0 < self.in_time:
-            yield from self.acknowledged(2, CARRIERS[self.in_time :], {"status": "active"})
-        uri = f"tel:+1{self.tn}"
-        yield said(self.old, "/query", {"uri": uri}, {"uri": f"{uri};npdi;rn=+1{self.version['lrn']}"})
+            yield from self.acknowledged(2, CARRIERS[self.in_time :], status="active")
+        uri = f"tel:+1{self.port.tn}"
+        yield said(self.port.old, "/query", {"uri": uri}, {"uri": f"{uri};npdi;rn=+1{self.version['lrn']}"})
 
 
-def asked_and_told(count):
+def rows(count):
     """Each message, and its answer."""
     yield from opening()
     size = 1 + (count - 1) // MOST_ROUNDS
@@ -111,5 +101,5 @@ def asked_and_told(count):
             yield from number.closed(minute)
 
 
-if __name__ == "__main__":
-    compare(int(sys.argv[1]), 4, "numbers", asked_and_told)
+def main(words):
+    compare(*counts(words, 5_000), 4, "numbers", rows)

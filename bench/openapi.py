@@ -1,11 +1,17 @@
-"""The examples of the interface for machines, asked of a served register, each on a connection of its own."""
+"""That the examples of docs/openapi.yaml are answered as they stand there, in the order of their turns.
+
+    bench/run openapi      (needs the built program, and PyYAML)
+
+A served register is asked each on a connection of its own.
+"""
 import http.client
 import json
 import time
 
 import yaml
 
-from serve import free_port, served
+from lib.measure import counts
+from lib.program import served
 
 # Minutes below this one stand for the machine's present one.
 LATER = 35_000_000
@@ -23,8 +29,10 @@ def examples(document):
             }
             for name, example in asked(operation):
                 value = example["value"]
-                where, body = (path, json.dumps(value)) if method == "post" else (filled(path, value), None)
-                yield example["x-turn"], example["x-caller"], method.upper(), where, body, answers.pop(name)
+                filled, body = path.partition("{")[0] + str(value), None
+                if method == "post":
+                    filled, body = path, json.dumps(value)
+                yield example["x-turn"], example["x-caller"], method.upper(), filled, body, answers.pop(name)
             assert not answers, (path, answers)
 
 
@@ -36,14 +44,11 @@ def asked(operation):
     return part["examples"].items()
 
 
-def filled(path, value):
-    return path[: path.index("{")] + str(value)
-
-
 def is_so(heard, wanted, key=None):
     """Whether an answer is the one that is wanted, but for the machine's minutes."""
     if isinstance(wanted, dict):
-        return isinstance(heard, dict) and list(heard) == sorted(wanted) and all(is_so(heard[k], wanted[k], k) for k in wanted)
+        same_keys = isinstance(heard, dict) and list(heard) == sorted(wanted)
+        return same_keys and all(is_so(heard[name], wanted[name], name) for name in wanted)
     if isinstance(wanted, list):
         return isinstance(heard, list) and len(heard) == len(wanted) and all(map(is_so, heard, wanted))
     if key in MINUTES and wanted < LATER:
@@ -60,17 +65,13 @@ def answer(port, caller, method, path, body):
     return response.status, json.loads(heard)
 
 
-def main():
+def main(words):
+    counts(words)
     with open("docs/openapi.yaml", encoding="utf-8") as file:
         walk = sorted(examples(yaml.safe_load(file)))
     assert [it[0] for it in walk] == list(range(1, len(walk) + 1)), "a turn is missing, or stands twice"
-    port = free_port()
-    program = served(port, len(walk), feed=None)
-    for turn, caller, method, path, body, (status, wanted) in walk:
-        heard = answer(port, caller, method, path, body)
-        assert heard[0] == status and is_so(heard[1], wanted), (turn, path, heard, wanted)
-    assert program.wait() == 0
+    with served(len(walk)) as port:
+        for turn, caller, method, path, body, (status, wanted) in walk:
+            heard = answer(port, caller, method, path, body)
+            assert heard[0] == status and is_so(heard[1], wanted), (turn, path, heard, wanted)
     print(f"{len(walk)} examples are answered as they are written")
-
-
-main()

@@ -1,94 +1,32 @@
-"""The stream of N ports, and the time that the program takes for it."""
-import os
-import subprocess
-import sys
-import tempfile
-import time
+"""Messages a second and peak memory, of N ports among ten carriers, and of twice as many.
 
-PROGRAM = "crates/npacd/out/npacd"
-WINDOWS = "crates/npacd/data/w.toml"
-CARRIERS = [letter * 4 for letter in "ABCDEFGHIJ"]
+    bench/run ports [N]      (20000 where it is left out; needs the built program)
 
+Both creates, the activation and ten acknowledgements each. The best of five runs, which write their answers nowhere;
+those of another run are looked at.
+"""
+from itertools import repeat
 
-def message(caller, path, body):
-    return f"POST {path} HTTP/1.1\r\nx-spid: {caller}\r\ncontent-length: {len(body)}\r\n\r\n{body}"
+from lib.measure import best, compare, counts
+from lib.messages import shown, shows
+from lib.numbers import CARRIERS, opening, port
+from lib.program import command_line, run
 
-
-def opening():
-    """Ten carriers with a routing number each, and ten codes for each of them."""
-    for place, carrier in enumerate(CARRIERS):
-        yield message("NPAC", "/carriers", f'{{"spid":"{carrier}"}}')
-        yield message(carrier, "/lrns", f'{{"lrn":"20244{place}0000"}}')
-    for code in range(100):
-        holder = CARRIERS[code % 10]
-        yield message("NPAC", "/codes", f'{{"code":"202{200 + code}","spid":"{holder}"}}')
+# what the answers to a port's messages show
+SHOWN = shown("pending", "pending", *["sending"] * len(CARRIERS), "active")
 
 
-def port(place):
-    """The thirteen messages of one port, the version of which is the next."""
-    code = place % 100
-    line = place // 100
-    tn = f"202{200 + code}{line:04}"
-    old = CARRIERS[code % 10]
-    new = CARRIERS[(code + 1 + line % 9) % 10]
-    lrn = f"20244{CARRIERS.index(new)}0000"
-    parties = f'"new":"{new}","old":"{old}","tn":"{tn}"'
-    version = place + 1
-    yield message(new, "/subscriptionVersionNewSP-Create", f'{{"due":0,"lrn":"{lrn}",{parties}}}')
-    yield message(old, "/subscriptionVersionOldSP-Create", f'{{"authorized":true,"due":0,{parties}}}')
-    yield message(new, "/subscriptionVersionActivate", f'{{"id":{version}}}')
-    for carrier in CARRIERS:
-        yield message(carrier, "/downloads/acknowledge", f'{{"attempt":1,"id":{version}}}')
+def rows(count):
+    """Each message, and what its answer has to show."""
+    yield from zip(opening(), repeat("{"))
+    for place in range(count):
+        yield from zip(port(place).whole(), SHOWN)
 
 
-def write_stream(path, count):
-    messages = 0
-    with open(path, "w", newline="") as stream:
-        for text in opening():
-            stream.write(text)
-            messages += 1
-        for place in range(count):
-            for text in port(place):
-                stream.write(text)
-                messages += 1
-    return messages
+def best_of_five(stream, answers):
+    run(command_line("feed"), stream, answers)
+    return best(5, lambda: run(command_line("feed"), stream), key=lambda taken: taken.wall)
 
 
-def check(path, messages):
-    """Every message is answered, and none is refused."""
-    with open(path, "rb") as stream:
-        program = subprocess.Popen([PROGRAM, "feed", "--windows", WINDOWS], stdin=stream, stdout=subprocess.PIPE)
-        answers = refused = 0
-        for line in program.stdout:
-            answers += line.startswith(b"HTTP/1.1 ") or b"}HTTP/1.1 " in line
-            refused += b'{"error"' in line
-    assert program.wait() == 0 and answers == messages and refused == 0, (answers, messages, refused)
-
-
-def run(path):
-    """Seconds on the clock and of the processor, and the peak memory in kilobytes."""
-    begun = time.monotonic()
-    with open(path, "rb") as stream:
-        program = subprocess.Popen([PROGRAM, "feed", "--windows", WINDOWS], stdin=stream, stdout=subprocess.DEVNULL)
-        _, status, usage = os.wait4(program.pid, 0)
-    assert status == 0, status
-    return time.monotonic() - begun, usage.ru_utime + usage.ru_stime, usage.ru_maxrss
-
-
-def main():
-    count = int(sys.argv[1])
-    times = []
-    with tempfile.TemporaryDirectory() as folder:
-        for ports in (count, 2 * count):
-            path = os.path.join(folder, "stream")
-            messages = write_stream(path, ports)
-            check(path, messages)
-            wall, processor, peak = min(run(path) for _ in range(5))
-            times.append(processor)
-            print(f"{ports} ports, {messages} messages: {messages / processor:,.0f} messages/s of processor time, "
-                  f"{messages / wall:,.0f} messages/s on the clock, peak {peak / 1024:.1f} MiB")
-    print(f"time for twice as many: {times[1] / times[0]:.2f} times")
-
-
-if __name__ == "__main__":
-    main()
+def main(words):
+    compare(*counts(words, 20_000), 2, "ports", rows, shows, best_of_five)

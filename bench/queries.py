@@ -1,66 +1,33 @@
-"""N ports and M queries of their numbers on one connection, and the processor's time that the queries alone take."""
-import os
-import subprocess
-import sys
-import tempfile
+"""Queries a second, M of them, among a thousand, ten thousand and a hundred thousand ported numbers.
 
-from measure import rested
-from ports import CARRIERS, PROGRAM, WINDOWS, message, opening, port
+    bench/run queries [M]      (300000 where it is left out; needs the built program)
+
+Seconds of the processor are counted, from when the ports are answered on. The best of three runs each.
+"""
+from lib.measure import best, counts, folder
+from lib.messages import count_of
+from lib.numbers import ported, query
+from lib.program import Fed
+from lib.report import of_processor
 
 PORTS = (1_000, 10_000, 100_000)
+ROUTED = b";npdi;rn=+120244"
 
 
-def number_of(place):
-    """The number of the port at this place."""
-    return f"202{200 + place % 100}{place // 100:04}"
+def querying_time(ports, many, answers):
+    """Feeds the ports, and then times the queries, each of which is answered with a routing number."""
+    with Fed(answers) as fed:
+        fed.say(ported(ports))
+        taken = fed.feed(query(turn, ports) for turn in range(many))
+    assert count_of(answers, ROUTED) == many, (count_of(answers, ROUTED), many)
+    return taken
 
 
-def query(turn, ports):
-    """Queries of the ported numbers by turns, in an order that goes over all of them."""
-    uri = f"tel:+1{number_of(turn * 7919 % ports)}"
-    return message(CARRIERS[turn % 10], "/query", f'{{"uri":"{uri}"}}')
-
-
-def messages_of(ports):
-    yield from opening()
-    for place in range(ports):
-        yield from port(place)
-
-
-def queries_a_second(ports, many, answers):
-    """Feeds the ports, lets the program come to rest, and then times the queries."""
-    asked = "".join(query(turn, ports) for turn in range(many)).encode()
-    with open(answers, "wb") as out:
-        program = subprocess.Popen([PROGRAM, "feed", "--windows", WINDOWS], stdin=subprocess.PIPE, stdout=out)
-        for text in messages_of(ports):
-            program.stdin.write(text.encode())
-        program.stdin.flush()
-        before = rested(program)
-        program.stdin.write(asked)
-        program.stdin.flush()
-        taken = rested(program) - before
-        program.stdin.close()
-        assert program.wait() == 0
-    check(answers, many)
-    return many / taken
-
-
-def check(answers, many):
-    """Every query is answered with a routing number."""
-    with open(answers, "rb") as out:
-        routed = sum(line.count(b";npdi;rn=+120244") for line in out)
-    assert routed == many, (routed, many)
-
-
-def main():
-    many = int(sys.argv[1])
-    speeds = []
-    with tempfile.TemporaryDirectory() as folder:
+def main(words):
+    (many,) = counts(words, 300_000)
+    times = []
+    with folder() as held:
         for ports in PORTS:
-            speeds.append(max(queries_a_second(ports, many, os.path.join(folder, "answers")) for _ in range(3)))
-            print(f"{ports} ported numbers: {speeds[-1]:,.0f} queries/s of processor time")
-    print(f"the slowest has {min(speeds) / max(speeds):.2f} of the speed of the fastest")
-
-
-if __name__ == "__main__":
-    main()
+            times.append(best(3, lambda: querying_time(ports, many, held / "answers")))
+            print(f"{ports} ported numbers: {of_processor(many, 'queries', times[-1])}")
+    print(f"the slowest has {min(times) / max(times):.2f} of the speed of the fastest")

@@ -1,75 +1,27 @@
-"""The messages of a stream, served by the built program with each allocation refused in turn."""
-import os
-import subprocess
+"""That each allocation of two streams and of a dozen stories, refused in turn, is answered so and leaves what was.
+
+    bench/run refused-memory [FILE]      (the messages of FILE alone, where it is named; needs the built program and
+                                          gcc)
+
+The streams are the first port, and a registration beside open broadcasts; the stories meet every call. A message that
+met the refusal has to be answered `no_memory`, and sent again as if nothing had been; or the program ends with
+`no_memory`, and all answers before are right.
+"""
+import io
 import sys
-import tempfile
+from collections import Counter
+from pathlib import Path
 
-from ports import PROGRAM, WINDOWS, message
-
-sys.path.insert(0, "tests")
 import stories
 
+from lib.measure import folder
+from lib.messages import acknowledgement, opened, parts, registered, routed
+from lib.numbers import Port
+from lib.program import command_line
+from lib.refusing import Refusing
+
 NO_MEMORY = b'{"error":"no_memory","number":30}'
-
-
-def parts_of(text):
-    """Messages or answers, each a head and as many bytes as it says."""
-    parts = []
-    while text:
-        head, _, rest = text.partition(b"\r\n\r\n")
-        length = next((int(line.split(b":")[1]) for line in head.split(b"\r\n") if line.startswith(b"content-length:")), 0)
-        end = len(head) + 4 + length
-        parts.append(text[:end])
-        text = text[end:]
-    return parts
-
-
-class Served:
-    def __init__(self, shim, messages, place, count=None):
-        refused = {"LD_PRELOAD": shim, "REFUSED_AT": str(place), **({"REFUSED_COUNT": count} if count else {})}
-        ran = subprocess.run([PROGRAM, "feed", "--windows", WINDOWS], input=b"".join(messages), capture_output=True, env={**os.environ, **refused})
-        self.status, self.answers, self.error = ran.returncode, parts_of(ran.stdout), ran.stderr
-
-
-def is_refusal(answer):
-    return answer.endswith(NO_MEMORY)
-
-
-def outcome(shim, messages, answers, place):
-    """What became of the run in which this allocation was refused, or None where that is wrong."""
-    first = Served(shim, messages, place)
-    if first.status == 3 and not first.answers and not first.error:
-        return "ended before there was a place to tell it"
-    if first.status == 3:
-        told = first.error == b"npacd: no_memory\n" and first.answers == answers[:len(first.answers)]
-        return "ended" if told else None
-    if first.status != 0:
-        return None
-    refused = [turn for turn, answer in enumerate(first.answers) if is_refusal(answer)]
-    if not refused:
-        return "unharmed" if first.answers == answers else None
-    # the same once more, and the message that met it is sent a second time
-    turn = refused[0]
-    again = Served(shim, messages[:turn + 1] + messages[turn:], place)
-    wanted = answers[:turn] + [first.answers[turn]] + answers[turn:]
-    return "sent again" if again.status == 0 and again.answers == wanted else None
-
-
-def beside_open_broadcasts(count):
-    """So many broadcasts that two carriers have not acknowledged, a third carrier that registers, and its acknowledgements."""
-    for carrier, lrn in (("AAAA", "2025440000"), ("BBBB", "2025330000")):
-        yield message("NPAC", "/carriers", f'{{"spid":"{carrier}"}}')
-        yield message(carrier, "/lrns", f'{{"lrn":"{lrn}"}}')
-    yield message("NPAC", "/codes", '{"code":"202533","spid":"BBBB"}')
-    for version in range(1, count + 1):
-        parties = f'"new":"AAAA","old":"BBBB","tn":"202533{version:04}"'
-        yield message("AAAA", "/subscriptionVersionNewSP-Create", f'{{"due":0,"lrn":"2025440000",{parties}}}')
-        yield message("BBBB", "/subscriptionVersionOldSP-Create", f'{{"authorized":true,"due":0,{parties}}}')
-        yield message("AAAA", "/subscriptionVersionActivate", f'{{"id":{version}}}')
-    yield message("NPAC", "/carriers", '{"spid":"CCCC"}')
-    for version in range(1, count + 1):
-        yield message("CCCC", "/downloads/acknowledge", f'{{"attempt":1,"id":{version}}}')
-
+FIRST_PORT = "examples/first-port.http"
 
 # a dozen stories that meet every call of the interface, each with an answer of 200
 STORIES = (
@@ -77,6 +29,47 @@ STORIES = (
     "modified", "modified-newcomer", "newcomer-of-a-block", "numbers", "planned-disconnect-of-nobody-jump",
     "two-refusals-cancellation-acknowledge", "windows-of-restriction",
 )
+
+
+def parts_of(text):
+    return list(parts(io.BytesIO(text)))
+
+
+def outcome(refusing, messages, answers, place):
+    """What became of the run in which this allocation was refused, or None where that is wrong."""
+    def served(asked):
+        ran = refusing.run(command_line("feed"), place, input=b"".join(asked), capture_output=True)
+        return ran, parts_of(ran.stdout)
+
+    first, heard = served(messages)
+    if first.returncode == 3 and not heard and not first.stderr:
+        return "ended before there was a place to tell it"
+    if first.returncode == 3:
+        told = first.stderr == b"npacd: no_memory\n" and heard == answers[:len(heard)]
+        return "ended" if told else None
+    if first.returncode != 0:
+        return None
+    turn = next((turn for turn, answer in enumerate(heard) if answer.endswith(NO_MEMORY)), None)
+    if turn is None:
+        return "unharmed" if heard == answers else None
+    # the same once more, and the message that met it is sent a second time
+    again, heard_again = served(messages[:turn + 1] + messages[turn:])
+    wanted = answers[:turn] + [heard[turn]] + answers[turn:]
+    return "sent again" if again.returncode == 0 and heard_again == wanted else None
+
+
+def beside_open_broadcasts(count):
+    """So many broadcasts that two carriers have not acknowledged, a third that registers, and its acknowledgements."""
+    lrns = {"AAAA": "2025440000", "BBBB": "2025330000"}
+    for carrier, lrn in lrns.items():
+        yield registered(carrier)
+        yield routed(carrier, lrn)
+    yield opened("202533", "BBBB")
+    for version in range(1, count + 1):
+        yield from Port(f"202533{version:04}", "BBBB", "AAAA", lrns["AAAA"], version).sent()
+    yield registered("CCCC")
+    for version in range(1, count + 1):
+        yield acknowledgement("CCCC", version)
 
 
 def call_of(asked):
@@ -96,8 +89,8 @@ def told_of(name):
 
 def met_by_all():
     """The calls that are met with an answer of 200."""
-    told = [told_of(name) for name in STORIES]
-    return {call_of(asked) for messages, answers in told for asked, answer in zip(messages, answers) if answer.startswith("HTTP/1.1 200 ")}
+    pairs = [pair for name in STORIES for pair in zip(*told_of(name))]
+    return {call_of(asked) for asked, answer in pairs if answer.startswith("HTTP/1.1 200 ")}
 
 
 def calls():
@@ -105,54 +98,36 @@ def calls():
         return {line.strip().rstrip(":") for line in file if line.startswith("  /")}
 
 
-def refused_in_turn(shim, count, messages, answers=None):
-    """How many allocations the messages take, and what became of the runs in which each was refused in turn."""
-    whole = Served(shim, messages, 0, count)
-    assert whole.status == 0 and len(whole.answers) == len(messages), whole.error
-    assert answers is None or whole.answers == answers
-    with open(count) as file:
-        places = int(file.read())
-    outcomes = {}
+def refuse_in_turn(refusing, name, messages, answers=None):
+    """Refuses each allocation that the messages take, prints what became of it, and tells how many there were."""
+    whole, places = refusing.counted(command_line("feed"), input=b"".join(messages), capture_output=True)
+    heard = parts_of(whole.stdout)
+    assert whole.returncode == 0 and len(heard) == len(messages), whole.stderr
+    assert answers is None or heard == answers
+    outcomes = Counter()
     for place in range(1, places + 1):
-        became = outcome(shim, messages, whole.answers, place)
+        became = outcome(refusing, messages, heard, place)
         if became is None:
             sys.exit(f"allocation {place}: wrong")
-        outcomes[became] = outcomes.get(became, 0) + 1
-    return places, outcomes
-
-
-def tell(name, messages, places, outcomes):
+        outcomes[became] += 1
     became = ", ".join(f"{many} {became}" for became, many in outcomes.items())
     print(f"{name}{len(messages)} messages, {places} allocations, each refused in turn: {became}", flush=True)
+    return places
 
 
-def tell_stories(shim, count):
+def refuse_stories(refusing):
     assert met_by_all() == calls(), met_by_all() ^ calls()
-    all_places = 0
+    places = 0
     for name in STORIES:
         messages, answers = ([text.encode() for text in texts] for texts in told_of(name))
-        places, outcomes = refused_in_turn(shim, count, messages, answers)
-        tell(f"{name}: ", messages, places, outcomes)
-        all_places += places
-    print(f"{len(STORIES)} stories, {len(calls())} calls, {all_places} allocations")
-
-
-def messages_of(words):
-    if words:
-        with open(words[0], "rb") as file:
-            return parts_of(file.read())
-    return [text.encode() for text in beside_open_broadcasts(12)]
+        places += refuse_in_turn(refusing, f"{name}: ", messages, answers)
+    print(f"{len(STORIES)} stories, {len(calls())} calls, {places} allocations")
 
 
 def main(words):
-    with tempfile.TemporaryDirectory() as folder:
-        shim, count = os.path.join(folder, "shim.so"), os.path.join(folder, "count")
-        subprocess.run(["gcc", "-O2", "-shared", "-fPIC", "-o", shim, "bench/refused_memory.c"], check=True)
-        if words == ["--stories"]:
-            tell_stories(shim, count)
-        else:
-            messages = messages_of(words)
-            tell("", messages, *refused_in_turn(shim, count, messages))
-
-
-main(sys.argv[1:])
+    with folder() as held:
+        refusing = Refusing(held)
+        refuse_in_turn(refusing, "", parts_of(Path(*words or [FIRST_PORT]).read_bytes()))
+        if not words:
+            refuse_in_turn(refusing, "", [text.encode() for text in beside_open_broadcasts(12)])
+            refuse_stories(refusing)

@@ -1,31 +1,22 @@
-"""A client of a served register, which waits for each answer."""
-import socket
-import subprocess
-import sys
-import time
+"""Messages a second of a client of `npacd serve` that waits for each answer: on one connection, and on one for each.
 
-from ports import PROGRAM, WINDOWS, message
+    bench/run serve [N]      (20000 where it is left out; needs the built program)
+
+N queries on one connection, and a connection for each of N / 10, with one that says garbage beside them. Every answer
+is looked at. Seconds on the clock are counted.
+"""
+import socket
+
+from lib.measure import counts, timed
+from lib.messages import message
+from lib.program import served
+from lib.report import on_clock
 
 FED = "examples/first-port.http"
 ASKED = message("AAAA", "/query", '{"uri":"tel:+12025331234"}').encode()
 ANSWERED = b'{"uri":"tel:+12025331234;npdi;rn=+12025440000"}'
 GARBAGE = b"GARBAGE\r\n\r\n"
 BAD_HEAD = b'{"error":"bad_head","number":45}'
-
-
-def free_port():
-    with socket.socket() as probe:
-        probe.bind(("127.0.0.1", 0))
-        return probe.getsockname()[1]
-
-
-def served(port, connections, feed):
-    """The program, once it listens."""
-    words = [PROGRAM, "serve", "--windows", WINDOWS, "--port", str(port), "--connections", str(connections)]
-    words += ["--feed", feed] if feed else []
-    program = subprocess.Popen(words, stdout=subprocess.PIPE)
-    assert program.stdout.readline() == f"listening on 127.0.0.1:{port}\n".encode()
-    return program
 
 
 def connected(port):
@@ -46,31 +37,20 @@ def ask(client, said, last):
 
 def on_one(port, many):
     with connected(port) as client:
-        start = time.monotonic()
-        for _ in range(many):
-            ask(client, ASKED, ANSWERED)
-        return many / (time.monotonic() - start)
+        return timed(lambda: [ask(client, ASKED, ANSWERED) for _ in range(many)])
 
 
-def on_each(port, many):
-    start = time.monotonic()
-    for _ in range(many):
-        with connected(port) as client:
-            ask(client, ASKED, ANSWERED)
-    return many / (time.monotonic() - start)
-
-
-def main():
-    many = int(sys.argv[1])
-    port = free_port()
-    program = served(port, 2 + many // 10, FED)
+def ask_once(port):
     with connected(port) as client:
-        ask(client, GARBAGE, BAD_HEAD)
-        assert client.recv(1) == b"", "the connection was left open"
-    print(f"one connection: {on_one(port, many):,.0f} messages/s on the clock")
-    print(f"a connection for each: {on_each(port, many // 10):,.0f} messages/s on the clock")
-    assert program.wait() == 0
+        ask(client, ASKED, ANSWERED)
 
 
-if __name__ == "__main__":
-    main()
+def main(words):
+    (many,) = counts(words, 20_000)
+    with served(2 + many // 10, "--feed", FED) as port:
+        with connected(port) as client:
+            ask(client, GARBAGE, BAD_HEAD)
+            assert client.recv(1) == b"", "the connection was left open"
+        print(f"one connection: {on_clock(many, 'messages', on_one(port, many))}")
+        each = timed(lambda: [ask_once(port) for _ in range(many // 10)])
+        print(f"a connection for each: {on_clock(many // 10, 'messages', each)}")
