@@ -11,8 +11,9 @@ import sys
 import tempfile
 
 sys.path.insert(0, "bench")
+from lib.messages import message
+from lib.program import PROGRAM, WINDOWS
 from moved_files import found_in_all
-from ports import PROGRAM, WINDOWS, message
 
 TN, LRN = "2025331234", "2025440000"
 PARTIES = f'"new":"AAAA","old":"BBBB","tn":"{TN}"'
