@@ -3,11 +3,9 @@
     bench/run blocks [N]      (100 where it is left out; needs the built program)
 
 Each is donated with a hundred lines in use and assigned, every broadcast of it acknowledged by ten carriers, and at
-the end twenty numbers of each are queried. Each answer is compared byte for byte with what the rules say. The best of
-three runs each.
-
-Each block takes the next 101 ids: one for each line in use, by rising number, and one for the block itself. Everything
-comes in minute 0, so that no window ends.
+the end twenty numbers of each are queried. It takes the next 101 ids: one for each line in use, by rising number, and
+one for itself. Everything comes in minute 0, so that no window ends. Each answer is compared byte for byte with what
+the rules say. The best of three runs each.
 """
 from lib.measure import compare, counts
 from lib.messages import acknowledgement, answer, said, text_of

@@ -206,12 +206,6 @@ def one_query(file, versions):
     return f"{taken.wall:.1f} s, {taken.peak:,.0f} MiB"
 
 
-def open_large(held, versions):
-    file = written(held / "large.db", versions)
-    size = file.stat().st_size / 2**20
-    print(f"a file of {versions:,} versions, {size:,.0f} MiB: opened in {one_query(file, versions)}", flush=True)
-
-
 # What makes a file one of the first form: it knows no modify, and no sets of windows.
 FIRST_FORM = f"""
     INSERT INTO version SELECT {VERSION} FROM version2;
@@ -222,8 +216,11 @@ FIRST_FORM = f"""
 """
 
 
-def move_large(held, versions):
-    """The same file made one of the first form, which is moved as it is opened, and has the rows then that it had."""
+def open_large(held, versions):
+    """A file, and the same made one of the first form, which is moved as it is opened, and has the rows that it had."""
+    file = written(held / "large.db", versions)
+    size = file.stat().st_size / 2**20
+    print(f"a file of {versions:,} versions, {size:,.0f} MiB: opened in {one_query(file, versions)}", flush=True)
     file = written(held / "earlier.db", versions)
     before = rows_of(file)
     database = sqlite3.connect(file)
@@ -242,4 +239,3 @@ def main(words):
         peer(held, ports, many)
         queries_write_nothing(held, ports)
         open_large(held, versions)
-        move_large(held, versions)

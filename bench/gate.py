@@ -2,9 +2,9 @@
 
     bench/run gate [WORDS ..]      (the command that is run: rt ci --anew where it is left out; wants a clean clone)
 
-That is its proof, that of its tests, its must-fail edits, and what else it starts (compilers, tests, programs), looked
-up in /proc twice a second; and how long the whole took, on how many processors, and how much of them other work had.
-What is proved anew is what is counted: some 140 processor minutes on a busy machine.
+That is its proof, that of its tests, its must-fail edits, and what else it starts, looked up in /proc twice a second;
+and how long the whole took, on how many processors, and how much of them other work had. What is proved anew is what
+is counted: some 140 processor minutes on a busy machine.
 """
 import os
 import re
@@ -12,6 +12,7 @@ import subprocess
 import sys
 import time
 from dataclasses import dataclass
+from pathlib import Path
 
 from lib.report import print_head, print_row
 
@@ -43,17 +44,10 @@ class Process:
         return "tests" if " --test" in self.words else "proof"
 
 
-def text_of(path):
+def text_of(path, read=lambda path: Path(path).read_text("utf-8", errors="replace")):
+    """What stands in a file of a process, or nothing where the process has ended."""
     try:
-        with open(path, encoding="utf-8", errors="replace") as file:
-            return file.read()
-    except OSError:
-        return ""
-
-
-def link_of(path):
-    try:
-        return os.readlink(path)
+        return read(path)
     except OSError:
         return ""
 
@@ -74,7 +68,7 @@ def look(root, seen):
             key = number, begun
             if key not in seen or not seen[key].words:
                 words = text_of(f"/proc/{number}/cmdline").replace("\0", " ")
-                seen[key] = Process(words, link_of(f"/proc/{number}/cwd"), under.get(parent))
+                seen[key] = Process(words, text_of(f"/proc/{number}/cwd", os.readlink), under.get(parent))
             under[number] = seen[key]
             under[number].seconds = seconds
 

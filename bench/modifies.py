@@ -2,12 +2,10 @@
 
     bench/run modifies [N]      (5000 where it is left out; needs the built program)
 
-A third of the modifies is acknowledged by every carrier, a third by some in time and by the others later, a third by
-nobody. Each answer is compared byte for byte with what the rules say. The best of three runs each.
-
-The numbers come in rounds, at most so many as there can be sets of windows. Each round sets the windows, ports its
-numbers and modifies their routings; then the clock goes to the end of the broadcasts' window, and the numbers are
-looked at and queried.
+They come in rounds, at most so many as there can be sets of windows. Each round sets the windows, ports its numbers
+and modifies their routings; then the clock goes to the end of the broadcasts' window, and they are looked at and
+queried. A third of the modifies is acknowledged by every carrier, a third by some in time and by the others later, a
+third by nobody. Each answer is compared byte for byte with what the rules say. The best of three runs each.
 """
 from lib.measure import compare, counts
 from lib.messages import acknowledgement, answer, message, question, said, text_of

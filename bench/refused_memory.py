@@ -29,6 +29,8 @@ STORIES = (
     "modified", "modified-newcomer", "newcomer-of-a-block", "numbers", "planned-disconnect-of-nobody-jump",
     "two-refusals-cancellation-acknowledge", "windows-of-restriction",
 )
+# the last part of the paths that end with one
+LAST = {"numbers": "{tn}", "versions": "{id}", "downloads": "{n}"}
 
 
 def parts_of(text):
@@ -75,9 +77,8 @@ def beside_open_broadcasts(count):
 def call_of(asked):
     """The path of a message, as the interface for machines names it."""
     path = asked.split(" ")[1]
-    kinds = {"numbers": "/numbers/{tn}", "versions": "/versions/{id}", "downloads": "/downloads/{n}"}
-    kind = path.split("/")[1]
-    return kinds[kind] if kind in kinds and path != "/downloads/acknowledge" else path
+    kind, _, last = path[1:].partition("/")
+    return f"/{kind}/{LAST[kind]}" if kind in LAST and last != "acknowledge" else path
 
 
 def told_of(name):
