@@ -53,8 +53,8 @@ def over_streams(many, rows_of, is_so=is_told, work=best_of_three):
 
 
 def compare(least, more, what, *how):
-    """Prints that of so many, and of so many times more, and how their times compare: those of twice as many as a
-    whole, others by the message."""
+    """Prints what so many things take and so many times more of them, and how the times compare: as wholes where it is
+    twice as many, else by the message."""
     times = []
     for count, taken, messages in over_streams((least, more * least), *how):
         print(f"{count} {what}, {messages} messages: {speeds(messages, 'messages', taken)}", flush=True)
