@@ -13,7 +13,7 @@ from lib.report import print_growth, speeds
 def counts(words, *left_out):
     """The counts that the words say, and what holds for those that are left out."""
     if len(words) > len(left_out) or not all(map(str.isdigit, words)):
-        sys.exit(f"{len(left_out)} counts are taken at most: {' '.join(words)}")
+        sys.exit(f"at most {len(left_out)} counts are wanted, and not: {' '.join(words)}")
     return [*map(int, words), *left_out[len(words):]]
 
 
