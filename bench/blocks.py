@@ -9,7 +9,7 @@ the rules say. The best of three runs each.
 """
 from lib.measure import compare, counts
 from lib.messages import acknowledgement, answer, said, text_of
-from lib.numbers import CARRIERS, lrn_of
+from lib.numbers import CARRIERS, lrn_of, providers_told
 
 BLOCKS_OF_A_CODE = 10
 CODES_OF_AN_AREA = 800
@@ -63,15 +63,9 @@ class Block:
                 yield said(CARRIERS[turn], "/query", {"uri": uri}, {"uri": f"{uri};npdi;rn=+1{lrn_of(provider)}"})
 
 
-def opening():
-    for carrier in CARRIERS:
-        yield said("NPAC", "/carriers", {"spid": carrier}, {"rows": [], "spid": carrier})
-        yield said(carrier, "/lrns", {"lrn": lrn_of(carrier)}, {"lrn": lrn_of(carrier), "spid": carrier})
-
-
 def rows(count):
     """Each message, and its answer."""
-    yield from opening()
+    yield from providers_told(lrn_of)
     for place in range(count):
         block = Block(place)
         if block.digit == 0:

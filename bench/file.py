@@ -14,7 +14,7 @@ import subprocess
 
 from lib.measure import counts, folder, timed
 from lib.messages import count_of
-from lib.numbers import CARRIERS, opening, port, query
+from lib.numbers import CARRIERS, ROUTED, opening, port, query
 from lib.program import PROGRAM, command_line, run
 
 VERSION = ("id, subject, old, new, due, lrn, cic, old_at, new_at, status, sends, since, attempt, release, spent, "
@@ -24,7 +24,6 @@ COLUMNS = {
     "wait": "spid, minute, id, attempt, subject", "clock2": "one, now, next_id, present", "window_set": "*",
     "carrier": "spid", "lrn": "lrn, spid", "code": "code, spid", "block": "block, donor, last",
 }
-ROUTED = b";npdi;rn=+120244"
 
 
 def insert(table):

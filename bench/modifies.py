@@ -9,7 +9,7 @@ third by nobody. Each answer is compared byte for byte with what the rules say. 
 """
 from lib.measure import compare, counts
 from lib.messages import acknowledgement, answer, message, question, said, text_of
-from lib.numbers import CARRIERS, lrn_of, port
+from lib.numbers import CARRIERS, lrn_of, port, providers_told
 
 CODES = 200
 MOST_ROUNDS = 900
@@ -24,10 +24,7 @@ def other_lrn_of(carrier):
 
 
 def opening():
-    for carrier in CARRIERS:
-        yield said("NPAC", "/carriers", {"spid": carrier}, {"rows": [], "spid": carrier})
-        for lrn in (lrn_of(carrier), other_lrn_of(carrier)):
-            yield said(carrier, "/lrns", {"lrn": lrn}, {"lrn": lrn, "spid": carrier})
+    yield from providers_told(lrn_of, other_lrn_of)
     for code in range(CODES):
         opened = {"code": f"202{200 + code}", "spid": CARRIERS[code % 10]}
         yield said("NPAC", "/codes", opened, opened)

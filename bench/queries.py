@@ -6,12 +6,11 @@ Seconds of the processor are counted, from when the ports are answered on. The b
 """
 from lib.measure import best, counts, folder
 from lib.messages import count_of
-from lib.numbers import ported, query
+from lib.numbers import ROUTED, ported, query
 from lib.program import Fed
 from lib.report import of_processor
 
 PORTS = (1_000, 10_000, 100_000)
-ROUTED = b";npdi;rn=+120244"
 
 
 def querying_time(ports, many, answers):

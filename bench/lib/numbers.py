@@ -1,12 +1,14 @@
 """Carriers, and the number, the providers and the version at each place: among ten carriers, and between two."""
 from typing import NamedTuple
 
-from lib.messages import acknowledgement, message, on_version, opened, registered, routed
+from lib.messages import acknowledgement, message, on_version, opened, registered, routed, said
 
 CARRIERS = [letter * 4 for letter in "ABCDEFGHIJ"]
 TWO = CARRIERS[:2]
 # the numbers of a code
 LINES = 10_000
+# what stands in the answer to a query of a ported number, and in no other
+ROUTED = b";npdi;rn=+120244"
 
 
 def lrn_of(carrier):
@@ -52,6 +54,14 @@ def providers(carriers):
     for carrier in carriers:
         yield registered(carrier)
         yield routed(carrier, lrn_of(carrier))
+
+
+def providers_told(*lrns_of):
+    """The ten carriers with as many routing numbers each, and what is answered to that."""
+    for carrier in CARRIERS:
+        yield said("NPAC", "/carriers", {"spid": carrier}, {"rows": [], "spid": carrier})
+        for lrn in (of_carrier(carrier) for of_carrier in lrns_of):
+            yield said(carrier, "/lrns", {"lrn": lrn}, {"lrn": lrn, "spid": carrier})
 
 
 # ---- among ten carriers
