@@ -32,9 +32,9 @@ used_few : (st : State) (caller block : ℕ) (used : List ℕ) (lrn : ℕ) (cic 
     → refusal st (Requests caller (Commands (Donate block used lrn cic))) ≡ None
     → length (used_numbers block used) ≤ 100
 used_few st caller block used lrn cic none =
-    let few : nat_lt 100 (length (contaminated_numbers st caller block used)) ≡ false =
-    (accepted_command st caller (Donate block used lrn cic) none).contaminated in
-    let all : length (contaminated_numbers st caller block used) ≤ 100 =
+    let few : nat_lt 100 (length (contaminated_numbers st block used)) ≡ false =
+    (accepted_command st caller (Donate block used lrn cic) none 22) in
+    let all : length (contaminated_numbers st block used) ≤ 100 =
     grind (arith, nat_tests, few) in
     front_few (used_numbers block used) _ 100 all
 

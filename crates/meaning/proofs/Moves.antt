@@ -1,12 +1,12 @@
 -- What may become of a version, move by move. Whatever an accepted request or a minute makes of a
 -- version is one of the moves.
-use Rattle.std.proofs.Common.{◌≡◌, ℕ, ◌+◌, ◌<◌, ◌≤◌, ◌⊎◌, inl, inr, Bool, true, false, cond, not, ◌&&◌, ◌||◌, List, [], ◌∷◌, map, Option, Some, None, refl, ap, sym, ◌∙◌, subst, arith, is_some}
+use Rattle.std.proofs.Common.{◌≡◌, ℕ, ◌+◌, ◌<◌, ◌≤◌, ◌⊎◌, inl, inr, Bool, true, false, cond, not, ◌&&◌, List, [], ◌∷◌, map, Option, Some, None, refl, ap, sym, ◌∙◌, subst, arith, is_some}
 use Rattle.std.specs.Prelude.{◌==◌, nat_lt, find, unwrap_or, if◌then◌else◌}
 use Rattle.std.specs.List.{AllByRecursion}
 use Rattle.std.proofs.lemmas.Bool.Decides.{nat_tests}
 use Rattle.numbers.specs.Subjects.{Subject, Number, Block, subject_eq}
 use Rattle.numbers.specs.Routings.{Routing}
-use Rattle.meaning.specs.Commands.{Command, RegisterCarrier, OldProviderCreate, NewProviderCreate, VersionCommand, OnVersion, Activate, PutInConflict, RemoveFromConflict, Cancel, OldProviderCancellationAcknowledge, NewProviderCancellationAcknowledge, Disconnect, ModifyRouting, Donate, Assign, Release}
+use Rattle.meaning.specs.Commands.{RegisterCarrier, OldProviderCreate, NewProviderCreate, VersionCommand, OnVersion, Activate, PutInConflict, RemoveFromConflict, Cancel, OldProviderCancellationAcknowledge, NewProviderCancellationAcknowledge, Disconnect, ModifyRouting, Donate, Assign, Release}
 use Rattle.meaning.specs.Statuses.{Send}
 use Rattle.meaning.specs.Statuses.{Create, Delete, Modify}
 use Rattle.meaning.specs.declared.words.Outcome.TheVariants.{AllAcknowledged}
@@ -22,9 +22,9 @@ use Rattle.meaning.specs.Content.{is_nonempty}
 use Rattle.meaning.specs.Judge.{is_over, ended, judged_version}
 use Rattle.meaning.specs.History.{Request, Commands, Acknowledges, carriers, carrier_named, carrier_added, awaits_creates, lacks_old_create, lacks_new_create, with_old_create, with_new_create, has_both_creates, side_of, cancelled_by, disconnected, change_of, done_to, makes, blank_version, made_version, id_among}
 use Rattle.meaning.specs.Reading.{State, SubjectVersion, record_now, version_of_id, is_carrier, set_now}
-use Rattle.meaning.specs.Refusals.{Requests, refusal, tests, registry_is_full, attempts_too_often}
+use Rattle.meaning.specs.Refusals.{Requests, refusal, tests}
 use Rattle.meaning.specs.Machine.{IsHistory}
-use Rattle.numbers.proofs.Small.{true-false, denied, and_first, and_second, or_first, or_second, equal_number}
+use Rattle.numbers.proofs.Small.{true-false, denied, and_first, and_second, or_first, equal_number}
 use Rattle.meaning.proofs.Lists.{found_has}
 use Rattle.meaning.proofs.Accepted.{AcceptedCommand, accepted_command, none_holds}
 use Rattle.meaning.proofs.Ids.{same_subject}
@@ -214,10 +214,6 @@ some_carrier : (c : ℕ) (cs : List ℕ) → is_among c cs ≡ true → is_nonem
 some_carrier c [] is = cc
 some_carrier c (d ∷ ds) is = refl
 
-itself_known : (b : Bool) → (not false && not b && not (false && true)) ≡ false → b ≡ true
-itself_known true e = refl
-itself_known false e = cc
-
 -- whoever makes a version names a carrier, or is one: somebody is a carrier
 made_by_carrier : (st : State) (caller : ℕ) (s : Subject) (from id : ℕ) (request : Request) →
     refusal st (Requests caller request) ≡ None →
@@ -227,21 +223,20 @@ made_by_carrier st caller s from id
     (Commands (OldProviderCreate tn old_provider new_provider due authorized)) ok made =
     some_carrier old_provider (carriers st.history) (denied (is_carrier st old_provider)
     (or_first (not (is_carrier st old_provider)) _
-    (or_first _ _ (accepted_command st caller (OldProviderCreate tn old_provider new_provider due
-    authorized) ok).unknown_carrier)))
+    (accepted_command st caller (OldProviderCreate tn old_provider new_provider due authorized) ok
+    1)))
 made_by_carrier st caller s from id
     (Commands (NewProviderCreate tn old_provider new_provider due lrn cic)) ok made =
     some_carrier old_provider (carriers st.history) (denied (is_carrier st old_provider)
     (or_first (not (is_carrier st old_provider)) _
-    (or_first _ _ (accepted_command st caller (NewProviderCreate tn old_provider new_provider due
-    lrn cic) ok).unknown_carrier)))
+    (accepted_command st caller (NewProviderCreate tn old_provider new_provider due lrn cic) ok
+    1)))
 made_by_carrier st caller s from id (Commands (Donate block used lrn cic)) ok made =
-    some_carrier caller (carriers st.history) (itself_known (is_carrier st caller)
-    (accepted_command st caller (Donate block used lrn cic) ok).unknown_carrier)
+    some_carrier caller (carriers st.history) (denied (is_carrier st caller)
+    (accepted_command st caller (Donate block used lrn cic) ok 1))
 made_by_carrier st caller s from id (Commands (Assign block holder lrn cic)) ok made =
     some_carrier holder (carriers st.history) (denied (is_carrier st holder)
-    (or_first (not (is_carrier st holder)) _
-    (or_first _ _ (accepted_command st caller (Assign block holder lrn cic) ok).unknown_carrier)))
+    (accepted_command st caller (Assign block holder lrn cic) ok 1))
 made_by_carrier st caller s from id _ ok made = cc
 
 -- an acknowledgement that was accepted is a carrier's
@@ -357,12 +352,6 @@ module _ {P : Property} (st : State) (keeps : MovesKeep (set_now st) P)
       → is_so v ≡ false
   test = named_test st s (given_now st is s)
 
-  attempts_left : (caller : ℕ) (c : Command) → AcceptedCommand st caller c →
-      attempts_too_often st caller c ≡ false
-  attempts_left caller c accepted =
-      or_second (registry_is_full st caller c) (attempts_too_often st caller c)
-      (or_first (registry_is_full st caller c || attempts_too_often st caller c) _ accepted.full)
-
   -- by a command on the version
   change_kept : (caller id : ℕ) (c : VersionCommand) →
       AcceptedCommand st caller (OnVersion id c) → (v : Version) →
@@ -370,43 +359,43 @@ module _ {P : Property} (st : State) (keeps : MovesKeep (set_now st) P)
       P st.now everyone v → P st.now everyone (change_of (set_now st) caller st.now everyone c v)
   change_kept caller id Activate accepted v found p = keeps.activated st.now everyone v (
     activated_from v.held.windows st.now v.new_at v.old_at v.since v.status
-        (test id v (λ u. not (can_activate u.status)) found accepted.wrong_status)
+        (test id v (λ u. not (can_activate u.status)) found (accepted 13))
         (test id v (λ u. lacks_concurrence u.held.windows st.now u.status u.old_at u.new_at u.since)
-        found accepted.not_concurred),
+        found (accepted 16)),
     left_by v.attempt (test id v (λ u. has_no_attempt_left u.attempt) found
-        (attempts_left caller (OnVersion id Activate) accepted)),
+        (accepted 28)),
   ) p
   change_kept caller id PutInConflict accepted v found p =
       keeps.conflict true st.now everyone v
       (pending_before v.status (test id v (λ u. not (is_pending u.status)) found
-      accepted.wrong_status)) p
+      (accepted 13))) p
   change_kept caller id RemoveFromConflict accepted v found p =
       keeps.pending st.now everyone v
       (conflict_before v.status (test id v (λ u. not (is_conflict u.status)) found
-      accepted.wrong_status)) p
+      (accepted 13))) p
   change_kept caller id Cancel accepted v found p =
       cancelled_kept keeps st.now everyone v p caller v.status refl
-      (test id v (λ u. not (can_cancel u.status)) found accepted.wrong_status)
+      (test id v (λ u. not (can_cancel u.status)) found (accepted 13))
   change_kept caller id OldProviderCancellationAcknowledge accepted v found p =
       keeps.canceled st.now everyone v
       (cancelled_before v.status (test id v (λ u. not (is_cancel_pending u.status)) found
-      accepted.wrong_status)) p
+      (accepted 13))) p
   change_kept caller id NewProviderCancellationAcknowledge accepted v found p =
       keeps.canceled st.now everyone v
       (cancelled_before v.status (test id v (λ u. not (is_cancel_pending u.status)) found
-      accepted.wrong_status)) p
+      (accepted 13))) p
   change_kept caller id (Disconnect release) accepted v found p =
       disconnected_kept keeps st.now everyone v p release
       (is_active-is v.status (test id v (λ u. not (is_active u.status)) found
-      accepted.wrong_status))
+      (accepted 13)))
       (left_by v.attempt (test id v (λ u. has_no_attempt_left u.attempt) found
-      (attempts_left caller (OnVersion id (Disconnect release)) accepted)))
+      (accepted 28)))
   change_kept caller id (ModifyRouting lrn cic) accepted v found p =
       keeps.modified (record { lrn = lrn; cic = cic }) st.now everyone v (
         is_active-is v.status (test id v (λ u. not (is_active u.status)) found
-            accepted.wrong_status),
+            (accepted 13)),
         left_by v.attempt (test id v (λ u. has_no_attempt_left u.attempt) found
-            (attempts_left caller (OnVersion id (ModifyRouting lrn cic)) accepted)),
+            (accepted 28)),
       ) p
 
   -- by the release of a block: its last version is active
@@ -425,9 +414,9 @@ module _ {P : Property} (st : State) (keeps : MovesKeep (set_now st) P)
       ap (λ t. last_version (record_now st t)) (sym same) ∙ last in
       keeps.disconnected st.now everyone v (
         is_active-is v.status (ap (holds_of (λ (u : Version). not (is_active u.status)))
-            (sym last_is) ∙ accepted.wrong_status),
+            (sym last_is) ∙ accepted 13),
         left_by v.attempt (ap (holds_of (λ (u : Version). has_no_attempt_left u.attempt))
-            (sym last_is) ∙ attempts_left caller (Release block) accepted),
+            (sym last_is) ∙ accepted 28),
       ) p
 
   -- by an accepted request, of a version of the subject

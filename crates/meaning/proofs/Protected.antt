@@ -92,7 +92,7 @@ no_donor : (st : State) (caller b : ℕ) (request : Request)
     → IsAssigned b request → ⊥
 no_donor st caller b (Commands (Assign block holder lrn cic)) ok none is =
     let known : is_none (donor_of block st.history) ≡ false =
-    (accepted_command st caller (Assign block holder lrn cic) ok).not_found in
+    (accepted_command st caller (Assign block holder lrn cic) ok 10) in
     let never : true ≡ false = sym (ap (λ k. is_none (donor_of k st.history)) is ∙ ap is_none none)
     ∙ known in cc
 no_donor st caller b _ ok none is = absurd is
@@ -354,10 +354,10 @@ module _ (st : State) (is : IsHistory st.windows st.history st.now) (n : ℕ) wh
       go false e = true-false (has_port n vs) e (closed vs sound.0)
 
   -- a number with an open protective version is an open port of its block
-  port_is_open : (vs : List Version) → number_now ≡ vs → has_port n vs ≡ true → (caller : ℕ)
-      → has_open_port st caller (block_of n) ≡ false → ⊥
-  port_is_open [] e has caller none = cc
-  port_is_open (v ∷ vs) e has caller none =
+  port_is_open : (vs : List Version) → number_now ≡ vs → has_port n vs ≡ true
+      → has_open_port st (block_of n) ≡ false → ⊥
+  port_is_open [] e has none = cc
+  port_is_open (v ∷ vs) e has none =
       let sound : AreSound (Number n) (v ∷ vs) =
       subst (AreSound (Number n)) e (sound_now st is (Number n)) in
       let port : is_port n v ≡ true = port_head v vs sound has in
@@ -375,7 +375,7 @@ module _ (st : State) (is : IsHistory st.windows st.history st.now) (n : ℕ) wh
       (same_number v.id) in
       let shut : (is_in_block (block_of n) (Number n) && is_open (Number n) v && is_none
       (version_in_force (record_now st (Number n)))) ≡ false =
-      open_port-none st caller (block_of n) none (Number n) v.id v given.0 found in
+      open_port-none st (block_of n) none (Number n) v.id v given.0 found in
       let never : true ≡ false =
       sym (three (is_in_block (block_of n) (Number n)) (is_open (Number n) v)
       (is_none (version_in_force (record_now st (Number n)))) (same_number (block_of n)) open_now
@@ -395,8 +395,8 @@ module _ (st : State) (is : IsHistory st.windows st.history st.now) (n : ℕ) wh
   assigned_never : (caller : ℕ) (request : Request) → refusal st (Requests caller request) ≡ None
       → IsAssigned (block_of n) request → has_port n number_now ≡ true → ⊥
   assigned_never caller (Commands (Assign block holder lrn cic)) ok assigned has =
-      port_is_open number_now refl has caller (subst (λ b. has_open_port st caller b ≡ false)
-      assigned (accepted_command st caller (Assign block holder lrn cic) ok).open_ports)
+      port_is_open number_now refl has (subst (λ b. has_open_port st b ≡ false)
+      assigned (accepted_command st caller (Assign block holder lrn cic) ok 23))
   assigned_never caller _ ok assigned has = absurd assigned
 
   donated_never : (caller : ℕ) (request : Request) → refusal st (Requests caller request) ≡ None
@@ -404,7 +404,7 @@ module _ (st : State) (is : IsHistory st.windows st.history st.now) (n : ℕ) wh
   donated_never caller (Commands (Donate block used lrn cic)) ok donated taken =
       let free : donor_of block st.history ≡ None =
       is_some-none (donor_of block st.history)
-      (accepted_command st caller (Donate block used lrn cic) ok).block_taken in
+      (accepted_command st caller (Donate block used lrn cic) ok 24) in
       let none : block_now ≡ [] =
       undonated st.windows (block_of n) st.history st.now is (ap (λ b. donor_of b st.history)
       donated ∙ free) in

@@ -197,7 +197,7 @@ module _ (st : State) (is : IsState st) (caller block : ℕ) (used : List ℕ) (
       ∙ none_open vs closed.1
 
   not_donated : donor_of block st.history ≡ None
-  not_donated = go (donor_of block st.history) accepted_it.block_taken
+  not_donated = go (donor_of block st.history) (accepted_it 24)
     where
       go : (o : Option ℕ) → is_some o ≡ false → o ≡ None
       go None e = refl
@@ -206,7 +206,7 @@ module _ (st : State) (is : IsState st) (caller block : ℕ) (used : List ℕ) (
   holds_code : code_holder (block_code_of block) st.history ≡ Some caller
   holds_code =
       go (code_holder (block_code_of block) st.history)
-      (denied (is_the caller (code_holder (block_code_of block) st.history)) accepted_it.not_yours)
+      (denied (is_the caller (code_holder (block_code_of block) st.history)) (accepted_it 11))
     where
       go : (o : Option ℕ) → is_the caller o ≡ true → o ≡ Some caller
       go None e = cc

@@ -8,7 +8,7 @@ use Rattle.meaning.specs.Commands.{Command, RegisterCarrier, RegisterRoutingNumb
 use Rattle.meaning.specs.Versions.{Version, in_force, is_open, version_in_force, open_version, last_version}
 use Rattle.meaning.specs.Conditions.{limit, holds_of, is_the, is_active, takes_block, has_no_room, is_past, is_another_due, is_late_conflict, has_no_attempt_left}
 use Rattle.meaning.specs.History.{Request, Commands, Acknowledges, carriers, lrn_owner, code_holder, donor_of, next_id, used_numbers, lacks_old_create, lacks_new_create, makes}
-use Rattle.meaning.specs.OnVersion.{version_tests, holds_at, is_number}
+use Rattle.meaning.specs.OnVersion.{version_tests, is_number}
 use Rattle.meaning.specs.Reading.{State, SubjectVersion, Download, Server, InPool, record_now, is_carrier, all_versions, version_of_id, serving, is_served_by, queue, is_before, set_now}
 
 pub data Question : Type 0 where
@@ -31,141 +31,28 @@ pub data Input : Type 0 where
 abbrev pub npac : ℕ
 npac = 0x4E504143
 
--- ---- words for the table
+-- ---- words for the tests
 
--- the carriers that a command names
-abbrev pub named_carriers : Command → List ℕ
-named_carriers (OpenCode code spid) = spid ∷ []
-named_carriers (OldProviderCreate tn old_provider new_provider due authorized) =
-    old_provider ∷ new_provider ∷ []
-named_carriers (NewProviderCreate tn old_provider new_provider due lrn cic) =
-    old_provider ∷ new_provider ∷ []
-named_carriers (Assign block holder lrn cic) = holder ∷ []
-named_carriers (RegisterCarrier spid) = []
-named_carriers (RegisterRoutingNumber lrn) = []
-named_carriers (OnVersion id c) = []
-named_carriers (Donate block used lrn cic) = []
-named_carriers (Release block) = []
-named_carriers (SetWindows windows) = []
+-- one of these is no registered carrier
+abbrev pub one_is_unknown : State → List ℕ → Bool
+one_is_unknown st spids = list_any (λ s. not (is_carrier st s)) spids
 
--- whether the administrator alone may give the command
-abbrev pub is_for_administrator : Command → Bool
-is_for_administrator (RegisterCarrier spid) = true
-is_for_administrator (OpenCode code spid) = true
-is_for_administrator (Assign block holder lrn cic) = true
-is_for_administrator (RegisterRoutingNumber lrn) = false
-is_for_administrator (OldProviderCreate tn old_provider new_provider due authorized) = false
-is_for_administrator (NewProviderCreate tn old_provider new_provider due lrn cic) = false
-is_for_administrator (OnVersion id c) = false
-is_for_administrator (Donate block used lrn cic) = false
-is_for_administrator (Release block) = false
-is_for_administrator (SetWindows windows) = true
+-- neither a registered carrier nor the administrator
+abbrev pub is_stranger : State → ℕ → Bool
+is_stranger st caller = not (is_carrier st caller) && not (caller == npac)
 
-abbrev pub is_release : Command → Bool
-is_release (Release block) = true
-is_release (RegisterCarrier spid) = false
-is_release (RegisterRoutingNumber lrn) = false
-is_release (OpenCode code spid) = false
-is_release (OldProviderCreate tn old_provider new_provider due authorized) = false
-is_release (NewProviderCreate tn old_provider new_provider due lrn cic) = false
-is_release (OnVersion id c) = false
-is_release (Donate block used lrn cic) = false
-is_release (Assign block holder lrn cic) = false
-is_release (SetWindows windows) = false
-
--- whether a question has a caller, and may be the administrator's
-abbrev pub has_caller : Question → Bool
-has_caller AllInForce = false
-has_caller (Ids tn) = false
-has_caller Knows = true
-has_caller (Fetch n) = true
-has_caller (ShowVersion id) = true
-has_caller (Query tn) = true
-has_caller Waiting = true
-
-abbrev pub may_be_administrators : Question → Bool
-may_be_administrators Knows = true
-may_be_administrators (ShowVersion id) = true
-may_be_administrators (Query tn) = true
-may_be_administrators (Fetch n) = false
-may_be_administrators AllInForce = false
-may_be_administrators Waiting = false
-may_be_administrators (Ids tn) = false
-
--- the number of a create, with its providers, due minute and authorization
-pub record Creates : Type 0 where
-  pub tn : ℕ
-  pub old_provider : ℕ
-  pub new_provider : ℕ
-  pub due : ℕ
-  pub unauthorized : Bool
-  pub lacks : Version → Bool
-
-abbrev pub create_of : Command → Option Creates
-create_of (OldProviderCreate tn old_provider new_provider due authorized) = Some (record {
-  tn = tn;
-  old_provider = old_provider;
-  new_provider = new_provider;
-  due = due;
-  unauthorized = not authorized;
-  lacks = lacks_old_create old_provider new_provider;
-})
-create_of (NewProviderCreate tn old_provider new_provider due lrn cic) = Some (record {
-  tn = tn;
-  old_provider = old_provider;
-  new_provider = new_provider;
-  due = due;
-  unauthorized = false;
-  lacks = lacks_new_create old_provider new_provider;
-})
-create_of (RegisterCarrier spid) = None
-create_of (RegisterRoutingNumber lrn) = None
-create_of (OpenCode code spid) = None
-create_of (OnVersion id c) = None
-create_of (Donate block used lrn cic) = None
-create_of (Assign block holder lrn cic) = None
-create_of (Release block) = None
-create_of (SetWindows windows) = None
-
--- the version that a second create answers to
-abbrev pub second_of : State → Creates → Option Version
-second_of st c = find c.lacks (record_now st (Number c.tn)).versions
-
--- the block that a block command names
-abbrev pub block_named : Command → Option ℕ
-block_named (Donate block used lrn cic) = Some block
-block_named (Assign block holder lrn cic) = Some block
-block_named (Release block) = Some block
-block_named (RegisterCarrier spid) = None
-block_named (RegisterRoutingNumber lrn) = None
-block_named (OpenCode code spid) = None
-block_named (OldProviderCreate tn old_provider new_provider due authorized) = None
-block_named (NewProviderCreate tn old_provider new_provider due lrn cic) = None
-block_named (OnVersion id c) = None
-block_named (SetWindows windows) = None
-
--- the numbers of a block, as far as they are spoken of
-abbrev pub is_in_block : ℕ → Subject → Bool
-is_in_block b (Number n) = block_of n == b
-is_in_block b (Block c) = false
+-- whether a routing number is the carrier's
+abbrev pub owns : State → (lrn carrier : ℕ) → Bool
+owns st lrn carrier = is_the carrier (lrn_owner lrn st.history)
 
 -- nobody serves the number
 abbrev pub is_in_pool : Server → Bool
 is_in_pool InPool = true
 is_in_pool _ = false
 
--- ---- the table, one condition for each refusal
-
--- 1: a named carrier is not registered, or the caller is not
-abbrev pub unknown_carrier : State → Input → Bool
-unknown_carrier st (Moment m) = false
-unknown_carrier st (Requests caller (Commands c)) =
-    list_any (λ s. not (is_carrier st s)) (named_carriers c)
-    || (not (is_for_administrator c) && not (is_carrier st caller) && not
-    (is_release c && (caller == npac)))
-unknown_carrier st (Requests caller (Acknowledges id attempt)) = not (is_carrier st caller)
-unknown_carrier st (Asks caller q) =
-    has_caller q && not (is_carrier st caller) && not (may_be_administrators q && (caller == npac))
+-- the version that a second create answers to
+abbrev pub second_of : State → (tn : ℕ) → (lacks : Version → Bool) → Option Version
+second_of st tn lacks = find lacks (record_now st (Number tn)).versions
 
 -- the statuses of a number's open version, of its version in force and of its block's leave no room
 -- for a first create
@@ -180,297 +67,131 @@ number_is_busy st n =
 abbrev pub has_open : State → Subject → Bool
 has_open st s = is_some (open_version s (record_now st s))
 
--- whether a routing number is the carrier's
-abbrev pub owns : State → (lrn carrier : ℕ) → Bool
-owns st lrn carrier = is_the carrier (lrn_owner lrn st.history)
+-- the numbers of a block, as far as they are spoken of
+abbrev pub is_in_block : ℕ → Subject → Bool
+is_in_block b (Number n) = block_of n == b
+is_in_block b (Block c) = false
 
--- the rest of the table is on commands
+-- the numbers of a block that are named as used, or have a version in force
+abbrev pub contaminated_numbers : State → ℕ → List ℕ → List Subject
+contaminated_numbers st block used =
+    used_numbers block used
+    ++ filter (λ s. is_in_block block s && not
+    (list_any (subject_eq s) (used_numbers block used)))
+    (map (λ (e : SubjectVersion). e.subject) (filter (λ e. in_force e.version) (all_versions st)))
+
+-- a number of the block with an open version and none in force: it is being ported
+abbrev pub has_open_port : State → ℕ → Bool
+has_open_port st block =
+    list_any (λ (e : SubjectVersion). is_in_block block e.subject && is_open e.subject e.version
+    && is_none (version_in_force (record_now st e.subject))) (all_versions st)
+
+-- so many versions more would have an id past the last
+abbrev pub ids_are_out : State → ℕ → Bool
+ids_are_out st versions = nat_lt limit (next_id st.windows st.history + versions)
+
+-- ---- what a command is refused for
+
+-- the tests of each command, by number; every other number is none of its refusals. The first that
+-- holds is the least that does: they stand in the order of their numbers, but that of a modify's
+-- routing number (7), which holds of a number's version alone, where 10 does not
+--
+--  1  a carrier that is named, or the caller, is not registered
+--  2  the caller is not the administrator
+--  3  the code is not opened
+--  4  the carrier is registered already, or is the administrator
+--  5  the code is opened already
+--  6  the routing number is registered already
+--  7  the routing number is not one of the carrier that is to be routed to
+--  8  nobody serves the number
+--  9  the old provider does not serve the number, or is the new one
+-- 10  no such version, or a block's; the block is not donated, or to be released and never assigned
+-- 11  the caller is not the one who may
+-- 12  there is no room for a first create; an open version is beside a disconnect or a modify
+-- 13  the version's status does not allow it
+-- 14  a first create, or a disconnect's release, is in the past
+-- 15  a second create has another due minute
+-- 16  an activation lacks the creates that it needs, a removal one of both
+-- 17  a pending version is activated before it is due
+-- 18  the version was in conflict already
+-- 19  a conflict is too near to the due minute
+-- 20  the new provider removes a conflict before it may
+-- 21  a failed protective version stays
+-- 22  too many numbers of the block are in use
+-- 23  a number of the block is being ported
+-- 24  the block is donated already, or assigned
+-- 28  a hundred carriers, a thousand sets of windows, or an id or an attempt past the last
 module _ (st : State) (caller : ℕ) where
-  -- the tests of a command on a version, over the version that it names
-  abbrev pub tests_on_version : Command → List (ℕ × Bool)
-  tests_on_version (OnVersion id c) =
-      version_tests (set_now st).windows st.now caller (has_open st) (owns st) c
-      (version_of_id st id)
-  tests_on_version (RegisterCarrier spid) = []
-  tests_on_version (RegisterRoutingNumber lrn) = []
-  tests_on_version (OpenCode code spid) = []
-  tests_on_version (OldProviderCreate tn old_provider new_provider due authorized) = []
-  tests_on_version (NewProviderCreate tn old_provider new_provider due lrn cic) = []
-  tests_on_version (Donate block used lrn cic) = []
-  tests_on_version (Assign block holder lrn cic) = []
-  tests_on_version (Release block) = []
-  tests_on_version (SetWindows windows) = []
+  abbrev pub own_tests : Command → List (ℕ × Bool)
+  own_tests (RegisterCarrier spid) =
+      (2, not (caller == npac)) ∷ (4, is_carrier st spid || (spid == npac))
+      ∷ (28, nat_le 100 (length (carriers st.history))) ∷ []
+  own_tests (RegisterRoutingNumber lrn) =
+      (1, not (is_carrier st caller)) ∷ (6, is_some (lrn_owner lrn st.history)) ∷ []
+  own_tests (OpenCode code spid) =
+      (1, not (is_carrier st spid)) ∷ (2, not (caller == npac))
+      ∷ (5, is_some (code_holder code st.history)) ∷ []
+  own_tests (SetWindows windows) =
+      (2, not (caller == npac)) ∷ (28, nat_le 1000 (set_now st).number) ∷ []
+  own_tests (OldProviderCreate tn old_provider new_provider due authorized) =
+      let second = second_of st tn (lacks_old_create old_provider new_provider) in
+      (1, one_is_unknown st (old_provider ∷ new_provider ∷ caller ∷ []))
+      ∷ (3, is_none (code_holder (code_of tn) st.history))
+      ∷ (8, is_in_pool (serving st tn))
+      ∷ (9, not (is_served_by old_provider (serving st tn)) || (old_provider == new_provider))
+      ∷ (11, not (caller == old_provider))
+      ∷ (12, is_none second && number_is_busy st tn)
+      ∷ (14, is_none second && is_past st.now due)
+      ∷ (15, holds_of (λ (v : Version). is_another_due due v.due) second)
+      ∷ (18, not authorized && holds_of (λ (v : Version). v.spent) second)
+      ∷ (19, not authorized && is_late_conflict (set_now st).windows st.now due)
+      ∷ (28, is_none second && ids_are_out st 1) ∷ []
+  own_tests (NewProviderCreate tn old_provider new_provider due lrn cic) =
+      let second = second_of st tn (lacks_new_create old_provider new_provider) in
+      (1, one_is_unknown st (old_provider ∷ new_provider ∷ caller ∷ []))
+      ∷ (3, is_none (code_holder (code_of tn) st.history))
+      ∷ (7, not (owns st lrn new_provider))
+      ∷ (8, is_in_pool (serving st tn))
+      ∷ (9, not (is_served_by old_provider (serving st tn)) || (old_provider == new_provider))
+      ∷ (11, not (caller == new_provider))
+      ∷ (12, is_none second && number_is_busy st tn)
+      ∷ (14, is_none second && is_past st.now due)
+      ∷ (15, holds_of (λ (v : Version). is_another_due due v.due) second)
+      ∷ (28, is_none second && ids_are_out st 1) ∷ []
+  own_tests (OnVersion id c) =
+      let found = version_of_id st id in
+      (1, not (is_carrier st caller))
+      ∷ (10, not (holds_of (λ (e : SubjectVersion). is_number e.subject) found))
+      ∷ version_tests (set_now st).windows st.now caller (has_open st) (owns st) c found
+  own_tests (Donate block used lrn cic) =
+      let holder = code_holder (block_code_of block) st.history in
+      (1, not (is_carrier st caller)) ∷ (3, is_none holder) ∷ (7, not (owns st lrn caller))
+      ∷ (11, not (is_the caller holder))
+      ∷ (22, nat_lt 100 (length (contaminated_numbers st block used)))
+      ∷ (23, has_open_port st block) ∷ (24, is_some (donor_of block st.history))
+      ∷ (
+        28,
+        ids_are_out st (length (makes (Commands (Donate block used lrn cic)) (record_now st))),
+      ) ∷ []
+  own_tests (Assign block holder lrn cic) =
+      let last = last_version (record_now st (Block block)) in
+      (1, not (is_carrier st holder)) ∷ (2, not (caller == npac))
+      ∷ (3, is_none (code_holder (block_code_of block) st.history))
+      ∷ (7, not (owns st lrn holder)) ∷ (10, is_none (donor_of block st.history))
+      ∷ (23, has_open_port st block)
+      ∷ (24, holds_of (λ (v : Version). takes_block v.status) last)
+      ∷ (28, ids_are_out st 1) ∷ []
+  own_tests (Release block) =
+      let last = last_version (record_now st (Block block)) in
+      (1, is_stranger st caller)
+      ∷ (3, is_none (code_holder (block_code_of block) st.history))
+      ∷ (10, is_none (donor_of block st.history) || is_none last)
+      ∷ (11, not (caller == npac) && holds_of (λ (v : Version). not (caller == v.new_provider)) last)
+      ∷ (13, holds_of (λ (v : Version). not (is_active v.status)) last)
+      ∷ (23, has_open_port st block)
+      ∷ (28, holds_of (λ (v : Version). has_no_attempt_left v.attempt) last) ∷ []
 
-  abbrev pub holds_on_version : ℕ → Command → Bool
-  holds_on_version number c = holds_at number (tests_on_version c)
-
-  -- a create by the test, and a command on a version by its own of this number
-  abbrev pub holds_of_create : ℕ → (Creates → Bool) → Command → Bool
-  holds_of_create number test c = elim (create_of c) [
-    | Some n ↦ test n
-    | None ↦ holds_on_version number c
-  ]
-
-  -- 2: a command of the administrator's by another
-  abbrev pub not_admin : Command → Bool
-  not_admin c = is_for_administrator c && not (caller == npac)
-
-  -- 3: the code is not opened
-  abbrev pub unknown_code : Command → Bool
-  unknown_code c =
-      holds_of (λ (n : Creates). is_none (code_holder (code_of n.tn) st.history)) (create_of c)
-      || holds_of (λ b. is_none (code_holder (block_code_of b) st.history)) (block_named c)
-
-  -- 4: the carrier is registered already, or is the administrator
-  abbrev pub carrier_taken : Command → Bool
-  carrier_taken (RegisterCarrier spid) = is_carrier st spid || (spid == npac)
-  carrier_taken (RegisterRoutingNumber lrn) = false
-  carrier_taken (OpenCode code spid) = false
-  carrier_taken (OldProviderCreate tn old_provider new_provider due authorized) = false
-  carrier_taken (NewProviderCreate tn old_provider new_provider due lrn cic) = false
-  carrier_taken (OnVersion id c) = false
-  carrier_taken (Donate block used lrn cic) = false
-  carrier_taken (Assign block holder lrn cic) = false
-  carrier_taken (Release block) = false
-  carrier_taken (SetWindows windows) = false
-
-  -- 5: the code is opened already
-  abbrev pub code_taken : Command → Bool
-  code_taken (OpenCode code spid) = is_some (code_holder code st.history)
-  code_taken (RegisterCarrier spid) = false
-  code_taken (RegisterRoutingNumber lrn) = false
-  code_taken (OldProviderCreate tn old_provider new_provider due authorized) = false
-  code_taken (NewProviderCreate tn old_provider new_provider due lrn cic) = false
-  code_taken (OnVersion id c) = false
-  code_taken (Donate block used lrn cic) = false
-  code_taken (Assign block holder lrn cic) = false
-  code_taken (Release block) = false
-  code_taken (SetWindows windows) = false
-
-  -- 6: the routing number is registered already
-  abbrev pub lrn_taken : Command → Bool
-  lrn_taken (RegisterRoutingNumber lrn) = is_some (lrn_owner lrn st.history)
-  lrn_taken (RegisterCarrier spid) = false
-  lrn_taken (OpenCode code spid) = false
-  lrn_taken (OldProviderCreate tn old_provider new_provider due authorized) = false
-  lrn_taken (NewProviderCreate tn old_provider new_provider due lrn cic) = false
-  lrn_taken (OnVersion id c) = false
-  lrn_taken (Donate block used lrn cic) = false
-  lrn_taken (Assign block holder lrn cic) = false
-  lrn_taken (Release block) = false
-  lrn_taken (SetWindows windows) = false
-
-  -- 7: the routing number is not one of the carrier that is to be routed to
-  abbrev pub bad_lrn : Command → Bool
-  bad_lrn (NewProviderCreate tn old_provider new_provider due lrn cic) =
-      not (is_the new_provider (lrn_owner lrn st.history))
-  bad_lrn (Donate block used lrn cic) = not (is_the caller (lrn_owner lrn st.history))
-  bad_lrn (Assign block holder lrn cic) = not (is_the holder (lrn_owner lrn st.history))
-  bad_lrn (RegisterCarrier spid) = false
-  bad_lrn (RegisterRoutingNumber lrn) = false
-  bad_lrn (OpenCode code spid) = false
-  bad_lrn (OldProviderCreate tn old_provider new_provider due authorized) = false
-  bad_lrn (OnVersion id c) = holds_on_version 7 (OnVersion id c)
-  bad_lrn (Release block) = false
-  bad_lrn (SetWindows windows) = false
-
-  -- 8: a create for a number that nobody serves
-  abbrev pub in_pool : Command → Bool
-  in_pool c = holds_of (λ (n : Creates). is_in_pool (serving st n.tn)) (create_of c)
-
-  -- 9: the old provider does not serve the number, or is the new one
-  abbrev pub wrong_old : Command → Bool
-  wrong_old c =
-      holds_of (λ (n : Creates). not (is_served_by n.old_provider (serving st n.tn))
-      || (n.old_provider == n.new_provider)) (create_of c)
-
-  -- 10: no such version, or a block's; the block is not donated, or to be released and never
-  -- assigned
-  abbrev pub not_found : Command → Bool
-  not_found (Assign block holder lrn cic) = is_none (donor_of block st.history)
-  not_found (Release block) =
-      is_none (donor_of block st.history) || is_none (last_version (record_now st (Block block)))
-  not_found (OnVersion id c) =
-      not (holds_of (λ (e : SubjectVersion). is_number e.subject) (version_of_id st id))
-  not_found (RegisterCarrier spid) = false
-  not_found (RegisterRoutingNumber lrn) = false
-  not_found (OpenCode code spid) = false
-  not_found (OldProviderCreate tn old_provider new_provider due authorized) = false
-  not_found (NewProviderCreate tn old_provider new_provider due lrn cic) = false
-  not_found (Donate block used lrn cic) = false
-  not_found (SetWindows windows) = false
-
-  -- 11: the caller is not the one who may
-  abbrev pub not_yours : Command → Bool
-  not_yours (OldProviderCreate tn old_provider new_provider due authorized) =
-      not (caller == old_provider)
-  not_yours (NewProviderCreate tn old_provider new_provider due lrn cic) =
-      not (caller == new_provider)
-  not_yours (OnVersion id c) = holds_on_version 11 (OnVersion id c)
-  not_yours (Donate block used lrn cic) =
-      not (is_the caller (code_holder (block_code_of block) st.history))
-  not_yours (Release block) =
-      not (caller == npac) && holds_of (λ (v : Version). not (caller == v.new_provider))
-      (last_version (record_now st (Block block)))
-  not_yours (RegisterCarrier spid) = false
-  not_yours (RegisterRoutingNumber lrn) = false
-  not_yours (OpenCode code spid) = false
-  not_yours (Assign block holder lrn cic) = false
-  not_yours (SetWindows windows) = false
-
-  -- 12: a first create where there is no room for it, or a disconnect or a modify beside an open
-  -- version
-  abbrev pub busy : Command → Bool
-  busy c = holds_of_create 12 (λ n. is_none (second_of st n) && number_is_busy st n.tn) c
-
-  -- 13: the version's status does not allow it
-  abbrev pub wrong_status : Command → Bool
-  wrong_status (OnVersion id c) = holds_on_version 13 (OnVersion id c)
-  wrong_status (Release block) =
-      holds_of (λ (v : Version). not (is_active v.status))
-      (last_version (record_now st (Block block)))
-  wrong_status (RegisterCarrier spid) = false
-  wrong_status (RegisterRoutingNumber lrn) = false
-  wrong_status (OpenCode code spid) = false
-  wrong_status (OldProviderCreate tn old_provider new_provider due authorized) = false
-  wrong_status (NewProviderCreate tn old_provider new_provider due lrn cic) = false
-  wrong_status (Donate block used lrn cic) = false
-  wrong_status (Assign block holder lrn cic) = false
-  wrong_status (SetWindows windows) = false
-
-  -- 14: a first create, or a disconnect's release, in the past
-  abbrev pub due_past : Command → Bool
-  due_past c = holds_of_create 14 (λ n. is_none (second_of st n) && is_past st.now n.due) c
-
-  -- 15: a second create with another due minute
-  abbrev pub due_mismatch : Command → Bool
-  due_mismatch c =
-      holds_of (λ (n : Creates). holds_of (λ (v : Version). is_another_due n.due v.due)
-      (second_of st n)) (create_of c)
-
-  -- 16: activation of a pending version without the creates that it needs; removal without both
-  abbrev pub not_concurred : Command → Bool
-  not_concurred c = holds_on_version 16 c
-
-  -- 17: activation of a pending version before it is due
-  abbrev pub before_due : Command → Bool
-  before_due c = holds_on_version 17 c
-
-  -- 18: a second conflict
-  abbrev pub conflict_spent : Command → Bool
-  conflict_spent c =
-      holds_of_create 18 (λ n. n.unauthorized && holds_of (λ (v : Version). v.spent)
-      (second_of st n)) c
-
-  -- 19: a conflict too near to the due minute
-  abbrev pub too_late : Command → Bool
-  too_late c =
-      holds_of_create 19 (λ n. n.unauthorized && is_late_conflict (set_now st).windows st.now n.due)
-      c
-
-  -- 20: a removal by the new provider before the conflict may be resolved
-  abbrev pub too_early : Command → Bool
-  too_early c = holds_on_version 20 c
-
-  -- 21: a failed protective version stays
-  abbrev pub protected : Command → Bool
-  protected c = holds_on_version 21 c
-
-  -- the numbers of a block that are named as used, or have a version in force
-  abbrev pub contaminated_numbers : ℕ → List ℕ → List Subject
-  contaminated_numbers block used =
-      used_numbers block used
-      ++ filter (λ s. is_in_block block s && not
-      (list_any (subject_eq s) (used_numbers block used)))
-      (map (λ (e : SubjectVersion). e.subject) (filter (λ e. in_force e.version) (all_versions st)))
-
-  -- 22: too many numbers of the block are in use
-  abbrev pub contaminated : Command → Bool
-  contaminated (Donate block used lrn cic) = nat_lt 100 (length (contaminated_numbers block used))
-  contaminated (RegisterCarrier spid) = false
-  contaminated (RegisterRoutingNumber lrn) = false
-  contaminated (OpenCode code spid) = false
-  contaminated (OldProviderCreate tn old_provider new_provider due authorized) = false
-  contaminated (NewProviderCreate tn old_provider new_provider due lrn cic) = false
-  contaminated (OnVersion id c) = false
-  contaminated (Assign block holder lrn cic) = false
-  contaminated (Release block) = false
-  contaminated (SetWindows windows) = false
-
-  -- a number of the block with an open version and none in force
-  abbrev pub has_open_port : ℕ → Bool
-  has_open_port block =
-      list_any (λ (e : SubjectVersion). is_in_block block e.subject && is_open e.subject e.version
-      && is_none (version_in_force (record_now st e.subject))) (all_versions st)
-
-  -- 23: a number of the block is being ported
-  abbrev pub open_ports : Command → Bool
-  open_ports c = holds_of has_open_port (block_named c)
-
-  -- 24: the block is donated already, or assigned
-  abbrev pub block_taken : Command → Bool
-  block_taken (Donate block used lrn cic) = is_some (donor_of block st.history)
-  block_taken (Assign block holder lrn cic) =
-      holds_of (λ (v : Version). takes_block v.status) (last_version (record_now st (Block block)))
-  block_taken (RegisterCarrier spid) = false
-  block_taken (RegisterRoutingNumber lrn) = false
-  block_taken (OpenCode code spid) = false
-  block_taken (OldProviderCreate tn old_provider new_provider due authorized) = false
-  block_taken (NewProviderCreate tn old_provider new_provider due lrn cic) = false
-  block_taken (OnVersion id c) = false
-  block_taken (Release block) = false
-  block_taken (SetWindows windows) = false
-
-  -- the attempt that a command sends, or plans
-  abbrev pub attempts_too_often : Command → Bool
-  attempts_too_often (OnVersion id c) = holds_on_version 28 (OnVersion id c)
-  attempts_too_often (Release block) =
-      holds_of (λ (v : Version). has_no_attempt_left v.attempt)
-      (last_version (record_now st (Block block)))
-  attempts_too_often (RegisterCarrier spid) = false
-  attempts_too_often (RegisterRoutingNumber lrn) = false
-  attempts_too_often (OpenCode code spid) = false
-  attempts_too_often (OldProviderCreate tn old_provider new_provider due authorized) = false
-  attempts_too_often (NewProviderCreate tn old_provider new_provider due lrn cic) = false
-  attempts_too_often (Donate block used lrn cic) = false
-  attempts_too_often (Assign block holder lrn cic) = false
-  attempts_too_often (SetWindows windows) = false
-
-  -- a hundred carriers, or a thousand sets of windows
-  abbrev pub registry_is_full : Command → Bool
-  registry_is_full (RegisterCarrier spid) = nat_le 100 (length (carriers st.history))
-  registry_is_full (RegisterRoutingNumber lrn) = false
-  registry_is_full (OpenCode code spid) = false
-  registry_is_full (OldProviderCreate tn old_provider new_provider due authorized) = false
-  registry_is_full (NewProviderCreate tn old_provider new_provider due lrn cic) = false
-  registry_is_full (OnVersion id c) = false
-  registry_is_full (Donate block used lrn cic) = false
-  registry_is_full (Assign block holder lrn cic) = false
-  registry_is_full (Release block) = false
-  registry_is_full (SetWindows windows) = nat_le 1000 (set_now st).number
-
-  -- 28: a hundred carriers, a thousand sets of windows, or an id or an attempt past the last. The
-  -- test of ids stands for every command, and is right also for one
-  -- that makes no version, because the next id never passes the limit
-  abbrev pub full : Command → Bool
-  full c =
-      registry_is_full c || attempts_too_often c
-      || nat_lt limit (next_id st.windows st.history + length (makes (Commands c) (record_now st)))
-
--- the tests of a command, in the order of their numbers
-abbrev pub command_tests : State → ℕ → Command → List (ℕ × Bool)
-command_tests st caller c =
-    (1, unknown_carrier st (Requests caller (Commands c))) ∷ (2, not_admin st caller c)
-    ∷ (3, unknown_code st caller c) ∷ (4, carrier_taken st caller c)
-    ∷ (5, code_taken st caller c) ∷ (6, lrn_taken st caller c) ∷ (7, bad_lrn st caller c)
-    ∷ (8, in_pool st caller c) ∷ (9, wrong_old st caller c)
-    ∷ (10, not_found st caller c) ∷ (11, not_yours st caller c) ∷ (12, busy st caller c)
-    ∷ (13, wrong_status st caller c) ∷ (14, due_past st caller c)
-    ∷ (15, due_mismatch st caller c) ∷ (16, not_concurred st caller c)
-    ∷ (17, before_due st caller c) ∷ (18, conflict_spent st caller c)
-    ∷ (19, too_late st caller c) ∷ (20, too_early st caller c) ∷ (21, protected st caller c)
-    ∷ (22, contaminated st caller c)
-    ∷ (23, open_ports st caller c) ∷ (24, block_taken st caller c) ∷ (28, full st caller c) ∷ []
+-- ---- what an acknowledgement, a question and a clock moment are
 
 -- 10 of an acknowledgement or a question: no version has the id
 abbrev pub no_version : State → ℕ → Bool
@@ -504,18 +225,23 @@ clock_back st m = nat_lt m st.now
 -- the tests of an input
 unfoldable pub tests : State → Input → List (ℕ × Bool)
 tests st (Moment m) = (27, clock_back st m) ∷ []
-tests st (Requests caller (Commands c)) = command_tests st caller c
+tests st (Requests caller (Commands c)) = own_tests st caller c
 tests st (Requests caller (Acknowledges id attempt)) =
-    (1, unknown_carrier st (Requests caller (Acknowledges id attempt))) ∷ (10, no_version st id)
+    (1, not (is_carrier st caller)) ∷ (10, no_version st id)
     ∷ (25, not_queued st caller id attempt) ∷ (26, out_of_order st caller id attempt) ∷ []
+tests st (Asks caller Knows) = (1, is_stranger st caller) ∷ []
+tests st (Asks caller (Fetch n)) = (1, not (is_carrier st caller)) ∷ []
 tests st (Asks caller (ShowVersion id)) =
-    (1, unknown_carrier st (Asks caller (ShowVersion id))) ∷ (10, no_version st id) ∷ []
-tests st (Asks caller Knows) = (1, unknown_carrier st (Asks caller Knows)) ∷ []
-tests st (Asks caller (Fetch n)) = (1, unknown_carrier st (Asks caller (Fetch n))) ∷ []
-tests st (Asks caller (Query tn)) = (1, unknown_carrier st (Asks caller (Query tn))) ∷ []
-tests st (Asks caller AllInForce) = (1, unknown_carrier st (Asks caller AllInForce)) ∷ []
-tests st (Asks caller Waiting) = (1, unknown_carrier st (Asks caller Waiting)) ∷ []
-tests st (Asks caller (Ids tn)) = (1, unknown_carrier st (Asks caller (Ids tn))) ∷ []
+    (1, is_stranger st caller) ∷ (10, no_version st id) ∷ []
+tests st (Asks caller (Query tn)) = (1, is_stranger st caller) ∷ []
+tests st (Asks caller AllInForce) = []
+tests st (Asks caller Waiting) = (1, not (is_carrier st caller)) ∷ []
+tests st (Asks caller (Ids tn)) = []
+
+-- whether the test of this number holds, where there is one
+abbrev pub holds_at : ℕ → List (ℕ × Bool) → Bool
+holds_at number [] = false
+holds_at number (t ∷ ts) = if t.0 == number then t.1 else holds_at number ts
 
 -- the number of the first test that holds
 abbrev pub first_that_holds : List (ℕ × Bool) → Option ℕ

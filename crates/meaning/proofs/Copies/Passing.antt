@@ -274,9 +274,9 @@ module _ (o : Look) (st : State) (is : IsHistory st.windows st.history st.now) (
       id (sent (set_now st) Create everyone st.now) versions given
       (λ v found. inr (
         sent_next (set_now st) o everyone lasts Create st.now v,
-        activated_open s v.status (named_number st s given id v found accepted.not_found)
+        activated_open s v.status (named_number st s given id v found (accepted 10))
             (named_test st s given id v (λ u. not (can_activate u.status)) found
-            accepted.wrong_status),
+            (accepted 13)),
       )))
 
   -- a command on an active version that is refused beside an open one
@@ -326,11 +326,11 @@ module _ (o : Look) (st : State) (is : IsHistory st.windows st.history st.now) (
       of_id_same id (change_of (set_now st) caller st.now everyone
       NewProviderCancellationAcknowledge) (λ v. refl)
   command_next caller id (Disconnect release) accepted =
-      active_next id (disconnected (set_now st) release everyone st.now) accepted.wrong_status
-      accepted.busy (disconnected_next (set_now st) o everyone lasts release st.now)
+      active_next id (disconnected (set_now st) release everyone st.now) (accepted 13)
+      (accepted 12) (disconnected_next (set_now st) o everyone lasts release st.now)
   command_next caller id (ModifyRouting lrn cic) accepted =
       active_next id (change_of (set_now st) caller st.now everyone (ModifyRouting lrn cic))
-      accepted.wrong_status accepted.busy (sent_next (set_now st) o everyone lasts
+      (accepted 13) (accepted 12) (sent_next (set_now st) o everyone lasts
       (Modify (record { lrn = lrn; cic = cic })) st.now)
 
   release_next : (caller block : ℕ) → AcceptedCommand st caller (Release block)
@@ -352,7 +352,7 @@ module _ (o : Look) (st : State) (is : IsHistory st.windows st.history st.now) (
           (active_closes s versions (sound_now st is s)
           (ap (λ t. holds_of (λ (v : Version). not (is_active v.status))
           (first_of_versions (record_now st t).versions)) (sym (same_subject s (Block block) e))
-          ∙ accepted.wrong_status))
+          ∙ accepted 13))
           (everywhere (λ v. one v (in_force v) refl) versions)
       go false e = all_same (λ v. v) (λ v. refl)
 

@@ -160,7 +160,7 @@ module _ (w : Windows) (c : ℕ) (s : Subject) where
             history = h;
             now =
                 e.minute;
-          }) (Requests e.caller q) ≡ None) f ok)).carrier_taken) in
+          }) (Requests e.caller q) ≡ None) f ok) 4)) in
           subst (λ q. placed (Unsent c)
           (with_made (id_among s (next_after (made_by w h)) (makes q (λ t. replay w t h e.minute)))
           (λ id. made_version (present_set w h) id e.caller e.minute

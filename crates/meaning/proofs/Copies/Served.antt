@@ -358,29 +358,29 @@ module _ (st : State) (s : Subject) (given : AreGiven (made_by st.windows st.his
       follows false v.status (change_of (set_now st) caller st.now everyone c v).status ≡ true
   change_follows caller id everyone Activate accepted v found =
       activated_follows v.status (named_test st s given id v (λ u. not (can_activate u.status))
-      found accepted.wrong_status)
+      found (accepted 13))
   change_follows caller id everyone PutInConflict accepted v found =
       pending_follows v.status (named_test st s given id v (λ u. not (is_pending u.status)) found
-      accepted.wrong_status)
+      (accepted 13))
   change_follows caller id everyone RemoveFromConflict accepted v found =
       conflict_follows v.status (named_test st s given id v (λ u. not (is_conflict u.status)) found
-      accepted.wrong_status)
+      (accepted 13))
   change_follows caller id everyone Cancel accepted v found =
       cancelled_follows (set_now st) caller st.now v v.status refl
   change_follows caller id everyone OldProviderCancellationAcknowledge accepted v found =
       cancel_follows v.status (named_test st s given id v (λ u. not (is_cancel_pending u.status))
-      found accepted.wrong_status)
+      found (accepted 13))
   change_follows caller id everyone NewProviderCancellationAcknowledge accepted v found =
       cancel_follows v.status (named_test st s given id v (λ u. not (is_cancel_pending u.status))
-      found accepted.wrong_status)
+      found (accepted 13))
   change_follows caller id everyone (Disconnect release) accepted v found =
       disconnected_follows (set_now st) release everyone st.now v
       (is_active-is v.status (named_test st s given id v (λ u. not (is_active u.status)) found
-      accepted.wrong_status))
+      (accepted 13)))
   change_follows caller id everyone (ModifyRouting lrn cic) accepted v found =
       ap (λ x. follows false x (Sending (Modify (record { lrn = lrn; cic = cic }))))
       (is_active-is v.status (named_test st s given id v (λ u. not (is_active u.status)) found
-      accepted.wrong_status))
+      (accepted 13)))
 
   pub done_follows : (caller : ℕ) (everyone : List ℕ) (request : Request)
       → refusal st (Requests caller request) ≡ None →

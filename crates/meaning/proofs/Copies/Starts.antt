@@ -77,7 +77,7 @@ starts_none w c s h e is registered = go e.request refl registered is.2
           history = h;
           now =
               e.minute;
-        }) (Requests e.caller q) ≡ None) f ok)).carrier_taken) in
+        }) (Requests e.caller q) ≡ None) f ok) 4)) in
         subst (λ q. NoneMarked
         (placed (Carrier c)
         (with_made (id_among s (next_after (made_by w h)) (makes q (λ t. replay w t h e.minute)))
