@@ -11,19 +11,16 @@ use Rattle.numbers.specs.declared.spid.Spid.{Spid}
 use Rattle.version.specs.declared.version.Version.{Version as VersionCode}
 use Rattle.version.specs.Views.{version_of, seen}
 use Rattle.version.specs.Facts.{Sees}
-use Rattle.meaning.proofs.Tabled.{not_past, or_false}
-use Rattle.meaning.proofs.Entered.{next_id-below}
 use Rattle.meaning.specs.Commands.{Release}
 use Rattle.meaning.specs.Versions.{Version, Broadcast, last_version, version_in_force, with_number}
 use Rattle.meaning.specs.History.{Commands, next_id, code_holder, donor_of, makes, rising, AreLines}
 use Rattle.meaning.specs.Reading.{State, record_now}
 use Rattle.meaning.specs.Conditions.{limit, holds_of, is_the, is_active, takes_block, has_no_attempt_left}
-use Rattle.meaning.specs.Refusals.{Requests, tests, refusal, npac, first_that_holds, unknown_carrier, bad_lrn, contaminated_numbers as contaminated_in, has_open_port as has_open_port_in}
-use Rattle.meaning.specs.Machine.{IsHistory}
+use Rattle.meaning.specs.Refusals.{Requests, tests, refusal, npac, first_that_holds, holds_at, own_tests, contaminated_numbers as contaminated_in, has_open_port as has_open_port_in}
 use Rattle.numbers.specs.Digits.{block_code_of, number_in}
 use Rattle.pool.specs.declared.facts.BlockFacts.{BlockFacts}
 use Rattle.pool.specs.declared.assignment.Assignment.{Assignment}
-use Rattle.pool.specs.Facts.{carrier_number, has_open_port, in_force_numbers}
+use Rattle.pool.specs.Facts.{carrier_number, in_force_numbers}
 use Rattle.pool.specs.Blocks.{BlockFactsAre, IsBlockCommandIn, NumbersAre}
 use Rattle.pool.specs.declared.donation.Donation.{Donation}
 use Rattle.pool.specs.Donations.{command_of as donated, lines_of, used_by, unnamed, made_numbers, contaminated_numbers, donation_refusal}
@@ -72,7 +69,7 @@ others_seen caller (Some u) None sees = absurd sees
 
 release_by_table : (st : State) (caller block : ℕ)
     → refusal st (Requests caller (Commands (Release block)))
-    ≡ first_that_holds ((1, unknown_carrier st (Requests caller (Commands (Release block))))
+    ≡ first_that_holds ((1, holds_at 1 (own_tests st caller (Release block)))
     ∷ (3, is_none (code_holder (block_code_of block) st.history))
     ∷ (
       10,
@@ -87,23 +84,22 @@ release_by_table : (st : State) (caller block : ℕ)
       13,
       holds_of (λ (v : Version). not (is_active v.status))
           (last_version (record_now st (Block block))),
-    ) ∷ (23, has_open_port_in st caller block)
+    ) ∷ (23, has_open_port_in st block)
     ∷ (
       28,
       holds_of (λ (v : Version). has_no_attempt_left v.attempt)
-          (last_version (record_now st (Block block))) || nat_lt limit
-          (next_id st.windows st.history + 0),
+          (last_version (record_now st (Block block))),
     ) ∷ [])
 unfolding tests
 release_by_table st caller block = refl
 
 assign_by_table : (st : State) (caller : ℕ) (a : Assignment)
     → refusal st (Requests caller (Commands (command_of a)))
-    ≡ first_that_holds ((1, unknown_carrier st (Requests caller (Commands (command_of a))))
+    ≡ first_that_holds ((1, holds_at 1 (own_tests st caller (command_of a)))
     ∷ (2, not (caller == npac))
     ∷ (3, is_none (code_holder (block_code_of a.block.number) st.history))
-    ∷ (7, bad_lrn st caller (command_of a)) ∷ (10, is_none (donor_of a.block.number st.history))
-    ∷ (23, has_open_port_in st caller a.block.number)
+    ∷ (7, holds_at 7 (own_tests st caller (command_of a))) ∷ (10, is_none (donor_of a.block.number st.history))
+    ∷ (23, has_open_port_in st a.block.number)
     ∷ (
       24,
       holds_of (λ (v : Version). takes_block v.status)
@@ -114,16 +110,16 @@ assign_by_table st caller a = refl
 
 donate_by_table : (st : State) (caller : ℕ) (d : Donation)
     → refusal st (Requests caller (Commands (donated d)))
-    ≡ first_that_holds ((1, unknown_carrier st (Requests caller (Commands (donated d))))
+    ≡ first_that_holds ((1, holds_at 1 (own_tests st caller (donated d)))
     ∷ (3, is_none (code_holder (block_code_of d.block.number) st.history))
-    ∷ (7, bad_lrn st caller (donated d)) ∷ (
+    ∷ (7, holds_at 7 (own_tests st caller (donated d))) ∷ (
       11,
       not (is_the caller (code_holder (block_code_of d.block.number) st.history)),
     )
     ∷ (
       22,
-      nat_lt 100 (length (contaminated_in st caller d.block.number (lines_of d.used.now))),
-    ) ∷ (23, has_open_port_in st caller d.block.number)
+      nat_lt 100 (length (contaminated_in st d.block.number (lines_of d.used.now))),
+    ) ∷ (23, has_open_port_in st d.block.number)
     ∷ (24, is_some (donor_of d.block.number st.history))
     ∷ (
       28,
@@ -200,7 +196,7 @@ donation_makes st d facts are =
 
 donation_contaminates : (st : State) (caller : ℕ) (d : Donation) (facts : BlockFacts)
     → NumbersAre st d.block.number facts.numbers.now →
-    length (contaminated_in st caller d.block.number (lines_of d.used.now))
+    length (contaminated_in st d.block.number (lines_of d.used.now))
     ≡ length (contaminated_numbers (used_by d) (in_force_numbers facts.numbers.now))
 donation_contaminates st caller d facts are =
     length-append (used_by d) _ ∙ ap (λ n. length (used_by d) + n) (sym (are.others (used_by d)))
@@ -213,12 +209,11 @@ some_carrier (Some s) p is = ap is_some (sym is)
 module _ (st : State) (caller : ℕ) (facts : BlockFacts) where
   -- a release by a caller who is not registered is refused with number 1, and every other as the
   -- facts say, where they are those of the state
-  pub release_refused : (block : ℕ) → BlockFactsAre st caller block (Release block) facts
-      → IsHistory st.windows st.history st.now →
+  pub release_refused : (block : ℕ) → BlockFactsAre st caller block (Release block) facts →
       refusal st (Requests caller (Commands (Release block)))
-      ≡ (if unknown_carrier st (Requests caller (Commands (Release block))) then Some 1
+      ≡ (if holds_at 1 (own_tests st caller (Release block)) then Some 1
       else release_refusal caller facts)
-  release_refused block are history =
+  release_refused block are =
       let last = last_version (record_now st (Block block)) in
       let code = none_carrier facts.code_holder (code_holder (block_code_of block) st.history)
       are.code in
@@ -230,37 +225,28 @@ module _ (st : State) (caller : ℕ) (facts : BlockFacts) where
       let attempts =
       holds_seen (λ (v : Version). has_no_attempt_left v.attempt) (λ u id bs ws. refl) facts.last
       last are.last in
-      let room = not_past (next_id st.windows st.history) (next_id-below st.windows st.history
-      st.now history) in
       release_by_table st caller block
-      ∙ (λ i. first_that_holds ((1, unknown_carrier st (Requests caller (Commands (Release block))))
+      ∙ (λ i. first_that_holds ((1, holds_at 1 (own_tests st caller (Release block)))
       ∷ (3, code i) ∷ (10, donor i || made i) ∷ (11, others i) ∷ (13, active i)
-      ∷ (23, sym are.ports i) ∷ (28, attempts i || room i) ∷ []))
-      ∙ ap (λ b. first_that_holds
-      ((1, unknown_carrier st (Requests caller (Commands (Release block))))
-      ∷ (3, is_none facts.code_holder) ∷ (10, is_none facts.donor || is_none facts.last)
-      ∷ (11, holds_of (is_others caller) facts.last)
-      ∷ (13, holds_of (λ v. not (is_active (seen v).status)) facts.last)
-      ∷ (23, has_open_port facts.numbers.now) ∷ (28, b) ∷ []))
-      (or_false (holds_of (λ v. has_no_attempt_left (seen v).attempt) facts.last))
+      ∷ (23, sym are.ports i) ∷ (28, attempts i) ∷ []))
 
   -- the same of an assignment, whose holder has to be registered too
   pub assignment_refused : (a : Assignment) → BlockFactsAre st caller a.block.number (command_of a)
       facts →
       refusal st (Requests caller (Commands (command_of a)))
-      ≡ (if unknown_carrier st (Requests caller (Commands (command_of a))) then Some 1
+      ≡ (if holds_at 1 (own_tests st caller (command_of a)) then Some 1
       else assignment_refusal caller facts)
   assignment_refused a are =
       let last = last_version (record_now st (Block a.block.number)) in
       let code = none_carrier facts.code_holder (code_holder (block_code_of a.block.number)
       st.history) are.code in
       let donor = none_carrier facts.donor (donor_of a.block.number st.history) are.donor in
-      let lrn : bad_lrn st caller (command_of a) ≡ not facts.is_lrn_good =
-      sym (not_not (bad_lrn st caller (command_of a))) ∙ ap not (sym are.lrn) in
+      let lrn : holds_at 7 (own_tests st caller (command_of a)) ≡ not facts.is_lrn_good =
+      sym (not_not (holds_at 7 (own_tests st caller (command_of a)))) ∙ ap not (sym are.lrn) in
       let taken = holds_seen (λ (v : Version). takes_block v.status) (λ u id bs ws. refl) facts.last
       last are.last in
       assign_by_table st caller a
-      ∙ (λ i. first_that_holds ((1, unknown_carrier st (Requests caller (Commands (command_of a))))
+      ∙ (λ i. first_that_holds ((1, holds_at 1 (own_tests st caller (command_of a)))
       ∷ (2, not (caller == npac)) ∷ (3, code i) ∷ (7, lrn i) ∷ (10, donor i)
       ∷ (23, sym are.ports i) ∷ (24, taken i) ∷ (28, nat_lt limit (sym are.next_id i + 1)) ∷ []))
 
@@ -268,7 +254,7 @@ module _ (st : State) (caller : ℕ) (facts : BlockFacts) where
   pub donation_refused : (d : Donation) → BlockFactsAre st caller d.block.number (donated d) facts
       → NumbersAre st d.block.number facts.numbers.now →
       refusal st (Requests caller (Commands (donated d)))
-      ≡ (if unknown_carrier st (Requests caller (Commands (donated d))) then Some 1
+      ≡ (if holds_at 1 (own_tests st caller (donated d)) then Some 1
       else donation_refusal caller d facts)
   donation_refused d are numbers =
       let code = none_carrier facts.code_holder (code_holder (block_code_of d.block.number)
@@ -276,12 +262,12 @@ module _ (st : State) (caller : ℕ) (facts : BlockFacts) where
       let holder : is_the caller (code_holder (block_code_of d.block.number) st.history)
       ≡ is_the caller (carrier_number facts.code_holder) = ap (is_the caller) (sym are.code) in
       let donor = some_carrier facts.donor (donor_of d.block.number st.history) are.donor in
-      let lrn : bad_lrn st caller (donated d) ≡ not facts.is_lrn_good =
-      sym (not_not (bad_lrn st caller (donated d))) ∙ ap not (sym are.lrn) in
+      let lrn : holds_at 7 (own_tests st caller (donated d)) ≡ not facts.is_lrn_good =
+      sym (not_not (holds_at 7 (own_tests st caller (donated d)))) ∙ ap not (sym are.lrn) in
       let many = donation_contaminates st caller d facts numbers in
       let made = donation_makes st d facts numbers in
       donate_by_table st caller d
-      ∙ (λ i. first_that_holds ((1, unknown_carrier st (Requests caller (Commands (donated d))))
+      ∙ (λ i. first_that_holds ((1, holds_at 1 (own_tests st caller (donated d)))
       ∷ (3, code i) ∷ (7, lrn i) ∷ (11, not (holder i)) ∷ (22, nat_lt 100 (many i))
       ∷ (23, sym are.ports i) ∷ (24, donor i)
       ∷ (28, nat_lt limit (sym are.next_id i + length (made i))) ∷ []))
@@ -294,7 +280,7 @@ module _ (st : State) (caller : ℕ) (facts : BlockFacts) where
       refused ≡ release_refusal caller facts
       → refused ≡ refusal st (Requests caller (Commands (Release block)))
   release_refused_in block is refused by_facts =
-      by_facts ∙ sym (release_refused st caller facts block is.are is.reached.history
+      by_facts ∙ sym (release_refused st caller facts block is.are
       ∙ ap (λ b. if b then Some 1 else release_refusal caller facts) is.known)
 
   pub assignment_refused_in : (a : Assignment)

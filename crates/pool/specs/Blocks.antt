@@ -7,9 +7,9 @@ use Rattle.version.specs.declared.in_use.NumberInUse.{NumberInUse}
 use Rattle.version.specs.Facts.{Sees}
 use Rattle.meaning.specs.Commands.{Command}
 use Rattle.meaning.specs.Versions.{in_force, last_version, version_in_force}
-use Rattle.meaning.specs.History.{Commands, code_holder, donor_of, next_id}
+use Rattle.meaning.specs.History.{code_holder, donor_of, next_id}
 use Rattle.meaning.specs.Reading.{State, SubjectVersion, all_versions, record_now}
-use Rattle.meaning.specs.Refusals.{Requests, bad_lrn, is_in_block, has_open_port as has_open_port_in, unknown_carrier}
+use Rattle.meaning.specs.Refusals.{holds_at, own_tests, is_in_block, has_open_port as has_open_port_in}
 use Rattle.meaning.specs.Laws.{IsState}
 use Rattle.pool.specs.declared.facts.BlockFacts.{BlockFacts}
 use Rattle.pool.specs.Facts.{carrier_number, has_open_port, in_force_numbers}
@@ -19,10 +19,10 @@ use Rattle.pool.specs.Donations.{unnamed}
 pub record BlockFactsAre (st : State) (caller block : ℕ) (c : Command)
     (facts : BlockFacts) : Type 0 where
   pub code : carrier_number facts.code_holder ≡ code_holder (block_code_of block) st.history
-  pub lrn : facts.is_lrn_good ≡ not (bad_lrn st caller c)
+  pub lrn : facts.is_lrn_good ≡ not (holds_at 7 (own_tests st caller c))
   pub donor : carrier_number facts.donor ≡ donor_of block st.history
   pub last : Sees facts.last (last_version (record_now st (Block block)))
-  pub ports : has_open_port facts.numbers.now ≡ has_open_port_in st caller block
+  pub ports : has_open_port facts.numbers.now ≡ has_open_port_in st block
   pub next_id : facts.next_id ≡ next_id st.windows st.history
 
 -- those of the numbers with a version in force are the block's in the state: line by line, and as
@@ -42,5 +42,5 @@ pub record NumbersAre (st : State) (block : ℕ) (numbers : List NumberInUse) : 
 pub record IsBlockCommandIn (st : State) (caller block : ℕ) (c : Command)
     (facts : BlockFacts) : Type 0 where
   pub reached : IsState st
-  pub known : unknown_carrier st (Requests caller (Commands c)) ≡ false
+  pub known : holds_at 1 (own_tests st caller c) ≡ false
   pub are : BlockFactsAre st caller block c facts
