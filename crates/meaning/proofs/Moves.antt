@@ -156,7 +156,7 @@ pub record MovesKeep (w : WindowSet) (P : Property) : Type 0 where
       Move P (λ cs v. (is_among c cs ≡ true) × (v.status ≡ PartialFailure))
       (λ m cs v. enters w Active m (answered_by c attempt v))
 
--- ---- what the table says
+-- ---- what the tests say
 
 -- where the limit's test fails, an attempt is left
 left_by : (attempt : ℕ) → has_no_attempt_left attempt ≡ false → attempt + 1 < limit

@@ -1,13 +1,14 @@
--- What is refused has the least number whose test holds.
+-- A command on a version is refused by its own tests, and whatever is refused, with the least
+-- number whose test holds.
 use Rattle.std.proofs.Common.{◌≡◌, ℕ, ◌≤◌, Bool, true, false, not, ◌&&◌, List, [], ◌∷◌, Option, Some, None, refl, ap, sym, ◌∙◌, arith}
 use Rattle.std.specs.Prelude.{nat_lt, ◌==◌, if◌then◌else◌}
 use Rattle.std.proofs.lemmas.Bool.Decides.{nat_tests}
-use Rattle.meaning.specs.Commands.{VersionCommand, Activate, PutInConflict, RemoveFromConflict, Cancel, OldProviderCancellationAcknowledge, NewProviderCancellationAcknowledge, Disconnect, ModifyRouting, Command, RegisterCarrier, RegisterRoutingNumber, OpenCode, OldProviderCreate, NewProviderCreate, OnVersion, Donate, Assign, Release, SetWindows}
+use Rattle.meaning.specs.Commands.{VersionCommand, ModifyRouting, Command, OnVersion}
 use Rattle.meaning.specs.Conditions.{holds_of, is_active, has_no_attempt_left}
 use Rattle.meaning.specs.History.{Commands, Acknowledges}
 use Rattle.meaning.specs.OnVersion.{version_tests, is_number}
 use Rattle.meaning.specs.Reading.{State, SubjectVersion, is_carrier, version_of_id, set_now}
-use Rattle.meaning.specs.Refusals.{Moment, Requests, Asks, Knows, Fetch, ShowVersion, Query, AllInForce, Waiting, Ids, tests, own_tests, has_open, owns, first_that_holds, holds_at}
+use Rattle.meaning.specs.Refusals.{Moment, Requests, Asks, Question, Knows, tests, own_tests, has_open, owns, first_that_holds, holds_at}
 use Rattle.meaning.specs.Laws.{RefusedByOwnTests, LeastIsMet}
 use Rattle.numbers.proofs.Small.{and_first, and_second}
 
@@ -125,53 +126,22 @@ module _ (st : State) (caller : ℕ) where
       k n refl
 
   of_change : (id : ℕ) (c : VersionCommand) → Least (own_tests st caller (OnVersion id c))
-  of_change id Activate k n = least (own_tests st caller (OnVersion id Activate)) 0 k n refl
-  of_change id PutInConflict k n =
-      least (own_tests st caller (OnVersion id PutInConflict)) 0 k n refl
-  of_change id RemoveFromConflict k n =
-      least (own_tests st caller (OnVersion id RemoveFromConflict)) 0 k n refl
-  of_change id Cancel k n = least (own_tests st caller (OnVersion id Cancel)) 0 k n refl
-  of_change id OldProviderCancellationAcknowledge k n =
-      least (own_tests st caller (OnVersion id OldProviderCancellationAcknowledge)) 0 k n refl
-  of_change id NewProviderCancellationAcknowledge k n =
-      least (own_tests st caller (OnVersion id NewProviderCancellationAcknowledge)) 0 k n refl
-  of_change id (Disconnect release) k n =
-      least (own_tests st caller (OnVersion id (Disconnect release))) 0 k n refl
   of_change id (ModifyRouting lrn cic) k n = of_modify lrn cic (version_of_id st id) k n
+  of_change id c k n = least (own_tests st caller (OnVersion id c)) 0 k n refl
 
   of_command : (c : Command) → Least (own_tests st caller c)
   of_command (OnVersion id c) k n = of_change id c k n
-  of_command (RegisterCarrier spid) k n =
-      least (own_tests st caller (RegisterCarrier spid)) 0 k n refl
-  of_command (RegisterRoutingNumber lrn) k n =
-      least (own_tests st caller (RegisterRoutingNumber lrn)) 0 k n refl
-  of_command (OpenCode code spid) k n =
-      least (own_tests st caller (OpenCode code spid)) 0 k n refl
-  of_command (OldProviderCreate tn old_provider new_provider due authorized) k n =
-      least (own_tests st caller (OldProviderCreate tn old_provider new_provider due authorized)) 0
-      k n refl
-  of_command (NewProviderCreate tn old_provider new_provider due lrn cic) k n =
-      least (own_tests st caller (NewProviderCreate tn old_provider new_provider due lrn cic)) 0 k
-      n refl
-  of_command (Donate block used lrn cic) k n =
-      least (own_tests st caller (Donate block used lrn cic)) 0 k n refl
-  of_command (Assign block holder lrn cic) k n =
-      least (own_tests st caller (Assign block holder lrn cic)) 0 k n refl
-  of_command (Release block) k n = least (own_tests st caller (Release block)) 0 k n refl
-  of_command (SetWindows windows) k n =
-      least (own_tests st caller (SetWindows windows)) 0 k n refl
+  of_command c k n = least (own_tests st caller c) 0 k n refl
+
+of_question : (st : State) (caller : ℕ) (q : Question) → Least (tests st (Asks caller q))
+unfolding tests
+of_question st caller Knows k n = least (tests st (Asks caller Knows)) 0 k n refl
+of_question st caller q k n = least (tests st (Asks caller q)) 0 k n refl
 
 pub least_is_met : LeastIsMet
 unfolding tests
 least_is_met st (Requests caller (Commands c)) k n = of_command st caller c k n
-least_is_met st (Moment m) k n = least (tests st (Moment m)) 0 k n refl
 least_is_met st (Requests caller (Acknowledges id attempt)) k n =
     least (tests st (Requests caller (Acknowledges id attempt))) 0 k n refl
-least_is_met st (Asks caller Knows) k n = least (tests st (Asks caller Knows)) 0 k n refl
-least_is_met st (Asks caller (Fetch m)) k n = least (tests st (Asks caller (Fetch m))) 0 k n refl
-least_is_met st (Asks caller (ShowVersion id)) k n =
-    least (tests st (Asks caller (ShowVersion id))) 0 k n refl
-least_is_met st (Asks caller (Query tn)) k n = least (tests st (Asks caller (Query tn))) 0 k n refl
-least_is_met st (Asks caller AllInForce) k n = least (tests st (Asks caller AllInForce)) 0 k n refl
-least_is_met st (Asks caller Waiting) k n = least (tests st (Asks caller Waiting)) 0 k n refl
-least_is_met st (Asks caller (Ids tn)) k n = least (tests st (Asks caller (Ids tn))) 0 k n refl
+least_is_met st (Moment m) k n = least (tests st (Moment m)) 0 k n refl
+least_is_met st (Asks caller q) k n = of_question st caller q k n

@@ -186,7 +186,10 @@ module _ (st : State) (caller : ℕ) where
       (1, is_stranger st caller)
       ∷ (3, is_none (code_holder (block_code_of block) st.history))
       ∷ (10, is_none (donor_of block st.history) || is_none last)
-      ∷ (11, not (caller == npac) && holds_of (λ (v : Version). not (caller == v.new_provider)) last)
+      ∷ (
+        11,
+        not (caller == npac) && holds_of (λ (v : Version). not (caller == v.new_provider)) last,
+      )
       ∷ (13, holds_of (λ (v : Version). not (is_active v.status)) last)
       ∷ (23, has_open_port st block)
       ∷ (28, holds_of (λ (v : Version). has_no_attempt_left v.attempt) last) ∷ []

@@ -98,7 +98,8 @@ assign_by_table : (st : State) (caller : ℕ) (a : Assignment)
     ≡ first_that_holds ((1, holds_at 1 (own_tests st caller (command_of a)))
     ∷ (2, not (caller == npac))
     ∷ (3, is_none (code_holder (block_code_of a.block.number) st.history))
-    ∷ (7, holds_at 7 (own_tests st caller (command_of a))) ∷ (10, is_none (donor_of a.block.number st.history))
+    ∷ (7, holds_at 7 (own_tests st caller (command_of a)))
+    ∷ (10, is_none (donor_of a.block.number st.history))
     ∷ (23, has_open_port_in st a.block.number)
     ∷ (
       24,

@@ -207,7 +207,7 @@ module _ (w : WindowSet) (o : Look) where
       go true = next_thinned minute (own o v) (own o v) (thinned_same (own o v))
       go false = sent_next w o everyone lasts Delete minute v
 
--- ---- what the table says
+-- ---- what the tests say
 
 -- a number's version that may be activated is open
 activated_open : (s : Subject) (status : Status) → is_number s ≡ true
