@@ -27,7 +27,7 @@ use Rattle.meaning.specs.Versions.{in_force}
 -- ---- who may ask
 
 abbrev may_ask : (known is_admin : Bool) → Option ℕ
-may_ask known is_admin = if true && (not known && not (true && is_admin)) then Some 1 else None
+may_ask known is_admin = if not known && not is_admin then Some 1 else None
 
 by_caller : (known is_admin b : Bool) → (is_admin || known) ≡ b → may_ask known is_admin ≡ (if b
     then None else Some 1)

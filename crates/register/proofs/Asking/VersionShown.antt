@@ -28,7 +28,7 @@ use Rattle.register.proofs.EveryCall.Settled.{row_now}
 
 abbrev show_table : (known is_admin none : Bool) → List (ℕ × Bool)
 show_table known is_admin none =
-    (1, true && (not known && not (true && is_admin))) ∷ (10, none) ∷ []
+    (1, not known && not is_admin) ∷ (10, none) ∷ []
 
 by_table : (st : State) (caller id : ℕ) → refusal st (Asks caller (ShowVersion id))
     ≡ first_that_holds (show_table (is_carrier st caller) (caller == npac) (no_version st id))

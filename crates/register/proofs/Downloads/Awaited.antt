@@ -1,6 +1,6 @@
 -- The subjects that wait for a carrier, as a store lists them, are those of its queue.
 use Rattle.std.proofs.Common.{◌≡◌, inl, inr, ℕ, suc, Bool, true, false, List, [], ◌∷◌, map, Option, Some, None, refl, ap, sym, ◌∙◌, subst, arith}
-use Rattle.std.specs.Prelude.{◌==◌, Result, Ok, Err, IfOk, is_some, All, Contains, if◌then◌else◌}
+use Rattle.std.specs.Prelude.{Result, Ok, Err, IfOk, is_some, All, Contains, if◌then◌else◌}
 use Rattle.std.specs.List.{list_any}
 use Rattle.std.specs.FinMap.{get}
 use Rattle.numbers.specs.Subjects.{Subject, subject_eq, subject_key}
@@ -11,7 +11,7 @@ use Rattle.meaning.specs.Content.{Content}
 use Rattle.meaning.specs.Laws.{IsState}
 use Rattle.meaning.specs.Machine.{Awaited, Refused, each_once, out, refused_or}
 use Rattle.meaning.specs.Reading.{State, Download, is_carrier, queue}
-use Rattle.meaning.specs.Refusals.{Asks, Waiting, npac, refusal, tests}
+use Rattle.meaning.specs.Refusals.{Asks, Waiting, refusal, tests}
 use Rattle.meaning.proofs.Ascending.{same_rising, sorted-rise, mapped-rise}
 use Rattle.meaning.proofs.Listed.{each_is_once, subjects-ascend}
 use Rattle.meaning.proofs.Lists.{Among, any_there, contained, contains-among}
@@ -100,7 +100,7 @@ module _ (st : State) (c : Content) (stands : Stands c st) (settled : (s : Subje
 -- ---- who may ask
 
 waiting_by : (st : State) (caller : ℕ)
-    → refusal st (Asks caller Waiting) ≡ may_fetch (is_carrier st caller) (caller == npac)
+    → refusal st (Asks caller Waiting) ≡ may_fetch (is_carrier st caller)
 unfolding tests
 waiting_by st caller = refl
 
@@ -108,7 +108,7 @@ pub waiting_refused : (old : Content) (caller : ℕ) (known : Bool)
     → is_some (get old.carriers caller) ≡ known → (st : State) → Stands old st
     → refusal st (Asks caller Waiting) ≡ (if known then None else Some 1)
 waiting_refused old caller known is st stands =
-    waiting_by st caller ∙ by_caller (is_carrier st caller) (caller == npac) known
+    waiting_by st caller ∙ by_caller (is_carrier st caller) known
     (sym (stands.represents.carriers caller) ∙ is)
 
 pub answers_awaited : (old new : Content) (caller : ℕ) (subjects : List SubjectCode)
@@ -159,7 +159,7 @@ holds_all_but old new caller subjects answers st stands = λ s none.
     told (refusal st (Asks caller Waiting)) subjects
     (each_once (map (λ (d : Download). d.subject) (queue st caller))) (answers st stands).0 in
     let known : is_carrier st caller ≡ true =
-    known_by (is_carrier st caller) (caller == npac) (sym (waiting_by st caller) ∙ reply.0) in
+    known_by (is_carrier st caller) (sym (waiting_by st caller) ∙ reply.0) in
     copy_is_published st is caller s known (nothing_waits s (queue st caller)
     (λ there. none (subst (λ xs. Contains xs s) reply.1 there)))
 

@@ -1,6 +1,6 @@
 -- A carrier that fetches and is answered nothing holds what was published to it.
 use Rattle.std.proofs.Common.{◌≡◌, ◌<◌, ℕ, zero, suc, Bool, true, false, List, [], ◌∷◌, map, Option, Some, None, refl, ap, sym, ◌∙◌, arith}
-use Rattle.std.specs.Prelude.{◌==◌, take, Result, Ok, Err, IfOk}
+use Rattle.std.specs.Prelude.{take, Result, Ok, Err, IfOk}
 use Rattle.std.specs.List.{list_any}
 use Rattle.numbers.specs.Subjects.{subject_eq}
 use Rattle.meaning.specs.declared.refusal.Refusal.{Refusal}
@@ -8,7 +8,7 @@ use Rattle.meaning.specs.Content.{Content}
 use Rattle.meaning.specs.Laws.{IsState}
 use Rattle.meaning.specs.Machine.{Refused, Fetched, out, refused_or}
 use Rattle.meaning.specs.Reading.{State, Download, is_carrier, queue}
-use Rattle.meaning.specs.Refusals.{Asks, Fetch, npac, refusal}
+use Rattle.meaning.specs.Refusals.{Asks, Fetch, refusal}
 use Rattle.meaning.proofs.Copies.Law.{copy_is_published}
 use Rattle.meaning.proofs.Copies.InForce.{copy_is_in_force}
 use Rattle.delivery.specs.declared.download.Download.{Download as DownloadCode}
@@ -22,9 +22,9 @@ none_taken n [] some e = refl
 none_taken zero (d ∷ ds) some e = absurd (omega (arith, some))
 none_taken (suc n) (d ∷ ds) some e = let f : d ∷ take n ds ≡ [] = e in cc
 
-pub known_by : (known is_admin : Bool) → may_fetch known is_admin ≡ None → known ≡ true
-known_by true is_admin e = refl
-known_by false is_admin e = let f : ◌≡◌ {A = Option ℕ} (Some 1) None = e in cc
+pub known_by : (known : Bool) → may_fetch known ≡ None → known ≡ true
+known_by true e = refl
+known_by false e = let f : ◌≡◌ {A = Option ℕ} (Some 1) None = e in cc
 
 -- what the machine answered, where it answered downloads
 told : (number : Option ℕ) (xs ys : List Download) → Fetched xs ≡ refused_or number (Fetched ys)
@@ -47,7 +47,7 @@ holds_published old new caller many downloads answers none some st stands =
     let empty : queue st caller ≡ [] =
     none_taken many (queue st caller) some (reply.1 ∙ ap (map download_of) none) in
     let known : is_carrier st caller ≡ true =
-    known_by (is_carrier st caller) (caller == npac) (sym (fetch_by st caller many) ∙ reply.0) in
+    known_by (is_carrier st caller) (sym (fetch_by st caller many) ∙ reply.0) in
     record {
       published =
           λ s. copy_is_published st is caller s known

@@ -1,6 +1,6 @@
 -- The front of a carrier's queue, as a store answers it, is the front of the queue.
 use Rattle.std.proofs.Common.{◌≡◌, ◌<◌, ◌≤◌, ◌⊎◌, ℕ, zero, suc, inl, inr, Bool, true, false, List, [], ◌∷◌, length, map, Option, Some, None, refl, ap, sym, ◌∙◌, subst, arith}
-use Rattle.std.specs.Prelude.{◌&&◌, ◌==◌, not, is_some, take, All, Contains, slice_index_or, if◌then◌else◌}
+use Rattle.std.specs.Prelude.{not, is_some, take, All, Contains, slice_index_or, if◌then◌else◌}
 use Rattle.std.specs.declared.cmp.Ordering.TheVariants.{Less}
 use Rattle.std.specs.List.{AllByRecursion}
 use Rattle.std.specs.List.Sorted.{IsStrictlySortedBy}
@@ -11,7 +11,7 @@ use Rattle.numbers.specs.Subjects.{Subject}
 use Rattle.meaning.specs.Content.{Content, BroadcastRow}
 use Rattle.meaning.specs.Machine.{Fetched}
 use Rattle.meaning.specs.Reading.{State, Download, is_before, is_carrier, queue}
-use Rattle.meaning.specs.Refusals.{Asks, Fetch, npac, refusal, tests}
+use Rattle.meaning.specs.Refusals.{Asks, Fetch, refusal, tests}
 use Rattle.meaning.proofs.Lists.{Among}
 use Rattle.meaning.specs.Laws.{AllBehind, Rises}
 use Rattle.meaning.proofs.Queues.{behind_each, front_is, queue_rises}
@@ -187,24 +187,24 @@ module _ (st : State) (c : Content) (stands : Stands c st) (settled : (s : Subje
 
 -- ---- who may fetch
 
-abbrev pub may_fetch : (known is_admin : Bool) → Option ℕ
-may_fetch known is_admin = if true && (not known && not (false && is_admin)) then Some 1 else None
+abbrev pub may_fetch : (known : Bool) → Option ℕ
+may_fetch known = if not known then Some 1 else None
 
 pub fetch_by : (st : State) (caller n : ℕ)
-    → refusal st (Asks caller (Fetch n)) ≡ may_fetch (is_carrier st caller) (caller == npac)
+    → refusal st (Asks caller (Fetch n)) ≡ may_fetch (is_carrier st caller)
 unfolding tests
 fetch_by st caller n = refl
 
-pub by_caller : (known is_admin b : Bool) → known ≡ b → may_fetch known is_admin ≡ (if b then None
+pub by_caller : (known b : Bool) → known ≡ b → may_fetch known ≡ (if b then None
     else Some 1)
-by_caller true is_admin b is = ap (λ x. if x then None else Some 1) is
-by_caller false is_admin b is = ap (λ x. if x then None else Some 1) is
+by_caller true b is = ap (λ x. if x then None else Some 1) is
+by_caller false b is = ap (λ x. if x then None else Some 1) is
 
 pub fetch_refused : (old : Content) (caller n : ℕ) (known : Bool)
     → is_some (get old.carriers caller) ≡ known → (st : State) → Stands old st
     → refusal st (Asks caller (Fetch n)) ≡ (if known then None else Some 1)
 fetch_refused old caller n known is st stands =
-    fetch_by st caller n ∙ by_caller (is_carrier st caller) (caller == npac) known
+    fetch_by st caller n ∙ by_caller (is_carrier st caller) known
     (sym (stands.represents.carriers caller) ∙ is)
 
 pub answers_fetched : (old new : Content) (caller many : ℕ) (downloads : List DownloadCode)

@@ -20,7 +20,7 @@ use Rattle.meaning.specs.Refusals.{Requests, is_in_block, refusal}
 use Rattle.meaning.specs.Versions.{Version, version_with}
 use Rattle.meaning.proofs.Accepted.{accepted_command}
 use Rattle.meaning.proofs.Entered.{subject_eq-refl}
-use Rattle.numbers.proofs.Small.{same_number, or_second}
+use Rattle.numbers.proofs.Small.{same_number}
 use Rattle.version.specs.declared.version.Version.{Version as VersionCode}
 use Rattle.version.specs.Views.{IsSeen, version_of}
 use Rattle.settle.specs.Changes.{ClockMove, IsChanged}
@@ -134,7 +134,7 @@ module _ (old new : Content) (caller : ℕ) (a : Assignment) (clock : ClockRow) 
       the_donor : (d : ℕ) × (donor_of a.block.number st.history ≡ Some d)
       the_donor =
           is_there (donor_of a.block.number st.history) (accepted_command st caller (assigned a)
-          none).not_found
+          none 10)
 
       donor_named : version.old_provider.number ≡ the_donor.0
       donor_named = ap (λ (v : Version). v.old_provider) (made (next_id st.windows st.history) [])
@@ -144,8 +144,7 @@ module _ (old new : Content) (caller : ℕ) (a : Assignment) (clock : ClockRow) 
       room : clock.next_id + 1 ≤ limit
       room =
           let test : nat_lt limit (next_id st.windows st.history + 1) ≡ false =
-          or_second false (nat_lt limit (next_id st.windows st.history + 1))
-          (accepted_command st caller (assigned a) none).full in
+          accepted_command st caller (assigned a) none 28 in
           subst (λ k. k + 1 ≤ limit) (ap (λ (k : ClockRow). k.next_id) (sym same_clock))
           (not_past (next_id st.windows st.history + 1) test)
 

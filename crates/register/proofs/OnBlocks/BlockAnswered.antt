@@ -66,7 +66,7 @@ module _ (st : State) (old new : Content) (caller block : ℕ) (v : Version) (u 
   forced : in_force_status v.status ≡ true
   forced = ap in_force_status (is_active-is v.status
       (ap (holds_of (λ (x : Version). not (is_active x.status))) (sym last)
-      ∙ (accepted_command st caller (Release block) none).wrong_status))
+      ∙ accepted_command st caller (Release block) none 13))
 
   one : StepsOne st caller (Commands (Release block)) (Block block) v.id
       (sent (set_now st) Delete (record_now st (Block block)).carriers st.now) (Some Delete) v

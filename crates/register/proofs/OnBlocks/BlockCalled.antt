@@ -10,7 +10,7 @@ use Rattle.meaning.specs.History.{Commands}
 use Rattle.meaning.specs.Machine.{Reply}
 use Rattle.meaning.specs.Reading.{State, is_carrier}
 use Rattle.meaning.specs.RefusalNumbers.{number_of}
-use Rattle.meaning.specs.Refusals.{Requests, npac, refusal, unknown_carrier}
+use Rattle.meaning.specs.Refusals.{Requests, npac, refusal, holds_at, own_tests}
 use Rattle.meaning.specs.declared.refusal.Refusal.{Refusal}
 use Rattle.meaning.specs.declared.refusal.Refusal.TheVariants.{NoMemory}
 use Rattle.pool.specs.declared.facts.BlockFacts.{BlockFacts}
@@ -30,29 +30,21 @@ carrier_is st old stands k b is = sym (stands.represents.carriers k) ∙ sym is
 -- the donor, unless it is registered
 pub donor_unknown : (st : State) (old : Content) (caller block : ℕ) (used : List ℕ) (lrn : ℕ)
     (cic : Option ℕ) → Stands old st → (known : Bool) → known ≡ is_some (get old.carriers caller) →
-    unknown_carrier st (Requests caller (Commands (Donate block used lrn cic))) ≡ not known
+    holds_at 1 (own_tests st caller (Donate block used lrn cic)) ≡ not known
 donor_unknown st old caller block used lrn cic stands known is =
-    ap (λ b. not b && true) (carrier_is st old stands caller known is) ∙ go known
-  where
-    go : (b : Bool) → (not b && true) ≡ not b
-    go true = refl
-    go false = refl
+    ap not (carrier_is st old stands caller known is)
 
 -- the holder, unless it is registered
 pub holder_unknown : (st : State) (old : Content) (caller block holder lrn : ℕ) (cic : Option ℕ)
     → Stands old st → (known : Bool) → known ≡ is_some (get old.carriers holder) →
-    unknown_carrier st (Requests caller (Commands (Assign block holder lrn cic))) ≡ not known
+    holds_at 1 (own_tests st caller (Assign block holder lrn cic)) ≡ not known
 holder_unknown st old caller block holder lrn cic stands known is =
-    ap (λ b. (not b || false) || false) (carrier_is st old stands holder known is) ∙ go known
-  where
-    go : (b : Bool) → ((not b || false) || false) ≡ not b
-    go true = refl
-    go false = refl
+    ap not (carrier_is st old stands holder known is)
 
 -- who releases, unless it is registered or the administrator
 pub releaser_unknown : (st : State) (old : Content) (caller block : ℕ) → Stands old st
     → (known : Bool) → known ≡ ((caller == npac) || is_some (get old.carriers caller)) →
-    unknown_carrier st (Requests caller (Commands (Release block))) ≡ not known
+    holds_at 1 (own_tests st caller (Release block)) ≡ not known
 releaser_unknown st old caller block stands known is =
     ap (λ b. not b && not (caller == npac)) (sym (stands.represents.carriers caller))
     ∙ go (is_some (get old.carriers caller)) (caller == npac) ∙ ap not (sym is)
@@ -69,7 +61,7 @@ releaser_unknown st old caller block stands known is =
 pub answers_unfound : {A : Type 0} (old new : Content) (caller : ℕ) (command : Command)
     (is_known : Bool) (seen : A → Reply) (result : Result A Refusal) (r : Refusal) →
     result ≡ Err r → new ≡ old → IsBlockFoundInVain is_known r →
-    ((st : State) → Stands old st → unknown_carrier st (Requests caller (Commands command))
+    ((st : State) → Stands old st → holds_at 1 (own_tests st caller command)
     ≡ not is_known) →
     AnswersSettled old new (Requests caller (Commands command)) (replied seen result)
 answers_unfound old new caller command is_known seen result r is same vain unknown =
@@ -96,7 +88,7 @@ not_past n below = grind (arith, nat_tests)
 
 pub record HasFound (old : Content) (caller block : ℕ) (command : Command) (clock : ClockRow)
     (read : BlockRead) (facts : BlockFacts) : Type 0 where
-  pub known : (st : State) → Stands old st → unknown_carrier st (Requests caller (Commands command))
+  pub known : (st : State) → Stands old st → holds_at 1 (own_tests st caller command)
       ≡ false
   pub clock_is : old.clock ≡ Some clock
   pub is_read : IsBlockRead old block read
@@ -106,7 +98,7 @@ pub record HasFound (old : Content) (caller block : ℕ) (command : Command) (cl
 pub has_found : (old mid : Content) (caller block : ℕ) (command : Command) (clock : ClockRow)
     (read : BlockRead) (facts : BlockFacts) (is_known good : Bool) →
     mid ≡ old → IsBlockFound mid is_known block clock read → ((st : State) → Stands old st
-    → unknown_carrier st (Requests caller (Commands command)) ≡ not is_known) →
+    → holds_at 1 (own_tests st caller command) ≡ not is_known) →
     good ≡ is_routing_good old caller command → AreBlockFacts read good clock.next_id facts
     → HasFound old caller block command clock read facts
 has_found old mid caller block command clock read facts is_known good same found unknown is are =

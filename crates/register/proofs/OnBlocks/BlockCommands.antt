@@ -101,7 +101,7 @@ donation-blocks st old caller block used lrn cic lines stands none k = go (block
 
     free : donor_of block st.history ≡ None
     free = is_some-none (donor_of block st.history)
-        (accepted_command st caller (Donate block used lrn cic) none).block_taken
+        (accepted_command st caller (Donate block used lrn cic) none 24)
 
     row_of : Option Version → ℕ → BlockRow
     row_of v donor = record { donor = donor; last = option_map (λ (u : Version). u.id) v }

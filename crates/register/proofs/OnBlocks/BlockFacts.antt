@@ -1,15 +1,15 @@
 -- The facts of a block that are read are those of the state.
-use Rattle.std.proofs.Common.{◌≡◌, ℕ, Bool, true, false, not, ◌||◌, List, [], ◌∷◌, Option, Some, None, refl, ap, sym, ◌∙◌, subst, inl, is_some}
+use Rattle.std.proofs.Common.{◌≡◌, ℕ, Bool, true, false, not, ◌||◌, List, [], ◌∷◌, Option, Some, None, refl, ap, sym, ◌∙◌, subst, inl}
 use Rattle.std.specs.Prelude.{option_map}
 use Rattle.std.specs.FinMap.{get}
 use Rattle.numbers.specs.Digits.{block_code_of}
 use Rattle.numbers.specs.Subjects.{Subject, Block}
 use Rattle.meaning.specs.Versions.{Version, last_version, first_of_versions}
-use Rattle.meaning.specs.Commands.{Command, RegisterCarrier, RegisterRoutingNumber, OpenCode, OldProviderCreate, NewProviderCreate, OnVersion, Donate, Assign, Release, SetWindows}
+use Rattle.meaning.specs.Commands.{Command, Donate, Assign, Release}
 use Rattle.meaning.specs.Conditions.{is_the}
 use Rattle.meaning.specs.History.{donor_of, lrn_owner}
 use Rattle.meaning.specs.Reading.{State, record_now, set_now}
-use Rattle.meaning.specs.Refusals.{block_named, bad_lrn}
+use Rattle.meaning.specs.Refusals.{holds_at, own_tests}
 use Rattle.meaning.specs.Content.{Content, BlockRow, ClockRow, row_of}
 use Rattle.meaning.proofs.Lists.{Among}
 use Rattle.numbers.proofs.Small.{some_is}
@@ -57,10 +57,17 @@ not_not : (b : Bool) → b ≡ not (not b)
 not_not true = refl
 not_not false = refl
 
--- the routing number of a command on a block
+-- a command on a block
+abbrev pub is_on_block : Command → Bool
+is_on_block (Donate block used lrn cic) = true
+is_on_block (Assign block holder lrn cic) = true
+is_on_block (Release block) = true
+is_on_block _ = false
+
+-- its routing number
 pub routing_is : (st : State) (c : Content) → Stands c st → (caller : ℕ) (command : Command)
-    → is_some (block_named command) ≡ true
-    → is_routing_good c caller command ≡ not (bad_lrn st caller command)
+    → is_on_block command ≡ true
+    → is_routing_good c caller command ≡ not (holds_at 7 (own_tests st caller command))
 routing_is st c stands caller (Donate block used lrn cic) on =
     ap (is_the caller) (stands.represents.lrns lrn)
     ∙ not_not (is_the caller (lrn_owner lrn st.history))
@@ -68,14 +75,7 @@ routing_is st c stands caller (Assign block holder lrn cic) on =
     ap (is_the holder) (stands.represents.lrns lrn)
     ∙ not_not (is_the holder (lrn_owner lrn st.history))
 routing_is st c stands caller (Release block) on = refl
-routing_is st c stands caller (NewProviderCreate tn old_provider new_provider due lrn cic) on = cc
-routing_is st c stands caller (RegisterCarrier spid) on = cc
-routing_is st c stands caller (RegisterRoutingNumber lrn) on = cc
-routing_is st c stands caller (OpenCode code spid) on = cc
-routing_is st c stands caller (OldProviderCreate tn old_provider new_provider due authorized) on =
-    cc
-routing_is st c stands caller (OnVersion id change) on = cc
-routing_is st c stands caller (SetWindows windows) on = cc
+routing_is st c stands caller _ on = cc
 
 -- ---- the version made last
 
@@ -131,7 +131,7 @@ module _ (st : State) (c : Content) (stands : Stands c st) (block : ℕ) (settle
   module _ (read : BlockRead) (is : IsBlockRead c block read) (clock : ClockRow) (clock_is : c.clock
       ≡ Some clock) (caller : ℕ) (command : Command) (facts : BlockFacts)
       (are : AreBlockFacts read (is_routing_good c caller command) clock.next_id facts)
-      (on_block : is_some (block_named command) ≡ true) where
+      (on_block : is_on_block command ≡ true) where
     pub block_facts_are : BlockFactsAre st caller block command facts
     block_facts_are = record {
       code = ap carrier_number are.code ∙ is.code ∙ stands.represents.codes (block_code_of block);
@@ -143,7 +143,7 @@ module _ (st : State) (c : Content) (stands : Stands c st) (block : ℕ) (settle
       last = subst (λ o. Sees o (last_version (record_now st (Block block)))) (sym are.last)
           (last_seen read.row read.last is.row is.last);
       ports = ap has_open_port are.numbers ∙ ports_are st c stands block settled read.numbers.items
-          is.numbers caller;
+          is.numbers;
       next_id = are.next_id ∙ ap (λ (k : ClockRow). k.next_id)
           (clock_is_of c st clock stands.represents clock_is);
     }

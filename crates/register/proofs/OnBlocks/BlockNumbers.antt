@@ -204,8 +204,8 @@ module _ (st : State) (c : Content) (stands : Stands c st) where
         go (Number n) v id found test = open_number n id v found test
         go (Block b) v id found test = cc
 
-    pub ports_are : (caller : ℕ) → has_open_port numbers ≡ has_open_port_in st caller block
-    ports_are caller = same_tests (has_open_port numbers) (has_open_port_in st caller block) ported
+    pub ports_are : has_open_port numbers ≡ has_open_port_in st block
+    ports_are = same_tests (has_open_port numbers) (has_open_port_in st block) ported
         ports_back
 
     -- ---- numbers with a version in force

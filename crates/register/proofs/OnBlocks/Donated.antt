@@ -19,7 +19,7 @@ use Rattle.meaning.specs.Versions.{version_in_force}
 use Rattle.meaning.proofs.Accepted.{accepted_command}
 use Rattle.meaning.proofs.Ids.{same_subject}
 use Rattle.meaning.proofs.Lists.{Among, any_there, filtered-from, mapped-from}
-use Rattle.numbers.proofs.Small.{same_number, or_right, or_second}
+use Rattle.numbers.proofs.Small.{same_number, or_right}
 use Rattle.version.specs.declared.version.Version.{Version as VersionCode}
 use Rattle.settle.specs.Changes.{ClockMove, IsChanged}
 use Rattle.settle.specs.Sending.{Begun, begun_of, sending_each}
@@ -182,8 +182,7 @@ module _ (old new : Content) (caller : ℕ) (d : Donation) (clock : ClockRow) (r
       room : clock.next_id + length versions ≤ limit
       room =
           let test : nat_lt limit (next_id st.windows st.history + length news) ≡ false =
-          or_second false (nat_lt limit (next_id st.windows st.history + length news))
-          (accepted_command st caller (donated d) none).full in
+          accepted_command st caller (donated d) none 28 in
           subst (λ n. clock.next_id + n ≤ limit) (sym many) (subst (λ k. k + length news ≤ limit)
           (ap (λ (k : ClockRow). k.next_id) (sym same_clock))
           (not_past (next_id st.windows st.history + length news) test))

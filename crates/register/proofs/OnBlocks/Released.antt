@@ -67,7 +67,6 @@ module _ (old new : Content) (caller block : ℕ) (clock : ClockRow) (read : Blo
   refused_read st stands settled =
       release_refused st caller facts block (block_facts_are st old stands block settled read
       has.is_read clock has.clock_is caller (Release block) facts has.are refl)
-      stands.represents.history
       ∙ ap (λ b. if b then Some 1 else release_refusal caller facts) (has.known st stands)
 
   pub answers_release_refused : (k : ℕ) → new ≡ old → Some k ≡ release_refusal caller facts
@@ -105,7 +104,7 @@ module _ (old new : Content) (caller block : ℕ) (clock : ClockRow) (read : Blo
           let named : last_id read.row ≡ Some v.id =
           named_is st old stands.represents block read.row has.is_read.row
           ∙ donated (donor_of block st.history) (accepted_command st caller (Release block)
-          none).not_found
+          none 10)
           ∙ ap (option_map (λ (x : Version). x.id)) e in
           let row = its_row v.id named in
           let there = row_there (set_now st) (Block block) old (record_now st (Block block))

@@ -18,7 +18,7 @@ use Rattle.meaning.specs.OnVersion.{is_number}
 use Rattle.meaning.specs.Versions.{Broadcast, Version, is_open, version_with}
 use Rattle.meaning.specs.Windows.{WindowSet, Windows}
 use Rattle.meaning.specs.Laws.{IsState, version_table}
-use Rattle.meaning.proofs.Tabled.{refused_by_own_tests}
+use Rattle.meaning.proofs.OwnTests.{refused_by_own_tests}
 use Rattle.meaning.proofs.Entered.{found_is, sound_now}
 use Rattle.meaning.proofs.Lagging.{no_row_now}
 use Rattle.meaning.proofs.Shown.{id_found}

@@ -33,7 +33,6 @@ use Rattle.register.proofs.EveryCall.Composed.{answers_refused_same, first_refus
 use Rattle.register.proofs.OnVersions.OnVersion.{LeavesRegistry}
 use Rattle.register.proofs.EveryCall.Settled.{number_of_number}
 use Rattle.register.proofs.OnVersions.FactsRead.{are_known, unknown_is, refused_by_facts}
-use Rattle.numbers.proofs.Small.{same_number}
 
 -- ---- the subjects that a create settles
 

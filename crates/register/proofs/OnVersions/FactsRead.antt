@@ -8,7 +8,7 @@ use Rattle.meaning.specs.Versions.{Version, in_force, version_in_force, open_ver
 use Rattle.meaning.specs.History.{Commands, donor_of, lrn_owner}
 use Rattle.meaning.specs.Reading.{State, Server, ByVersion, ByBlock, InPool, ByCode, record_now, serving, served_by_block, protected_by, is_served_by, is_carrier, set_now}
 use Rattle.meaning.specs.Conditions.{holds_of, is_the, is_delete_sent}
-use Rattle.meaning.specs.Refusals.{Requests, unknown_carrier, bad_lrn, is_in_pool, refusal}
+use Rattle.meaning.specs.Refusals.{Requests, holds_at, own_tests, is_in_pool, refusal}
 use Rattle.meaning.specs.Content.{Content, ClockRow}
 use Rattle.version.specs.declared.version.Version.{Version as VersionCode}
 use Rattle.version.specs.declared.create.Create.{Create as CreateCode}
@@ -53,23 +53,22 @@ sees_opened st c s o stands due is =
 -- ---- carriers
 
 known_by : (st : State) (creator : Creator) (caller tn old_provider new_provider due : ℕ) →
-    unknown_carrier st
-    (Requests caller (Commands (command_by creator tn old_provider new_provider due)))
-    ≡ ((not (is_carrier st old_provider) || (not (is_carrier st new_provider) || false))
-    || (not (is_carrier st caller) && true))
+    holds_at 1 (own_tests st caller (command_by creator tn old_provider new_provider due))
+    ≡ (not (is_carrier st old_provider) || (not (is_carrier st new_provider)
+    || (not (is_carrier st caller) || false)))
 known_by st (OldProvider authorized) caller tn old_provider new_provider due = refl
 known_by st (NewProvider routing) caller tn old_provider new_provider due = refl
 
 -- a carrier that is not registered, and none
 carriers_unknown : (a b c : Bool) → (a && (b && c)) ≡ false
-    → ((not a || (not b || false)) || (not c && true)) ≡ true
+    → (not a || (not b || (not c || false))) ≡ true
 carriers_unknown true true true e = cc
 carriers_unknown true true false e = refl
 carriers_unknown true false c e = refl
 carriers_unknown false b c e = refl
 
 carriers_known : (a b c : Bool) → (a && (b && c)) ≡ true
-    → ((not a || (not b || false)) || (not c && true)) ≡ false
+    → (not a || (not b || (not c || false))) ≡ false
 carriers_known true true true e = refl
 carriers_known true true false e = cc
 carriers_known true false c e = cc
@@ -96,7 +95,7 @@ known_are st old c caller b stands known =
 
 pub unknown_is : (st : State) (old : Content) (c : CreateCode) (caller : ℕ) → Stands old st
     → are_known old c caller ≡ false
-    → unknown_carrier st (Requests caller (Commands (command_of c))) ≡ true
+    → holds_at 1 (own_tests st caller (command_of c)) ≡ true
 unknown_is st old c caller stands known =
     known_by st c.creator caller c.tn.number c.old_provider.number c.new_provider.number
     c.due.number
@@ -104,7 +103,7 @@ unknown_is st old c caller stands known =
     (is_carrier st caller) (known_are st old c caller false stands known)
 
 known_is : (st : State) (old : Content) (c : CreateCode) (caller : ℕ) → Stands old st
-    → are_known old c caller ≡ true → unknown_carrier st (Requests caller (Commands (command_of c)))
+    → are_known old c caller ≡ true → holds_at 1 (own_tests st caller (command_of c))
     ≡ false
 known_is st old c caller stands known =
     known_by st c.creator caller c.tn.number c.old_provider.number c.new_provider.number
@@ -121,7 +120,7 @@ not_not false = refl
 lrn_by : (st : State) (old : Content) → ((k : ℕ) → get old.lrns k ≡ lrn_owner k st.history)
     → (creator : Creator) (caller tn old_provider new_provider due : ℕ) →
     is_lrn_good old creator new_provider
-    ≡ not (bad_lrn st caller (command_by creator tn old_provider new_provider due))
+    ≡ not (holds_at 7 (own_tests st caller (command_by creator tn old_provider new_provider due)))
 lrn_by st old lrns (OldProvider authorized) caller tn old_provider new_provider due = refl
 lrn_by st old lrns (NewProvider routing) caller tn old_provider new_provider due =
     ap (is_the new_provider) (lrns routing.lrn.number)

@@ -1,13 +1,12 @@
 -- What the registration of a carrier answers and leaves, over contents.
-use Rattle.std.proofs.Common.{◌≡◌, ℕ, ◌+◌, Bool, true, false, not, ◌||◌, List, [], ◌∷◌, map, length, Option, Some, None, refl, ap, sym, ◌∙◌, subst}
-use Rattle.std.specs.Prelude.{◌==◌, nat_lt, nat_le, filter, is_some, option_map, if◌then◌else◌}
+use Rattle.std.proofs.Common.{◌≡◌, ℕ, Bool, true, false, not, ◌||◌, List, [], ◌∷◌, map, length, Option, Some, None, refl, ap, sym, ◌∙◌, subst}
+use Rattle.std.specs.Prelude.{◌==◌, nat_le, filter, is_some, option_map, if◌then◌else◌}
 use Rattle.std.specs.FinMap.{get, keys, entries, entries_sorted}
 use Rattle.numbers.specs.Subjects.{Subject, Block}
 use Rattle.meaning.specs.Commands.{RegisterCarrier}
-use Rattle.meaning.specs.Conditions.{limit}
 use Rattle.meaning.specs.Laws.{IsQuiet}
 use Rattle.meaning.specs.Versions.{Record, Version, Broadcast, is_among, last_version}
-use Rattle.meaning.specs.History.{Commands, next_id, carriers, donor_of}
+use Rattle.meaning.specs.History.{Commands, carriers, donor_of}
 use Rattle.meaning.specs.Reading.{State, InForce, record_now, is_carrier, all_in_force, set_now}
 use Rattle.meaning.specs.Refusals.{Requests, refusal, tests, first_that_holds, npac}
 use Rattle.meaning.specs.Machine.{Registered, accepted}
@@ -23,7 +22,6 @@ use Rattle.register.specs.Settling.{AnswersSettled}
 use Rattle.register.specs.Joining.{joining}
 use Rattle.register.proofs.EveryCall.Composed.{answers_accepted}
 use Rattle.register.proofs.Registering.Joined.{joined_record, registered-record, joined-quiet, joined-shows}
-use Rattle.register.proofs.Registering.Registry.{ids_left}
 use Rattle.register.proofs.Records.Touched.{RegistryShows, touched-stands}
 use Rattle.settle.proofs.Among.{among_keys}
 
@@ -39,15 +37,13 @@ carriers_are c st rep =
 
 -- ---- refusals
 
-abbrev carrier_table : State → (is_admin taken full : Bool) → Option ℕ
-carrier_table st is_admin taken full = first_that_holds ((2, not is_admin) ∷ (4, taken) ∷ (
-  28,
-  (full || false) || nat_lt limit (next_id st.windows st.history + 0),
-) ∷ [])
+abbrev carrier_refusal : (is_admin taken full : Bool) → Option ℕ
+carrier_refusal is_admin taken full =
+    first_that_holds ((2, not is_admin) ∷ (4, taken) ∷ (28, full) ∷ [])
 
 carrier_tests : (st : State) (caller spid : ℕ)
     → refusal st (Requests caller (Commands (RegisterCarrier spid)))
-    ≡ carrier_table st (caller == npac) (is_carrier st spid || (spid == npac))
+    ≡ carrier_refusal (caller == npac) (is_carrier st spid || (spid == npac))
     (nat_le 100 (length (carriers st.history)))
 unfolding tests
 carrier_tests st caller spid = refl
@@ -63,21 +59,21 @@ module _ (old : Content) (caller spid : ℕ) where
       → refusal st (Requests caller (Commands (RegisterCarrier spid))) ≡ Some 2
   carrier_not_admin other st stands =
       carrier_tests st caller spid
-      ∙ ap (λ b. carrier_table st b (is_carrier st spid || (spid == npac))
+      ∙ ap (λ b. carrier_refusal b (is_carrier st spid || (spid == npac))
       (nat_le 100 (length (carriers st.history)))) other
 
   by_taken : (caller == npac) ≡ true → (known : Bool)
       → (spid == npac || is_some (get old.carriers spid)) ≡ known → (st : State) → Stands old st →
-      refusal st (Requests caller (Commands (RegisterCarrier spid))) ≡ carrier_table st true known
+      refusal st (Requests caller (Commands (RegisterCarrier spid))) ≡ carrier_refusal true known
       (nat_le 100 (length (keys old.carriers)))
   by_taken admin known is st stands =
       carrier_tests st caller spid
-      ∙ ap (λ b. carrier_table st b (is_carrier st spid || (spid == npac))
+      ∙ ap (λ b. carrier_refusal b (is_carrier st spid || (spid == npac))
       (nat_le 100 (length (carriers st.history)))) admin
-      ∙ ap (λ b. carrier_table st true b (nat_le 100 (length (carriers st.history))))
+      ∙ ap (λ b. carrier_refusal true b (nat_le 100 (length (carriers st.history))))
       (turned (is_carrier st spid) (spid == npac) ∙ ap (λ b. (spid == npac) || b)
       (sym (stands.represents.carriers spid)) ∙ is)
-      ∙ ap (λ ns. carrier_table st true known (nat_le 100 (length ns)))
+      ∙ ap (λ ns. carrier_refusal true known (nat_le 100 (length ns)))
       (sym (carriers_are old st stands.represents))
 
   pub carrier_is_taken : (caller == npac) ≡ true → (spid == npac || is_some (get old.carriers spid))
@@ -89,14 +85,13 @@ module _ (old : Content) (caller spid : ℕ) where
       ≡ false → nat_le 100 (length (keys old.carriers)) ≡ true → (st : State) → Stands old st →
       refusal st (Requests caller (Commands (RegisterCarrier spid))) ≡ Some 28
   carriers_full admin free full st stands =
-      by_taken admin false free st stands ∙ ap (carrier_table st true false) full
+      by_taken admin false free st stands ∙ ap (carrier_refusal true false) full
 
   carrier_accepted : (caller == npac) ≡ true → (spid == npac || is_some (get old.carriers spid))
       ≡ false → nat_le 100 (length (keys old.carriers)) ≡ false → (st : State) → Stands old st →
       refusal st (Requests caller (Commands (RegisterCarrier spid))) ≡ None
   carrier_accepted admin free room st stands =
-      by_taken admin false free st stands ∙ ap (carrier_table st true false) room ∙ ap (λ b. if b
-      then Some 28 else None) (ids_left st old stands.represents)
+      by_taken admin false free st stands ∙ ap (carrier_refusal true false) room
 
 -- ---- what is left
 

@@ -1,19 +1,17 @@
 -- What the registration of a routing number and the opening of a code leave, over contents.
-use Rattle.std.proofs.Common.{◌≡◌, ℕ, ◌+◌, ◌≤◌, Bool, true, false, not, ◌&&◌, ◌||◌, [], ◌∷◌, Option, Some, None, refl, ap, sym, ◌∙◌, subst, arith}
-use Rattle.std.specs.Prelude.{◌==◌, nat_lt, is_some, option_map, if◌then◌else◌}
+use Rattle.std.proofs.Common.{◌≡◌, ℕ, Bool, true, false, not, [], ◌∷◌, Option, Some, None, refl, ap, sym, ◌∙◌, subst}
+use Rattle.std.specs.Prelude.{◌==◌, is_some, option_map, if◌then◌else◌}
 use Rattle.std.specs.FinMap.{get}
-use Rattle.std.proofs.lemmas.Bool.Decides.{nat_tests}
 use Rattle.numbers.specs.Subjects.{Subject, Block}
 use Rattle.meaning.specs.Commands.{RegisterRoutingNumber, OpenCode}
-use Rattle.meaning.specs.Conditions.{limit}
 use Rattle.meaning.specs.Versions.{Version, last_version, is_among}
 use Rattle.meaning.specs.History.{Request, Commands, HasValues, next_id, carriers, donor_of, lrn_owner, code_holder, or_else, makes, donor_named, windows_named}
 use Rattle.meaning.specs.Reading.{State, record_now, is_carrier, set_now}
 use Rattle.meaning.specs.Refusals.{Requests, refusal, tests, first_that_holds, npac}
 use Rattle.meaning.specs.Machine.{LrnAdded, CodeOpened, accepted}
-use Rattle.meaning.specs.Content.{Content, VersionRow, BroadcastRow, BlockRow, ClockRow, BroadcastKey, WaitKey, Represents, ClockShows, SameRows, of_subject}
+use Rattle.meaning.specs.Content.{Content, VersionRow, BroadcastRow, BlockRow, ClockRow, BroadcastKey, WaitKey, ClockShows, SameRows, of_subject}
 use Rattle.meaning.specs.Concerns.{concerns}
-use Rattle.meaning.proofs.Entered.{entered-elsewhere, next_id-same, next_id-below}
+use Rattle.meaning.proofs.Entered.{entered-elsewhere, next_id-same}
 use Rattle.settle.specs.Changes.{IsChanged, no_changes}
 use Rattle.register.specs.Answers.{Stands}
 use Rattle.register.specs.Settling.{AnswersSettled}
@@ -95,14 +93,6 @@ module _ (st : State) (old new : Content) (caller : ℕ) (request : Request) (st
               } in row) (or_else o (donor_of b st.history))) (no_donor b));
         }) (λ t e. (same_record t, same_rows t)) (λ t e. let never : true ≡ false = sym e in cc)
 
--- the test of ids at the end of the table
-pub ids_left : (st : State) (c : Content) → Represents c st
-    → nat_lt limit (next_id st.windows st.history + 0) ≡ false
-ids_left st c rep =
-    let below : next_id st.windows st.history ≤ limit =
-    next_id-below st.windows st.history st.now rep.history in
-    grind (arith, nat_tests)
-
 -- where a carrier is known, something was done
 pub has_begun : (st : State) (caller : ℕ) → is_carrier st caller ≡ true → st.history ≡ [] → ⊥
 has_begun st caller known h = let no : true ≡ false =
@@ -110,13 +100,11 @@ has_begun st caller known h = let no : true ≡ false =
 
 -- ---- a routing number
 
-abbrev lrn_table : State → Bool → Option ℕ → Option ℕ
-lrn_table st known owner =
-    first_that_holds ((1, not known && true) ∷ (6, is_some owner)
-    ∷ (28, nat_lt limit (next_id st.windows st.history + 0)) ∷ [])
+abbrev lrn_refusal : (known : Bool) → Option ℕ → Option ℕ
+lrn_refusal known owner = first_that_holds ((1, not known) ∷ (6, is_some owner) ∷ [])
 
 lrn_tests : (st : State) (caller lrn : ℕ)
-    → refusal st (Requests caller (Commands (RegisterRoutingNumber lrn))) ≡ lrn_table st
+    → refusal st (Requests caller (Commands (RegisterRoutingNumber lrn))) ≡ lrn_refusal
     (is_carrier st caller) (lrn_owner lrn st.history)
 unfolding tests
 lrn_tests st caller lrn = refl
@@ -125,25 +113,24 @@ module _ (old : Content) (caller lrn : ℕ) where
   pub lrn_unknown : is_some (get old.carriers caller) ≡ false → (st : State) → Stands old st
       → refusal st (Requests caller (Commands (RegisterRoutingNumber lrn))) ≡ Some 1
   lrn_unknown unknown st stands =
-      lrn_tests st caller lrn ∙ ap (λ b. lrn_table st b (lrn_owner lrn st.history))
+      lrn_tests st caller lrn ∙ ap (λ b. lrn_refusal b (lrn_owner lrn st.history))
       (sym (stands.represents.carriers caller) ∙ unknown)
 
   pub lrn_is_taken : is_some (get old.carriers caller) ≡ true → is_some (get old.lrns lrn) ≡ true
       → (st : State) → Stands old st →
       refusal st (Requests caller (Commands (RegisterRoutingNumber lrn))) ≡ Some 6
   lrn_is_taken known taken st stands =
-      lrn_tests st caller lrn ∙ ap (λ b. lrn_table st b (lrn_owner lrn st.history))
+      lrn_tests st caller lrn ∙ ap (λ b. lrn_refusal b (lrn_owner lrn st.history))
       (sym (stands.represents.carriers caller) ∙ known)
-      ∙ ap (λ b. if b then Some 6 else lrn_table st true None)
+      ∙ ap (λ b. if b then Some 6 else lrn_refusal true None)
       (ap is_some (sym (stands.represents.lrns lrn)) ∙ taken)
 
   lrn_accepted : is_some (get old.carriers caller) ≡ true → get old.lrns lrn ≡ None → (st : State)
       → Stands old st → refusal st (Requests caller (Commands (RegisterRoutingNumber lrn))) ≡ None
   lrn_accepted known free st stands =
-      lrn_tests st caller lrn ∙ ap (λ b. lrn_table st b (lrn_owner lrn st.history))
+      lrn_tests st caller lrn ∙ ap (λ b. lrn_refusal b (lrn_owner lrn st.history))
       (sym (stands.represents.carriers caller) ∙ known)
-      ∙ ap (lrn_table st true) (sym (stands.represents.lrns lrn) ∙ free)
-      ∙ ap (λ b. if b then Some 28 else None) (ids_left st old stands.represents)
+      ∙ ap (lrn_refusal true) (sym (stands.represents.lrns lrn) ∙ free)
 
 pub answers_lrn : (old new : Content) (caller lrn : ℕ) → is_some (get old.carriers caller) ≡ true
     → get old.lrns lrn ≡ None →
@@ -181,13 +168,12 @@ answers_lrn old new caller lrn known free changed =
 
 -- ---- a code
 
-abbrev code_table : State → (known is_admin : Bool) → Option ℕ → Option ℕ
-code_table st known is_admin holder =
-    first_that_holds ((1, (not known || false) || false) ∷ (2, not is_admin) ∷ (5, is_some holder)
-    ∷ (28, nat_lt limit (next_id st.windows st.history + 0)) ∷ [])
+abbrev code_refusal : (known is_admin : Bool) → Option ℕ → Option ℕ
+code_refusal known is_admin holder =
+    first_that_holds ((1, not known) ∷ (2, not is_admin) ∷ (5, is_some holder) ∷ [])
 
 code_tests : (st : State) (caller code spid : ℕ) →
-    refusal st (Requests caller (Commands (OpenCode code spid))) ≡ code_table st
+    refusal st (Requests caller (Commands (OpenCode code spid))) ≡ code_refusal
     (is_carrier st spid) (caller == npac) (code_holder code st.history)
 unfolding tests
 code_tests st caller code spid = refl
@@ -197,18 +183,18 @@ module _ (old : Content) (caller code spid : ℕ) where
       → refusal st (Requests caller (Commands (OpenCode code spid))) ≡ Some 1
   code_unknown unknown st stands =
       code_tests st caller code spid
-      ∙ ap (λ b. code_table st b (caller == npac) (code_holder code st.history))
+      ∙ ap (λ b. code_refusal b (caller == npac) (code_holder code st.history))
       (sym (stands.represents.carriers spid) ∙ unknown)
 
   by_caller : is_some (get old.carriers spid) ≡ true → (b : Bool) → (caller == npac) ≡ b
       → (st : State) → Stands old st →
-      refusal st (Requests caller (Commands (OpenCode code spid))) ≡ code_table st true b
+      refusal st (Requests caller (Commands (OpenCode code spid))) ≡ code_refusal true b
       (code_holder code st.history)
   by_caller known b is st stands =
       code_tests st caller code spid
-      ∙ ap (λ c. code_table st c (caller == npac) (code_holder code st.history))
+      ∙ ap (λ c. code_refusal c (caller == npac) (code_holder code st.history))
       (sym (stands.represents.carriers spid) ∙ known)
-      ∙ ap (λ c. code_table st true c (code_holder code st.history)) is
+      ∙ ap (λ c. code_refusal true c (code_holder code st.history)) is
 
   pub code_not_admin : is_some (get old.carriers spid) ≡ true → (caller == npac) ≡ false
       → (st : State) → Stands old st → refusal st (Requests caller (Commands (OpenCode code spid)))
@@ -219,15 +205,14 @@ module _ (old : Content) (caller code spid : ℕ) where
       → is_some (get old.codes code) ≡ true → (st : State) → Stands old st →
       refusal st (Requests caller (Commands (OpenCode code spid))) ≡ Some 5
   code_is_taken known admin taken st stands = by_caller known true admin st stands
-      ∙ ap (λ b. if b then Some 5 else code_table st true true None)
+      ∙ ap (λ b. if b then Some 5 else code_refusal true true None)
       (ap is_some (sym (stands.represents.codes code)) ∙ taken)
 
   code_accepted : is_some (get old.carriers spid) ≡ true → (caller == npac) ≡ true
       → get old.codes code ≡ None → (st : State) → Stands old st →
       refusal st (Requests caller (Commands (OpenCode code spid))) ≡ None
   code_accepted known admin free st stands = by_caller known true admin st stands
-      ∙ ap (code_table st true true) (sym (stands.represents.codes code) ∙ free)
-      ∙ ap (λ b. if b then Some 28 else None) (ids_left st old stands.represents)
+      ∙ ap (code_refusal true true) (sym (stands.represents.codes code) ∙ free)
 
 pub answers_code : (old new : Content) (caller code spid : ℕ)
     → is_some (get old.carriers spid) ≡ true → (caller == npac) ≡ true → get old.codes code ≡ None →

@@ -1,10 +1,9 @@
 -- What setting the windows answers and leaves, over contents.
-use Rattle.std.proofs.Common.{◌≡◌, ℕ, ◌+◌, Bool, true, false, not, ◌||◌, [], ◌∷◌, Option, Some, None, refl, ap, sym, ◌∙◌}
-use Rattle.std.specs.Prelude.{◌==◌, nat_le, nat_lt, is_some, if◌then◌else◌}
+use Rattle.std.proofs.Common.{◌≡◌, ℕ, ◌+◌, Bool, true, false, not, [], ◌∷◌, Option, Some, None, refl, ap, sym, ◌∙◌}
+use Rattle.std.specs.Prelude.{◌==◌, nat_le, is_some}
 use Rattle.meaning.specs.Commands.{SetWindows}
-use Rattle.meaning.specs.Conditions.{limit}
 use Rattle.meaning.specs.Content.{Content, ClockRow}
-use Rattle.meaning.specs.History.{Commands, next_id}
+use Rattle.meaning.specs.History.{Commands}
 use Rattle.meaning.specs.Machine.{WindowsSet}
 use Rattle.meaning.specs.Reading.{State, set_now}
 use Rattle.meaning.specs.Refusals.{Requests, first_that_holds, npac, refusal, tests}
@@ -15,22 +14,16 @@ use Rattle.register.specs.Answers.{Stands}
 use Rattle.register.specs.Settling.{AnswersSettled}
 use Rattle.register.proofs.EveryCall.Composed.{answers_accepted}
 use Rattle.register.proofs.OnVersions.OnVersion.{clock_is_of}
-use Rattle.register.proofs.Registering.Registry.{ids_left}
 use Rattle.register.proofs.Records.Touched.{clock-written}
 
 -- ---- who may, and how often
 
-abbrev sets_table : State → (is_admin full : Bool) → Option ℕ
-sets_table st is_admin full =
-    first_that_holds ((2, not is_admin) ∷ (
-      28,
-      (full || false) || nat_lt limit
-          (next_id st.windows st.history + 0),
-    ) ∷ [])
+abbrev sets_refusal : (is_admin full : Bool) → Option ℕ
+sets_refusal is_admin full = first_that_holds ((2, not is_admin) ∷ (28, full) ∷ [])
 
 sets_tests : (st : State) (caller : ℕ) (windows : Windows) →
     refusal st (Requests caller (Commands (SetWindows windows)))
-    ≡ sets_table st (caller == npac) (nat_le 1000 (set_now st).number)
+    ≡ sets_refusal (caller == npac) (nat_le 1000 (set_now st).number)
 unfolding tests
 sets_tests st caller windows = refl
 
@@ -38,19 +31,19 @@ module _ (old : Content) (caller : ℕ) (windows : Windows) where
   pub sets_not_admin : (caller == npac) ≡ false → (st : State) → Stands old st →
       refusal st (Requests caller (Commands (SetWindows windows))) ≡ Some 2
   sets_not_admin other st stands = sets_tests st caller windows
-      ∙ ap (λ b. sets_table st b (nat_le 1000 (set_now st).number)) other
+      ∙ ap (λ b. sets_refusal b (nat_le 1000 (set_now st).number)) other
 
   module _ (admin : (caller == npac) ≡ true) (clock : ClockRow) (clock_is : old.clock ≡ Some clock)
     where
       by_number : (full : Bool) → nat_le 1000 clock.present.number ≡ full → (st : State) →
           Stands old st →
-          refusal st (Requests caller (Commands (SetWindows windows))) ≡ sets_table st true full
+          refusal st (Requests caller (Commands (SetWindows windows))) ≡ sets_refusal true full
       by_number full is st stands =
-          sets_tests st caller windows ∙ ap (λ b. sets_table st b (nat_le 1000 (set_now st).number))
+          sets_tests st caller windows ∙ ap (λ b. sets_refusal b (nat_le 1000 (set_now st).number))
           admin
-          ∙ ap (λ (k : ClockRow). sets_table st true (nat_le 1000 k.present.number))
+          ∙ ap (λ (k : ClockRow). sets_refusal true (nat_le 1000 k.present.number))
           (sym (clock_is_of old st clock stands.represents clock_is))
-          ∙ ap (sets_table st true) is
+          ∙ ap (sets_refusal true) is
 
       pub sets_full : nat_le 1000 clock.present.number ≡ true → (st : State) → Stands old st →
           refusal st (Requests caller (Commands (SetWindows windows))) ≡ Some 28
@@ -59,7 +52,6 @@ module _ (old : Content) (caller : ℕ) (windows : Windows) where
       sets_accepted : nat_le 1000 clock.present.number ≡ false → (st : State) → Stands old st →
           refusal st (Requests caller (Commands (SetWindows windows))) ≡ None
       sets_accepted room st stands = by_number false room st stands
-          ∙ ap (λ b. if b then Some 28 else None) (ids_left st old stands.represents)
 
 -- ---- what is left
 
