@@ -1,0 +1,126 @@
+-- How some subjects are settled, one after the other.
+use Rattle.std.proofs.Common.{◌≡◌, Bool, true, false, ◌||◌, List, [], ◌∷◌, Some, refl, ap, sym, ◌∙◌, subst}
+use Rattle.numbers.specs.Subjects.{Subject, subject_eq}
+use Rattle.numbers.specs.Views.{subject_of}
+use Rattle.numbers.specs.declared.ported.Subject.{Subject as SubjectCode}
+use Rattle.meaning.specs.Content.{ClockRow, Content, Represents, SameRows}
+use Rattle.meaning.specs.Reading.{State}
+use Rattle.meaning.proofs.Entered.{subject_eq-refl}
+use Rattle.meaning.proofs.Ids.{same_subject}
+use Rattle.settle.specs.Settling.{IsSettled, KeepsUnder, Under, is_one_of}
+use Rattle.settle.proofs.Settled.{rows_joined, stays_settled}
+use Rattle.numbers.proofs.Small.{impossible}
+
+-- the subjects up to these that are left are settled, and nothing else has changed
+pub record HasSettled (clock : ClockRow) (subjects rest : List SubjectCode) (old new : Content)
+    (st : State) : Type 0 where
+  pub represents : Represents new st
+  pub clock_row : new.clock ≡ Some clock
+  pub others : (t : Subject) → is_one_of subjects t ≡ false → SameRows t old new
+  pub among : (t : Subject) → is_one_of rest t ≡ true → is_one_of subjects t ≡ true
+  pub settled : (t : Subject) → is_one_of subjects t ≡ true → is_one_of rest t ≡ false
+      → IsSettled new st t
+
+abbrev pub SettlesUpTo : ClockRow → (subjects rest : List SubjectCode) → (old new : Content)
+    → Type 0
+SettlesUpTo clock subjects rest old new =
+    Under clock old (λ st. HasSettled clock subjects rest old new st)
+
+pub settled_none : (clock : ClockRow) (subjects : List SubjectCode) (old : Content)
+    → SettlesUpTo clock subjects subjects old old
+settled_none clock subjects old st rep is = record {
+  represents = rep;
+  clock_row = is;
+  others = λ t other. record {
+    versions = λ k. refl;
+    broadcasts = λ k a. refl;
+    waits = λ k m j a. refl;
+  };
+  among = λ t its. its;
+  settled = λ t its not. impossible (sym its ∙ not);
+}
+
+pub turned : (s t : Subject) → subject_eq s t ≡ false → subject_eq t s ≡ false
+turned s t apart = go (subject_eq t s) refl
+  where
+    go : (b : Bool) → subject_eq t s ≡ b → b ≡ false
+    go false e = refl
+    go true e = impossible (sym (subject_eq-refl t) ∙ ap (λ x. subject_eq x t)
+        (sym (same_subject t s e)) ∙ apart)
+
+first_named : (x : SubjectCode) (rest : List SubjectCode)
+    → is_one_of (x ∷ rest) (subject_of x) ≡ true
+first_named x rest =
+    ap (λ b. b || is_one_of rest (subject_of x)) (subject_eq-refl (subject_of x))
+
+later_named : (x : SubjectCode) (rest : List SubjectCode) (t : Subject)
+    → is_one_of rest t ≡ true → is_one_of (x ∷ rest) t ≡ true
+later_named x rest t its = go (subject_eq t (subject_of x))
+  where
+    go : (b : Bool) → (b || is_one_of rest t) ≡ true
+    go true = refl
+    go false = its
+
+module _ (clock : ClockRow) (subjects rest : List SubjectCode) (x : SubjectCode)
+    (old mid new : Content) (before : SettlesUpTo clock subjects (x ∷ rest) old mid)
+    (kept : KeepsUnder clock mid new)
+    (leaves : (t : Subject) → subject_eq (subject_of x) t ≡ false
+    → Under clock mid (λ st. SameRows t mid new)) where
+  pub next_kept : KeepsUnder clock old new
+  next_kept st rep is = let was = before st rep is in kept st was.represents was.clock_row
+
+  -- the next subject's rows may change, and no other's
+  pub next_elsewhere : (t : Subject) → is_one_of subjects t ≡ false
+      → Under clock old (λ st. SameRows t old new)
+  next_elsewhere t other st rep is =
+      let was = before st rep is in
+      rows_joined t old mid new (was.others t other)
+      (leaves t (apart (subject_eq (subject_of x) t) refl) st was.represents was.clock_row)
+    where
+      apart : (b : Bool) → subject_eq (subject_of x) t ≡ b → b ≡ false
+      apart false e = refl
+      apart true e = impossible (sym ((before st rep is).among t
+          (ap (is_one_of (x ∷ rest)) (same_subject (subject_of x) t e) ∙ first_named x rest))
+          ∙ other)
+
+  pub next_settled : Under clock mid (λ st. IsSettled new st (subject_of x))
+      → SettlesUpTo clock subjects rest old new
+  next_settled settles st rep is =
+      let was = before st rep is in
+      let still = kept st was.represents was.clock_row in
+      record {
+        represents = still.0;
+        clock_row = still.1;
+        others = λ t other. next_elsewhere t other st rep is;
+        among = λ t its. was.among t (later_named x rest t its);
+        settled = λ t its not. go t its not (subject_eq t (subject_of x)) refl;
+      }
+    where
+      go : (t : Subject) → is_one_of subjects t ≡ true → is_one_of rest t ≡ false → (b : Bool)
+          → subject_eq t (subject_of x) ≡ b → IsSettled new st t
+      go t its not true e =
+          let was = before st rep is in
+          subst (IsSettled new st) (same_subject t (subject_of x) e)
+          (settles st was.represents was.clock_row)
+      go t its not false e =
+          let was = before st rep is in
+          stays_settled mid new st t (leaves t (turned t (subject_of x) e) st
+          was.represents was.clock_row)
+          (was.settled t its (ap (λ b. b || is_one_of rest t) e ∙ not))
+
+pub up_to_kept : (clock : ClockRow) (subjects rest : List SubjectCode) (old new : Content)
+    → SettlesUpTo clock subjects rest old new → KeepsUnder clock old new
+up_to_kept clock subjects rest old new settles st rep is =
+    let has = settles st rep is in (has.represents, has.clock_row)
+
+pub up_to_elsewhere : (clock : ClockRow) (subjects rest : List SubjectCode) (old new : Content)
+    → SettlesUpTo clock subjects rest old new → (t : Subject) → is_one_of subjects t ≡ false
+    → Under clock old (λ st. SameRows t old new)
+up_to_elsewhere clock subjects rest old new settles t other st rep is =
+    (settles st rep is).others t other
+
+pub all_settled : (clock : ClockRow) (subjects : List SubjectCode) (old new : Content)
+    → SettlesUpTo clock subjects [] old new → (t : Subject) → is_one_of subjects t ≡ true
+    → Under clock old (λ st. IsSettled new st t)
+all_settled clock subjects old new settles t its st rep is =
+    (settles st rep is).settled t its refl
