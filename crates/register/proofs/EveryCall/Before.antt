@@ -1,11 +1,16 @@
 -- A call that settles its subjects first: what the settling leaves, and what the whole call then
 -- owes.
-use Rattle.std.proofs.Common.{◌≡◌, ℕ, Bool, true, false, ◌||◌, Option, Some, None, refl, ap, sym, ◌∙◌, subst}
+use Rattle.std.proofs.Common.{◌≡◌, ℕ, Bool, true, false, ◌||◌, List, [], ◌∷◌, Option, Some, None, refl, ap, sym, ◌∙◌, subst}
 use Rattle.std.specs.Prelude.{is_some}
 use Rattle.std.specs.FinMap.{get}
 use Rattle.std.proofs.Math.Nat.{le_trans}
 use Rattle.numbers.specs.Digits.{block_of}
 use Rattle.numbers.specs.Subjects.{Subject, Number, Block, subject_eq}
+use Rattle.numbers.specs.Views.{subject_of}
+use Rattle.numbers.specs.declared.block_id.BlockId.{BlockId}
+use Rattle.numbers.specs.declared.tn.Tn.{Tn}
+use Rattle.numbers.specs.declared.ported.Subject.{Subject as SubjectCode}
+use Rattle.numbers.specs.declared.ported.Subject.TheVariants.{Number as NumberCode, Block as BlockCode}
 use Rattle.meaning.specs.Machine.{IsHistory, Reply}
 use Rattle.meaning.specs.Reading.{State, record_now}
 use Rattle.meaning.specs.Refusals.{Input}
@@ -14,24 +19,16 @@ use Rattle.meaning.specs.Content.{Content, VersionRow, SameRows}
 use Rattle.meaning.proofs.Entered.{none_elsewhere, none_with, subject_eq-refl}
 use Rattle.meaning.proofs.Ids.{same_subject}
 use Rattle.meaning.proofs.Lagging.{no_row_at, row_has_id}
+use Rattle.meaning.proofs.Tabled.{or_false}
 use Rattle.settle.specs.Owing.{Owes, SaysStorage}
-use Rattle.settle.specs.Settling.{IsSettled, KeepsMeaning, LeavesRows, Settles}
+use Rattle.settle.specs.Settling.{IsSettled, KeepsMeaning, LeavesRows, Settles, is_one_of}
+use Rattle.settle.proofs.Settled.{rows_joined}
 use Rattle.settle.proofs.Risen.{risen-since}
 use Rattle.register.specs.Answers.{Stands, AnswersAs}
 use Rattle.register.specs.Settling.{AnswersSettled, AreSettled, KeepsOthers, LeavesOthers, SaysOnceSettled, SettlesThose, is_of_id, is_of_number, settles}
-use Rattle.register.proofs.EveryCall.Settled.{stays_settled}
-use Rattle.numbers.proofs.Small.{neither}
+use Rattle.numbers.proofs.Small.{impossible}
 
--- ---- rows
-
-pub rows_joined : (t : Subject) (old mid new : Content) → SameRows t old mid → SameRows t mid new
-    → SameRows t old new
-rows_joined t old mid new first second = record {
-  versions = λ id. second.versions id ∙ first.versions id;
-  broadcasts = λ id attempt. second.broadcasts id attempt ∙ first.broadcasts id attempt;
-  waits = λ carrier minute id attempt. second.waits carrier minute id attempt
-      ∙ first.waits carrier minute id attempt;
-}
+-- ---- some subjects
 
 -- a content that keeps its meaning stands
 pub meaning_stands : (old new : Content) → KeepsMeaning old new → (st : State) → Stands old st
@@ -40,9 +37,23 @@ meaning_stands old new kept st stands =
     let still = kept st stands.represents stands.written in
     record { represents = still.0; written = ap is_some still.1 ∙ stands.written }
 
--- all others than the subject stay
-abbrev pub LeavesAllBut : (old new : Content) → Subject → Type 0
-LeavesAllBut old new u = (s : Subject) → subject_eq u s ≡ false → LeavesRows old new s
+module _ (those : State → Subject → Bool) (subjects : List SubjectCode) (old new : Content) where
+  -- where the others are none of the list's, they are kept
+  pub those_kept : KeepsMeaning old new
+      → ((s : Subject) → is_one_of subjects s ≡ false → LeavesRows old new s)
+      → ((st : State) → Stands old st → (s : Subject) → those st s ≡ false
+      → is_one_of subjects s ≡ false) → KeepsOthers those old new
+  those_kept kept leaves others st stands = (
+    meaning_stands old new kept st stands,
+    λ t other. leaves t (others st stands t other) st stands.represents stands.written,
+  )
+
+  -- where all are the list's, they are settled
+  pub those_settled : ((s : Subject) → is_one_of subjects s ≡ true → Settles old new s)
+      → ((st : State) → Stands old st → (s : Subject) → those st s ≡ true
+      → is_one_of subjects s ≡ true) → SettlesThose those old new
+  those_settled settled are st stands s its =
+      settled s (are st stands s its) st stands.represents stands.written
 
 -- ---- the subject of a version
 
@@ -63,28 +74,24 @@ one_subject st history id s t its also = go (subject_eq s t) refl
     go true e = same_subject s t e
     go false e = apart e (version_with id (record_now st s)) refl
 
-pub version_kept : (old new : Content) (id : ℕ) (row : VersionRow) → get old.versions id ≡ Some row
-    → KeepsMeaning old new → LeavesAllBut old new row.subject → KeepsOthers (is_of_id id) old new
-version_kept old new id row found kept leaves st stands = (
-  meaning_stands old new kept st stands,
-  λ t other. leaves t (apart t other (subject_eq row.subject t) refl) st stands.represents
-      stands.written,
-)
+pub version_is : (old : Content) (id : ℕ) (row : VersionRow) → get old.versions id ≡ Some row
+    → (subject : SubjectCode) → subject_of subject ≡ row.subject → (st : State) → Stands old st
+    → (s : Subject) → is_one_of (subject ∷ []) s ≡ is_of_id id st s
+version_is old id row found subject same st stands s =
+    ap (λ u. subject_eq s u || false) same ∙ go (subject_eq s row.subject) refl
   where
-    apart : (t : Subject) → is_of_id id st t ≡ false → (b : Bool) → subject_eq row.subject t ≡ b
-        → b ≡ false
-    apart t other false e = refl
-    apart t other true e =
-        let never : true ≡ false = sym (row_has_id st old stands.represents id row found)
-        ∙ ap (is_of_id id st) (sym (same_subject row.subject t e)) ∙ other in cc
+    has : is_of_id id st row.subject ≡ true
+    has = row_has_id st old stands.represents id row found
 
-pub version_settled : (old new : Content) (id : ℕ) (row : VersionRow)
-    → get old.versions id ≡ Some row → Settles old new row.subject
-    → SettlesThose (is_of_id id) old new
-version_settled old new id row found settled st stands s its =
-    subst (IsSettled new st) (sym (one_subject st stands.represents.history id row.subject s
-    (row_has_id st old stands.represents id row found) its))
-    (settled st stands.represents stands.written)
+    other : subject_eq s row.subject ≡ false → (b : Bool) → is_of_id id st s ≡ b → b ≡ false
+    other apart false e = refl
+    other apart true e = impossible (sym (subject_eq-refl row.subject)
+        ∙ ap (λ u. subject_eq u row.subject) (sym (one_subject st stands.represents.history id
+        row.subject s has e)) ∙ apart)
+
+    go : (b : Bool) → subject_eq s row.subject ≡ b → (b || false) ≡ is_of_id id st s
+    go true e = sym (ap (is_of_id id st) (sym (same_subject s row.subject e)) ∙ has)
+    go false e = sym (other e (is_of_id id st s) refl)
 
 pub none_named : (old : Content) (id : ℕ) → get old.versions id ≡ None
     → SettlesThose (is_of_id id) old old
@@ -93,54 +100,12 @@ none_named old id none st stands s its = let never : true ≡ false =
 
 -- ---- a number and its block
 
-pub turned : (s t : Subject) → subject_eq s t ≡ false → subject_eq t s ≡ false
-turned s t apart = go (subject_eq t s) refl
-  where
-    go : (b : Bool) → subject_eq t s ≡ b → b ≡ false
-    go false e = refl
-    go true e =
-        let same : s ≡ t = same_subject t s e in
-        let never : true ≡ false = sym (subject_eq-refl t) ∙ ap (λ x. subject_eq x t) (sym same)
-        ∙ apart in cc
-
-pub number_kept_first : (old mid : Content) (tn : ℕ) → KeepsMeaning old mid
-    → LeavesAllBut old mid (Number tn) → KeepsOthers (is_of_number tn) old mid
-number_kept_first old mid tn kept leaves st stands = (
-  meaning_stands old mid kept st stands,
-  λ t other. leaves t
-      (turned t (Number tn) (neither (subject_eq t (Number tn)) (subject_eq t (Block (block_of tn)))
-      other).0) st stands.represents stands.written,
-)
-
-pub number_kept : (old mid new : Content) (tn : ℕ) → KeepsMeaning old mid
-    → LeavesAllBut old mid (Number tn) → KeepsMeaning mid new
-    → LeavesAllBut mid new (Block (block_of tn)) → KeepsOthers (is_of_number tn) old new
-number_kept old mid new tn kept leaves kept_too leaves_too st stands =
-    let first = number_kept_first old mid tn kept leaves st stands in (
-      meaning_stands mid new kept_too st first.0,
-      λ t other. rows_joined t old mid new (first.1 t other)
-          (leaves_too t (turned t (Block (block_of tn)) (neither (subject_eq t (Number tn))
-          (subject_eq t (Block (block_of tn))) other).1) st first.0.represents first.0.written),
-    )
-
-pub number_settled : (old mid new : Content) (tn : ℕ) → KeepsMeaning old mid
-    → Settles old mid (Number tn) → LeavesAllBut mid new (Block (block_of tn))
-    → Settles mid new (Block (block_of tn)) →
-    SettlesThose (is_of_number tn) old new
-number_settled old mid new tn kept settled leaves settled_too st stands s its =
-    go (subject_eq s (Number tn)) refl its
-  where
-    middle : Stands mid st
-    middle = meaning_stands old mid kept st stands
-
-    go : (b : Bool) → subject_eq s (Number tn) ≡ b → (b || subject_eq s (Block (block_of tn)))
-        ≡ true → IsSettled new st s
-    go true e f = subst (IsSettled new st) (same_subject s (Number tn) e)
-        (stays_settled mid new st (Number tn) (leaves (Number tn) refl st middle.represents
-        middle.written) (settled st stands.represents stands.written))
-    go false e f =
-        subst (IsSettled new st) (same_subject s (Block (block_of tn)) f)
-        (settled_too st middle.represents middle.written)
+pub number_is : (tn : Tn) (block : BlockId) → block.number ≡ block_of tn.number → (st : State)
+    → (s : Subject)
+    → is_one_of (NumberCode tn ∷ BlockCode block ∷ []) s ≡ is_of_number tn.number st s
+number_is tn block same st s =
+    ap (λ b. subject_eq s (Number tn.number) || b)
+    (or_false (subject_eq s (Block block.number)) ∙ ap (λ n. subject_eq s (Block n)) same)
 
 -- ---- all subjects
 

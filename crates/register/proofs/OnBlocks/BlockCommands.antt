@@ -24,7 +24,7 @@ use Rattle.register.proofs.Asking.Alone.{one_in_force}
 use Rattle.register.proofs.Records.Pooled.{MakesSent, made-records, unmade-same}
 use Rattle.register.proofs.OnVersions.SecondCreate.{same_change}
 use Rattle.register.proofs.Records.Stepped.{StepsOne}
-use Rattle.register.proofs.EveryCall.Before.{turned}
+use Rattle.settle.proofs.SettledEach.{turned}
 use Rattle.meaning.proofs.Lists.{each}
 use Rattle.std.proofs.Common.{arith}
 use Rattle.std.proofs.lemmas.Bool.Decides.{nat_tests}

@@ -1,0 +1,9 @@
+use Rattle.std.proofs.Common.{◌≡◌, ◌++◌, map, drop}
+use Rattle.numbers.specs.declared.ported.Subject.TheVariants.{Number as NumberCode}
+use Rattle.version.specs.declared.in_use.NumberInUse.{NumberInUse}
+use Rattle.register.proofs.settling.with_block.Given as goal
+
+abbrev pub invariant-loop-number : goal.invariant-loop-number
+invariant-loop-number l =
+    l.subjects.items ++ map (λ (n : NumberInUse). NumberCode n.tn) (drop l.number-index l.numbers)
+    ≡ map (λ (n : NumberInUse). NumberCode n.tn) l.numbers
