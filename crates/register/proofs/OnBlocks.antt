@@ -6,7 +6,6 @@ pub mod BlockCommands
 pub mod BlockFacts
 pub mod BlockNumbers
 pub mod BlockRow
-pub mod BlockSettled
 pub mod Donated
 pub mod ForceCounted
 pub mod Planned

@@ -1,6 +1,6 @@
 -- The subjects that wait for a carrier, as a store lists them, are those of its queue.
 use Rattle.std.proofs.Common.{◌≡◌, inl, inr, ℕ, suc, Bool, true, false, List, [], ◌∷◌, map, Option, Some, None, refl, ap, sym, ◌∙◌, subst, arith}
-use Rattle.std.specs.Prelude.{Result, Ok, Err, IfOk, is_some, All, Contains, if◌then◌else◌}
+use Rattle.std.specs.Prelude.{Result, Ok, Err, IfOk, is_some, All, Contains, if◌then◌else◌, ◌==◌}
 use Rattle.std.specs.List.{list_any}
 use Rattle.std.specs.FinMap.{get}
 use Rattle.numbers.specs.Subjects.{Subject, subject_eq, subject_key}
@@ -19,6 +19,7 @@ use Rattle.meaning.proofs.Ids.{same_subject}
 use Rattle.meaning.proofs.Copies.Law.{copy_is_published}
 use Rattle.settle.specs.Reads.{AreAwaited, IsAwaitedBy}
 use Rattle.settle.specs.Settling.{IsSettled}
+use Rattle.settle.proofs.Among.{all-among}
 use Rattle.calls.specs.Calls.{replied}
 use Rattle.register.specs.Answers.{Stands, AnswersAs}
 use Rattle.register.specs.Fetching.{HoldsAllBut}
@@ -40,12 +41,6 @@ mapped-from : {A B : Type 0} (f : A → B) (b : B) (xs : List A) → Among b (ma
 mapped-from f b [] is = absurd is
 mapped-from f b (x ∷ xs) (inl e) = (x, inl refl, e)
 mapped-from f b (x ∷ xs) (inr there) = let m = mapped-from f b xs there in (m.0, inr m.1, m.2)
-
-pub all-among : {A : Type 0} (P : A → Type 0) (xs : List A) → All P xs → (x : A) → Among x xs → P x
-all-among P [] all x is = absurd is
-all-among P (y ∷ ys) all x (inl e) = subst P (sym e) (all 0 y (omega arith))
-all-among P (y ∷ ys) all x (inr is) =
-    all-among P ys (λ n d lt. all (suc n) d (omega (arith, lt))) x is
 
 -- ---- the queue's subjects
 

@@ -1,6 +1,6 @@
 -- A call that settles its subjects first: what the settling leaves, and what the whole call then
 -- owes.
-use Rattle.std.proofs.Common.{◌≡◌, ℕ, Bool, true, false, ◌||◌, List, [], ◌∷◌, Option, Some, None, refl, ap, sym, ◌∙◌, subst}
+use Rattle.std.proofs.Common.{◌≡◌, ℕ, Bool, true, false, ◌||◌, [], ◌∷◌, Option, Some, None, refl, ap, sym, ◌∙◌}
 use Rattle.std.specs.Prelude.{is_some}
 use Rattle.std.specs.FinMap.{get}
 use Rattle.std.proofs.Math.Nat.{le_trans}
@@ -15,13 +15,13 @@ use Rattle.meaning.specs.Machine.{IsHistory, Reply}
 use Rattle.meaning.specs.Reading.{State, record_now}
 use Rattle.meaning.specs.Refusals.{Input}
 use Rattle.meaning.specs.Versions.{Version, version_with}
-use Rattle.meaning.specs.Content.{Content, VersionRow, SameRows}
+use Rattle.meaning.specs.Content.{Content, VersionRow}
 use Rattle.meaning.proofs.Entered.{none_elsewhere, none_with, subject_eq-refl}
 use Rattle.meaning.proofs.Ids.{same_subject}
 use Rattle.meaning.proofs.Lagging.{no_row_at, row_has_id}
 use Rattle.meaning.proofs.Tabled.{or_false}
 use Rattle.settle.specs.Owing.{Owes, SaysStorage}
-use Rattle.settle.specs.Settling.{IsSettled, KeepsMeaning, LeavesRows, Settles, is_one_of}
+use Rattle.settle.specs.Settling.{KeepsMeaning, LeavesRows, Settles, is_one_of}
 use Rattle.settle.proofs.Settled.{rows_joined}
 use Rattle.settle.proofs.Risen.{risen-since}
 use Rattle.register.specs.Answers.{Stands, AnswersAs}
@@ -37,21 +37,21 @@ meaning_stands old new kept st stands =
     let still = kept st stands.represents stands.written in
     record { represents = still.0; written = ap is_some still.1 ∙ stands.written }
 
-module _ (those : State → Subject → Bool) (subjects : List SubjectCode) (old new : Content) where
-  -- where the others are none of the list's, they are kept
+module _ (those : State → Subject → Bool) (chosen : Subject → Bool) (old new : Content) where
+  -- where those that are not chosen are others, the others are kept
   pub those_kept : KeepsMeaning old new
-      → ((s : Subject) → is_one_of subjects s ≡ false → LeavesRows old new s)
-      → ((st : State) → Stands old st → (s : Subject) → those st s ≡ false
-      → is_one_of subjects s ≡ false) → KeepsOthers those old new
+      → ((s : Subject) → chosen s ≡ false → LeavesRows old new s)
+      → ((st : State) → Stands old st → (s : Subject) → those st s ≡ false → chosen s ≡ false)
+      → KeepsOthers those old new
   those_kept kept leaves others st stands = (
     meaning_stands old new kept st stands,
     λ t other. leaves t (others st stands t other) st stands.represents stands.written,
   )
 
-  -- where all are the list's, they are settled
-  pub those_settled : ((s : Subject) → is_one_of subjects s ≡ true → Settles old new s)
-      → ((st : State) → Stands old st → (s : Subject) → those st s ≡ true
-      → is_one_of subjects s ≡ true) → SettlesThose those old new
+  -- where they are all chosen, they are settled
+  pub those_settled : ((s : Subject) → chosen s ≡ true → Settles old new s)
+      → ((st : State) → Stands old st → (s : Subject) → those st s ≡ true → chosen s ≡ true)
+      → SettlesThose those old new
   those_settled settled are st stands s its =
       settled s (are st stands s its) st stands.represents stands.written
 

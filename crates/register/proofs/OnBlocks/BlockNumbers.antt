@@ -28,7 +28,7 @@ use Rattle.pool.specs.Facts.{has_open_port, in_force_numbers, is_open_port}
 use Rattle.register.specs.Answers.{Stands}
 use Rattle.register.specs.Settling.{is_of_block}
 use Rattle.register.proofs.Asking.Alone.{row_is_held, one_in_force}
-use Rattle.register.proofs.Downloads.Awaited.{all-among}
+use Rattle.settle.proofs.Among.{all-among}
 use Rattle.register.proofs.OnBlocks.ForceCounted.{filtered-rise, rekeyed-rise, passing_rows, length-rows}
 
 -- ---- what is told

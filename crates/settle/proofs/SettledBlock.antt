@@ -1,5 +1,5 @@
 -- A block and its numbers, settled one after the other.
-use Rattle.std.proofs.Common.{◌≡◌, ℕ, inl, inr, Bool, true, false, ◌||◌, List, [], ◌∷◌, None, refl, ap, sym, ◌∙◌, subst}
+use Rattle.std.proofs.Common.{◌≡◌, ℕ, inl, inr, Bool, true, false, ◌||◌, List, [], ◌∷◌, Some, None, refl, ap, sym, ◌∙◌}
 use Rattle.std.specs.Prelude.{Contains, ◌⊎◌, ◌==◌}
 use Rattle.std.specs.List.{list_any}
 use Rattle.numbers.specs.Digits.{block_of}
@@ -7,20 +7,17 @@ use Rattle.numbers.specs.Subjects.{Subject, Number, Block, subject_eq}
 use Rattle.numbers.specs.declared.block_id.BlockId.{BlockId}
 use Rattle.meaning.specs.Reading.{State}
 use Rattle.meaning.specs.Refusals.{is_in_block}
-use Rattle.meaning.specs.Content.{Content}
+use Rattle.meaning.specs.Content.{ClockRow, Content, Represents, SameRows}
 use Rattle.meaning.proofs.Entered.{subject_eq-refl}
 use Rattle.meaning.proofs.Ids.{same_subject}
 use Rattle.meaning.proofs.Lists.{any_there, contains-among, there_any}
 use Rattle.meaning.proofs.Tabled.{or_false}
 use Rattle.numbers.proofs.Small.{same_number, neither, equal_number, impossible}
 use Rattle.settle.specs.Reads.{AreInBlock, Holds, IsInBlock, Opens}
-use Rattle.settle.specs.Settling.{IsSettled, KeepsMeaning, LeavesRows, Settles, is_one_of}
+use Rattle.settle.specs.Settling.{IsSettled, LeavesRows, Settles, Under, is_one_of, is_within, those_with_block}
+use Rattle.settle.proofs.Among.{all-among}
 use Rattle.settle.proofs.Settled.{none-due, stays_settled}
 use Rattle.version.specs.declared.in_use.NumberInUse.{NumberInUse}
-use Rattle.register.specs.Answers.{Stands}
-use Rattle.register.specs.Settling.{KeepsOthers, SettlesThose, is_of_block, those_with_block}
-use Rattle.register.proofs.Downloads.Awaited.{all-among}
-use Rattle.register.proofs.EveryCall.Before.{those_kept}
 
 -- ---- the list
 
@@ -60,11 +57,11 @@ module _ (c : Content) (block : ℕ) (numbers : List NumberInUse) (are : AreInBl
       (ap (λ k. subject_eq (Number n) (Number k)) is ∙ subject_eq-refl (Number n))
 
   -- a number of it that is none of them has no version that waits for a minute
-  rest_settled : Stands c st → (t : Subject) → is_in_block block t ≡ true
+  rest_settled : Represents c st → (t : Subject) → is_in_block block t ≡ true
       → is_any_of numbers t ≡ false → IsSettled c st t
-  rest_settled stands (Block b) inside other = cc
-  rest_settled stands (Number n) inside other =
-      none-due st c stands.represents (Number n) (
+  rest_settled rep (Block b) inside other = cc
+  rest_settled rep (Number n) inside other =
+      none-due st c rep (Number n) (
         (None, (λ id row found opens. unlisted (inr (id, row, found, opens))), refl),
         (None, (λ id row found holds. unlisted (inl (id, row, found, holds))), refl),
       )
@@ -74,36 +71,35 @@ module _ (c : Content) (block : ℕ) (numbers : List NumberInUse) (are : AreInBl
           let x = are.each n (equal_number (block_of n) block inside) stood in
           let never : true ≡ false = sym (listed n x.0 x.1 x.2) ∙ other in cc
 
-module _ (old new : Content) (block : BlockId) (numbers : List NumberInUse)
-    (are : AreInBlock old block.number numbers) (leaves : (s : Subject)
-    → is_one_of (those_with_block numbers block) s ≡ false → LeavesRows old new s) where
-  outside : (st : State) (t : Subject) → is_of_block block.number st t ≡ false
-      → is_one_of (those_with_block numbers block) t ≡ false
-  outside st t other =
-      let no = neither (subject_eq t (Block block.number)) (is_in_block block.number t) other in
-      listed_is numbers block t
-      ∙ ap (λ b. b || subject_eq t (Block block.number))
-      (unnamed no.1 (is_any_of numbers t) refl) ∙ no.0
+module _ (clock : ClockRow) (old new : Content) (block : BlockId) (numbers : List NumberInUse)
+    (is : old.clock ≡ Some clock) (are : AreInBlock old block.number numbers)
+    (leaves : (s : Subject)
+    → is_one_of (those_with_block numbers block) s ≡ false
+    → Under clock old (λ st. SameRows s old new)) where
+  pub within_elsewhere : (s : Subject) → is_within block.number s ≡ false → LeavesRows old new s
+  within_elsewhere s other st rep written =
+      let no = neither (subject_eq s (Block block.number)) (is_in_block block.number s) other in
+      leaves s (listed_is numbers block s
+      ∙ ap (λ b. b || subject_eq s (Block block.number))
+      (unnamed no.1 (is_any_of numbers s) refl) ∙ no.0) st rep is
     where
-      unnamed : is_in_block block.number t ≡ false → (b : Bool) → is_any_of numbers t ≡ b
-          → is_any_of numbers t ≡ false
+      unnamed : is_in_block block.number s ≡ false → (b : Bool) → is_any_of numbers s ≡ b
+          → is_any_of numbers s ≡ false
       unnamed apart false e = e
       unnamed apart true e =
-          impossible (sym (any_inside old block.number numbers are st t e) ∙ apart)
+          impossible (sym (any_inside old block.number numbers are st s e) ∙ apart)
 
-  pub block_kept : KeepsMeaning old new → KeepsOthers (is_of_block block.number) old new
-  block_kept kept = those_kept (is_of_block block.number) (those_with_block numbers block) old new
-      kept leaves (λ st stands t other. outside st t other)
-
-  pub block_settled : ((s : Subject) → is_one_of (those_with_block numbers block) s ≡ true
-      → Settles old new s) → SettlesThose (is_of_block block.number) old new
-  block_settled settled st stands t its = go (is_one_of (those_with_block numbers block) t) refl
+  pub within_settled : ((s : Subject) → is_one_of (those_with_block numbers block) s ≡ true
+      → Under clock old (λ st. IsSettled new st s)) → (s : Subject)
+      → is_within block.number s ≡ true → Settles old new s
+  within_settled settled s its st rep written =
+      go (is_one_of (those_with_block numbers block) s) refl
     where
-      go : (b : Bool) → is_one_of (those_with_block numbers block) t ≡ b → IsSettled new st t
-      go true e = settled t e st stands.represents stands.written
+      go : (b : Bool) → is_one_of (those_with_block numbers block) s ≡ b → IsSettled new st s
+      go true e = settled s e st rep is
       go false e =
-          let no = neither (is_any_of numbers t) (subject_eq t (Block block.number))
-          (sym (listed_is numbers block t) ∙ e) in
-          stays_settled old new st t (leaves t e st stands.represents stands.written)
-          (rest_settled old block.number numbers are st stands t
-          (sym (ap (λ b. b || is_in_block block.number t) no.1) ∙ its) no.0)
+          let no = neither (is_any_of numbers s) (subject_eq s (Block block.number))
+          (sym (listed_is numbers block s) ∙ e) in
+          stays_settled old new st s (leaves s e st rep is)
+          (rest_settled old block.number numbers are st rep s
+          (sym (ap (λ b. b || is_in_block block.number s) no.1) ∙ its) no.0)

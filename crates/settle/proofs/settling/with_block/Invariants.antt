@@ -1,7 +1,7 @@
 use Rattle.std.proofs.Common.{◌≡◌, ◌++◌, map, drop}
 use Rattle.numbers.specs.declared.ported.Subject.TheVariants.{Number as NumberCode}
 use Rattle.version.specs.declared.in_use.NumberInUse.{NumberInUse}
-use Rattle.register.proofs.settling.with_block.Given as goal
+use Rattle.settle.proofs.settling.with_block.Given as goal
 
 abbrev pub invariant-loop-number : goal.invariant-loop-number
 invariant-loop-number l =

@@ -1,0 +1,116 @@
+use Rattle.std.proofs.Common.{arith, rules, ◌≡◌, inl, inr, true, false, ◌∙◌, ap, sym, subst, Some}
+use Rattle.std.proofs.lemmas.Result.{on_ok_weaker}
+use Rattle.numbers.specs.Subjects.{Subject}
+use Rattle.meaning.specs.Content.{Content, Represents, SameRows}
+use Rattle.settle.specs.Reads.{AreInBlock}
+use Rattle.settle.specs.Settling.{IsSettled, Under, is_one_of, those_with_block}
+use Rattle.settle.specs.Views.{clock_row_of}
+use Rattle.settle.proofs.Risen.{risen-since}
+use Rattle.settle.proofs.Settled.{keeps-read}
+use Rattle.settle.proofs.SettledBlock.{within_elsewhere, within_settled}
+use Rattle.settle.proofs.settling.settle_within.Goals as goal
+
+pub returns-clause-elsewhere : goal.returns-clause-elsewhere
+returns-clause-elsewhere g c = λ usable.
+    let at_numbers =
+    c.in_ok-numbers.ensures.reads.same (c.fire_subjects.ensures.owes.usable usable) in
+    let at_clock = c.in_ok-clock.ensures.reads.same at_numbers.0 in
+    let clock = clock_row_of c.in-Some.clock in
+    let old = g.S.Store.content c.args.store.now in
+    let new = g.S.Store.content c.fire_subjects.new.store in
+    let clock_is : old.clock ≡ Some clock =
+    rw c.in-Some.is at c.in_ok-clock.ensures.value at_numbers.0 in
+    let numbers = c.in_ok-numbers.numbers.items in
+    let listed : c.deref-2.result.now ≡ those_with_block numbers c.args.block =
+    c.deref-2.ensures.value ∙ c.in_ok-subjects.ensures
+    ∙ ap (λ xs. those_with_block xs c.args.block) c.deref.ensures.value in
+    within_elsewhere clock old new c.args.block numbers clock_is
+    (subst (λ m. AreInBlock m c.args.block.number numbers) at_clock.1
+    (c.in_ok-numbers.ensures.value (c.fire_subjects.ensures.owes.usable usable)))
+    (subst (λ xs. (s : Subject) → is_one_of xs s ≡ false
+    → Under clock old (λ st. SameRows s old new)) listed
+    (subst (λ m. (s : Subject) → is_one_of c.deref-2.result.now s ≡ false
+    → Under clock m (λ st. SameRows s m new)) (at_numbers.1 ∙ at_clock.1)
+    (c.fire_subjects.ensures.elsewhere usable)))
+
+pub returns-clause-settled : goal.returns-clause-settled
+returns-clause-settled g c = on_ok_weaker c.fire_subjects.result (λ settled usable.
+    let at_numbers =
+    c.in_ok-numbers.ensures.reads.same (c.fire_subjects.ensures.owes.usable usable) in
+    let at_clock = c.in_ok-clock.ensures.reads.same at_numbers.0 in
+    let clock = clock_row_of c.in-Some.clock in
+    let old = g.S.Store.content c.args.store.now in
+    let new = g.S.Store.content c.fire_subjects.new.store in
+    let clock_is : old.clock ≡ Some clock =
+    rw c.in-Some.is at c.in_ok-clock.ensures.value at_numbers.0 in
+    let numbers = c.in_ok-numbers.numbers.items in
+    let listed : c.deref-2.result.now ≡ those_with_block numbers c.args.block =
+    c.deref-2.ensures.value ∙ c.in_ok-subjects.ensures
+    ∙ ap (λ xs. those_with_block xs c.args.block) c.deref.ensures.value in
+    within_settled clock old new c.args.block numbers clock_is
+    (subst (λ m. AreInBlock m c.args.block.number numbers) at_clock.1
+    (c.in_ok-numbers.ensures.value (c.fire_subjects.ensures.owes.usable usable)))
+    (subst (λ xs. (s : Subject) → is_one_of xs s ≡ false
+    → Under clock old (λ st. SameRows s old new)) listed
+    (subst (λ m. (s : Subject) → is_one_of c.deref-2.result.now s ≡ false
+    → Under clock m (λ st. SameRows s m new)) (at_numbers.1 ∙ at_clock.1)
+    (c.fire_subjects.ensures.elsewhere usable)))
+    (subst (λ xs. (s : Subject) → is_one_of xs s ≡ true
+    → Under clock old (λ st. IsSettled new st s)) listed
+    (subst (λ m. (s : Subject) → is_one_of c.deref-2.result.now s ≡ true
+    → Under clock m (λ st. IsSettled new st s)) (at_numbers.1 ∙ at_clock.1) (settled usable))))
+    c.fire_subjects.ensures.settled
+
+pub returns-clause-left : goal.returns-clause-left
+returns-clause-left g c = λ honest m may.
+    let read = c.fire_subjects.ensures.owes.honest honest in
+    let ready = c.in_ok-numbers.ensures.open tt read in
+    let at_numbers = c.in_ok-numbers.ensures.reads.same ready in
+    let at_clock = c.in_ok-clock.ensures.reads.same at_numbers.0 in
+    elim (c.fire_subjects.ensures.left ready honest m may) [
+      | inl before ↦ inl (c.in_ok-clock.ensures.reads.left
+          (c.in_ok-numbers.ensures.reads.honest read) m
+          (c.in_ok-numbers.ensures.reads.left read m before))
+      | inr kept ↦ inr (
+        at_clock.0,
+        keeps-read (clock_row_of c.in-Some.clock) (g.S.Store.content c.args.store.now)
+            (g.S.Store.content c.in_block.new.self) m (at_numbers.1 ∙ at_clock.1)
+            (rw c.in-Some.is at c.in_ok-clock.ensures.value at_numbers.0) kept,
+      )
+    ]
+
+pub returns-clause-owes : goal.returns-clause-owes
+returns-clause-owes g c = record {
+  usable = search rules;
+  honest = search rules;
+  stays = λ answers usable honest. c.fire_subjects.ensures.owes.stays answers
+      (c.in_ok-numbers.ensures.open tt (c.fire_subjects.ensures.owes.honest honest)) honest;
+  rises = omega (
+    arith,
+    c.clock_if_due.ensures.reads.rises,
+    c.in_block.ensures.reads.rises,
+    c.fire_subjects.ensures.owes.rises,
+  );
+  storage = λ says.
+      let at_numbers =
+      c.in_ok-numbers.ensures.reads.same (c.fire_subjects.ensures.owes.usable says.usable) in
+      let at_clock = c.in_ok-clock.ensures.reads.same at_numbers.0 in
+      let same = at_numbers.1 ∙ at_clock.1 in
+      let clock_is : (g.S.Store.content c.args.store.now).clock
+      ≡ Some (clock_row_of c.in-Some.clock) =
+      rw c.in-Some.is at c.in_ok-clock.ensures.value at_numbers.0 in
+      let a = c.clock_if_due.ensures.reads.rises in
+      let b = c.in_block.ensures.reads.rises in
+      risen-since (g.S.Store.failed c.args.store.now) (g.S.Store.failed c.in_block.new.self)
+      (g.S.Store.failed c.fire_subjects.new.store) (omega arith)
+      c.fire_subjects.ensures.owes.rises
+      (c.fire_subjects.ensures.owes.storage (
+        says.usable,
+        says.says,
+        (
+          says.st,
+          subst (λ m. Represents m says.st) (sym same) says.represents,
+          ap (λ (m : Content). m.clock) same ∙ clock_is,
+        ),
+      ));
+}
