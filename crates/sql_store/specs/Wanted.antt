@@ -1,16 +1,36 @@
 -- What the code asks of a schema.
 use Rattle.sqlite_schema.specs.declared.schema.Column.{Column}
-use Rattle.sql_store.specs.declared.schema.Wanted.{Wanted}
-use Rattle.std.specs.Prelude.{List, [], ◌∷◌}
+use Rattle.sqlite_schema.specs.declared.schema.Index.{Index}
+use Rattle.sqlite_value.specs.Keys.{plain}
+use Rattle.sqlite_value.specs.declared.keys.Order.{Order}
+use Rattle.sql_store.specs.declared.schema.Step.{Step}
+use Rattle.sql_store.specs.declared.schema.WantedColumn.{WantedColumn}
+use Rattle.sql_store.specs.declared.schema.WantedIndex.{WantedIndex}
+use Rattle.sql_store.specs.declared.schema.WantedTable.{WantedTable}
+use Rattle.std.specs.Prelude.{ℕ, List, [], ◌∷◌, ◌++◌, map}
+use Rattle.sqlite.specs.Schema.{Schema}
 use Rattle.sqlite.specs.Table.{Table}
-use Rattle.sql_rows.specs.Tables.{a_column, next_routing_table}
-use Rattle.sql_rows.specs.declared.moving.Form.{Form}
-use Rattle.sql_rows.specs.declared.moving.Form.TheVariants.{First, Modify}
+use Rattle.sql_rows.specs.Tables.{a_column, a_table, an_index}
 
-abbrev pub column_of : Wanted → Column
+abbrev pub column_of : WantedColumn → Column
 column_of w = a_column w.name.now w.kind w.not_null
 
--- the tables of an earlier form, behind those of the first
-abbrev pub form_tables : Form → List Table
-form_tables First = []
-form_tables Modify = next_routing_table ∷ []
+abbrev pub table_of : WantedTable → Table
+table_of w =
+    a_table w.tree w.name.now (map column_of w.columns.now) w.key w.primary.now
+    (map (λ places. places.now) w.uniques.now) (map (λ places. plain) w.uniques.now)
+
+abbrev pub index_of : WantedIndex → Index
+index_of w = an_index w.name.now w.tree w.table w.columns.now w.is_unique
+
+-- what the steps led to
+abbrev pub tables_of : List Step → List Table
+tables_of [] = []
+tables_of (step ∷ steps) = map table_of step.tables.now ++ tables_of steps
+
+abbrev pub indexes_of : List Step → List Index
+indexes_of [] = []
+indexes_of (step ∷ steps) = map index_of step.indexes.now ++ indexes_of steps
+
+abbrev pub schema_by : List Step → Schema
+schema_by steps = record { tables = tables_of steps; indexes = indexes_of steps; views = [] }
