@@ -33,7 +33,8 @@ use Rattle.sql_rows.specs.declared.statement.Table.TheVariants.{Carrier, Lrn, Co
 use Rattle.sql_rows.specs.declared.statement.Query.TheVariants.{CarrierNamed, LrnNumbered, CodeNumbered, BlockNumbered, ClockNumbered, WindowSetNumbered, VersionNumbered, VersionInForce, VersionOpen, BroadcastKeyed, NextRoutingNumbered}
 use Rattle.sql_rows.proofs.QueryLemmas.{passes, plain_answer}
 use Rattle.sql_rows.proofs.Lookups.{looked_up, only, none_picked, none_passes, entry_of, entry_from, From}
-use Rattle.sql_rows.proofs.Orders.{broadcast_total, same_number, same_broadcast}
+use Rattle.sql_rows.proofs.Orders.{same_number, same_broadcast}
+use Rattle.meaning.proofs.KeyOrders.{broadcast_total}
 use Rattle.sql_rows.proofs.KeyTests.{next_tests, column_passes, equal_numbers, never_below, carrier_tests, lrn_tests, code_tests, block_tests, version_tests, set_tests, clock_tests, broadcast_tests}
 use Rattle.sql_rows.proofs.Inversions.{reads, number_read, number_small, subject_read, found_read, unfound_read, version_key, next_key, broadcast_reads}
 use Rattle.sql_rows.proofs.Backs.{subject_back}

@@ -27,7 +27,8 @@ use Rattle.sql_rows.proofs.QueryLemmas.{passes}
 use Rattle.sql_rows.proofs.RowLemmas.{Tests}
 use Rattle.sql_rows.proofs.Inversions.{number_read, minute_read, spid_read, carrier_key, lrn_key, code_key, block_key, next_key, set_key, clock_key, version_key, broadcast_reads, wait_reads}
 use Rattle.sql_rows.proofs.Backs.{spid_back}
-use Rattle.sql_rows.proofs.Orders.{broadcast_total, wait_total, broadcast_tie, wait_tie, same_number}
+use Rattle.sql_rows.proofs.Orders.{broadcast_tie, wait_tie, same_number}
+use Rattle.meaning.proofs.KeyOrders.{broadcast_total, wait_total}
 use Rattle.std.proofs.lemmas.Map.Lookups.{exact_bytes}
 use Rattle.sql_rows.proofs.OnceLemmas.{true_of}
 

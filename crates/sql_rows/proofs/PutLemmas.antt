@@ -24,7 +24,7 @@ use Rattle.sql_rows.specs.Over.{over}
 use Rattle.sql_rows.specs.Content.{next_entry, next_params, content_in, versions_in, nexts_in, carrier_entry, lrn_entry, code_entry, block_entry, broadcast_entry, wait_entry, set_entry, clock_entry, sets_in, clocks_in, clock_from, set_params, carrier_params, owner_params, block_params, broadcast_params, wait_params, clock_params, stored, broadcast_key_params, wait_key_params}
 use Rattle.sql_rows.specs.Written.{IsFrame, Removed, Replaced}
 use Rattle.sql_rows.specs.declared.statement.Table.TheVariants.{Carrier, Lrn, Code, Block, Version, Broadcast, Wait, Clock, NextRouting, WindowSet}
-use Rattle.sql_rows.proofs.Orders.{broadcast_total, broadcast_exact, wait_total, wait_exact}
+use Rattle.meaning.proofs.KeyOrders.{broadcast_total, broadcast_exact, wait_total, wait_exact}
 use Rattle.sql_rows.proofs.KeyTests.{next_tests, set_tests, carrier_tests, lrn_tests, code_tests, block_tests, version_tests, clock_tests, broadcast_tests, wait_tests}
 use Rattle.sql_rows.proofs.Casts.{next_cast, set_cast, next_in, carrier_cast, lrn_cast, code_cast, block_cast, version_cast, broadcast_cast, wait_cast, clock_cast}
 use Rattle.sql_rows.proofs.TableLemmas.{Leaves, framed_twice, put, taken, carriers_framed, lrns_framed, codes_framed, blocks_framed, versions_framed, nexts_framed, broadcasts_framed, waits_framed, sets_framed, clock_framed}

@@ -37,7 +37,8 @@ use Rattle.sql_rows.proofs.FoundLemmas.{versions_once}
 use Rattle.sql_rows.proofs.Inversions.{bind_some, broadcast_reads, found_read, number_read, reads, spid_read, subject_read, unfound_read, wait_reads}
 use Rattle.sql_rows.proofs.KeyTests.{both, column_passes, equal_numbers, equal_spids, equals, two_of}
 use Rattle.sql_rows.proofs.Listed.{listed}
-use Rattle.sql_rows.proofs.Orders.{broadcast_total, same_broadcast, same_number, same_wait, wait_total}
+use Rattle.sql_rows.proofs.Orders.{same_broadcast, same_number, same_wait}
+use Rattle.meaning.proofs.KeyOrders.{broadcast_total, wait_total}
 use Rattle.sql_rows.proofs.Picked.{Picks, Says, picks}
 use Rattle.sql_rows.proofs.QueryLemmas.{passes, plain_answer}
 use Rattle.numbers.proofs.Small.{and_both, true_both}

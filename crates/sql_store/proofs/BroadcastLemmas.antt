@@ -13,7 +13,7 @@ use Rattle.settle.specs.declared.rows.BroadcastKey.{BroadcastKey}
 use Rattle.sql_rows.specs.declared.keyed.KeyedBroadcast.{KeyedBroadcast}
 use Rattle.sql_rows.proofs.DueLemmas.{has_permuted}
 use Rattle.sql_rows.proofs.Listed.{from_mapped, has_mapped}
-use Rattle.sql_rows.proofs.Orders.{broadcast_exact, broadcast_total}
+use Rattle.meaning.proofs.KeyOrders.{broadcast_exact, broadcast_total}
 use Rattle.sql_rows.proofs.Picked.{Picks}
 use Rattle.sql_rows.proofs.QueriesListed.{broadcast_seen}
 use Rattle.sql_store.specs.Lists.{pair_of}

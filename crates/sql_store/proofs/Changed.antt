@@ -20,7 +20,8 @@ use Rattle.settle.specs.Changes.{IsChanged, changes_of, clock_after, clock_move_
 use Rattle.settle.specs.Lists.{items_of}
 use Rattle.settle.specs.Views.{spid_of, lrn_of, code_of, block_of, block_row_of, clock_row_of, broadcast_row_of, broadcast_key_of, wait_key_of}
 use Rattle.settle.specs.declared.changes.Changes.{Changes}
-use Rattle.sql_rows.proofs.Orders.{broadcast_total, wait_total, broadcast_tie, wait_tie}
+use Rattle.sql_rows.proofs.Orders.{broadcast_tie, wait_tie}
+use Rattle.meaning.proofs.KeyOrders.{broadcast_total, wait_total}
 use Rattle.sql_store.specs.Changes.{all_made, go_by_clock, if_some, singles, lists, made, with_carrier, with_lrn, with_code, with_block, clock_made, with_version, without_version, with_broadcast, without_broadcast, with_wait, without_wait}
 use Rattle.numbers.proofs.Small.{grouped}
 

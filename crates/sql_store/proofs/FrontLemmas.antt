@@ -32,7 +32,8 @@ use Rattle.sql_rows.proofs.Inversions.{minute_read, number_read, spid_read, wait
 use Rattle.sql_rows.proofs.KeyTests.{column_passes, equal_spids}
 use Rattle.sql_rows.proofs.Listed.{from_mapped, has_mapped, read_as, read_from}
 use Rattle.sql_rows.proofs.Lookups.{entry_from, entry_of}
-use Rattle.sql_rows.proofs.Orders.{same_number, same_wait, wait_total}
+use Rattle.sql_rows.proofs.Orders.{same_number, same_wait}
+use Rattle.meaning.proofs.KeyOrders.{wait_total}
 use Rattle.sql_rows.proofs.Picked.{Says}
 use Rattle.sql_rows.proofs.QueriesListed.{wait_seen}
 use Rattle.sql_rows.proofs.QueryLemmas.{passes, picked, map_twice}

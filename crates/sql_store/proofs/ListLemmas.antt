@@ -22,7 +22,7 @@ use Rattle.settle.specs.Views.{spid_of}
 use Rattle.settle.specs.Reads.{AreAwaited, AreCarriers, AreWaitsAbout, IsAwaitedBy, IsWaiting, download_cmp}
 use Rattle.sql_rows.specs.declared.keyed.KeyedWait.{KeyedWait}
 use Rattle.sql_rows.proofs.Listed.{from_mapped, has_mapped}
-use Rattle.sql_rows.proofs.Orders.{both_Equal}
+use Rattle.meaning.proofs.KeyOrders.{both_equal}
 use Rattle.sql_rows.proofs.Picked.{Picks}
 use Rattle.sql_rows.proofs.QueriesListed.{carrier_seen, wait_seen}
 use Rattle.sql_rows.proofs.QueryLemmas.{map_twice}
@@ -99,9 +99,9 @@ carriers_are c found items picks rises only each =
 pub download_tie : (a b : DownloadKey) → download_cmp a b ≡ Equal
     → (a.minute.number ≡ b.minute.number) × (a.id ≡ b.id) × (a.attempt ≡ b.attempt)
 download_tie a b e =
-    let p = both_Equal (nat_cmp a.minute.number b.minute.number) (ordering_then (nat_cmp a.id b.id)
+    let p = both_equal (nat_cmp a.minute.number b.minute.number) (ordering_then (nat_cmp a.id b.id)
     (nat_cmp a.attempt b.attempt)) e in
-    let q = both_Equal (nat_cmp a.id b.id) (nat_cmp a.attempt b.attempt) p.1 in (
+    let q = both_equal (nat_cmp a.id b.id) (nat_cmp a.attempt b.attempt) p.1 in (
       nat_cmp-IsAntisymmetric _ _ p.0,
       nat_cmp-IsAntisymmetric _ _ q.0,
       nat_cmp-IsAntisymmetric _ _ q.1,

@@ -18,7 +18,8 @@ use Rattle.sql_rows.specs.Content.{content_in, wait_in, wait_shown}
 use Rattle.sql_rows.specs.declared.keyed.KeyedWait.{KeyedWait}
 use Rattle.sql_rows.proofs.Inversions.{number_small, wait_reads}
 use Rattle.sql_rows.proofs.Lookups.{entry_from}
-use Rattle.sql_rows.proofs.Orders.{same_wait, wait_total}
+use Rattle.sql_rows.proofs.Orders.{same_wait}
+use Rattle.meaning.proofs.KeyOrders.{wait_total}
 use Rattle.sql_rows.proofs.Picked.{Picks}
 use Rattle.sql_rows.proofs.QueriesListed.{wait_seen}
 use Rattle.sql_store.specs.Lists.{is_waiting}

@@ -13,7 +13,7 @@ use Rattle.store.specs.Maps.{set, seen_entries, IsSet}
 use Rattle.store.specs.WaitRows.{IsDownload, download_of}
 use Rattle.store.specs.QueueRows.{AreOrdered, order_of}
 use Rattle.store.proofs.Maps.{get-map_of, set_map_of, get-set, set-same}
-use Rattle.store.proofs.Orders.{wait_total, wait_exact}
+use Rattle.meaning.proofs.KeyOrders.{wait_total, wait_exact}
 use Rattle.numbers.proofs.Small.{tied}
 
 pub none-ordered : (order : BTreeMap WaitKeyCode (Unit {0})) → order.entries ≡ []

@@ -24,7 +24,7 @@ use Rattle.store.specs.Tables.{content_of, KeepIndexes, IsKept, IsSpare, AddNoSp
 use Rattle.store.specs.Tables.IndexKey.{Held, Opened, Due}
 use Rattle.store.specs.declared.tables.Tables.{Tables}
 use Rattle.store.proofs.Maps.{same_map_of, set_map_of, still_there, back}
-use Rattle.store.proofs.Orders.{broadcast_total, broadcast_exact}
+use Rattle.meaning.proofs.KeyOrders.{broadcast_total, broadcast_exact}
 use Rattle.store.proofs.Undone.{all-kept}
 
 pub on-err : {V E : Type 0} {P : Type 0} (r : Result V E) → P → OnErr r P

@@ -26,7 +26,7 @@ use Rattle.store.specs.Maps.{map_of}
 use Rattle.store.specs.WaitRows.{IsDownload}
 use Rattle.store.specs.QueueRows.{AreOrdered, order_of, lowest, highest, told, download_told, broadcast_of}
 use Rattle.store.proofs.Maps.{get-map_of, entry-of}
-use Rattle.store.proofs.Orders.{wait_total, wait_exact, broadcast_total, broadcast_exact}
+use Rattle.meaning.proofs.KeyOrders.{wait_total, wait_exact, broadcast_total, broadcast_exact}
 use Rattle.store.proofs.Listed.{Among, contained, all-places, filter_map-filter, listed-sorted, found-listed, equal_cmp}
 use Rattle.store.proofs.CarrierKeys.{is_between, carrier-is, within}
 use Rattle.numbers.proofs.Small.{tied}

@@ -11,7 +11,7 @@ use Rattle.meaning.specs.Content.{WaitKey}
 use Rattle.store.specs.Maps.{set}
 use Rattle.store.specs.WaitRows.{Download, download_cmp, download_of, Waiting, waits_of, awaited, SubjectDownload, subject_download_cmp, key_about, download_about, IsDownload, AreAbout, AboutIsNeeded}
 use Rattle.store.proofs.Maps.{get-set}
-use Rattle.store.proofs.Orders.{both_equal, wait_total, wait_exact}
+use Rattle.meaning.proofs.KeyOrders.{both_equal, wait_total, wait_exact}
 use Rattle.store.proofs.RowsFlat.{download_total, download_exact, wait-ties, get-waits_of}
 use Rattle.numbers.proofs.Small.{tied}
 use Rattle.numbers.proofs.Small.{numbers_turned}

@@ -12,7 +12,7 @@ use Rattle.std.specs.FinMap.Entries.{below_all}
 use Rattle.numbers.specs.Subjects.{Subject}
 use Rattle.meaning.specs.Content.{WaitKey, wait_cmp}
 use Rattle.store.specs.WaitRows.{Download, download_cmp, download_of, wait_for, Waiting, waits_of_row, waits_of_rows, waits_of, awaited}
-use Rattle.store.proofs.Orders.{both_equal, wait_total}
+use Rattle.meaning.proofs.KeyOrders.{both_equal, wait_total}
 use Rattle.numbers.proofs.Small.{tied, and_second, and_first, truth}
 
 pub download_total : IsTotalOrder download_cmp

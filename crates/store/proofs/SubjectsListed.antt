@@ -24,7 +24,7 @@ use Rattle.store.specs.WaitRows.{IsDownload}
 use Rattle.store.specs.QueueRows.{AreOrdered, order_of, lowest, highest, gathered, with_subject, subjects_of}
 use Rattle.store.specs.Maps.{IsSet}
 use Rattle.store.proofs.Maps.{get-map_of, set_map_of, entry-of, get-set, get-set_here}
-use Rattle.store.proofs.Orders.{wait_total, wait_exact}
+use Rattle.meaning.proofs.KeyOrders.{wait_total, wait_exact}
 use Rattle.store.proofs.Listed.{Among, contained, all-places}
 use Rattle.store.proofs.CarrierKeys.{is_between, carrier-is, within}
 use Rattle.store.proofs.QueueListed.{found-own}

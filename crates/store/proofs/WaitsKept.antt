@@ -17,7 +17,8 @@ use Rattle.store.specs.declared.keys.RowKey.{RowKey as RowKeyCode}
 use Rattle.store.specs.declared.keys.SubjectDownload.{SubjectDownload as SubjectDownloadCode}
 use Rattle.store.specs.declared.waiting.Waiting.{Waiting as WaitingCode}
 use Rattle.store.proofs.Maps.{get-seen, set_seen, set_map_of, get-set}
-use Rattle.store.proofs.Orders.{wait_total, wait_exact, no_key}
+use Rattle.store.proofs.Orders.{no_key}
+use Rattle.meaning.proofs.KeyOrders.{wait_total, wait_exact}
 use Rattle.store.proofs.RowsFlat.{download_total, download_exact, get-waits_of}
 use Rattle.numbers.proofs.Small.{tied}
 use Rattle.store.proofs.RowsChanged.{IsRow, IsKey, Agrees, row-changed, subject_download_total, subject_download_exact}
