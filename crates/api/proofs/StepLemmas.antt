@@ -537,14 +537,6 @@ admitted_by : (b : Bool) → not b ≡ false → only_if b ≡ None
 admitted_by true e = refl
 admitted_by false e = let x : ⊥ = cc in absurd x
 
-pub stranger_turned_away : (st : State) (caller minute : ℕ) → not (caller == npac) ≡ true
-    → turned_away st caller (Moves minute) ≡ Some 2
-stranger_turned_away st caller minute other = by_test (caller == npac) other
-
-pub administrator_admitted : (st : State) (caller minute : ℕ) → not (caller == npac) ≡ false
-    → Admits st caller (Moves minute)
-administrator_admitted st caller minute is = admitted_by (caller == npac) is
-
 -- ---- queries
 
 query_known : (r : Refusal) (from to : ℕ) (st : State) (caller : ℕ) (uri : List ℕ) (new : Content)

@@ -38,25 +38,6 @@ pub rows_of : (st : State) (rows : List InForce) → Rows rows ≡ out st (Asks 
 unfolding out
 rows_of st rows e = same_rows (refusal st (Asks 0 AllInForce)) rows (all_in_force st) e
 
--- who says storage further up says what was said below
-pub owes_as : {S Answers Says Told : Type 0} {IsUsable IsHonest : S → Type 0} {failed : S
-    → ℕ} {before after : S} {old : Content} → (Told → Says)
-    → Owes IsUsable IsHonest failed before after Answers (SaysStorage (IsUsable after) old Says)
-    → Owes IsUsable IsHonest failed before after ⊥ (SaysStorage (IsUsable after) old Told)
-owes_as told owed = record {
-  usable = owed.usable;
-  honest = owed.honest;
-  stays = λ never. absurd never;
-  rises = owed.rises;
-  storage = λ s. owed.storage (record {
-    usable = s.usable;
-    st = s.st;
-    represents = s.represents;
-    written = s.written;
-    says = told s.says;
-  });
-}
-
 -- the ids of a number's versions
 same_ids : (r : Option ℕ) (a b c d : Option ℕ) → Found a b ≡ refused_or r (Found c d)
     → (a ≡ c) × (b ≡ d)
@@ -137,17 +118,4 @@ owes_none IsUsable IsHonest failed s = record {
   stays = λ never. absurd never;
   rises = le_refl (failed s);
   storage = λ x. absurd x;
-}
-
--- and nothing is said
-pub owes_quiet : {S Answers First Says : Type 0} {IsUsable IsHonest : S → Type 0} {failed : S
-    → ℕ} {before after : S}
-    → Owes IsUsable IsHonest failed before after Answers First → ¬ Says
-    → Owes IsUsable IsHonest failed before after ⊥ Says
-owes_quiet owed quiet = record {
-  usable = owed.usable;
-  honest = owed.honest;
-  stays = λ never. absurd never;
-  rises = owed.rises;
-  storage = λ x. absurd (quiet x);
 }

@@ -56,20 +56,6 @@ found_again r.Full = refl
 found_again r.Storage = refl
 found_again r.NoMemory = refl
 
--- what a machine's refusal tells
-pub refused_tells : (x : Refusal) (reply : Reply) → Refused (number_of x) ≡ reply
-    → Tells (told.Refused x) reply
-refused_tells x reply e = λ row tn.
-    let named : report_line row (tn_text tn) (name_of (Some x)) [] ≡ report_line row (tn_text tn)
-    (name_of (refusal_of (number_of x))) [] =
-    ap (λ (o : Option Refusal). report_line row (tn_text tn) (name_of o) [])
-    (sym (found_again x)) in
-    named ∙ ap (reply_line row tn) e
-
-pub shown_tells : (view : View) (reply : Reply) → Shown (Some view) ≡ reply
-    → Tells (told.Version view.id) reply
-shown_tells view reply e = λ row tn. ap (reply_line row tn) e
-
 said_or : (o : Option ℕ) (reply : Reply) → IsSaid reply → IsSaid (refused_or o reply)
 said_or None reply h = h
 said_or (Some k) reply h = tt

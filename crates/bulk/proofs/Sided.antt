@@ -143,15 +143,6 @@ pub record Taken (whole left : List RoutedRow) (all : Map) : Type 0 where
   pub copied : (s : Subject)
       → is_some (sides_at all s).copied ≡ list_any (λ t. subject_eq t (subject_of s)) before
 
-pub nothing_taken : (entries : List RoutedRow) (all : Map)
-    → ((s : Subject) → sides_at all s ≡ no_sides) → Taken entries entries all
-nothing_taken entries all none = record {
-  before = [];
-  forth = λ once. once;
-  back = λ once. once;
-  copied = λ s. ap (λ (sides : Sides). is_some sides.copied) (none s);
-}
-
 pub entry_taken :
     (entries : List RoutedRow) (i : ℕ) (entry : RoutedRow) → i < length entries
     → entry ≡ get_or entries i entry → (old new : Map) → is_some (sides_at old entry.subject).copied
@@ -181,18 +172,6 @@ entry_taken entries i entry within is old new not set before =
         ≡ (b || list_any (λ t. subject_eq t (subject_of s)) before.before)
     go s true = refl
     go s false = before.copied s
-
-pub taken_twice :
-    (entries : List RoutedRow) (i : ℕ) (entry : RoutedRow) → i < length entries
-    → entry ≡ get_or entries i entry → (old : Map) → is_some (sides_at old entry.subject).copied
-    ≡ true →
-    Taken entries (drop i entries) old → ¬ (EachOnce (subjects_in entries))
-taken_twice entries i entry within is old there before = λ once.
-    let left = left_first entries i entry within is in
-    let fresh =
-    (subst (λ (es : List RoutedRow). AreNew before.before (subjects_in es)) left
-    (before.forth once)).0 in
-    let x : true ≡ false = sym there ∙ before.copied entry.subject ∙ fresh in cc
 
 -- ---- what the definitions say of them
 

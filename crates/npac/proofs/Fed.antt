@@ -19,20 +19,6 @@ use Rattle.npac.specs.declared.fault.Fault.{Fault}
 use Rattle.npac.specs.declared.fault.Fault.TheVariants as fault
 use Rattle.npac.specs.Feeding.{Feeds, fault_of_end, fed, outcome_of}
 
--- the windows of a file are windows
-pub are-windows : (w : Windows) → AreWindows (windows_of w)
-are-windows w = record {
-  initial_concurrence = w.initial_concurrence.in_range.0;
-  final_concurrence = w.final_concurrence.in_range.0;
-  conflict_restriction = w.conflict_restriction.in_range.0;
-  conflict_resolution = w.conflict_resolution.in_range.0;
-  conflict_expiration = w.conflict_expiration.in_range.0;
-  cancellation_initial = w.cancellation_initial.in_range.0;
-  cancellation_final = w.cancellation_final.in_range.0;
-  pending_retention = w.pending_retention.in_range.0;
-  broadcast = w.broadcast.in_range.0;
-}
-
 -- the same of what a writer holds later, where it has kept what was written
 module _ (from to : ℕ) (st : State) (new : Content) (told : Told) (has : Option (List ℕ))
     (kept : Keeps told.has has) where

@@ -294,10 +294,9 @@ fn carry_out_over<T: Files + AllocGlobal + Net + Clock, S: Store, R: Read, W: Wr
     }
 }
 
-// What is told of a file that is not opened: what is left of it is closed.
+// What is told of a file that is not opened. What is left of it is closed.
 fn open_fault(refused: (FileFault, UnopenedAt<Unknown>)) -> Fault {
-    let (fault, left) = refused;
-    left.close();
+    let (fault, _left) = refused;
     Fault::Open(match fault {
         FileFault::WindowsDiffer => OpenFault::WindowsDiffer,
         FileFault::Storage => OpenFault::Storage,
@@ -321,11 +320,12 @@ fn carry_out_at<R: Read, W: Write>(
             carry_out_over(rt, store, windows, line, reader, writer)
         }
     };
-    let closed = store
-        .close()
-        .map_err(|fault| Fault::Open(OpenFault::from(fault)));
+    let closed = store.close_files();
     outcome?;
-    closed
+    match closed {
+        Ok(_files) => Ok(()),
+        Err((fault, _left)) => Err(Fault::Open(OpenFault::from(fault))),
+    }
 }
 
 // Carries out a line. A plain `feed` is the function that says what it answers.

@@ -114,14 +114,6 @@ pub bound_wait : (rs : List ValueRef) (k : WaitKey) (s : Subject) → map owned 
     → bound rs ≡ wait_params k s
 bound_wait rs k s is = bound_as rs _ is refl
 
-pub bound_owner : (rs : List ValueRef) (number owner : ℕ) → map owned rs ≡ owner_params number owner
-    → bound rs ≡ owner_params number owner
-bound_owner rs number owner is = bound_as rs _ is refl
-
-pub bound_carrier : (rs : List ValueRef) (carrier : ℕ) → map owned rs ≡ carrier_params carrier
-    → bound rs ≡ carrier_params carrier
-bound_carrier rs carrier is = bound_as rs _ is refl
-
 pub bound_wait_key : (rs : List ValueRef) (k : WaitKey) → map owned rs ≡ wait_key_params k
     → bound rs ≡ wait_key_params k
 bound_wait_key rs k is = bound_as rs _ is refl

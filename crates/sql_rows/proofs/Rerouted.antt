@@ -59,11 +59,6 @@ module _ {B : Type 0} (f : VersionRow → B) (same : (n : Option Routing) (v : V
   seen-over rows more id = ap (option_map f) (get-over rerouted rows more id)
       ∙ seen (get more id) (get rows id)
 
-pub holds-over : (rows : FinMap nat_cmp VersionRow) (more : FinMap nat_cmp Routing) (id : ℕ)
-    → option_map (λ (v : VersionRow). v.holds) (get (over rerouted rows more) id)
-    ≡ option_map (λ (v : VersionRow). v.holds) (get rows id)
-holds-over rows more id = seen-over (λ v. v.holds) (λ n v. refl) rows more id
-
 -- ---- from the tables as they stand to the content
 
 module _ (rows : FinMap nat_cmp VersionRow) (more : FinMap nat_cmp Routing) where
@@ -176,11 +171,6 @@ other_status n Failed e = refl
 other_status n (DisconnectPending release) e = refl
 other_status n Old e = refl
 other_status n Canceled e = refl
-
--- a row that sends no modify is as it was
-pub rerouted-other : (n : Option Routing) (v : VersionRow) → next_of v.status ≡ None
-    → rerouted n v ≡ v
-rerouted-other n v e = ap (λ s. record v { status = s }) (other_status n v.status e)
 
 no_next : (s : Status) → rerouted_status None s ≡ s
 no_next (Sending Create) = refl

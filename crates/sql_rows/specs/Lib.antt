@@ -1,3 +1,4 @@
+pub mod Faults
 pub mod Tables
 pub mod Values
 pub mod Versions

@@ -469,42 +469,6 @@ module _ (a b : State) where
     survives = it.survives;
   }
 
-idle_survives : (a : State) → Survives a a (λ _. ⊥)
-idle_survives a = record {
-  clean = omega arith;
-  shield = λ s. s;
-  counts = omega arith;
-  limit = refl;
-  closes = λ clean up. inl up;
-  crash = λ clean db may. inl may;
-}
-
--- nothing is done yet
-pub goes_first : (a : State) (left whole : Content → Content) → ((m : Content) → left m ≡ whole m)
-    → Goes a a left whole
-goes_first a left whole same = record {
-  inside = λ clean it. it;
-  committed = λ clean it. refl;
-  is = λ clean it. same (content_at a);
-  kept = λ up. record { was_open = up; committed = refl };
-  survives = idle_survives a;
-}
-
--- nothing was to be done, or nothing was
-pub makes_nothing : (a : State) → Makes a a true (λ m. m)
-makes_nothing a = record {
-  made = λ ok clean it. record { inside = it; committed = refl; is = refl };
-  kept = λ up. record { was_open = up; committed = refl };
-  survives = idle_survives a;
-}
-
-pub stops_first : (a : State) (f : Content → Content) → Makes a a false f
-stops_first a f = record {
-  made = λ no. absurd (true≢false (sym no));
-  kept = λ up. record { was_open = up; committed = refl };
-  survives = idle_survives a;
-}
-
 -- ---- a transaction, from its beginning to its end
 
 -- what a transaction made of the tables since it began
@@ -632,22 +596,6 @@ module _ (old mid new : State) (change : Content → Content) (Becomes : Content
           };
       crash = all_survives;
     }
-
--- no read at all
-pub looked_still : (a : State) → (HasCleanDisk a → IsTrue a.is_open) → Looked a a true
-looked_still a is_open = record {
-  same = λ up. record { was_open = up; now = refl; committed = refl };
-  honest = λ done. done;
-  stays = λ ok done. is_open done;
-  survives = record {
-    clean = omega arith;
-    shield = λ s. s;
-    counts = omega arith;
-    limit = refl;
-    closes = λ clean h. inl h;
-    crash = λ clean db may. inl may;
-  };
-}
 
 -- ---- a read, and then a commit
 

@@ -247,15 +247,6 @@ unrouted_next db v n none is =
     sym (rerouted-none v.row) ∙ ap (λ o. rerouted o v.row) (ap (option_map routing_of) (sym none)
     ∙ is)
 
-pub other_next : (db : Trees) (v : NumberedRow) → is_some (next_of v.row.status) ≡ false
-    → v.row ≡ rerouted (get (nexts_in (db 16)) v.id) v.row
-other_next db v sends = go (next_of v.row.status) refl sends
-  where
-    go : (o : Option Routing) → next_of v.row.status ≡ o → is_some o ≡ false
-        → v.row ≡ rerouted (get (nexts_in (db 16)) v.id) v.row
-    go None e h = sym (rerouted-other (get (nexts_in (db 16)) v.id) v.row e)
-    go (Some own) e h = absurd (true≢false h)
-
 pub broadcast_is : (db : Trees) (r s : ValueRef) (k : BroadcastKey) → owned r ≡ Int (pos k.id)
     → owned s ≡ Int (pos k.attempt) → (found o : Option KeyedBroadcast) → found ≡ o
     → IsSoleAnswer BroadcastKeyed broadcast_in db (bound (r ∷ s ∷ []))

@@ -378,13 +378,6 @@ module _ (a b c : State) (id : ℕ) (more ids : List ℕ) where
       two) inside_put)
       (λ inside. inside) (λ inside it. one_put it))
 
-pub puts_stop : (a b c : State) (id : ℕ) (more ids : List ℕ) → Writes a b true (ArePutBut more ids)
-    → Writes b c false (IsOldPut id) → Writes a c false (ArePutBut [] ids)
-puts_stop a b c id more ids first two =
-    to_writes a c false (ArePutBut [] ids) (does_stop a b c IsInside IsInside (ArePutBut more ids)
-    (IsOldPut id) (ArePutBut [] ids) (from_writes a b true (ArePutBut more ids) first)
-    (from_writes b c false (IsOldPut id) two))
-
 -- ---- rows taken away
 
 pub thinned_none : (a : State) → Writes a a true IsThinned
@@ -862,18 +855,6 @@ module _ (a b d : State) (Turns Becomes : Trees → Trees → Type 0) (one : Loo
     crash = survives_then a b d _ _ _ (λ clean db none. absurd none) (λ clean db h was. let up =
         one.stays refl (two.honest clean) in from_first up db (h up)) one.survives two.crash;
   }
-
-pub looked_unmoved : (a b : State) (answered : Bool) (Becomes : Trees → Trees → Type 0)
-    → Looked a b answered → Moves Becomes a b false
-looked_unmoved a b answered Becomes one = record {
-  becomes = λ no. absurd (true≢false (sym no));
-  ours = λ no. absurd (true≢false (sym no));
-  same = λ _. one.same;
-  was_open = λ up. (one.same up).was_open;
-  honest = one.honest;
-  stays = λ no. absurd (true≢false (sym no));
-  crash = survives_weaker a b _ _ (λ clean db none. absurd none) one.survives;
-}
 
 -- ---- the versions put are those that stood in the file
 

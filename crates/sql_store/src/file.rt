@@ -29,16 +29,6 @@ pub enum Unopened<S: Alter, L> {
     Database(Refused<S>),
 }
 
-impl<S: Alter + Drop, L: Drop> Unopened<S, L> {
-    /// Closes what is left. What was committed stays.
-    pub fn close(self) {
-        match self {
-            Unopened::Files(left) => drop(left),
-            Unopened::Database(refused) => drop(refused.into_store()),
-        }
-    }
-}
-
 /// The store over the file at a path.
 pub type StoreAt<S> = SqlStore<FileStore<FileFrom<S>>>;
 
@@ -85,22 +75,6 @@ impl<S: Start> SqlStore<FileStore<FileFrom<S>>> {
                 Err((fault, refused)) => Err((fault, Unopened::Database(refused))),
             },
             Err((error, left)) => Err((FileFault::from(fault_of(error)), Unopened::Files(left))),
-        }
-    }
-
-    /// Copies the log into the file and closes both, as `close_files` says, so that the file stands
-    /// alone.
-    ///
-    /// # Errors
-    ///
-    /// `Storage` where the device failed: what was committed stands in the file and its log then.
-    pub fn close(self) -> Result<(), StoreFault> {
-        match self.close_files() {
-            Ok(_files) => Ok(()),
-            Err((fault, store)) => {
-                drop(store.close());
-                Err(fault)
-            }
         }
     }
 }

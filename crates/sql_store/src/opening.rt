@@ -8,6 +8,7 @@ ghost use Rattle.sqlite_catalog.specs.Listing.{IsSound};
 ghost use Rattle.sqlite_trees.specs.View.{IsClean, doubt};
 ghost use Rattle.meaning.specs.Content.{empty_content};
 ghost use Rattle.sql_rows.specs.Content.{content_in};
+ghost use Rattle.sql_rows.specs.Faults.{fault_of, told_of};
 ghost use Rattle.sql_rows.specs.Tables.{no_schema, the_schema};
 ghost use Rattle.sql_rows.specs.Moving.{schema_of};
 ghost use Rattle.sql_store.specs.Moving.{IsMovedFrom, WereOtherWindows};
@@ -84,16 +85,11 @@ fn is_blank(schema: &Schema) -> bool
     schema.tables.is_empty() && schema.indexes.is_empty() && schema.views.is_empty()
 }
 
-// What the store answers for a fault.
-fn told(fault: Fault) -> StoreFault {
-    match fault {
-        Fault::Memory => StoreFault::NoMemory,
-        Fault::Device => StoreFault::Storage,
-    }
-}
-
-pub(crate) fn fault_of(error: Error) -> StoreFault {
-    told(Fault::from(error))
+// What the store answers for an error of the database: want of memory alone is told as such.
+pub(crate) fn fault_of(error: Error) -> StoreFault
+    ensures { result ≡ told_of (fault_of error) }
+{
+    StoreFault::from(Fault::from(error))
 }
 
 impl<S: Alter + Drop> SqlStore<S> {
@@ -161,7 +157,7 @@ impl<S: Alter + Drop> SqlStore<S> {
     {
         match read_all(&mut self.conn) {
             Ok(blank) => Ok((self, blank)),
-            Err(fault) => Err((told(fault), self.release().into_store())),
+            Err(fault) => Err((StoreFault::from(fault), self.release().into_store())),
         }
     }
 

@@ -308,15 +308,6 @@ marked-step mark column block versions e rest old new tn standing is marks writt
     seen None = refl
     seen (Some s) = refl
 
--- a key passed whose row has no number of the block
-pub marked-pass : (mark : Option Standing → Standing) (column : VersionRow
-    → Option Subject) (block : ℕ) (versions : FinMap nat_cmp VersionRow) (e : SubjectVersionCode
-    × Unit {0}) (rest : List (SubjectVersionCode × Unit {0})) (m : FinMap nat_cmp Standing) →
-    None ≡ number_at column block (get versions e.0.id) → marked mark column block versions rest m
-    ≡ marked mark column block versions (e ∷ rest) m
-marked-pass mark column block versions e rest m is =
-    ap (λ o. marked mark column block versions rest (with_number mark o m)) is
-
 -- ---- the list
 
 narrowed : (P Q : Type 0) (b : Bool) → IsTold b (P × Q) → P → IsTold b Q

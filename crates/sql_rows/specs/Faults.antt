@@ -1,0 +1,22 @@
+-- Why a statement fails, and what a store tells of it.
+use Rattle.settle.specs.declared.store.StoreFault.{StoreFault}
+use Rattle.settle.specs.declared.store.StoreFault.TheVariants.{NoMemory, Storage}
+use Rattle.sql_rows.specs.declared.fault.Fault.{Fault}
+use Rattle.sql_rows.specs.declared.fault.Fault.TheVariants.{Device, Memory}
+use Rattle.sqlite.specs.declared.error.Error.{Error}
+use Rattle.sqlite.specs.declared.error.Error.TheVariants.{SqliteFailure}
+use Rattle.sqlite.specs.declared.error.ErrorCode.{ErrorCode}
+use Rattle.sqlite.specs.declared.error.ErrorCode.TheVariants.{OutOfMemory}
+
+abbrev pub fault_of_code : ErrorCode → Fault
+fault_of_code OutOfMemory = Memory
+fault_of_code _ = Device
+
+-- want of memory alone is told as such
+abbrev pub fault_of : Error → Fault
+fault_of (SqliteFailure code) = fault_of_code code
+fault_of _ = Device
+
+abbrev pub told_of : Fault → StoreFault
+told_of Device = Storage
+told_of Memory = NoMemory
