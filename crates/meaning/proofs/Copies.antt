@@ -6,6 +6,7 @@ pub mod Dated
 pub mod Served
 pub mod Reaching
 pub mod Steps
+pub mod Joining
 pub mod Starts
 pub mod Order
 pub mod Passing

@@ -1,7 +1,7 @@
 -- What is among the elements of a list, and what holds of each of them.
-use Rattle.std.proofs.Common.{◌≡◌, zero, suc, inl, inr, Bool, true, false, cond, ◌||◌, List, [], ◌∷◌, ◌++◌, map, Some, refl, ap, sym, ◌∙◌, subst, arith}
+use Rattle.std.proofs.Common.{◌≡◌, zero, suc, inl, inr, Bool, true, false, cond, ◌&&◌, ◌||◌, List, [], ◌∷◌, ◌++◌, map, Some, refl, ap, sym, ◌∙◌, subst, arith}
 use Rattle.std.specs.Prelude.{◌⊎◌, find, filter, flat_map, All, Contains}
-use Rattle.std.specs.List.{list_any, AllByRecursion}
+use Rattle.std.specs.List.{list_all, list_any, AllByRecursion}
 use Rattle.numbers.proofs.Small.{true-false, or_true}
 
 -- ---- among them
@@ -178,3 +178,21 @@ all_of P [] step k x lt = absurd (omega (arith, lt))
 all_of P (y ∷ ys) step zero x lt = step y (inl refl)
 all_of P (y ∷ ys) step (suc k) x lt =
     all_of P ys (λ z there. step z (inr there)) k x (omega (arith, lt))
+
+pub filter-map : {A B : Type 0} (f : A → B) (p : A → Bool) (q : B → Bool) → ((x : A) → q (f x) ≡ p x)
+    → (xs : List A) → map f (filter p xs) ≡ filter q (map f xs)
+filter-map f p q same [] = refl
+filter-map f p q same (x ∷ xs) =
+    go (filter-map f p q same xs) (p x)
+    ∙ ap (λ b. cond b (f x ∷ filter q (map f xs)) (filter q (map f xs))) (sym (same x))
+  where
+    go : map f (filter p xs) ≡ filter q (map f xs) → (b : Bool)
+        → map f (cond b (x ∷ filter p xs) (filter p xs)) ≡ cond b (f x ∷ filter q (map f xs))
+        (filter q (map f xs))
+    go more true = ap (λ ys. f x ∷ ys) more
+    go more false = more
+
+pub all-map : {A B : Type 0} (f : A → B) (q : B → Bool) (xs : List A)
+    → list_all (λ x. q (f x)) xs ≡ list_all q (map f xs)
+all-map f q [] = refl
+all-map f q (x ∷ xs) = ap (λ b. q (f x) && b) (all-map f q xs)

@@ -122,43 +122,9 @@ bare_own own status sends release by Canceled e = refl
 pub bare_read : (held : Option ℕ) (r : Row) (e : ℕ × VersionRow) → version_with held r ≡ Some e
     → bare e.1 ≡ e.1
 bare_read held r e h =
-    let a = bind_some _ (number_in (column r 0)) e h in
-    let b = bind_some _ (subject_in (column r 1)) e a.2 in
-    let c = bind_some _ (spid_in (column r 2)) e b.2 in
-    let d = bind_some _ (spid_in (column r 3)) e c.2 in
-    let f = bind_some _ (minute_in (column r 4)) e d.2 in
-    let g = bind_some _ (routing_in (column r 5) (column r 6)) e f.2 in
-    let i = bind_some _ (or_null_in minute_in (column r 7)) e g.2 in
-    let j = bind_some _ (or_null_in minute_in (column r 8)) e i.2 in
-    let k = bind_some _ (status_in g.0 (column r 9) (column r 10) (column r 13) (column r 16)) e
-    j.2 in
-    let l = bind_some _ (minute_in (column r 11)) e k.2 in
-    let w = bind_some _ held e l.2 in
-    let m = bind_some _ (number_in (column r 12)) e w.2 in
-    let n = bind_some _ (bool_in (column r 14)) e m.2 in
-    let o = bind_some _ (bool_in (column r 15)) e n.2 in
-    let p = bind_some _ (or_null_in minute_in (column r 17)) e o.2 in
-    let q = bind_some _ (found_in a.0 b.0 (column r 18)) e p.2 in
-    let s = map_some _ (found_in a.0 b.0 (column r 19)) e q.2 in
-    let same = bare_own g.0 (column r 9) (column r 10) (column r 13) (column r 16) k.0 k.1 in
-    subst (λ (x : ℕ × VersionRow). bare x.1 ≡ x.1) s.2 (ap (λ t. record (e.1) {
-      subject = b.0;
-      old_provider = c.0;
-      new_provider = d.0;
-      due = f.0;
-      routing = g.0;
-      old_at = i.0;
-      new_at = j.0;
-      status = t;
-      since = l.0;
-      held = w.0;
-      attempt = m.0;
-      spent = n.0;
-      protective = o.0;
-      deadline = p.0;
-      holds = subject_if q.0 b.0;
-      opens = subject_if s.0 b.0;
-    }) same)
+    ap (λ t. record (e.1) { status = t })
+    (bare_own e.1.routing (column r 9) (column r 10) (column r 13) (column r 16) e.1.status
+    (reads_with held r e h).status)
 
 -- ---- the versions
 

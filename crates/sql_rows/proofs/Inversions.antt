@@ -33,6 +33,8 @@ pub record Reads (r : Row) (e : ℕ × VersionRow) : Type 0 where
   pub id : number_in (column r 0) ≡ Some e.0
   pub deadline : or_null_in minute_in (column r 17) ≡ Some e.1.deadline
   pub subject : subject_in (column r 1) ≡ Some e.1.subject
+  pub status : status_in e.1.routing (column r 9) (column r 10) (column r 13) (column r 16)
+      ≡ Some e.1.status
   pub is_in_force : Bool
   pub is_open : Bool
   pub found_in_force : found_in e.0 e.1.subject (column r 18) ≡ Some is_in_force
@@ -65,6 +67,7 @@ reads_with held r e h =
       id = a.1;
       deadline = p.1;
       subject = b.1;
+      status = k.1;
       is_in_force = q.0;
       is_open = s.0;
       found_in_force = q.1;

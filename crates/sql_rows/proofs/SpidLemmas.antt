@@ -4,24 +4,8 @@ use Rattle.std.specs.Prelude.{◌&&◌}
 use Rattle.numbers.specs.Texts.{spid_text}
 use Rattle.sql_rows.specs.Values.{spid_from}
 use Rattle.std.proofs.lemmas.Bool.Decides.{nat_tests}
+use Rattle.numbers.proofs.SpidLemmas.{small_character, spid_made}
 use Rattle.numbers.specs.Spids.{is_spid_character, IsSpid}
-
-small_character : (c : ℕ) → is_spid_character c ≡ true → c < 128
-small_character c h = grind (arith, nat_tests)
-
--- four characters make a provider
-pub spid_made : (n a b c d : ℕ) → n ≡ a * 16777216 + b * 65536 + c * 256 + d
-    → is_spid_character a ≡ true → is_spid_character b ≡ true → is_spid_character c ≡ true
-    → is_spid_character d ≡ true → IsSpid n
-spid_made n a b c d e p q r s =
-    let low_b = small_character b q in
-    let low_c = small_character c r in
-    let low_d = small_character d s in
-    let first : n / 16777216 ≡ a = omega arith in
-    let second : n / 65536 % 256 ≡ b = omega arith in
-    let third : n / 256 % 256 ≡ c = omega arith in
-    let fourth : n % 256 ≡ d = omega arith in
-    rw (first, second, third, fourth, p, q, r, s)
 
 digits : (n a b c d : ℕ) → n ≡ a * 16777216 + b * 65536 + c * 256 + d → b < 128 → c < 128 → d < 128
     → spid_text n ≡ a ∷ b ∷ c ∷ d ∷ []

@@ -19,6 +19,7 @@ use Rattle.sql_rows.specs.declared.keyed.KeyedWait.{KeyedWait}
 use Rattle.sql_rows.proofs.Inversions.{number_small, wait_reads}
 use Rattle.sql_rows.proofs.Lookups.{entry_from}
 use Rattle.sql_rows.proofs.Orders.{same_wait}
+use Rattle.meaning.proofs.Lists.{filter-map, all-map}
 use Rattle.meaning.proofs.KeyOrders.{wait_total}
 use Rattle.sql_rows.proofs.Picked.{Picks}
 use Rattle.sql_rows.proofs.QueriesListed.{wait_seen}
@@ -32,24 +33,6 @@ key_at carrier minute id attempt = record {
   id = id;
   attempt = attempt;
 }
-
-filter-map : {A B : Type 0} (f : A → B) (p : A → Bool) (q : B → Bool) → ((x : A) → q (f x) ≡ p x)
-    → (xs : List A) → map f (filter p xs) ≡ filter q (map f xs)
-filter-map f p q same [] = refl
-filter-map f p q same (x ∷ xs) =
-    go (filter-map f p q same xs) (p x)
-    ∙ ap (λ b. cond b (f x ∷ filter q (map f xs)) (filter q (map f xs))) (sym (same x))
-  where
-    go : map f (filter p xs) ≡ filter q (map f xs) → (b : Bool)
-        → map f (cond b (x ∷ filter p xs) (filter p xs)) ≡ cond b (f x ∷ filter q (map f xs))
-        (filter q (map f xs))
-    go more true = ap (λ ys. f x ∷ ys) more
-    go more false = more
-
-all-map : {A B : Type 0} (f : A → B) (q : B → Bool) (xs : List A)
-    → list_all (λ x. q (f x)) xs ≡ list_all q (map f xs)
-all-map f q [] = refl
-all-map f q (x ∷ xs) = ap (λ b. q (f x) && b) (all-map f q xs)
 
 none_kept : {A : Type 0} (q : A → Bool) → ((x : A) → q x ≡ false) → (xs : List A) → filter q xs ≡ []
 none_kept q none [] = refl

@@ -1,27 +1,25 @@
 -- Of the broadcasts that stand, those that were not sent to a carrier are behind those that were,
 -- and the last of them says its starting row.
 use Rattle.std.proofs.Common.{◌≡◌, ℕ, suc, Bool, true, false, cond, not, ◌&&◌, ◌||◌, List, [], ◌∷◌, ◌++◌, map, Option, None, refl, ap, sym, ◌∙◌, subst}
-use Rattle.std.specs.Prelude.{◌==◌, filter, if◌then◌else◌}
+use Rattle.std.specs.Prelude.{filter, if◌then◌else◌}
 use Rattle.std.specs.List.{AllByRecursion}
 use Rattle.numbers.specs.Subjects.{Subject}
 use Rattle.numbers.specs.Routings.{Routing}
 use Rattle.meaning.specs.Commands.{RegisterCarrier}
 use Rattle.meaning.specs.Windows.{Windows}
 use Rattle.meaning.specs.Versions.{Broadcast, Version, Record, is_among, with_number, is_withdrawn, is_open_broadcast}
-use Rattle.meaning.specs.Changes.{joined_broadcast, joined_by, changed_at}
+use Rattle.meaning.specs.Changes.{joined_broadcast, joined_by}
 use Rattle.meaning.specs.Judge.{judge}
-use Rattle.meaning.specs.History.{Request, Commands, Entry, carriers, carrier_named, carrier_added, effect, replay, makes, made_by, made_version, with_made, done_to, next_after, id_among, donor_of, assigned_block, present_set}
-use Rattle.meaning.specs.Reading.{registers, is_carrier, starting_row, routing_in_force}
-use Rattle.meaning.specs.Refusals.{Requests, refusal, npac}
+use Rattle.meaning.specs.History.{Request, Commands, Entry, carriers, carrier_named, carrier_added, replay, present_set}
+use Rattle.meaning.specs.Reading.{registers, starting_row, routing_in_force}
 use Rattle.meaning.specs.Machine.{IsHistory}
-use Rattle.numbers.proofs.Small.{true-false, or_first, equal_number}
-use Rattle.meaning.proofs.Accepted.{accepted_command}
+use Rattle.numbers.proofs.Small.{true-false}
 use Rattle.meaning.proofs.Entered.{record-carriers}
-use Rattle.meaning.proofs.Recipients.{AllKnown, IsKnown, known_kept}
+use Rattle.meaning.proofs.Recipients.{AllKnown, IsKnown}
 use Rattle.meaning.proofs.Rising.{among-with_number}
 use Rattle.meaning.proofs.Kept.{record_after, kept}
-use Rattle.meaning.proofs.KeptVersions.{versions_kept}
 use Rattle.meaning.proofs.Copies.{Unsent, Closed, Placed, stands_for, place, own_of, own, placed}
+use Rattle.meaning.proofs.Copies.Joining.{was_out, versions_joined, known_before_it}
 use Rattle.meaning.proofs.Copies.Followed.{IsNext, next_in_order, next_held}
 use Rattle.meaning.proofs.Copies.Steps.{changed_placed, minute_next}
 use Rattle.meaning.proofs.Copies.Passing.{entry_next}
@@ -136,45 +134,12 @@ module _ (w : Windows) (c : ℕ) (s : Subject) where
   joins : (h : List Entry) (e : Entry) → IsHistory w (e ∷ h) e.minute → registers c e.request ≡ true
       → placed (Unsent c) (record_after w s h e).versions ≡ placed Closed
       (replay w s h e.minute).versions
-  unfolding effect
-  joins h e is registered = go e.request refl registered is.2
-    where
-      known : AllByRecursion (IsKnown (carriers h)) (replay w s h e.minute).versions
-      known = subst (λ cs. AllByRecursion (IsKnown cs) (replay w s h e.minute).versions)
-          (record-carriers w h s e.minute) (versions_kept known_kept w s h e.minute is.3)
-
-      go : (request : Request) → e.request ≡ request → registers c request ≡ true
-          → refusal (record { windows = w; history = h; now = e.minute })
-          (Requests e.caller e.request) ≡ None →
-          placed (Unsent c) (record_after w s h e).versions ≡ placed Closed
-          (replay w s h e.minute).versions
-      go (Commands (RegisterCarrier spid)) f r ok =
-          let same : spid ≡ c = equal_number spid c r in
-          let free : is_among c (carriers h) ≡ false =
-          subst (λ k. is_among k (carriers h) ≡ false) same
-          (or_first (is_carrier (record { windows = w; history = h; now = e.minute }) spid)
-          (spid == npac)
-          (accepted_command (record { windows = w; history = h; now = e.minute }) e.caller
-          (RegisterCarrier spid) (subst (λ q. refusal (record {
-            windows = w;
-            history = h;
-            now =
-                e.minute;
-          }) (Requests e.caller q) ≡ None) f ok) 4)) in
-          subst (λ q. placed (Unsent c)
-          (with_made (id_among s (next_after (made_by w h)) (makes q (λ t. replay w t h e.minute)))
-          (λ id. made_version (present_set w h) id e.caller e.minute
-          (replay w s h e.minute).carriers (donor_of (assigned_block q) h) q)
-          (changed_at (present_set w h) e.minute (done_to (present_set w h) s e.caller e.minute
-          (replay w s h e.minute).carriers q) (replay w s h e.minute).versions)) ≡ placed Closed
-          (replay w s h e.minute).versions) (sym f)
-          (subst (λ k. placed (Unsent c) (changed_at (present_set w h) e.minute (joined_by k)
-          (replay w s h e.minute).versions) ≡ placed Closed (replay w s h e.minute).versions)
-          (sym same)
-          (changed_placed (present_set w h) (Unsent c) e.minute (joined_by c)
-          (replay w s h e.minute).versions ∙ joined_placed c (carriers h) free
-          (replay w s h e.minute).versions known))
-      go _ f r ok = cc
+  joins h e is registered =
+      ap (placed (Unsent c)) (versions_joined w c h e s registered)
+      ∙ changed_placed (present_set w h) (Unsent c) e.minute (joined_by c)
+      (replay w s h e.minute).versions
+      ∙ joined_placed c (carriers h) (was_out w c h e is registered)
+      (replay w s h e.minute).versions (known_before_it w s h e is)
 
   after_entry : (h : List Entry) (e : Entry) → IsHistory w (e ∷ h) e.minute
       → SaysStart h e.minute (replay w s h e.minute)
