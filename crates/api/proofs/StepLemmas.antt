@@ -38,39 +38,12 @@ use Rattle.messages.specs.declared.paths.Method.{Method}
 use Rattle.messages.specs.declared.paths.Route.{Route}
 use Rattle.messages.specs.declared.paths.Route.TheVariants.{Carriers, Clock, RoutingNumbers, Codes, OldProviderCreate as OldProviderPath, NewProviderCreate as NewProviderPath, OnVersion as VersionPaths, OnBlock as BlockPaths, Acknowledge, Query as QueryPath, Windows as WindowsPath, Version, Number, Downloads}
 use Rattle.messages.specs.Table.{takes, among_offered}
+use Rattle.register.proofs.Asking.Unmoved.{unless_same, next_asks, stays, kept, rows_of}
 use Rattle.bodies.proofs.RefusalLemmas.{text_by_number}
 use Rattle.std.proofs.Math.Nat.{le_trans}
 use Rattle.settle.proofs.Risen.{risen-since}
 
--- ---- a question changes nothing
-
-unless_same : (r : Option ℕ) (st : State) → unless_refused r st st ≡ st
-unless_same None st = refl
-unless_same (Some k) st = refl
-
-pub next_asks : (st : State) (caller : ℕ) (q : Question) → next st (Asks caller q) ≡ st
-unfolding next
-next_asks st caller q = unless_same (refusal st (Asks caller q)) st
-
-pub stays : (new : Content) (st : State) (caller : ℕ) (q : Question)
-    → Stands new (next st (Asks caller q)) → Stands new st
-stays new st caller q s = subst (λ (t : State). Stands new t) (next_asks st caller q) s
-
-pub kept : (old new : Content) (caller : ℕ) (q : Question) (o : Option Reply)
-    → AnswersAs old new (Asks caller q) o → (st : State) → Stands old st → Stands new st
-kept old new caller q None h st s = h st s
-kept old new caller q (Some reply) h st s = stays new st caller q (h st s).1
-
 -- ---- the rows in force
-
-same_rows : (r : Option ℕ) (xs ys : List InForce) → Rows xs ≡ refused_or r (Rows ys) → xs ≡ ys
-same_rows None xs ys e = cc
-same_rows (Some k) xs ys e = cc
-
-pub rows_of : (st : State) (rows : List InForce) → Rows rows ≡ out st (Asks 0 AllInForce)
-    → rows ≡ all_in_force st
-unfolding out
-rows_of st rows e = same_rows (refusal st (Asks 0 AllInForce)) rows (all_in_force st) e
 
 pub rows_counted : (old new : Content) (rows : List InForce)
     → AnswersAs old new (Asks 0 AllInForce) (Some (Rows rows)) → (st : State) → Stands old st

@@ -4,3 +4,4 @@ pub mod Columns
 pub mod IdsFound
 pub mod Questions
 pub mod VersionShown
+pub mod Unmoved

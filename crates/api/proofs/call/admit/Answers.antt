@@ -1,5 +1,6 @@
 use Rattle.meaning.specs.Refusals.{Knows}
-use Rattle.api.proofs.StepLemmas.{away_or_not, blamed, kept, known_or_not}
+use Rattle.api.proofs.StepLemmas.{away_or_not, blamed, known_or_not}
+use Rattle.register.proofs.Asking.Unmoved.{kept}
 use Rattle.api.proofs.call.admit.Goals as goal
 
 pub returns-in-Number-clause-kept : goal.returns-in-Number-clause-kept

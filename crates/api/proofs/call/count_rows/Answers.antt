@@ -2,7 +2,8 @@ use Rattle.std.proofs.Common.{◌∙◌, sym, map, ap, Err}
 use Rattle.std.proofs.lemmas.List.{length-map}
 use Rattle.meaning.specs.Refusals.{AllInForce}
 use Rattle.calls.specs.Calls.{in_force_of}
-use Rattle.api.proofs.StepLemmas.{blamed, kept, rows_counted, rows_short}
+use Rattle.api.proofs.StepLemmas.{blamed, rows_counted, rows_short}
+use Rattle.register.proofs.Asking.Unmoved.{kept}
 use Rattle.api.proofs.call.count_rows.Goals as goal
 
 pub returns-in-Ok-clause-kept : goal.returns-in-Ok-clause-kept

@@ -1,5 +1,6 @@
 use Rattle.meaning.specs.Refusals.{Ids}
-use Rattle.bulk.proofs.Asked.{kept, ids_are}
+use Rattle.bulk.proofs.Asked.{ids_are}
+use Rattle.register.proofs.Asking.Unmoved.{kept}
 use Rattle.bulk.proofs.asking.ids_of.Goals as goal
 
 pub returns-in-Ok-clause-ids : goal.returns-in-Ok-clause-ids

@@ -1,7 +1,7 @@
 use Rattle.std.proofs.Common.{map}
 use Rattle.calls.specs.Calls.{in_force_of}
 use Rattle.meaning.specs.Refusals.{AllInForce}
-use Rattle.bulk.proofs.Asked.{kept, rows_of}
+use Rattle.register.proofs.Asking.Unmoved.{kept, rows_of}
 use Rattle.bulk.proofs.asking.rows_in_force.Goals as goal
 
 pub returns-in-Ok-clause-rows : goal.returns-in-Ok-clause-rows

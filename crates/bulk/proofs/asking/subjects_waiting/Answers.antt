@@ -1,7 +1,7 @@
 use Rattle.std.proofs.Common.{map}
 use Rattle.numbers.specs.Views.{subject_of}
 use Rattle.meaning.specs.Refusals.{Waiting}
-use Rattle.bulk.proofs.Asked.{kept}
+use Rattle.register.proofs.Asking.Unmoved.{kept}
 use Rattle.bulk.proofs.Waited.{stranger_told, waits_are}
 use Rattle.bulk.proofs.asking.subjects_waiting.Goals as goal
 
