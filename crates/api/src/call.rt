@@ -194,7 +194,7 @@ fn answer<S: Store>(
 }
 
 // Carries out what the members of a body ask on a path.
-fn carry_out_fields<S: Store, F: Fields>(
+fn answer_fields<S: Store, F: Fields>(
     alloc: Global,
     register: &mut Register<S>,
     route: Route,
@@ -228,7 +228,7 @@ fn carry_out_fields<S: Store, F: Fields>(
 // Reads a body that is not written plainly as a tree, and carries out what it asks.
 #[cold]
 #[inline(never)]
-fn carry_out_tree<S: Store>(
+fn answer_tree<S: Store>(
     alloc: Global,
     register: &mut Register<S>,
     route: Route,
@@ -251,14 +251,14 @@ fn carry_out_tree<S: Store>(
         × Stands (S.content register.new.store) after }
 {
     match json(alloc, body) {
-        Ok(Some(value)) => carry_out_fields(alloc, register, route, caller, &value, room),
+        Ok(Some(value)) => answer_fields(alloc, register, route, caller, &value, room),
         Ok(None) => Err(Failure::Message(MessageFault::BadRequest)),
         Err(refused) => Err(Failure::from(refused)),
     }
 }
 
 // Reads the body of a message of a path, and carries out what it asks.
-fn carry_out_body<S: Store>(
+fn answer_body<S: Store>(
     alloc: Global,
     register: &mut Register<S>,
     route: Route,
@@ -282,9 +282,9 @@ fn carry_out_body<S: Store>(
 {
     let mut flat = Flat::new();
     if flat.read(body) {
-        carry_out_fields(alloc, register, route, caller, &flat, room)
+        answer_fields(alloc, register, route, caller, &flat, room)
     } else {
-        carry_out_tree(alloc, register, route, caller, body, room)
+        answer_tree(alloc, register, route, caller, body, room)
     }
 }
 
@@ -336,7 +336,7 @@ fn downloads_asked(count: Option<u64>, body: &[u8]) -> Result<Call, MessageFault
 }
 
 // Carries out what a message asks on a path.
-fn carry_out<S: Store>(
+fn answer_message<S: Store>(
     alloc: Global,
     register: &mut Register<S>,
     route: Route,
@@ -362,7 +362,7 @@ fn carry_out<S: Store>(
         Route::Version(id) => answer(register, caller, &version_asked(id, body)?, room),
         Route::Number(number) => answer(register, caller, &number_asked(number, body)?, room),
         Route::Downloads(count) => answer(register, caller, &downloads_asked(count, body)?, room),
-        _ => carry_out_body(alloc, register, route, caller, body, room),
+        _ => answer_body(alloc, register, route, caller, body, room),
     }
 }
 
@@ -388,7 +388,7 @@ fn reply<S: Store>(
         × Stands (S.content register.new.store) after }
 {
     match judged(request, clock) {
-        Ok((route, caller)) => { carry_out(alloc, register, route, caller, body, room) }
+        Ok((route, caller)) => { answer_message(alloc, register, route, caller, body, room) }
         Err(fault) => Err(Failure::Message(fault)),
     }
 }

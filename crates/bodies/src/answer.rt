@@ -47,7 +47,7 @@ fn put_status(out: &mut String, status: StatusCode)
 }
 
 #[tactic(auto, unfolding(crate::specs::Answer::phrase))]
-fn put_success(out: &mut String)
+fn put_success_head(out: &mut String)
     requires room { string_len out.old + 136 ≤ string_capacity out.old }
     ensures bytes { string_bytes out.new ≡ string_bytes out.old ++ head_start 200 }
     ensures len { string_len out.new ≤ string_len out.old + 136 }
@@ -69,7 +69,7 @@ fn put_start(out: &mut String, status: u16)
     ensures capacity { string_capacity out.old ≤ string_capacity out.new }
 {
     if status == 200 {
-        return put_success(out);
+        return put_success_head(out);
     }
     match StatusCode::from_u16(status) {
         Ok(status) => put_status(out, status),

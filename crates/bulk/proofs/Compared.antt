@@ -22,7 +22,7 @@ use Rattle.bulk.specs.Sides.{found_in, found_of, routed_after, sides_at, waits_a
 use Rattle.bulk.specs.declared.fault.BulkFault.{BulkFault}
 use Rattle.bulk.specs.declared.fault.FaultKind.{FaultKind}
 use Rattle.bulk.specs.declared.fault.FaultKind.TheVariants.{BadHeader, BadFile, UnknownCarrier, Storage, NoMemory, Read, Write}
-use Rattle.bulk.specs.declared.finding.Found.{Found}
+use Rattle.bulk.specs.declared.finding.SubjectFinding.{SubjectFinding}
 use Rattle.bulk.specs.declared.sides.Sides.{Sides}
 use Rattle.bulk.proofs.Filed.{known}
 use Rattle.bulk.proofs.FoundIn.{findings_rise, findings_tell}
@@ -57,7 +57,7 @@ all_sides rows entries subjects s = record {
 
 -- the three sides were added one after the other, and what is found read off
 pub are_compared :
-    (rows entries : List RoutedRow) (subjects : List Subject) (findings : List Found)
+    (rows entries : List RoutedRow) (subjects : List Subject) (findings : List SubjectFinding)
     (first second third : Map) →
     ((s : Subject) → sides_at first s ≡ record {
       in_force = None;
@@ -78,7 +78,7 @@ are_compared rows entries subjects findings first second third copied in_force w
     waits s
     ∙ ap (λ (x : Sides). record x { waits = waits_after subjects s x.waits }) (in_force s
     ∙ ap (λ (x : Sides). record x { in_force = routed_after rows s x.in_force }) (copied s)) in
-    subst (λ (fs : List Found). AreCompared rows subjects entries fs) (sym found)
+    subst (λ (fs : List SubjectFinding). AreCompared rows subjects entries fs) (sym found)
     (record {
       rise = findings_rise third.entries ordered;
       each = λ s. findings_tell third.entries ordered s ∙ ap found_of (all s)
@@ -90,7 +90,7 @@ are_compared rows entries subjects findings first second third copied in_force w
 -- the file was read, and compared
 pub file_compared :
     (in_force : List RoutedRow) (waiting : List Subject) (bytes : List ℕ) (rows others : List Row)
-    (entries : List RoutedRow) (findings : List Found) → AreRowsOf bytes rows
+    (entries : List RoutedRow) (findings : List SubjectFinding) → AreRowsOf bytes rows
     → rows ≡ copy_header ∷ others →
     AreEntries others entries → EachOnce (subjects_in entries)
     → AreCompared in_force waiting entries findings → ComparesFile in_force waiting bytes findings
@@ -137,7 +137,7 @@ pub record IsReadAs (bytes : List ℕ) (entries : List RoutedRow) : Type 0 where
   pub read : AreEntries others entries
 
 pub file_compares :
-    {V : Type 0} (r : Result V FaultKind) (items : V → List Found) (o : Option (List ℕ))
+    {V : Type 0} (r : Result V FaultKind) (items : V → List SubjectFinding) (o : Option (List ℕ))
     (in_force : List RoutedRow) (waiting : List Subject) (entries seen : List RoutedRow)
     → seen ≡ entries →
     ((bytes : List ℕ) → o ≡ Some bytes → IsReadAs bytes entries)
@@ -172,7 +172,7 @@ file_not_compared (Err kind) o entries seen same read twice kinds =
 -- what the register has is what stands in the state
 pub finds :
     (st : State) (carrier : ℕ) (bytes : List ℕ) (in_force : List RoutedRow) (waiting : List Subject)
-    (findings : List Found) → map in_force_of in_force ≡ all_in_force st
+    (findings : List SubjectFinding) → map in_force_of in_force ≡ all_in_force st
     → map subject_of waiting ≡ awaited st carrier →
     is_carrier st carrier ≡ true → ComparesFile in_force waiting bytes findings
     → Finds st carrier bytes findings
@@ -204,7 +204,7 @@ with_bytes (Some bytes) f p = f bytes p
 -- the findings were sent
 pub all_audited :
     (st : State) (carrier : ℕ) (o had has : Option (List ℕ)) (in_force : List RoutedRow)
-    (waiting : List Subject) (findings sent : List Found) (k : ℕ) → sent ≡ findings →
+    (waiting : List Subject) (findings sent : List SubjectFinding) (k : ℕ) → sent ≡ findings →
     (map in_force_of in_force ≡ all_in_force st) × (map subject_of waiting ≡ awaited st carrier)
     × (is_carrier st carrier ≡ true)
     → IfSome o (λ bytes. ComparesFile in_force waiting bytes findings) →
@@ -213,7 +213,7 @@ pub all_audited :
 all_audited st carrier o had has in_force waiting findings sent k same held file all =
     with_bytes o (λ bytes one. (
       sent,
-      subst (λ (fs : List Found). Finds st carrier bytes fs) (sym same)
+      subst (λ (fs : List SubjectFinding). Finds st carrier bytes fs) (sym same)
           (finds st carrier bytes in_force waiting findings held.0 held.1 held.2 one),
       all.0,
       all.1,
@@ -221,7 +221,7 @@ all_audited st carrier o had has in_force waiting findings sent k same held file
 
 pub part_audited :
     (st : State) (carrier : ℕ) (o had has : Option (List ℕ)) (in_force : List RoutedRow)
-    (waiting : List Subject) (findings sent : List Found) (k : ℕ) (fault : BulkFault)
+    (waiting : List Subject) (findings sent : List SubjectFinding) (k : ℕ) (fault : BulkFault)
     → fault.kind ≡ Write → fault.rows ≡ k → sent ≡ findings →
     (map in_force_of in_force ≡ all_in_force st) × (map subject_of waiting ≡ awaited st carrier)
     × (is_carrier st carrier ≡ true)
@@ -232,7 +232,7 @@ part_audited st carrier o had has in_force waiting findings sent k fault kind ro
     part =
     with_bytes o (λ bytes one.
     let found =
-    subst (λ (fs : List Found). Finds st carrier bytes fs) (sym same)
+    subst (λ (fs : List SubjectFinding). Finds st carrier bytes fs) (sym same)
     (finds st carrier bytes in_force waiting findings held.0 held.1 held.2 one) in
     inr (
       kind,

@@ -17,7 +17,7 @@ use Rattle.meaning.specs.Laws.{AllAbove, SubjectsRise}
 use Rattle.bulk.specs.Findings.{told_of}
 use Rattle.bulk.specs.Sides.{found_in, found_of, no_sides, with_found}
 use Rattle.bulk.specs.declared.finding.Finding.{Finding}
-use Rattle.bulk.specs.declared.finding.Found.{Found}
+use Rattle.bulk.specs.declared.finding.SubjectFinding.{SubjectFinding}
 use Rattle.bulk.specs.declared.sides.Sides.{Sides}
 use Rattle.numbers.proofs.Small.{is_less}
 
@@ -36,25 +36,27 @@ of_level a b e = grind (arith, nat_tests)
 -- ---- findings rise as their map does
 
 rise_above : (s : Subject) (es : List Entry) → AreAbove key_of (key_of s) (keys_of es)
-    → AllAbove (subject_of s) (map (λ (f : Found). subject_of f.subject) (found_in es))
+    → AllAbove (subject_of s) (map (λ (f : SubjectFinding). subject_of f.subject) (found_in es))
 rise_above s [] above = tt
 rise_above s (e ∷ es) above = go (found_of e.1) (rise_above s es above.1)
   where
     go : (o : Option Finding)
-        → AllAbove (subject_of s) (map (λ (f : Found). subject_of f.subject) (found_in es)) →
-        AllAbove (subject_of s) (map (λ (f : Found). subject_of f.subject)
+        → AllAbove (subject_of s) (map (λ (f : SubjectFinding). subject_of f.subject) (found_in es))
+        →
+        AllAbove (subject_of s) (map (λ (f : SubjectFinding). subject_of f.subject)
         (with_found e.0 o (found_in es)))
     go None rest = rest
     go (Some finding) rest = (is_less (key_of s) (key_of e.0) above.0, rest)
 
 found_rise : (es : List Entry) → Rise key_of (keys_of es)
-    → SubjectsRise (map (λ (f : Found). subject_of f.subject) (found_in es))
+    → SubjectsRise (map (λ (f : SubjectFinding). subject_of f.subject) (found_in es))
 found_rise [] rise = tt
 found_rise (e ∷ es) rise = go (found_of e.1) (found_rise es rise.1)
   where
     go : (o : Option Finding)
-        → SubjectsRise (map (λ (f : Found). subject_of f.subject) (found_in es))
-        → SubjectsRise (map (λ (f : Found). subject_of f.subject) (with_found e.0 o (found_in es)))
+        → SubjectsRise (map (λ (f : SubjectFinding). subject_of f.subject) (found_in es))
+        → SubjectsRise (map (λ (f : SubjectFinding). subject_of f.subject)
+        (with_found e.0 o (found_in es)))
     go None rest = rest
     go (Some finding) rest = (rise_above e.0 es rise.0, rest)
 
@@ -145,7 +147,7 @@ found_at s (e ∷ es) rise =
 
 -- of an ordered map
 pub findings_rise : (es : List Entry) → IsStrictlySortedBy (on key_of nat_cmp) (keys_of es)
-    → SubjectsRise (map (λ (f : Found). subject_of f.subject) (found_in es))
+    → SubjectsRise (map (λ (f : SubjectFinding). subject_of f.subject) (found_in es))
 findings_rise es ordered = found_rise es (sorted-rise key_of (keys_of es) ordered)
 
 pub findings_tell : (es : List Entry) → IsStrictlySortedBy (on key_of nat_cmp) (keys_of es)

@@ -17,7 +17,7 @@ use Rattle.meaning.specs.Reading.{InForce, all_in_force, queue}
 use Rattle.meaning.specs.Refusals.{tests}
 use Rattle.bulk.specs.Findings.{AreFindings, awaited, finding_at, finding_of, told_of}
 use Rattle.bulk.specs.declared.finding.Finding.TheVariants.{Waiting, Missing, Extra, Different}
-use Rattle.bulk.specs.declared.finding.Found.{Found}
+use Rattle.bulk.specs.declared.finding.SubjectFinding.{SubjectFinding}
 
 -- the number is in force at AAAA, and CCCC's copy routes it to CCCC, and another to BBBB
 abbrev other : ℕ
@@ -49,7 +49,7 @@ number = record { number = n; valid = (lit< tt, lit≤ tt, lit≤ tt) }
 abbrev other_number : Tn
 other_number = record { number = other; valid = (lit< tt, lit≤ tt, lit≤ tt) }
 
-abbrev findings : List Found
+abbrev findings : List SubjectFinding
 findings = record {
   subject = code.Number number;
   finding = Different;

@@ -15,7 +15,7 @@ use Rattle.bulk.specs.Rows.{Row, AreRowsOf}
 use Rattle.bulk.specs.declared.fault.BulkFault.{BulkFault}
 use Rattle.bulk.specs.declared.fault.FaultKind.{FaultKind}
 use Rattle.bulk.specs.declared.fault.FaultKind.TheVariants.{BadHeader, BadFile, UnknownCarrier, Storage, NoMemory, Read, Write}
-use Rattle.bulk.specs.declared.finding.Found.{Found}
+use Rattle.bulk.specs.declared.finding.SubjectFinding.{SubjectFinding}
 
 -- ---- a copy
 
@@ -80,7 +80,8 @@ IsNotRead Write rows = ⊥
 -- ---- an audit
 
 -- the file of these bytes is a copy of a carrier that is registered, and these are the findings
-pub record Finds (st : State) (carrier : ℕ) (bytes : List ℕ) (findings : List Found) : Type 0 where
+pub record Finds (st : State) (carrier : ℕ) (bytes : List ℕ)
+    (findings : List SubjectFinding) : Type 0 where
   pub known : is_carrier st carrier ≡ true
   pub rows : List Row
   pub entries : List RoutedRow
@@ -92,14 +93,14 @@ pub record Finds (st : State) (carrier : ℕ) (bytes : List ℕ) (findings : Lis
 abbrev pub AuditsAll : State → (carrier : ℕ) → (bytes : List ℕ) → (had has : Option (List ℕ))
     → (rows : ℕ) → Type 0
 AuditsAll st carrier bytes had has rows =
-    (findings : List Found) × Finds st carrier bytes findings × (rows ≡ length findings)
+    (findings : List SubjectFinding) × Finds st carrier bytes findings × (rows ≡ length findings)
     × Appends had has (file_text audit_header (map finding_line findings))
 
 -- so many of them were written whole, and no more than a front of the next
 abbrev pub AuditsPart : State → (carrier : ℕ) → (bytes : List ℕ) → (had has : Option (List ℕ))
     → (rows : ℕ) → Type 0
 AuditsPart st carrier bytes had has rows =
-    (findings : List Found) × Finds st carrier bytes findings
+    (findings : List SubjectFinding) × Finds st carrier bytes findings
     × EndsWithin had has audit_header (map finding_line findings) rows
 
 -- why nothing was written

@@ -13,13 +13,13 @@ use Rattle.bulk.specs.Findings.{finding_of, told_of}
 use Rattle.bulk.specs.Rows.{Row, AreRowsOf}
 use Rattle.bulk.specs.declared.fault.FaultKind.{FaultKind}
 use Rattle.bulk.specs.declared.fault.FaultKind.TheVariants.{BadHeader, BadFile, UnknownCarrier, Storage, NoMemory, Read, Write}
-use Rattle.bulk.specs.declared.finding.Found.{Found}
+use Rattle.bulk.specs.declared.finding.SubjectFinding.{SubjectFinding}
 
 -- by subject, each once: what is found of each subject, by the rows in force, the subjects that
 -- wait and the entries of a copy
 pub record AreCompared (in_force : List RoutedRow) (waiting : List Subject)
-    (entries : List RoutedRow) (findings : List Found) : Type 0 where
-  pub rise : SubjectsRise (map (λ (f : Found). subject_of f.subject) findings)
+    (entries : List RoutedRow) (findings : List SubjectFinding) : Type 0 where
+  pub rise : SubjectsRise (map (λ (f : SubjectFinding). subject_of f.subject) findings)
   pub each : (s : Subject) → told_of findings (subject_of s)
       ≡ finding_of (list_any (λ t. subject_eq t (subject_of s)) (map subject_of waiting))
       (started (map in_force_of in_force) (subject_of s)) (started (map in_force_of entries)
@@ -27,7 +27,7 @@ pub record AreCompared (in_force : List RoutedRow) (waiting : List Subject)
 
 -- the file of these bytes is a copy, and so compared
 pub record ComparesFile (in_force : List RoutedRow) (waiting : List Subject) (bytes : List ℕ)
-    (findings : List Found) : Type 0 where
+    (findings : List SubjectFinding) : Type 0 where
   pub rows : List Row
   pub entries : List RoutedRow
   pub file : AreRowsOf bytes (copy_header ∷ rows)

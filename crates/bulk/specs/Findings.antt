@@ -14,7 +14,7 @@ use Rattle.meaning.specs.Machine.{each_once}
 use Rattle.meaning.specs.Reading.{State, Download, InForce, all_in_force, queue}
 use Rattle.bulk.specs.declared.finding.Finding.{Finding}
 use Rattle.bulk.specs.declared.finding.Finding.TheVariants.{Waiting, Missing, Extra, Different}
-use Rattle.bulk.specs.declared.finding.Found.{Found}
+use Rattle.bulk.specs.declared.finding.SubjectFinding.{SubjectFinding}
 
 abbrev pub finding_name : Finding → List ℕ
 finding_name Waiting = codes "waiting"
@@ -55,14 +55,14 @@ finding_at st carrier copy s =
 -- ---- all findings
 
 -- what these findings tell of a subject
-abbrev pub told_of : List Found → Subject → Option Finding
+abbrev pub told_of : List SubjectFinding → Subject → Option Finding
 told_of [] s = None
 told_of (f ∷ fs) s = if subject_eq (subject_of f.subject) s then Some f.finding else told_of fs s
 
 -- by subject, each once: what is found of each subject, and nothing else
 pub record AreFindings (st : State) (carrier : ℕ) (copy : List InForce)
-    (findings : List Found) : Type 0 where
-  pub rise : SubjectsRise (map (λ (f : Found). subject_of f.subject) findings)
+    (findings : List SubjectFinding) : Type 0 where
+  pub rise : SubjectsRise (map (λ (f : SubjectFinding). subject_of f.subject) findings)
   pub each : (s : SubjectCode) → told_of findings (subject_of s) ≡ finding_at st carrier copy
       (subject_of s)
 
@@ -71,5 +71,5 @@ pub record AreFindings (st : State) (carrier : ℕ) (copy : List InForce)
 unfoldable pub audit_header : List ℕ
 audit_header = codes "subject,finding\n"
 
-abbrev pub finding_line : Found → List ℕ
+abbrev pub finding_line : SubjectFinding → List ℕ
 finding_line f = subject_text (subject_of f.subject) ++ 44 ∷ (finding_name f.finding ++ 10 ∷ [])

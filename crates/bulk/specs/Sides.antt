@@ -9,7 +9,7 @@ use Rattle.numbers.specs.declared.ported.Subject.{Subject}
 use Rattle.delivery.specs.declared.mirror.RoutedRow.{RoutedRow}
 use Rattle.bulk.specs.Findings.{finding_of}
 use Rattle.bulk.specs.declared.finding.Finding.{Finding}
-use Rattle.bulk.specs.declared.finding.Found.{Found}
+use Rattle.bulk.specs.declared.finding.SubjectFinding.{SubjectFinding}
 use Rattle.bulk.specs.declared.sides.Sides.{Sides}
 
 abbrev pub no_sides : Sides
@@ -37,11 +37,11 @@ found_of sides =
     finding_of sides.waits (option_map routing_of sides.in_force)
     (option_map routing_of sides.copied)
 
-abbrev pub with_found : Subject → Option Finding → List Found → List Found
+abbrev pub with_found : Subject → Option Finding → List SubjectFinding → List SubjectFinding
 with_found s None findings = findings
 with_found s (Some finding) findings = record { subject = s; finding = finding } ∷ findings
 
 -- what is found of each of these subjects
-abbrev pub found_in : List (Subject × Sides) → List Found
+abbrev pub found_in : List (Subject × Sides) → List SubjectFinding
 found_in [] = []
 found_in (e ∷ es) = with_found e.0 (found_of e.1) (found_in es)

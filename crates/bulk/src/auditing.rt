@@ -13,7 +13,7 @@ ghost use Rattle.bulk.specs.Findings.{awaited};
 use crate::asking::{rows_in_force, subjects_waiting};
 use crate::copy::read_copy;
 use crate::fault::{BulkFault, FaultKind};
-use crate::finding::Found;
+use crate::finding::SubjectFinding;
 use crate::line::Line;
 use crate::rows::open;
 use crate::sides::{add_in_force, add_waiting, copy_sides, findings_in};
@@ -63,7 +63,11 @@ fn held_for<S: Store>(register: &mut Register<S>, carrier: Spid) -> Result<Held,
 }
 
 // What is found, by subject, of a copy with these entries.
-fn compare(alloc: Global, held: &Held, entries: &[RoutedRow]) -> Result<Vec<Found>, FaultKind>
+fn compare(
+    alloc: Global,
+    held: &Held,
+    entries: &[RoutedRow],
+) -> Result<Vec<SubjectFinding>, FaultKind>
     ensures compared { IfOk result (λ findings. EachOnce (subjects_in entries.now)
         × AreCompared held.now.in_force.items held.now.waiting.items entries.now
         findings.items) }
@@ -94,7 +98,7 @@ fn compare_file<R: Read + Drop>(
     alloc: Global,
     held: &Held,
     reader: R,
-) -> Result<Vec<Found>, FaultKind>
+) -> Result<Vec<SubjectFinding>, FaultKind>
     ensures compared { IfOk result (λ findings. IfSome (R.remaining reader) (λ bytes. ComparesFile
         held.now.in_force.items held.now.waiting.items bytes findings.items)) }
     ensures other { IfErr result (λ kind. IfSome (R.remaining reader) (IsNotCompared kind)) }

@@ -19,7 +19,7 @@ pub enum Finding {
 
 /// A subject of which something is told.
 #[derive(Clone, Copy, Debug, PartialEq, Eq)]
-pub struct Found {
+pub struct SubjectFinding {
     pub subject: Subject,
     pub finding: Finding,
 }

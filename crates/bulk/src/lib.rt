@@ -25,7 +25,7 @@ pub use exporting::export;
 pub use fault::{BulkFault, FaultKind};
 pub use fields::read_order;
 pub use file::run_file;
-pub use finding::{Finding, Found};
+pub use finding::{Finding, SubjectFinding};
 pub use order::{ActionName, Order, Wish};
 pub use range::Numbers;
 pub use told::Told;

@@ -12,7 +12,7 @@ ghost use Rattle.bulk.specs.Findings.{finding_line};
 
 use crate::digits::put_digits;
 use crate::fault::FaultKind;
-use crate::finding::Found;
+use crate::finding::SubjectFinding;
 use crate::told::Told;
 use crate::writing::InLine;
 use bodies::{Failure, put, put_number};
@@ -91,7 +91,7 @@ impl Line {
     }
 
     /// Writes the row of a finding.
-    pub fn set_finding(&mut self, found: &Found)
+    pub fn set_finding(&mut self, found: &SubjectFinding)
         ensures { string_bytes self.new.text ≡ finding_line found.now }
     {
         self.text.clear();
@@ -162,7 +162,7 @@ impl InLine for RoutedRow {
     }
 }
 
-impl InLine for Found {
+impl InLine for SubjectFinding {
     ghost text = { finding_line };
 
     fn put_in(&self, line: &mut Line) {

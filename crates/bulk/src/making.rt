@@ -53,7 +53,7 @@ fn told_by(refusal: Refusal) -> Result<Told, FaultKind>
 }
 
 // Carries out a create or a command on a version.
-fn carry_out<S: Store>(
+fn make_call<S: Store>(
     register: &mut Register<S>,
     caller: Spid,
     command: &Command,
@@ -98,7 +98,7 @@ fn answer_for<S: Store>(
         (result ≡ Err FaultKind.Storage)) }
 {
     match command_for(register, tn, wish) {
-        Ok(command) => carry_out(register, caller, &command),
+        Ok(command) => make_call(register, caller, &command),
         Err(kind) => Err(kind),
     }
 }

@@ -11,7 +11,7 @@ ghost use Rattle.bulk.specs.declared.finding.Finding.TheVariants.{Different};
 ghost use Rattle.bulk.specs.Sides.{found_in, found_of, routed_after, sides_at, waits_after};
 
 use crate::fault::FaultKind;
-use crate::finding::{Finding, Found};
+use crate::finding::{Finding, SubjectFinding};
 use delivery::RoutedRow;
 use numbers::{Routing, Subject};
 use std::alloc::{AllocError, Global};
@@ -158,14 +158,17 @@ pub fn copy_sides(
 }
 
 /// What is found of each subject, by subject.
-pub fn findings_in(alloc: Global, all: &BTreeMap<Subject, Sides>) -> Result<Vec<Found>, AllocError>
+pub fn findings_in(
+    alloc: Global,
+    all: &BTreeMap<Subject, Sides>,
+) -> Result<Vec<SubjectFinding>, AllocError>
     ensures found { IfOk result (λ findings. findings.items ≡ found_in all.now.entries) }
     ensures ordered { OnOk result (IsOrdered (on key_of nat_cmp) all.now) }
 {
     let mut findings = Vec::new(alloc);
     for (subject, sides) in all {
         if let Some(finding) = sides.finding() {
-            findings.push(Found {
+            findings.push(SubjectFinding {
                 subject: *subject,
                 finding,
             })?;

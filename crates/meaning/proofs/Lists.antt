@@ -179,7 +179,8 @@ all_of P (y ∷ ys) step zero x lt = step y (inl refl)
 all_of P (y ∷ ys) step (suc k) x lt =
     all_of P ys (λ z there. step z (inr there)) k x (omega (arith, lt))
 
-pub filter-map : {A B : Type 0} (f : A → B) (p : A → Bool) (q : B → Bool) → ((x : A) → q (f x) ≡ p x)
+pub filter-map : {A B : Type 0} (f : A → B) (p : A → Bool) (q : B → Bool)
+    → ((x : A) → q (f x) ≡ p x)
     → (xs : List A) → map f (filter p xs) ≡ filter q (map f xs)
 filter-map f p q same [] = refl
 filter-map f p q same (x ∷ xs) =

@@ -7,8 +7,8 @@ use Rattle.std.specs.List.{list_any}
 use Rattle.httparse.specs.declared.spans.Span.{Span}
 use Rattle.httparse.specs.declared.spans.HeaderSpan.{HeaderSpan}
 use Rattle.httparse.specs.Spans.{header_bytes, span_bytes, IsWithin}
-use Rattle.messages.specs.declared.head.Found.{Found}
-use Rattle.messages.specs.declared.head.Found.TheVariants.{Absent, Once, Twice}
+use Rattle.messages.specs.declared.head.Occurrence.{Occurrence}
+use Rattle.messages.specs.declared.head.Occurrence.TheVariants.{Absent, Once, Twice}
 use Rattle.messages.specs.Fields.{lower, values_in, IsFound, IsFoundWithin}
 use Rattle.numbers.proofs.Small.{or_right}
 
@@ -47,16 +47,17 @@ pub no_value : (name : List ℕ) (p : List ℕ × List ℕ) → ¬ (lower p.0 �
     → values_in name (p ∷ []) ≡ []
 no_value name p n = no_value_by name p (bytes_eq (lower p.0) name) refl n
 
-pub found_first : (buf : List ℕ) (f : Found) (vs ws : List (List ℕ)) (s : Span) → f ≡ Absent
+pub found_first : (buf : List ℕ) (f : Occurrence) (vs ws : List (List ℕ)) (s : Span) → f ≡ Absent
     → IsFound buf f vs → ws ≡ vs ++ span_bytes buf s ∷ [] → IsWithin (length buf) s
     → IsFound buf (Once s) ws
 found_first buf f vs ws s e h w inside = (
   w ∙ ap (λ (t : List (List ℕ)). t ++ span_bytes buf s ∷ [])
-      (subst (λ (g : Found). IsFound buf g vs) e h),
+      (subst (λ (g : Occurrence). IsFound buf g vs) e h),
   inside,
 )
 
-pub found_again : (buf : List ℕ) (f : Found) (vs ws : List (List ℕ)) (v : List ℕ) → (f ≡ Absent → ⊥)
+pub found_again : (buf : List ℕ) (f : Occurrence) (vs ws : List (List ℕ)) (v : List ℕ)
+    → (f ≡ Absent → ⊥)
     → IsFound buf f vs → ws ≡ vs ++ v ∷ [] → 2 ≤ length ws
 found_again buf Absent vs ws v n h w = absurd (n refl)
 found_again buf (Once s) vs ws v n h w = rw (w, h.0) (omega arith)
@@ -120,7 +121,7 @@ eq_false_by xs ys false e n = e
 pub eq_false : (xs ys : List ℕ) → ¬ (xs ≡ ys) → bytes_eq xs ys ≡ false
 eq_false xs ys n = eq_false_by xs ys _ refl n
 
-pub found_within : (buf : List ℕ) (found : Found) (values : List (List ℕ))
+pub found_within : (buf : List ℕ) (found : Occurrence) (values : List (List ℕ))
     → IsFound buf found values → IsFoundWithin (length buf) found
 found_within buf Absent values is = tt
 found_within buf (Once span) values is = is.1

@@ -6,8 +6,8 @@ use Rattle.std.specs.Str.{bytes_eq, all_ascii_digits}
 use Rattle.std.specs.Str.Parse.{digits_value}
 use Rattle.httparse.specs.Grammar.{RequestHead}
 use Rattle.httparse.specs.Spans.{name_and_value, span_bytes, IsWithin}
-use Rattle.messages.specs.declared.head.Found.{Found}
-use Rattle.messages.specs.declared.head.Found.TheVariants.{Absent, Once, Twice}
+use Rattle.messages.specs.declared.head.Occurrence.{Occurrence}
+use Rattle.messages.specs.declared.head.Occurrence.TheVariants.{Absent, Once, Twice}
 
 -- the text in lower case
 abbrev pub lower : List ℕ → List ℕ
@@ -23,7 +23,7 @@ abbrev pub values_of : List ℕ → RequestHead → List (List ℕ)
 values_of name h = values_in name (map name_and_value h.fields)
 
 -- none, one or more
-abbrev pub IsFound : List ℕ → Found → List (List ℕ) → Type 0
+abbrev pub IsFound : List ℕ → Occurrence → List (List ℕ) → Type 0
 IsFound buf Absent values = values ≡ []
 IsFound buf (Once span) values = (values ≡ span_bytes buf span ∷ []) × IsWithin (length buf) span
 IsFound buf Twice values = 2 ≤ length values
@@ -54,7 +54,7 @@ closes h = h.minor == 0 || list_any (λ v. bytes_eq (lower v) (codes "close"))
     (values_of (codes "connection") h)
 
 -- where a field is there once, its value lies in the first n bytes
-abbrev pub IsFoundWithin : ℕ → Found → Type 0
+abbrev pub IsFoundWithin : ℕ → Occurrence → Type 0
 IsFoundWithin n Absent = ⊤
 IsFoundWithin n (Once span) = IsWithin n span
 IsFoundWithin n Twice = ⊤

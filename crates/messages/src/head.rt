@@ -14,7 +14,7 @@ use httparse::spans::{HeaderSpan, RequestSpans, Span, parse_request};
 
 /// How often a field is there.
 #[derive(Clone, Copy, Debug)]
-pub enum Found {
+pub enum Occurrence {
     Absent,
     Once(Span),
     Twice,
@@ -57,19 +57,19 @@ fn is_name(own: &[u8], name: &[u8]) -> bool
 
 /// How often a field of this name is there.
 #[tactic(auto, using(crate::proofs::FieldLemmas::found_within))]
-pub fn find(buf: &[u8], headers: &[HeaderSpan], name: &[u8]) -> Found
+pub fn find(buf: &[u8], headers: &[HeaderSpan], name: &[u8]) -> Occurrence
     requires within { All (IsHeaderWithin (length buf.now)) headers.now }
     requires lower { lower name.now ≡ name.now }
     ensures found { IsFound buf.now result
         (values_in name.now (map (header_bytes buf.now) headers.now)) }
     ensures within { IsFoundWithin (length buf.now) result }
 {
-    let mut found = Found::Absent;
+    let mut found = Occurrence::Absent;
     for header in headers {
         if is_name(header.name.of(buf), name) {
             found = match found {
-                Found::Absent => Found::Once(header.value),
-                _ => Found::Twice,
+                Occurrence::Absent => Occurrence::Once(header.value),
+                _ => Occurrence::Twice,
             };
         }
     }
@@ -119,7 +119,7 @@ pub struct Head {
     pub target: Span,
     /// The length of the body.
     pub body: u64,
-    pub caller: Found,
+    pub caller: Occurrence,
     /// The answer is the last.
     pub closes: bool,
     /// The length of the head.
@@ -134,13 +134,13 @@ pub fn read_head(buf: &[u8], headers: &[HeaderSpan], spans: &RequestSpans) -> Op
     ensures within { IfSome result (λ head. IsFoundWithin (length buf.now) head.caller) }
 {
     let fields = &headers[..spans.headers];
-    let Found::Absent = find(buf, fields, b"transfer-encoding") else {
+    let Occurrence::Absent = find(buf, fields, b"transfer-encoding") else {
         return None;
     };
     let body = match find(buf, fields, b"content-length") {
-        Found::Absent => 0,
-        Found::Once(value) => read_number(value.of(buf))?,
-        Found::Twice => return None,
+        Occurrence::Absent => 0,
+        Occurrence::Once(value) => read_number(value.of(buf))?,
+        Occurrence::Twice => return None,
     };
     Some(Head {
         method: spans.method,

@@ -11,7 +11,7 @@ ghost use Rattle.messages.specs.Table.{table};
 use crate::body::{read_body, take_held};
 use crate::fault::MessageFault;
 use crate::front::{Front, next_head};
-use crate::head::{Found, Look, heads_of_the_input, look_at, read_head};
+use crate::head::{Look, Occurrence, heads_of_the_input, look_at, read_head};
 use crate::held::Held;
 use crate::paths::{Method, Route, method_of, route_of};
 use httparse::spans::{HeaderSpan, RequestSpans};
@@ -62,13 +62,13 @@ fn named(value: &[u8]) -> Option<Spid>
 }
 
 // The provider that a field names, if it is there once.
-fn caller_of(held: &[u8], found: Found) -> Option<Spid>
+fn caller_of(held: &[u8], found: Occurrence) -> Option<Spid>
     requires { IsFoundWithin (length held.now) found }
     ensures { (values : List (List ℕ)) → IsFound held.now found values → IsCaller values result }
 {
     match found {
-        Found::Once(span) => named(span.of(held)),
-        Found::Absent | Found::Twice => None,
+        Occurrence::Once(span) => named(span.of(held)),
+        Occurrence::Absent | Occurrence::Twice => None,
     }
 }
 
@@ -111,7 +111,7 @@ pub fn cuts_of_the_input()
     heads_of_the_input();
 }
 
-fn take_room(body: &mut Vec<u8>, length: usize) -> Result<(), AllocError>
+fn reserve(body: &mut Vec<u8>, length: usize) -> Result<(), AllocError>
     ensures empty { vec_len body.new ≡ 0 }
     ensures room { OnOk result (length ≤ vec_capacity body.new) }
 {
@@ -147,7 +147,7 @@ pub fn next_held(
         return None;
     };
     let head_len = spans.len;
-    if held.len() - head_len < request.length || take_room(body, request.length).is_err() {
+    if held.len() - head_len < request.length || reserve(body, request.length).is_err() {
         return None;
     }
     held.drop_front(head_len);
@@ -192,7 +192,7 @@ pub fn next_message<R: Read>(
         }
     };
     held.drop_front(spans.len);
-    if take_room(body, request.length).is_err() {
+    if reserve(body, request.length).is_err() {
         return Err(NextFault::Memory);
     }
     match read_body(held, reader, request.length, body) {

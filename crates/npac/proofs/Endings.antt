@@ -6,7 +6,7 @@ use Rattle.bulk.specs.declared.fault.FaultKind.TheVariants as kind
 use Rattle.register.specs.declared.register.OpenFault.TheVariants as opening
 use Rattle.windows.specs.declared.window.WindowFault.TheVariants as windows
 use Rattle.npac.specs.CommandLine.{IsLine, IsNoLine}
-use Rattle.npac.specs.declared.parse.Line.{Line}
+use Rattle.npac.specs.declared.parse.CommandLine.{CommandLine}
 use Rattle.npac.specs.Faults.{exit_status, fault_name}
 use Rattle.npac.specs.Telling.{AsksForHelp, Ends, EndsFailed, IsUsage, TellsFault, TellsHelp, TellsMistake, TellsOutcome, TellsUsage, line_of}
 use Rattle.npac.specs.declared.fault.Fault.{Fault}
@@ -63,14 +63,14 @@ module _ (words : List (List ℕ)) (had has : Option (List ℕ)) (status : ℕ) 
   usage_ends wanted text wrote written (inr (inr three)) help none told =
       inr (inr (inr (failed fault.NoMemory refl (told.memory three))))
 
-  told_ends : (line : Line) → IsLine words line → (f : Fault) → status ≡ exit_status f
+  told_ends : (line : CommandLine) → IsLine words line → (f : Fault) → status ≡ exit_status f
       → Appends had has (line_of (fault_name f)) → (exit_status f ≡ 1) ⊎ (exit_status f ≡ 3)
       → Ends words had has status
   told_ends line is f same told (inl one) = inr (inl (same ∙ one, (line, is), (f, one, told)))
   told_ends line is f same told (inr three) = inr (inr (inr (same ∙ three, inl (f, three, told))))
 
   -- the line was carried out, or ended by a fault
-  pub outcome_ends : (line : Line) → IsLine words line → (o : Result (Unit {0}) Fault)
+  pub outcome_ends : (line : CommandLine) → IsLine words line → (o : Result (Unit {0}) Fault)
       → TellsOutcome o had has status → Ends words had has status
   outcome_ends line is (Ok done) told = inl (told.0, inl (line, is), told.1)
   outcome_ends line is (Err f) (inl (same, told)) = told_ends line is f same told (one_or_three f)

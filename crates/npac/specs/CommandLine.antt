@@ -8,7 +8,7 @@ use Rattle.clap.specs.Takes.{takes}
 use Rattle.clap.specs.Words.{App, Row, Rule, Text, first_of, new_app, new_rule, with_rule, with_subcommand}
 use Rattle.npac.specs.declared.parse.Subcommand.{Subcommand}
 use Rattle.npac.specs.declared.parse.Subcommand.TheVariants as sub
-use Rattle.npac.specs.declared.parse.Line.{Line}
+use Rattle.npac.specs.declared.parse.CommandLine.{CommandLine}
 
 -- an option `--id`, which may be required
 abbrev pub option_rule : Text → Bool → Rule
@@ -87,14 +87,14 @@ IsSubcommand name rows (sub.Serve port connections) =
 abbrev pub IsNoSubcommand : Text → List Row → Type 0
 IsNoSubcommand name rows = (subcommand : Subcommand) → ¬ (IsSubcommand name rows subcommand)
 
-pub record IsLineOf (name : Text) (rows : List Row) (line : Line) : Type 0 where
+pub record IsLineOf (name : Text) (rows : List Row) (line : CommandLine) : Type 0 where
   pub subcommand : IsSubcommand name rows line.subcommand
   pub windows : first_of (codes "windows") rows ≡ Some line.windows.now
   pub feed : first_of (codes "feed") rows ≡ option_map (λ s. s.now) line.feed
   pub db : first_of (codes "db") rows ≡ option_map (λ s. s.now) line.db
 
 abbrev pub IsNoLineOf : Text → List Row → Type 0
-IsNoLineOf name rows = (line : Line) → ¬ (IsLineOf name rows line)
+IsNoLineOf name rows = (line : CommandLine) → ¬ (IsLineOf name rows line)
 
 -- the rows that the rule of the subcommand of this name reads off the words after it
 abbrev pub rows_named : Text → List Text → Option (List Row)
@@ -105,7 +105,7 @@ rows_named name words =
 -- the line is what the words say: the first after the program's name is the subcommand, and the
 -- values are those that
 -- its rule reads off the words after it
-pub record IsLine (words : List Text) (line : Line) : Type 0 where
+pub record IsLine (words : List Text) (line : CommandLine) : Type 0 where
   pub program : Text
   pub name : Text
   pub after : List Text
@@ -116,7 +116,7 @@ pub record IsLine (words : List Text) (line : Line) : Type 0 where
 
 -- no line that `clap` takes is in these words
 abbrev pub IsNoLine : List Text → Type 0
-IsNoLine words = (line : Line) → takes npacd_app words ≡ true → ¬ (IsLine words line)
+IsNoLine words = (line : CommandLine) → takes npacd_app words ≡ true → ¬ (IsLine words line)
 
 -- the second word is this one
 abbrev pub HasSecond : List Text → Text → Type 0

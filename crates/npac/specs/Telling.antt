@@ -9,7 +9,7 @@ use Rattle.npac.specs.CommandLine.{IsLine, IsNoLine, npacd_app}
 use Rattle.npac.specs.Faults.{exit_status, fault_name}
 use Rattle.npac.specs.declared.fault.Fault.{Fault}
 use Rattle.npac.specs.declared.fault.Fault.TheVariants as fault
-use Rattle.npac.specs.declared.parse.Line.{Line}
+use Rattle.npac.specs.declared.parse.CommandLine.{CommandLine}
 
 -- the one line on standard error, of a fault's name
 abbrev pub line_of : List ℕ → List ℕ
@@ -70,12 +70,12 @@ HasTold status had has = (refused : Fault) × (exit_status refused ≡ status)
 -- the words are a line, which was carried out, or they ask for help: nothing is told
 abbrev pub EndsWell : (words : List (List ℕ)) → (had has : Option (List ℕ)) → (status : ℕ) → Type 0
 EndsWell words had has status =
-    (status ≡ 0) × (((line : Line) × IsLine words line) ⊎ AsksForHelp words) × Keeps had has
+    (status ≡ 0) × (((line : CommandLine) × IsLine words line) ⊎ AsksForHelp words) × Keeps had has
 
 -- the words are a line, and a file or a message was refused
 abbrev pub EndsRefused : (words : List (List ℕ)) → (had has : Option (List ℕ)) → (status : ℕ)
     → Type 0
-EndsRefused words had has status = (status ≡ 1) × ((line : Line) × IsLine words line)
+EndsRefused words had has status = (status ≡ 1) × ((line : CommandLine) × IsLine words line)
     × HasTold 1 had has
 
 -- the words are no line, and some text says so

@@ -4,7 +4,7 @@ ghost use Rattle.messages.specs.Fields.{number_of as number_in};
 ghost use Rattle.clap.specs.Words.{first_of, rows_of, found_of};
 ghost use Rattle.npac.specs.CommandLine.{IsLineOf, IsNoLineOf, IsNoNumber, IsNoSubcommand, IsNumberIfAny, IsSubcommand, number_under, small_number};
 
-use crate::parse::{Line, Subcommand};
+use crate::parse::{CommandLine, Subcommand};
 use clap::ArgMatches;
 use messages::read_number;
 
@@ -98,13 +98,13 @@ fn subcommand_of<'a>(name: &str, matches: &ArgMatches<'a>) -> Result<Subcommand<
 }
 
 /// The line of a subcommand and its matches.
-pub fn line_of<'a>(name: &str, matches: &ArgMatches<'a>) -> Result<Line<'a>, NoLine>
+pub fn line_of<'a>(name: &str, matches: &ArgMatches<'a>) -> Result<CommandLine<'a>, NoLine>
     ensures given { IfOk result (IsLineOf name.now (rows_of (found_of matches.now))) }
     ensures none { IfErr result (λ _. IsNoLineOf name.now (rows_of (found_of matches.now))) }
 {
     let subcommand = subcommand_of(name, matches)?;
     match text_of(matches, "windows") {
-        Some(windows) => Ok(Line {
+        Some(windows) => Ok(CommandLine {
             subcommand,
             windows,
             feed: text_of(matches, "feed"),

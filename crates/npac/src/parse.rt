@@ -36,7 +36,7 @@ pub enum Subcommand<'a> {
 
 /// A command line that is carried out.
 #[derive(Clone, Copy, PartialEq, Eq, Debug)]
-pub struct Line<'a> {
+pub struct CommandLine<'a> {
     pub subcommand: Subcommand<'a>,
     /// The file of the windows.
     pub windows: &'a str,
@@ -106,7 +106,7 @@ fn is_second<S: AsStr>(words: &[S], name: &str) -> bool
 /// Reads the words of a command line, of which the first is the program's name. Where there is no
 /// line, the answer is a text for the user with the exit status: 0 for help, 2 for a mistake in the
 /// words, 3 where memory was refused.
-pub fn parse<'a, S: AsStr>(alloc: Global, words: &'a [S]) -> Result<Line<'a>, Usage>
+pub fn parse<'a, S: AsStr>(alloc: Global, words: &'a [S]) -> Result<CommandLine<'a>, Usage>
     ensures line { IfOk result (IsLine (map S.text words.entry.now)) }
     ensures status { IfErr result (λ usage. IsUsage usage.status) }
     ensures help { IfErr result (λ usage. usage.status ≡ 0

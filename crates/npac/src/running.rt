@@ -14,7 +14,7 @@ ghost use Rattle.npac.specs.Telling.{Ends};
 
 use crate::fault::Fault;
 use crate::listening::listen;
-use crate::parse::{Line, Subcommand, parse};
+use crate::parse::{CommandLine, Subcommand, parse};
 use crate::telling::{tell_outcome, tell_usage};
 use api::{End, NoTicks, Options, Served, serve};
 use bulk::{BulkFault, FaultKind, audit, export, run_file};
@@ -252,10 +252,10 @@ fn file_ended(ran: Result<u64, BulkFault>) -> Result<(), Fault>
 }
 
 // Feeds the file of `--feed` to a register, and then does what the subcommand does.
-fn carry_out_on<T: Files + AllocGlobal + Net + Clock, S: Store, R: Read, W: Write>(
+fn run_on<T: Files + AllocGlobal + Net + Clock, S: Store, R: Read, W: Write>(
     rt: &T,
     register: &mut Register<S>,
-    line: &Line<'_>,
+    line: &CommandLine<'_>,
     reader: &mut R,
     writer: &mut W,
 ) -> Result<(), Fault> {
@@ -276,18 +276,18 @@ fn carry_out_on<T: Files + AllocGlobal + Net + Clock, S: Store, R: Read, W: Writ
 }
 
 // Carries out a line over a store, which is handed back.
-fn carry_out_over<T: Files + AllocGlobal + Net + Clock, S: Store, R: Read, W: Write>(
+fn run_over<T: Files + AllocGlobal + Net + Clock, S: Store, R: Read, W: Write>(
     rt: &T,
     store: S,
     windows: &Windows,
-    line: &Line<'_>,
+    line: &CommandLine<'_>,
     reader: &mut R,
     writer: &mut W,
 ) -> (S, Result<(), Fault>) {
     match Register::open(rt.alloc(), store, windows) {
         Ok(register) => {
             let mut register = register;
-            let outcome = carry_out_on(rt, &mut register, line, reader, writer);
+            let outcome = run_on(rt, &mut register, line, reader, writer);
             (register.close(), outcome)
         }
         Err((store, fault)) => (store, Err(Fault::Open(fault))),
@@ -305,11 +305,11 @@ fn open_fault(refused: (FileFault, UnopenedAt<Unknown>)) -> Fault {
 }
 
 // Carries out a line over the file of `--db`, which is closed behind it.
-fn carry_out_at<R: Read, W: Write>(
+fn run_at<R: Read, W: Write>(
     rt: &HostRuntime,
     path: &str,
     windows: &Windows,
-    line: &Line<'_>,
+    line: &CommandLine<'_>,
     reader: &mut R,
     writer: &mut W,
 ) -> Result<(), Fault> {
@@ -317,7 +317,7 @@ fn carry_out_at<R: Read, W: Write>(
         (Subcommand::Feed, None) => feed_gathering_at(rt, path, windows, reader, writer)?,
         _ => {
             let store = SqlStore::at(rt, path, Unknown, windows).map_err(open_fault)?;
-            carry_out_over(rt, store, windows, line, reader, writer)
+            run_over(rt, store, windows, line, reader, writer)
         }
     };
     let closed = store.close_files();
@@ -329,19 +329,19 @@ fn carry_out_at<R: Read, W: Write>(
 }
 
 // Carries out a line. A plain `feed` is the function that says what it answers.
-fn carry_out<R: Read, W: Write>(
+fn run_line<R: Read, W: Write>(
     rt: &HostRuntime,
-    line: &Line<'_>,
+    line: &CommandLine<'_>,
     reader: &mut R,
     writer: &mut W,
 ) -> Result<(), Fault> {
     let windows = windows_at(rt, line.windows)?;
     match (line.subcommand, line.feed, line.db) {
-        (_, _, Some(path)) => carry_out_at(rt, path, &windows, line, reader, writer),
+        (_, _, Some(path)) => run_at(rt, path, &windows, line, reader, writer),
         (Subcommand::Feed, None, None) => feed_gathering(rt.alloc(), &windows, reader, writer),
         _ => {
             let store = MemoryStore::new(rt.alloc());
-            let (_store, outcome) = carry_out_over(rt, store, &windows, line, reader, writer);
+            let (_store, outcome) = run_over(rt, store, &windows, line, reader, writer);
             outcome
         }
     }
@@ -364,7 +364,7 @@ pub fn run<S: AsStr, R: Read, W: Write, E: Write>(
     ensures { Ends (map S.text words.now) (E.contents errors.old) (E.contents errors.new) result }
 {
     match parse(rt.alloc(), words) {
-        Ok(line) => tell_outcome(errors, carry_out(rt, &line, reader, writer)),
+        Ok(line) => tell_outcome(errors, run_line(rt, &line, reader, writer)),
         Err(usage) => tell_usage(writer, errors, &usage),
     }
 }

@@ -30,8 +30,8 @@ use Rattle.sql_rows.proofs.Picked.{Picks}
 use Rattle.sql_rows.proofs.QueriesListed.{IsAmong, in_force_picked, open_picked, version_seen}
 use Rattle.version.specs.declared.in_use.NumberInUse.{NumberInUse}
 use Rattle.sql_store.specs.Blocks.{AreNumbers, Stands, is_listed, number_by, number_if, number_in_use, number_of_tn, query_by, subject_by}
-use Rattle.sql_store.specs.declared.blocks.Standing.{Standing}
-use Rattle.sql_store.specs.declared.blocks.Standing.TheVariants.{InForce, Open}
+use Rattle.sql_store.specs.declared.blocks.Role.{Role}
+use Rattle.sql_store.specs.declared.blocks.Role.TheVariants.{InForce, Open}
 use Rattle.sql_store.proofs.ListLemmas.{all_there, sorted_map}
 use Rattle.sql_store.proofs.MappedLemmas.{from_filter_mapped, has_filter_mapped}
 use Rattle.sql_store.proofs.WaiterLemmas.{has_any}
@@ -40,7 +40,7 @@ use Rattle.numbers.proofs.Small.{equal_number, or_right}
 -- ---- numbers of the block by one column
 
 pub standing_picked : (db : Trees) → AreShaped db
-    → (standing : Standing) (low high : ℕ) (found : List NumberedRow)
+    → (standing : Role) (low high : ℕ) (found : List NumberedRow)
     → IsListAnswer (query_by standing) version_in db (Int (pos low) ∷ Int (pos high) ∷ [])
     (map version_seen found)
     → Picks version_seen (bare_in db).versions (λ id v. IsAmong low high (subject_by standing v))
@@ -62,7 +62,7 @@ high_of n block is = omega arith
 block_from : (n block : ℕ) → block * 1000 ≤ n → n ≤ block * 1000 + 999 → block_of n ≡ block
 block_from n block low high = omega arith
 
-pub numbers_are : (c : Content) (standing : Standing) (block : ℕ) (found : List NumberedRow)
+pub numbers_are : (c : Content) (standing : Role) (block : ℕ) (found : List NumberedRow)
     (tns : List Tn)
     → Picks version_seen c.versions (λ id v. IsAmong (block * 1000) (block * 1000 + 999)
     (subject_by standing v)) found
@@ -92,13 +92,13 @@ numbers_are c standing block found tns picks are = record {
       (block_from tn.number block among.0 among.1, (x.0.id, x.0.row, it.0, subject));
 }
   where
-    by_subject : (standing : Standing) (v : VersionRow) (n : ℕ)
+    by_subject : (standing : Role) (v : VersionRow) (n : ℕ)
         → subject_by standing v ≡ Some (Number n) → number_by standing v ≡ Some n
     by_subject standing v n is = rw is refl
 
 -- a row that sends a modify stands as the others do
-module _ (db : Trees) (standing : Standing) where
-  same_subject : (n : Option Routing) (v : VersionRow) → (by : Standing)
+module _ (db : Trees) (standing : Role) where
+  same_subject : (n : Option Routing) (v : VersionRow) → (by : Role)
       → subject_by by (rerouted n v) ≡ subject_by by v
   same_subject n v InForce = refl
   same_subject n v Open = refl
@@ -136,7 +136,7 @@ told_by : (b : Bool) (So : Type 0) → (b ≡ true → So) → (So → b ≡ tru
 told_by true So says back = says refl
 told_by false So says back = λ so. true≢false (sym (back so))
 
-module _ (c : Content) (block : ℕ) (standing : Standing) (listed : List Tn)
+module _ (c : Content) (block : ℕ) (standing : Role) (listed : List Tn)
     (are : AreNumbers c standing block listed) where
   listed_there : (tn : Tn) → Has listed tn → is_listed listed tn ≡ true
   listed_there tn at =

@@ -8,8 +8,8 @@ use Rattle.numbers.specs.Subjects.{Subject, Number, Block}
 use Rattle.numbers.specs.declared.tn.Tn.{Tn}
 use Rattle.meaning.specs.Content.{Content, VersionRow}
 use Rattle.version.specs.declared.in_use.NumberInUse.{NumberInUse}
-use Rattle.sql_store.specs.declared.blocks.Standing.{Standing}
-use Rattle.sql_store.specs.declared.blocks.Standing.TheVariants.{InForce, Open}
+use Rattle.sql_store.specs.declared.blocks.Role.{Role}
+use Rattle.sql_store.specs.declared.blocks.Role.TheVariants.{InForce, Open}
 use Rattle.sql_rows.specs.declared.statement.Query.{Query}
 use Rattle.sql_rows.specs.declared.statement.Query.TheVariants.{InForceAmong, OpenAmong}
 
@@ -18,11 +18,11 @@ number_of_tn tn = tn.number
 
 -- ---- a number by a column of its version
 
-abbrev pub query_by : Standing → Query
+abbrev pub query_by : Role → Query
 query_by InForce = InForceAmong
 query_by Open = OpenAmong
 
-abbrev pub subject_by : Standing → VersionRow → Option Subject
+abbrev pub subject_by : Role → VersionRow → Option Subject
 subject_by InForce v = v.holds
 subject_by Open v = v.opens
 
@@ -30,16 +30,16 @@ abbrev pub number_if : Subject → Option ℕ
 number_if (Number n) = Some n
 number_if (Block n) = None
 
-abbrev pub number_by : Standing → VersionRow → Option ℕ
+abbrev pub number_by : Role → VersionRow → Option ℕ
 number_by by v = option_and_then number_if (subject_by by v)
 
 -- a version of the number is in force, or open
-abbrev pub Stands : Content → Standing → (number : ℕ) → Type 0
+abbrev pub Stands : Content → Role → (number : ℕ) → Type 0
 Stands c by n = (id : ℕ) × (row : VersionRow) × (get c.versions id ≡ Some row)
     × (subject_by by row ≡ Some (Number n))
 
 -- the numbers of the block of which it is so
-pub record AreNumbers (c : Content) (by : Standing) (block : ℕ) (tns : List Tn) : Type 0 where
+pub record AreNumbers (c : Content) (by : Role) (block : ℕ) (tns : List Tn) : Type 0 where
   pub each : (n : ℕ) → block_of n ≡ block → Stands c by n → (tn : Tn) × Has tns tn × (tn.number ≡ n)
   pub only : (tn : Tn) → Has tns tn → (block_of tn.number ≡ block) × Stands c by tn.number
 

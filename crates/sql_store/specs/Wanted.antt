@@ -3,7 +3,7 @@ use Rattle.sqlite_schema.specs.declared.schema.Column.{Column}
 use Rattle.sqlite_schema.specs.declared.schema.Index.{Index}
 use Rattle.sqlite_value.specs.Keys.{plain}
 use Rattle.sqlite_value.specs.declared.keys.Order.{Order}
-use Rattle.sql_store.specs.declared.schema.Step.{Step}
+use Rattle.sql_store.specs.declared.schema.Added.{Added}
 use Rattle.sql_store.specs.declared.schema.WantedColumn.{WantedColumn}
 use Rattle.sql_store.specs.declared.schema.WantedIndex.{WantedIndex}
 use Rattle.sql_store.specs.declared.schema.WantedTable.{WantedTable}
@@ -24,13 +24,13 @@ abbrev pub index_of : WantedIndex → Index
 index_of w = an_index w.name.now w.tree w.table w.columns.now w.is_unique
 
 -- what the steps led to
-abbrev pub tables_of : List Step → List Table
+abbrev pub tables_of : List Added → List Table
 tables_of [] = []
 tables_of (step ∷ steps) = map table_of step.tables.now ++ tables_of steps
 
-abbrev pub indexes_of : List Step → List Index
+abbrev pub indexes_of : List Added → List Index
 indexes_of [] = []
 indexes_of (step ∷ steps) = map index_of step.indexes.now ++ indexes_of steps
 
-abbrev pub schema_by : List Step → Schema
+abbrev pub schema_by : List Added → Schema
 schema_by steps = record { tables = tables_of steps; indexes = indexes_of steps; views = [] }

@@ -18,18 +18,18 @@ use version::NumberInUse;
 
 /// By which column a number's version is found.
 #[derive(Clone, Copy)]
-enum Standing {
+enum Role {
     InForce,
     Open,
 }
 
-impl Standing {
+impl Role {
     fn query(self) -> Query
         ensures { result ≡ query_by self }
     {
         match self {
-            Standing::InForce => Query::InForceAmong,
-            Standing::Open => Query::OpenAmong,
+            Role::InForce => Query::InForceAmong,
+            Role::Open => Query::OpenAmong,
         }
     }
 
@@ -37,8 +37,8 @@ impl Standing {
         ensures { option_map number_of_tn result ≡ number_by self row.now }
     {
         let subject = match self {
-            Standing::InForce => row.holds(),
-            Standing::Open => row.opens(),
+            Role::InForce => row.holds(),
+            Role::Open => row.opens(),
         };
         match subject {
             Some(Subject::Number(tn)) => Some(tn),
@@ -47,7 +47,7 @@ impl Standing {
     }
 }
 
-fn numbers_of(alloc: Global, standing: Standing, found: &[NumberedRow]) -> Result<Vec<Tn>, Fault>
+fn numbers_of(alloc: Global, standing: Role, found: &[NumberedRow]) -> Result<Vec<Tn>, Fault>
     ensures { IfOk result (λ tns.
         map number_of_tn tns.items ≡ filter_map (λ v. number_by standing v.row) found.now) }
 {
@@ -63,7 +63,7 @@ fn numbers_of(alloc: Global, standing: Standing, found: &[NumberedRow]) -> Resul
 // The numbers of the block that have such a version.
 fn numbers<S: Alter>(
     conn: &mut Connection<S>,
-    standing: Standing,
+    standing: Role,
     block: BlockId,
 ) -> Result<Vec<Tn>, Fault>
     requires ours { IsTrue (state S.Store conn.old).is_open → IsOurs (state S.Store conn.old) }
@@ -130,8 +130,8 @@ pub(crate) fn in_block<S: Alter>(
     ensures looked { Looked (state S.Store conn.old) (state S.Store conn.new) (is_ok result) }
     ensures idle { conn.new.in_transaction ≡ false }
 {
-    let in_force = numbers(conn, Standing::InForce, block)?;
-    let opened = numbers(conn, Standing::Open, block)?;
+    let in_force = numbers(conn, Role::InForce, block)?;
+    let opened = numbers(conn, Role::Open, block)?;
     let alloc = *in_force.allocator();
     let mut tns = both(alloc, in_force.as_slice(), opened.as_slice())?;
     put_in_order(&mut tns);

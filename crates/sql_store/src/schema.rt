@@ -46,7 +46,7 @@ pub(crate) struct WantedIndex<'a> {
 
 /// What a form of the file has beyond the one before.
 #[derive(Clone, Copy)]
-pub(crate) struct Step<'a> {
+pub(crate) struct Added<'a> {
     tables: &'a [WantedTable<'a>],
     indexes: &'a [WantedIndex<'a>],
 }
@@ -191,7 +191,7 @@ macro_rules! of_version {
 }
 
 /// The first form, which knows no modify.
-const FIRST: Step<'static> = Step {
+const FIRST: Added<'static> = Added {
     tables: &[
         keyed!(0, b"carrier", &[1], &[text!(b"spid")]),
         numbered!(2, b"lrn", &[], &[number_or_null!(b"lrn"), text!(b"spid")]),
@@ -259,7 +259,7 @@ const FIRST: Step<'static> = Step {
 };
 
 /// The next, which knows one: where a version that sends a modify is to be routed.
-const MODIFY: Step<'static> = Step {
+const MODIFY: Added<'static> = Added {
     tables: &[numbered!(
         16,
         b"next_routing",
@@ -275,7 +275,7 @@ const MODIFY: Step<'static> = Step {
 
 /// The present one, which knows sets of windows: these, and which set the clock and each version
 /// goes by. The tables `version` and `clock` of the first form have no rows in it.
-const SETS: Step<'static> = Step {
+const SETS: Added<'static> = Added {
     tables: &[
         numbered!(
             17,
@@ -432,7 +432,7 @@ fn behind_indexes<'a>(indexes: &'a [Index], wanted: &[WantedIndex<'_>]) -> Optio
 }
 
 // Whether these are the tables and the indexes that the steps led to.
-fn are_of(tables: &[Table], indexes: &[Index], steps: &[Step<'_>]) -> bool
+fn are_of(tables: &[Table], indexes: &[Index], steps: &[Added<'_>]) -> bool
     ensures tables { IsTrue result → tables.now ≡ tables_of steps.now }
     ensures indexes { IsTrue result → indexes.now ≡ indexes_of steps.now }
 {
@@ -448,7 +448,7 @@ fn are_of(tables: &[Table], indexes: &[Index], steps: &[Step<'_>]) -> bool
     }
 }
 
-fn is_by(schema: &Schema, steps: &[Step<'_>]) -> bool
+fn is_by(schema: &Schema, steps: &[Added<'_>]) -> bool
     ensures { IsTrue result → schema.now ≡ schema_by steps.now }
 {
     are_of(schema.tables.as_slice(), schema.indexes.as_slice(), steps) && schema.views.is_empty()

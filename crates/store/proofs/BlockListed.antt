@@ -22,7 +22,7 @@ use Rattle.settle.specs.Reads.{Holds, Opens, IsTold, IsInBlock, AreInBlock}
 use Rattle.store.specs.Maps.{set, IsSet}
 use Rattle.store.specs.Tables.{content_of, AreIndexed, AreVersionsIndexed, HasVersion, SubjectVersion, subject_version, subject_version_of, subject_version_cmp}
 use Rattle.store.specs.BlockRows.{lowest, highest, tn_of, own_number, number_of, number_at, has_held, has_opened, only_held, and_open, with_number, marked, standings_of, AreStandings, number_told}
-use Rattle.store.specs.declared.blocks.Standing.{Standing}
+use Rattle.store.specs.declared.blocks.Marks.{Marks}
 use Rattle.store.specs.declared.tables.Tables.{Tables}
 use Rattle.store.specs.declared.keys.SubjectVersion.{SubjectVersion as SubjectVersionCode}
 use Rattle.store.proofs.Maps.{get-map_of, set_map_of, entry-of, get-set}
@@ -46,8 +46,8 @@ or-assoc : (a b c : Bool) → ((a || b) || c) ≡ (a || (b || c))
 or-assoc true b c = refl
 or-assoc false b c = refl
 
-module _ (mark : Option Standing → Standing) where
-  with-get : (o : Option ℕ) (m : FinMap nat_cmp Standing) (n : ℕ)
+module _ (mark : Option Marks → Marks) where
+  with-get : (o : Option ℕ) (m : FinMap nat_cmp Marks) (n : ℕ)
       → get (with_number mark o m) n ≡ cond (is_number n o) (Some (mark (get m n))) (get m n)
   with-get None m n = refl
   with-get (Some k) m n = get-set nat_cmp_total nat_cmp-IsAntisymmetric m k (Some (mark (get m k)))
@@ -65,8 +65,8 @@ module _ (mark : Option Standing → Standing) where
     names e = is_number n (number_at column block (get versions e.0.id))
 
     -- what a mark says of each number that is met
-    met : (see : Option Standing → Bool) → ((o : Option Standing) → see (Some (mark o)) ≡ true)
-        → (es : List (SubjectVersionCode × Unit {0})) (m : FinMap nat_cmp Standing) →
+    met : (see : Option Marks → Bool) → ((o : Option Marks) → see (Some (mark o)) ≡ true)
+        → (es : List (SubjectVersionCode × Unit {0})) (m : FinMap nat_cmp Marks) →
         see (get (marked mark column block versions es m) n) ≡ (see (get m n) || list_any names es)
     met see says [] m = sym (or-false (see (get m n)))
     met see says (e ∷ es) m =
@@ -80,8 +80,8 @@ module _ (mark : Option Standing → Standing) where
         go false = sym (or-false (see (get m n)))
 
     -- what it leaves as it is
-    kept : (see : Option Standing → Bool) → ((o : Option Standing) → see (Some (mark o)) ≡ see o)
-        → (es : List (SubjectVersionCode × Unit {0})) (m : FinMap nat_cmp Standing) →
+    kept : (see : Option Marks → Bool) → ((o : Option Marks) → see (Some (mark o)) ≡ see o)
+        → (es : List (SubjectVersionCode × Unit {0})) (m : FinMap nat_cmp Marks) →
         see (get (marked mark column block versions es m) n) ≡ see (get m n)
     kept see says [] m = refl
     kept see says (e ∷ es) m =
@@ -93,8 +93,8 @@ module _ (mark : Option Standing → Standing) where
         go false = refl
 
     -- what it says of none
-    never : (see : Option Standing → Bool) → ((o : Option Standing) → see (Some (mark o)) ≡ false)
-        → (es : List (SubjectVersionCode × Unit {0})) (m : FinMap nat_cmp Standing) →
+    never : (see : Option Marks → Bool) → ((o : Option Marks) → see (Some (mark o)) ≡ false)
+        → (es : List (SubjectVersionCode × Unit {0})) (m : FinMap nat_cmp Marks) →
         see (get m n) ≡ false → see (get (marked mark column block versions es m) n) ≡ false
     never see says [] m none = none
     never see says (e ∷ es) m none =
@@ -241,10 +241,10 @@ module _ (t : Tables) (block : ℕ) (indexed : AreIndexed t)
     (Included high) t.holds.entries)
     (are_opened : opened ≡ entries_between (on subject_version_of subject_version_cmp)
     (Included first) (Included last) t.opens.entries) where
-  abbrev before : FinMap nat_cmp Standing
+  abbrev before : FinMap nat_cmp Marks
   before = marked only_held (λ row. row.holds) block t.versions held empty
 
-  abbrev after : FinMap nat_cmp Standing
+  abbrev after : FinMap nat_cmp Marks
   after = marked and_open (λ row. row.opens) block t.versions opened before
 
   abbrev any_held : ℕ → Bool
@@ -253,8 +253,8 @@ module _ (t : Tables) (block : ℕ) (indexed : AreIndexed t)
   abbrev any_opened : ℕ → Bool
   any_opened n = list_any (names and_open (λ row. row.opens) block t.versions n) opened
 
-  first-held : (n : ℕ) (see : Option Standing → Bool)
-      → ((o : Option Standing) → see (Some (only_held o)) ≡ true) → see None ≡ false
+  first-held : (n : ℕ) (see : Option Marks → Bool)
+      → ((o : Option Marks) → see (Some (only_held o)) ≡ true) → see None ≡ false
       → see (get before n) ≡ any_held n
   first-held n see says none =
       met only_held (λ row. row.holds) block t.versions n see says held empty
@@ -275,7 +275,7 @@ module _ (t : Tables) (block : ℕ) (indexed : AreIndexed t)
       met and_open (λ row. row.opens) block t.versions n is_some (λ o. refl) opened before
       ∙ ap (λ b. b || any_opened n) (first-held n is_some (λ o. refl) refl)
 
-  pub standings-are : (m : FinMap nat_cmp Standing) → m ≡ after
+  pub standings-are : (m : FinMap nat_cmp Marks) → m ≡ after
       → AreStandings (content_of t) block m
   standings-are m is = subst (AreStandings (content_of t) block) (sym is) record {
     held = λ n. told block low high is_low is_high (λ row. row.holds) t.versions t.holds indexed.0
@@ -286,10 +286,10 @@ module _ (t : Tables) (block : ℕ) (indexed : AreIndexed t)
   }
 
 -- a number passed
-pub marked-step : (mark : Option Standing → Standing) (column : VersionRow
+pub marked-step : (mark : Option Marks → Marks) (column : VersionRow
     → Option Subject) (block : ℕ) (versions : FinMap nat_cmp VersionRow) (e : SubjectVersionCode
-    × Unit {0}) (rest : List (SubjectVersionCode × Unit {0})) (old new : BTreeMap Tn Standing)
-    (tn : Tn) (standing : Standing) →
+    × Unit {0}) (rest : List (SubjectVersionCode × Unit {0})) (old new : BTreeMap Tn Marks)
+    (tn : Tn) (standing : Marks) →
     Some (tn_of tn) ≡ number_at column block (get versions e.0.id)
     → standing ≡ mark (tree.get (on tn_of nat_cmp) old tn)
     → IsSet (on tn_of nat_cmp) old new tn (Some standing) →
@@ -297,14 +297,14 @@ pub marked-step : (mark : Option Standing → Standing) (column : VersionRow
     (e ∷ rest) (standings_of old)
 marked-step mark column block versions e rest old new tn standing is marks written =
     ap (marked mark column block versions rest)
-    (set_map_of tn_of (λ (s : Standing). s) nat_cmp_total nat_cmp-IsAntisymmetric old new tn
+    (set_map_of tn_of (λ (s : Marks). s) nat_cmp_total nat_cmp-IsAntisymmetric old new tn
     (Some standing) written
     ∙ ap (λ s. set (standings_of old) (tn_of tn) (Some s)) (marks
     ∙ ap mark (seen (tree.get (on tn_of nat_cmp) old tn)
-    ∙ sym (get-map_of tn_of (λ (s : Standing). s) nat_cmp_total nat_cmp-IsAntisymmetric old tn))))
+    ∙ sym (get-map_of tn_of (λ (s : Marks). s) nat_cmp_total nat_cmp-IsAntisymmetric old tn))))
     ∙ ap (λ o. marked mark column block versions rest (with_number mark o (standings_of old))) is
   where
-    seen : (o : Option Standing) → o ≡ option_map (λ (s : Standing). s) o
+    seen : (o : Option Marks) → o ≡ option_map (λ (s : Marks). s) o
     seen None = refl
     seen (Some s) = refl
 
@@ -323,7 +323,7 @@ own-of P Q R true b e one other = one.0
 own-of P Q R false true e one other = other.0
 own-of P Q R false false e one other = let f : false ≡ true = e in cc
 
-among-told : (e : Tn × Standing) (es : List (Tn × Standing)) → Among e es
+among-told : (e : Tn × Marks) (es : List (Tn × Marks)) → Among e es
     → Among (number_told e) (map number_told es)
 unfolding Among
 among-told e [] is = absurd is
@@ -331,36 +331,36 @@ among-told e (x ∷ xs) (inl same) = inl (ap number_told same)
 among-told e (x ∷ xs) (inr there) = inr (among-told e xs there)
 
 -- the list is in the order of the entries' keys
-sorted-told : (es : List (Tn × Standing)) → IsStrictlySortedBy (on tn_of nat_cmp) (keys_of es)
+sorted-told : (es : List (Tn × Marks)) → IsStrictlySortedBy (on tn_of nat_cmp) (keys_of es)
     → IsStrictlySortedBy (on (λ (x : NumberInUse). x.tn.number) nat_cmp) (map number_told es)
 unfolding IsStrictlySortedBy
 sorted-told [] sorted = tt
 sorted-told (e ∷ es) sorted = (above es sorted.0, sorted-told es sorted.1)
   where
-    above : (xs : List (Tn × Standing)) → AllByRecursion (λ k. nat_cmp (tn_of e.0) (tn_of k) ≡ Less)
+    above : (xs : List (Tn × Marks)) → AllByRecursion (λ k. nat_cmp (tn_of e.0) (tn_of k) ≡ Less)
         (keys_of xs) → AllByRecursion (λ (x : NumberInUse). nat_cmp (tn_of e.0) x.tn.number ≡ Less)
         (map number_told xs)
     above [] all = tt
     above (x ∷ xs) all = (all.0, above xs all.1)
 
-picked : (P : Tn → Type 0) (es : List (Tn × Standing)) (e : Tn × Standing)
+picked : (P : Tn → Type 0) (es : List (Tn × Marks)) (e : Tn × Marks)
     → AllByRecursion P (keys_of es) → Among e es → P e.0
 unfolding Among
 picked P [] e all there = absurd there
-picked P (x ∷ xs) e all (inl same) = subst (λ (y : Tn × Standing). P y.0) same all.0
+picked P (x ∷ xs) e all (inl same) = subst (λ (y : Tn × Marks). P y.0) same all.0
 picked P (x ∷ xs) e all (inr there) = picked P xs e all.1 there
 
 not-at : (a b : ℕ) → nat_cmp a b ≡ Less → is_eq (nat_cmp b a) ≡ false
 not-at a b e = grind (arith, nat_tests)
 
 -- an entry is what a look-up of its key finds
-own-value : (es : List (Tn × Standing)) (e : Tn × Standing)
+own-value : (es : List (Tn × Marks)) (e : Tn × Marks)
     → IsStrictlySortedBy (on tn_of nat_cmp) (keys_of es) → Among e es
     → lookup (is_at (on tn_of nat_cmp e.0)) es ≡ Some e.1
 unfolding Among IsStrictlySortedBy
 own-value [] e sorted there = absurd there
 own-value (x ∷ xs) e sorted (inl same) =
-    ap (λ (y : Tn × Standing). cond (is_at (on tn_of nat_cmp e.0) y.0) (Some y.1)
+    ap (λ (y : Tn × Marks). cond (is_at (on tn_of nat_cmp e.0) y.0) (Some y.1)
     (lookup (is_at (on tn_of nat_cmp e.0)) xs)) same
     ∙ ap (λ b. cond b (Some e.1) (lookup (is_at (on tn_of nat_cmp e.0)) xs))
     ((eq_by_cmp_equiv nat_cmp_total).refl (tn_of e.0))
@@ -370,13 +370,13 @@ own-value (x ∷ xs) e sorted (inr there) =
     sorted.0 there))
     ∙ own-value xs e sorted.1 there
 
-module _ (c : Content) (block : ℕ) (numbers : BTreeMap Tn Standing)
+module _ (c : Content) (block : ℕ) (numbers : BTreeMap Tn Marks)
     (ordered : tree.IsOrdered (on tn_of nat_cmp) numbers)
     (known : AreStandings c block (standings_of numbers)) where
-  abbrev at : ℕ → Option Standing
+  abbrev at : ℕ → Option Marks
   at n = get (standings_of numbers) n
 
-  in-block-is : (e : Tn × Standing) → Among e numbers.entries → IsInBlock c block (number_told e)
+  in-block-is : (e : Tn × Marks) → Among e numbers.entries → IsInBlock c block (number_told e)
   in-block-is e there = record {
     own = own;
     is_in_force = narrowed (block_of (tn_of e.0) ≡ block) (Holds c (Number (tn_of e.0)))
@@ -387,8 +387,8 @@ module _ (c : Content) (block : ℕ) (numbers : BTreeMap Tn Standing)
   }
     where
       found : at (tn_of e.0) ≡ Some e.1
-      found = get-map_of tn_of (λ (s : Standing). s) nat_cmp_total nat_cmp-IsAntisymmetric numbers
-          e.0 ∙ ap (option_map (λ (s : Standing). s)) (own-value numbers.entries e ordered there)
+      found = get-map_of tn_of (λ (s : Marks). s) nat_cmp_total nat_cmp-IsAntisymmetric numbers
+          e.0 ∙ ap (option_map (λ (s : Marks). s)) (own-value numbers.entries e ordered there)
 
       held : IsTold e.1.is_in_force ((block_of (tn_of e.0) ≡ block) × Holds c (Number (tn_of e.0)))
       held = subst (λ o. IsTold (has_held o) ((block_of (tn_of e.0) ≡ block)
@@ -411,7 +411,7 @@ module _ (c : Content) (block : ℕ) (numbers : BTreeMap Tn Standing)
   in-block-are found is = record {
     each = λ n own used.
         let there : is_some (at n) ≡ true = known.in_use n ∙ stands n own used in
-        let q = entry-of tn_of (λ (s : Standing). s) nat_cmp_total nat_cmp-IsAntisymmetric numbers n
+        let q = entry-of tn_of (λ (s : Marks). s) nat_cmp_total nat_cmp-IsAntisymmetric numbers n
         there in
         let e = found-entry (is_at (on tn_of nat_cmp q.0)) numbers.entries q.2 in
         let same : tn_of e.0.0 ≡ n =

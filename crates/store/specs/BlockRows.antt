@@ -11,7 +11,7 @@ use Rattle.version.specs.declared.in_use.NumberInUse.{NumberInUse}
 use Rattle.settle.specs.Reads.{Holds, Opens, IsTold}
 use Rattle.store.specs.Maps.{map_of, set}
 use Rattle.store.specs.Tables.{SubjectVersion}
-use Rattle.store.specs.declared.blocks.Standing.{Standing}
+use Rattle.store.specs.declared.blocks.Marks.{Marks}
 use Rattle.store.specs.declared.keys.SubjectVersion.{SubjectVersion as SubjectVersionCode}
 
 -- before and behind all versions of a block's numbers
@@ -48,45 +48,45 @@ opened_number = number_at (λ row. row.opens)
 
 -- ---- what is known of a number
 
-abbrev pub has_held : Option Standing → Bool
+abbrev pub has_held : Option Marks → Bool
 has_held None = false
 has_held (Some s) = s.is_in_force
 
-abbrev pub has_opened : Option Standing → Bool
+abbrev pub has_opened : Option Marks → Bool
 has_opened None = false
 has_opened (Some s) = s.is_open
 
-abbrev pub only_held : Option Standing → Standing
+abbrev pub only_held : Option Marks → Marks
 only_held known = record { is_in_force = true; is_open = false }
 
-abbrev pub and_open : Option Standing → Standing
+abbrev pub and_open : Option Marks → Marks
 and_open known = record { is_in_force = has_held known; is_open = true }
 
 -- ---- numbers gathered
 
 -- the number, if there is one, with its mark, together with those that were there
-abbrev pub with_number : (Option Standing → Standing) → Option ℕ → FinMap nat_cmp Standing
-    → FinMap nat_cmp Standing
+abbrev pub with_number : (Option Marks → Marks) → Option ℕ → FinMap nat_cmp Marks
+    → FinMap nat_cmp Marks
 with_number mark None m = m
 with_number mark (Some n) m = set m n (Some (mark (get m n)))
 
 -- the numbers of the block that the rows of these keys have in the column, each with its mark,
 -- together with those that were there
-abbrev pub marked : (Option Standing → Standing) → (VersionRow → Option Subject) → ℕ
-    → FinMap nat_cmp VersionRow → List (SubjectVersionCode × Unit {0}) → FinMap nat_cmp Standing
-    → FinMap nat_cmp Standing
+abbrev pub marked : (Option Marks → Marks) → (VersionRow → Option Subject) → ℕ
+    → FinMap nat_cmp VersionRow → List (SubjectVersionCode × Unit {0}) → FinMap nat_cmp Marks
+    → FinMap nat_cmp Marks
 marked mark column block versions [] m = m
 marked mark column block versions (e ∷ es) m =
     marked mark column block versions es
     (with_number mark (number_at column block (get versions e.0.id)) m)
 
-abbrev pub standings_of : BTreeMap Tn Standing → FinMap nat_cmp Standing
+abbrev pub standings_of : BTreeMap Tn Marks → FinMap nat_cmp Marks
 standings_of m = map_of tn_of (λ s. s) m
 
 -- of each number of the block that is in use it is known which of its versions stand, and nothing
 -- of any other number
 pub record AreStandings (c : Content) (block : ℕ)
-    (standings : FinMap nat_cmp Standing) : Type 0 where
+    (standings : FinMap nat_cmp Marks) : Type 0 where
   pub held : (n : ℕ) → IsTold (has_held (get standings n)) ((block_of n ≡ block)
       × Holds c (Number n))
   pub opened : (n : ℕ) → IsTold (has_opened (get standings n)) ((block_of n ≡ block)
@@ -94,5 +94,5 @@ pub record AreStandings (c : Content) (block : ℕ)
   pub in_use : (n : ℕ)
       → is_some (get standings n) ≡ (has_held (get standings n) || has_opened (get standings n))
 
-abbrev pub number_told : Tn × Standing → NumberInUse
+abbrev pub number_told : Tn × Marks → NumberInUse
 number_told e = record { tn = e.0; is_in_force = e.1.is_in_force; is_open = e.1.is_open }

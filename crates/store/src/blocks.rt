@@ -18,7 +18,7 @@ use version::NumberInUse;
 
 /// Which versions of a number stand.
 #[derive(Clone, Copy)]
-pub struct Standing {
+pub struct Marks {
     pub is_in_force: bool,
     pub is_open: bool,
 }
@@ -64,10 +64,10 @@ fn opened_number(tables: &Tables, block: BlockId, id: u64) -> Option<Tn>
 }
 
 // What is known of a number, and that it has an open version.
-fn and_open(known: Option<Standing>) -> Standing
+fn and_open(known: Option<Marks>) -> Marks
     ensures { result ≡ and_open known }
 {
-    Standing {
+    Marks {
         is_in_force: known.is_some_and(|standing| standing.is_in_force),
         is_open: true,
     }
@@ -78,7 +78,7 @@ fn standings(
     alloc: Global,
     tables: &Tables,
     block: BlockId,
-) -> Result<BTreeMap<Tn, Standing>, AllocError>
+) -> Result<BTreeMap<Tn, Marks>, AllocError>
     requires { AreIndexed tables.now }
     ensures { IfOk result (λ numbers.
         AreStandings (content_of tables.now) block.number (standings_of numbers)) }
@@ -86,7 +86,7 @@ fn standings(
     let mut numbers = BTreeMap::new(alloc);
     for (key, _) in tables.holds.range(lowest(block)..=highest(block)) {
         if let Some(tn) = held_number(tables, block, key.id) {
-            let standing = Standing {
+            let standing = Marks {
                 is_in_force: true,
                 is_open: false,
             };
@@ -103,7 +103,7 @@ fn standings(
 }
 
 // The numbers with what is known of each, rising.
-fn rising(alloc: Global, numbers: &BTreeMap<Tn, Standing>) -> Result<Vec<NumberInUse>, AllocError>
+fn rising(alloc: Global, numbers: &BTreeMap<Tn, Marks>) -> Result<Vec<NumberInUse>, AllocError>
     ensures { IfOk result (λ found. (found.items ≡ map number_told numbers.now.entries)
         × IsOrdered (on tn_of nat_cmp) numbers.now) }
 {

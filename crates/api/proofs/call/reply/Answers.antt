@@ -4,8 +4,9 @@ use Rattle.api.proofs.call.reply.Goals as goal
 pub returns-in-Ok-clause-step : goal.returns-in-Ok-clause-step
 returns-in-Ok-clause-step g c = λ u st s.
     calls_met c.args.clock (g.S.Store.failed c.args.register.now.store)
-    (g.S.Store.failed c.carry_out.new.register.store)
-    (g.S.Store.content c.carry_out.new.register.store) st c.args.request.now c.in-Ok.route
+    (g.S.Store.failed c.answer_message.new.register.store)
+    (g.S.Store.content c.answer_message.new.register.store) st c.args.request.now c.in-Ok.route
     c.in-Ok.caller c.args.body.now _
-    c.carry_out.ensures.owes.rises c.in-Ok.ensures.ok.0 c.in-Ok.ensures.ok.1 c.in-Ok.ensures.ok.2
-    (c.carry_out.ensures.calls u st s)
+    c.answer_message.ensures.owes.rises c.in-Ok.ensures.ok.0 c.in-Ok.ensures.ok.1
+    c.in-Ok.ensures.ok.2
+    (c.answer_message.ensures.calls u st s)

@@ -5,21 +5,21 @@ use Rattle.bulk.proofs.making.answer_for.Goals as goal
 
 pub returns-in-Ok-clause-told : goal.returns-in-Ok-clause-told
 returns-in-Ok-clause-told g c =
-    told_for (g.S.Store.IsUsable c.carry_out.new.register.store)
+    told_for (g.S.Store.IsUsable c.make_call.new.register.store)
     (g.S.Store.IsUsable c.command_for.new.register.store) _ _ _ c.args.caller.number
-    c.args.tn.number c.args.wish.now (command_of c.in-Ok.command) c.carry_out.result
-    c.carry_out.ensures.owes.usable c.in-Ok.ensures.command c.in-Ok.ensures.kept
-    c.carry_out.ensures.told
+    c.args.tn.number c.args.wish.now (command_of c.in-Ok.command) c.make_call.result
+    c.make_call.ensures.owes.usable c.in-Ok.ensures.command c.in-Ok.ensures.kept
+    c.make_call.ensures.told
 
 pub returns-in-Ok-clause-kept : goal.returns-in-Ok-clause-kept
 returns-in-Ok-clause-kept g c =
-    kept_for (g.S.Store.IsUsable c.carry_out.new.register.store)
+    kept_for (g.S.Store.IsUsable c.make_call.new.register.store)
     (g.S.Store.IsUsable c.command_for.new.register.store) _
     (g.S.Store.content c.command_for.new.register.store) _ c.args.tn.number c.args.wish.now
-    (command_of c.in-Ok.command) c.carry_out.result
-    c.carry_out.ensures.owes.usable c.in-Ok.ensures.command c.in-Ok.ensures.kept
-    c.carry_out.ensures.kept
+    (command_of c.in-Ok.command) c.make_call.result
+    c.make_call.ensures.owes.usable c.in-Ok.ensures.command c.in-Ok.ensures.kept
+    c.make_call.ensures.kept
 
 pub returns-in-Ok-clause-owes : goal.returns-in-Ok-clause-owes
 returns-in-Ok-clause-owes g c =
-    owes_then c.in-Ok.ensures.owes c.carry_out.ensures.owes c.in-Ok.ensures.kept
+    owes_then c.in-Ok.ensures.owes c.make_call.ensures.owes c.in-Ok.ensures.kept

@@ -23,7 +23,7 @@ returns-clause-cut c = λ remaining.
       length-drop c.in-Head.spans.len held,
     ) in
     taken_made remaining held (held_bytes c.drop_front.new.self) (held_bytes c.take_held.new.held)
-    c.take_room.new.body.items c.take_held.new.body.items c.in-Head.spans.len at.0 c.in-Ok.request
+    c.reserve.new.body.items c.take_held.new.body.items c.in-Head.spans.len at.0 c.in-Ok.request
     (record {
       keeps = Keeps-refl (input_left c.args.held.now remaining);
       reads = found.reads;
@@ -32,5 +32,5 @@ returns-clause-cut c = λ remaining.
       few = omega (arith, at.2);
     })
     (c.in-Ok.ensures.asks at.0 asked) c.in-Ok.ensures.small c.drop_front.ensures.held fits
-    (omega (arith, c.take_room.new.body.ok.0, c.take_room.ensures.empty)) c.take_held.ensures.held
+    (omega (arith, c.reserve.new.body.ok.0, c.reserve.ensures.empty)) c.take_held.ensures.held
     c.take_held.ensures.body

@@ -5,7 +5,7 @@ use Rattle.npac.proofs.running.run.Goals as goal
 pub returns-in-Ok : goal.returns-in-Ok
 returns-in-Ok g c =
     outcome_ends (map g.S.AsStr.text c.args.words.now) _ _ c.tell_outcome.result c.in-Ok.line
-    c.in-Ok.ensures.line c.carry_out.result c.tell_outcome.ensures
+    c.in-Ok.ensures.line c.run_line.result c.tell_outcome.ensures
 
 pub returns-in-Err : goal.returns-in-Err
 returns-in-Err g c =

@@ -6,7 +6,7 @@ use Rattle.settle.specs.Reads.{AreInBlock}
 use Rattle.sql_rows.specs.Content.{content_in}
 use Rattle.sql_store.specs.Blocks.{AreNumbers, number_in_use}
 use Rattle.sql_store.specs.Store.{content_at}
-use Rattle.sql_store.specs.declared.blocks.Standing.TheVariants.{Open}
+use Rattle.sql_store.specs.declared.blocks.Role.TheVariants.{Open}
 use Rattle.sql_store.proofs.BlockLemmas.{block_is}
 use Rattle.sql_store.proofs.CallLemmas.{looked_ours}
 use Rattle.sql_store.proofs.blocks.in_block.Goals as goal

@@ -3,7 +3,7 @@ use Rattle.calls.specs.Calls.{called_of}
 use Rattle.bodies.specs.Forms.{Calling}
 use Rattle.api.specs.Step.{IdAsks, NumberAsks, CountAsks}
 use Rattle.api.proofs.StepLemmas.{asked_carried, path_carried, unasked_refused}
-use Rattle.api.proofs.call.carry_out.Goals as goal
+use Rattle.api.proofs.call.answer_message.Goals as goal
 
 pub returns-in_err-version_asked-in-Version-clause-calls : goal.returns-in_err-version_asked-in-Version-clause-calls
 returns-in_err-version_asked-in-Version-clause-calls g c = rw c.in-Version.is (λ u st s.
@@ -62,8 +62,8 @@ returns-in_ok-downloads_asked-in-Downloads-clause-calls g c = rw c.in-Downloads.
 pub returns-in_default-clause-calls : goal.returns-in_default-clause-calls
 returns-in_default-clause-calls g c = λ u st s.
     path_carried (g.S.Store.failed c.args.register.now.store)
-    (g.S.Store.failed c.carry_out_body.new.register.store)
-    (g.S.Store.content c.carry_out_body.new.register.store) st c.args.route c.args.caller.number
+    (g.S.Store.failed c.answer_body.new.register.store)
+    (g.S.Store.content c.answer_body.new.register.store) st c.args.route c.args.caller.number
     c.args.body.now _
     c.in_default.not-Version c.in_default.not-Number c.in_default.not-Downloads
-    (c.carry_out_body.ensures.calls u st s)
+    (c.answer_body.ensures.calls u st s)

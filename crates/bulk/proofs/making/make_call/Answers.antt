@@ -3,7 +3,7 @@ use Rattle.meaning.specs.RefusalNumbers.{number_of}
 use Rattle.meaning.specs.Refusals.{Requests}
 use Rattle.calls.specs.Calls.{command_of, reply_of}
 use Rattle.bulk.proofs.Carried.{told_by_reply, told_by_refusal, kept_by_reply, kept_by_refusal}
-use Rattle.bulk.proofs.making.carry_out.Goals as goal
+use Rattle.bulk.proofs.making.make_call.Goals as goal
 
 pub returns-in-Ok-clause-told : goal.returns-in-Ok-clause-told
 returns-in-Ok-clause-told g c =

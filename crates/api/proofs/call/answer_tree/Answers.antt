@@ -3,7 +3,7 @@ use Rattle.meaning.specs.declared.refusal.Refusal.TheVariants.{NoMemory}
 use Rattle.bodies.specs.declared.fault.Failure.TheVariants.{Refused}
 use Rattle.bodies.specs.Failures.{failure_text}
 use Rattle.bodies.proofs.RefusalLemmas.{text_by_number}
-use Rattle.api.proofs.call.carry_out_tree.Goals as goal
+use Rattle.api.proofs.call.answer_tree.Goals as goal
 
 pub returns-in-Err-clause-calls : goal.returns-in-Err-clause-calls
 returns-in-Err-clause-calls g c =

@@ -4,7 +4,7 @@ use Rattle.calls.specs.Calls.{called_of}
 use Rattle.bodies.specs.Forms.{Calling, Seeking, HasForm, asked_of}
 use Rattle.bodies.proofs.RefusalLemmas.{text_by_number}
 use Rattle.api.proofs.StepLemmas.{calls_carried}
-use Rattle.api.proofs.call.carry_out_fields.Goals as goal
+use Rattle.api.proofs.call.answer_fields.Goals as goal
 
 pub returns-in-Err-clause-calls : goal.returns-in-Err-clause-calls
 returns-in-Err-clause-calls g c =
