@@ -1,5 +1,5 @@
 use Rattle.std.proofs.Common.{rules}
-use Rattle.sql_rows.proofs.SpidLemmas.{spid_made}
+use Rattle.numbers.proofs.SpidLemmas.{spid_made}
 use Rattle.sql_rows.proofs.reading.spid_from.Goals as goal
 
 pub invariant_of-result : goal.invariant_of-result
