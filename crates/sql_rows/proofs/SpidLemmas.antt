@@ -4,8 +4,10 @@ use Rattle.std.specs.Prelude.{◌&&◌}
 use Rattle.numbers.specs.Texts.{spid_text}
 use Rattle.sql_rows.specs.Values.{spid_from}
 use Rattle.std.proofs.lemmas.Bool.Decides.{nat_tests}
-use Rattle.numbers.proofs.SpidLemmas.{small_character}
 use Rattle.numbers.specs.Spids.{is_spid_character, IsSpid}
+
+small_character : (c : ℕ) → is_spid_character c ≡ true → c < 128
+small_character c h = grind (arith, nat_tests)
 
 digits : (n a b c d : ℕ) → n ≡ a * 16777216 + b * 65536 + c * 256 + d → b < 128 → c < 128 → d < 128
     → spid_text n ≡ a ∷ b ∷ c ∷ d ∷ []
