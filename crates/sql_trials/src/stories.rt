@@ -376,8 +376,8 @@ pub static LATE_ACKNOWLEDGEMENT: Trial<'static> = Trial {
     again: LATE,
 };
 
-/// The windows are set anew, which makes a further set of the same ones. Set once more they would be
-/// a third, so that a version is asked for in its place.
+/// The windows are set anew, which makes a further set of the same ones. Set once more they would
+/// be a third, so that a version is asked for in its place.
 pub static NEW_WINDOWS: Trial<'static> = Trial {
     stories: &[OPENING, CREATED],
     steps: &[],

@@ -1,7 +1,7 @@
 //! The first port where memory may be refused once: a message that met it is sent again.
 //!
-//! `rt try --test --fail-alloc N` runs it with its N-th allocation refused; `bench/refused-memory`
-//! does the same to the built program, for every N.
+//! `rt try --test --fail-alloc N` runs it with its N-th allocation refused;
+//! `bench/run refused-memory` does the same to the built program, for every N.
 use crate::port::{FIRST_PORT, Said, Texts, new_register, texts_of, whole};
 use api::{Fault, NoTicks, Options, serve};
 use register::Register;
