@@ -10,8 +10,8 @@ use Rattle.meaning.specs.Commands.{Command, RegisterCarrier, RegisterRoutingNumb
 use Rattle.meaning.specs.Content.{Content}
 use Rattle.meaning.specs.History.{Commands, Acknowledges}
 use Rattle.meaning.specs.Reading.{State, InForce, Download, all_in_force, queue}
-use Rattle.meaning.specs.Refusals.{Input, Question, Moment, Asks, Knows, Fetch, ShowVersion, Query, AllInForce, Waiting, Ids, npac, refusal, tests}
-use Rattle.meaning.specs.Machine.{Reply, Refused as MachineRefused, Moved, Registered, LrnAdded, CodeOpened, Shown, Donated, Known, Fetched, Answered, Rows, Awaited, Found, WindowsSet, Answer, out, next, unless_refused, refused_or, reply_of, answer_of, accepted}
+use Rattle.meaning.specs.Refusals.{Input, Moment, Asks, Knows, Fetch, ShowVersion, Query, AllInForce, Waiting, Ids, refusal, tests}
+use Rattle.meaning.specs.Machine.{Reply, Refused as MachineRefused, Moved, Registered, LrnAdded, CodeOpened, Shown, Donated, Known, Fetched, Answered, Rows, Awaited, Found, WindowsSet, Answer, out, next, refused_or, reply_of, answer_of, accepted}
 use Rattle.meaning.proofs.DonatedIds.{donated_few}
 use Rattle.settle.specs.Owing.{Owes, SaysStorage}
 use Rattle.settle.specs.Reads.{HasRisen}
@@ -29,7 +29,7 @@ use Rattle.telnp.specs.Faults.{fault_of}
 use Rattle.bodies.specs.Failures.{failure_text}
 use Rattle.bodies.specs.Forms.{Asked, Calling, Seeking, HasForm, json_of}
 use Rattle.bodies.specs.RefusalTexts.{refusal_text}
-use Rattle.api.specs.Step.{Step, Meets, MeetsPath, Calls, Answers, AnswersAdmitted, AnswersCall, Admits, TurnsAway, turned_away, WithholdsTick, ticked, BodyAsks, PathAsks, IsShort, Outgrows, Withholds, IsUri, AsksFor, ComesBack, AnswersQuery, Carried, Carries, success, told, reply_text, routed_text}
+use Rattle.api.specs.Step.{Step, Meets, MeetsPath, Calls, Answers, AnswersAdmitted, AnswersCall, Admits, TurnsAway, WithholdsTick, ticked, BodyAsks, PathAsks, IsShort, Outgrows, Withholds, IsUri, AsksFor, ComesBack, AnswersQuery, Carried, Carries, success, told, reply_text, routed_text}
 use Rattle.bodies.specs.Texts.{looked_up, uri_text}
 use Rattle.numbers.specs.declared.spid.Spid.{Spid}
 use Rattle.serde_json.specs.Data.{Data}
@@ -38,7 +38,7 @@ use Rattle.messages.specs.declared.paths.Method.{Method}
 use Rattle.messages.specs.declared.paths.Route.{Route}
 use Rattle.messages.specs.declared.paths.Route.TheVariants.{Carriers, Clock, RoutingNumbers, Codes, OldProviderCreate as OldProviderPath, NewProviderCreate as NewProviderPath, OnVersion as VersionPaths, OnBlock as BlockPaths, Acknowledge, Query as QueryPath, Windows as WindowsPath, Version, Number, Downloads}
 use Rattle.messages.specs.Table.{takes, among_offered}
-use Rattle.register.proofs.Asking.Unmoved.{unless_same, next_asks, stays, kept, rows_of}
+use Rattle.register.proofs.Asking.Unmoved.{stays, rows_of}
 use Rattle.bodies.proofs.RefusalLemmas.{text_by_number}
 use Rattle.std.proofs.Math.Nat.{le_trans}
 use Rattle.settle.proofs.Risen.{risen-since}

@@ -1,10 +1,10 @@
 -- What the register's answers to questions say.
-use Rattle.std.proofs.Common.{◌≡◌, ℕ, List, Option, Some, None, refl, subst}
+use Rattle.std.proofs.Common.{◌≡◌, ℕ, Option, Some, None}
 use Rattle.meaning.specs.Content.{Content}
-use Rattle.meaning.specs.Machine.{Reply, Rows, Found, out, next, unless_refused, refused_or}
-use Rattle.meaning.specs.Reading.{State, InForce, all_in_force}
-use Rattle.meaning.specs.Refusals.{Question, Asks, AllInForce, Ids, refusal}
-use Rattle.register.specs.Answers.{Stands, AnswersAs}
+use Rattle.meaning.specs.Machine.{Found, out, refused_or}
+use Rattle.meaning.specs.Reading.{State}
+use Rattle.meaning.specs.Refusals.{Asks, Ids, refusal}
+use Rattle.register.specs.Answers.{Stands}
 use Rattle.bulk.specs.Report.{in_force_id, open_id}
 use Rattle.settle.specs.Owing.{Owes, SaysStorage}
 use Rattle.std.proofs.Math.Nat.{le_refl, le_trans}

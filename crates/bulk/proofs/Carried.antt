@@ -1,11 +1,11 @@
 -- What is told of a command that was carried out.
-use Rattle.std.proofs.Common.{◌≡◌, ℕ, Bool, true, false, [], Option, Some, None, Result, Ok, Err, IfOk, OnErr, refl, sym, ap, subst, ◌∙◌}
+use Rattle.std.proofs.Common.{◌≡◌, ℕ, Bool, true, false, Option, Some, None, Result, Ok, Err, IfOk, OnErr, refl, sym, ap, subst, ◌∙◌}
 use Rattle.std.specs.Prelude.{nat_lt, if◌then◌else◌}
 use Rattle.meaning.specs.Commands.{Command, RegisterCarrier, RegisterRoutingNumber, OpenCode, OldProviderCreate, NewProviderCreate, OnVersion, Donate, Assign, Release, SetWindows}
 use Rattle.meaning.specs.Content.{Content}
 use Rattle.meaning.specs.History.{Commands}
-use Rattle.meaning.specs.Machine.{Reply, Refused, Shown, out, next, accepted, reply_of, refused_or}
-use Rattle.meaning.specs.Reading.{State, View}
+use Rattle.meaning.specs.Machine.{Reply, Refused, out, next, accepted, reply_of, refused_or}
+use Rattle.meaning.specs.Reading.{State}
 use Rattle.meaning.specs.RefusalNumbers.{number_of}
 use Rattle.meaning.specs.Refusals.{Input, Requests, refusal}
 use Rattle.meaning.specs.declared.refusal.Refusal.{Refusal}
@@ -14,14 +14,13 @@ use Rattle.bodies.specs.RefusalTexts.{refusal_of}
 use Rattle.calls.specs.Calls.{refused_with}
 use Rattle.register.specs.Answers.{Stands, AnswersAs}
 use Rattle.bulk.specs.Making.{IsSaid, Tells, is_of_number}
-use Rattle.bulk.specs.Report.{report_line, reply_line, name_of, command_for, input_for}
+use Rattle.bulk.specs.Report.{reply_line, command_for, input_for}
 use Rattle.bulk.specs.declared.order.Wish.{Wish}
 use Rattle.bulk.specs.declared.order.Wish.TheVariants as wish
 use Rattle.version.specs.declared.create.Creator.TheVariants as creator
 use Rattle.bulk.specs.declared.fault.FaultKind.{FaultKind}
 use Rattle.bulk.specs.declared.told.Told.{Told}
 use Rattle.bulk.specs.declared.told.Told.TheVariants as told
-use Rattle.numbers.specs.Texts.{tn_text}
 
 -- the refusal of its number
 found_again : (x : Refusal) → refusal_of (number_of x) ≡ Some x

@@ -5,9 +5,7 @@ use Rattle.std.specs.Io.KnownBytes.{Keeps, append_known}
 use Rattle.std.proofs.KnownBytes.{Appends-kept}
 use Rattle.meaning.specs.Content.{Content}
 use Rattle.meaning.specs.Reading.{State, first_state}
-use Rattle.meaning.specs.Windows.{AreWindows, Windows as WindowsMeant}
-use Rattle.version.specs.Views.{windows_of}
-use Rattle.windows.specs.declared.window.Windows.{Windows}
+use Rattle.meaning.specs.Windows.{Windows as WindowsMeant}
 use Rattle.messages.specs.declared.fault.MessageFault.{MessageFault}
 use Rattle.api.specs.Serving.{AfterClose, AfterPart, AfterRefusal, AfterWhole, EndsAt, Serves, Told}
 use Rattle.api.specs.declared.serving.End.{End}

@@ -13,7 +13,7 @@ use Rattle.meaning.specs.Content.{BlockRow, BroadcastKey, BroadcastRow, WaitKey}
 use Rattle.meaning.specs.Windows.{Windows}
 use Rattle.sql_rows.specs.Clocks.{StoredClock}
 use Rattle.sql_rows.specs.Versions.{version_params}
-use Rattle.sql_rows.specs.Content.{carrier_params, owner_params, block_params, broadcast_params, wait_params, clock_params, set_params, next_params, wait_key_params, broadcast_key_params}
+use Rattle.sql_rows.specs.Content.{block_params, broadcast_params, wait_params, clock_params, set_params, next_params, wait_key_params, broadcast_key_params}
 
 bound_map : (rs : List ValueRef) → bound rs ≡ map bound_value (map owned rs)
 bound_map [] = refl

@@ -16,7 +16,7 @@ use Rattle.sqlite_rules.proofs.PlaceLemmas.{tied_same}
 use Rattle.sqlite_trees.specs.declared.store.Shape.TheVariants.{Table as AsTable}
 use Rattle.sqlite_value.proofs.OrderLemmas.{value_cmp_total}
 use Rattle.numbers.specs.Routings.{Routing}
-use Rattle.meaning.specs.Content.{ClockRow, VersionRow, subject_if}
+use Rattle.meaning.specs.Content.{ClockRow, VersionRow}
 use Rattle.meaning.specs.Statuses.{Send, Create, Delete, Modify, Status, Pending, Conflict, CancelPending, Sending, Active, PartialFailure, Failed, DisconnectPending, Old, Canceled}
 use Rattle.meaning.specs.declared.words.Side.{Side}
 use Rattle.sql_rows.specs.Clocks.{old_clock_of}
@@ -26,7 +26,7 @@ use Rattle.sql_rows.specs.Found.{IsListAnswer, IsSole, IsSoleAnswer}
 use Rattle.sql_rows.specs.Moving.{table_of_old}
 use Rattle.sql_rows.specs.Shaped.{AreShaped}
 use Rattle.sql_rows.specs.Statements.{query_of, query_test, shown_by, tree_of}
-use Rattle.sql_rows.specs.Values.{bool_in, found_in, is_int, minute_in, number_in, only_in, or_null_in, routing_in, send_in, side_in, spid_in, status_in, subject_in}
+use Rattle.sql_rows.specs.Values.{is_int, minute_in, number_in, only_in, send_in, side_in, status_in}
 use Rattle.sql_rows.specs.Versions.{bare, bare_status, old_shown_of, old_version_entry, old_version_in, version_with}
 use Rattle.sql_rows.specs.Written.{IsFrame}
 use Rattle.sql_rows.specs.declared.keyed.OldClock.{OldClock}

@@ -1,13 +1,9 @@
 -- The orders of the keys.
-use Rattle.std.proofs.Common.{◌≡◌, ℕ, ◌&&◌, true, refl, sym, ap, ◌∙◌, arith}
-use Rattle.std.specs.declared.cmp.Ordering.{Ordering}
-use Rattle.std.specs.declared.cmp.Ordering.TheVariants.{Less, Equal, Greater}
+use Rattle.std.proofs.Common.{◌≡◌, ℕ, ◌&&◌, true, sym, ap, ◌∙◌, arith}
 use Rattle.std.specs.Ordering.{nat_cmp, ordering_then, eq_by_cmp, is_eq}
-use Rattle.std.specs.Cmp.{IsTotalOrder, nat_cmp_total, tied_then}
-use Rattle.std.proofs.lemmas.Cmp.{then_total, on_total}
+use Rattle.std.specs.Cmp.{tied_then}
 use Rattle.std.proofs.lemmas.Bool.Decides.{nat_tests}
-use Rattle.std.specs.FinMap.{IsAntisymmetric, nat_cmp-IsAntisymmetric}
-use Rattle.meaning.proofs.KeyOrders.{both_equal, broadcast_total, broadcast_exact, wait_total, wait_exact}
+use Rattle.meaning.proofs.KeyOrders.{broadcast_exact, wait_exact}
 use Rattle.meaning.specs.Content.{BroadcastKey, WaitKey, broadcast_cmp, wait_cmp}
 use Rattle.numbers.proofs.Small.{tied}
 

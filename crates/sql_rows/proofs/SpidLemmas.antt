@@ -4,7 +4,7 @@ use Rattle.std.specs.Prelude.{◌&&◌}
 use Rattle.numbers.specs.Texts.{spid_text}
 use Rattle.sql_rows.specs.Values.{spid_from}
 use Rattle.std.proofs.lemmas.Bool.Decides.{nat_tests}
-use Rattle.numbers.specs.Spids.{is_spid_character, IsSpid}
+use Rattle.numbers.specs.Spids.{is_spid_character}
 
 small_character : (c : ℕ) → is_spid_character c ≡ true → c < 128
 small_character c h = grind (arith, nat_tests)

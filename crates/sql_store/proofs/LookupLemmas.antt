@@ -40,7 +40,7 @@ use Rattle.sql_rows.specs.declared.keyed.KeyedBroadcast.{KeyedBroadcast}
 use Rattle.sql_rows.specs.declared.statement.Query.TheVariants.{CarrierNamed, LrnNumbered, CodeNumbered, BlockNumbered, ClockNumbered, NextRoutingNumbered, WindowSetNumbered, VersionNumbered, VersionInForce, VersionOpen, VersionDue, BroadcastKeyed}
 use Rattle.sql_rows.proofs.FoundLemmas.{value_of, carrier_found, lrn_found, code_found, block_found, clock_found, set_found, next_found, version_found, version_own, broadcast_found, in_force_found, open_found}
 use Rattle.sql_rows.proofs.DueLemmas.{due_is_found}
-use Rattle.sql_rows.proofs.Rerouted.{due_whole, in_force_whole, open_whole, rerouted-none, rerouted-other, rerouted-put, version_whole}
+use Rattle.sql_rows.proofs.Rerouted.{due_whole, in_force_whole, open_whole, rerouted-none, rerouted-put, version_whole}
 
 -- one parameter is bound as it is
 pub one_bound : (r : ValueRef) (v : Value) → bound_value v ≡ v → owned r ≡ v

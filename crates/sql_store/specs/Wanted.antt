@@ -2,12 +2,11 @@
 use Rattle.sqlite_schema.specs.declared.schema.Column.{Column}
 use Rattle.sqlite_schema.specs.declared.schema.Index.{Index}
 use Rattle.sqlite_value.specs.Keys.{plain}
-use Rattle.sqlite_value.specs.declared.keys.Order.{Order}
 use Rattle.sql_store.specs.declared.schema.Added.{Added}
 use Rattle.sql_store.specs.declared.schema.WantedColumn.{WantedColumn}
 use Rattle.sql_store.specs.declared.schema.WantedIndex.{WantedIndex}
 use Rattle.sql_store.specs.declared.schema.WantedTable.{WantedTable}
-use Rattle.std.specs.Prelude.{ℕ, List, [], ◌∷◌, ◌++◌, map}
+use Rattle.std.specs.Prelude.{List, [], ◌∷◌, ◌++◌, map}
 use Rattle.sqlite.specs.Schema.{Schema}
 use Rattle.sqlite.specs.Table.{Table}
 use Rattle.sql_rows.specs.Tables.{a_column, a_table, an_index}

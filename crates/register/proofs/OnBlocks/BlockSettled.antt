@@ -1,5 +1,5 @@
 -- A block and its numbers, settled one after the other.
-use Rattle.std.proofs.Common.{◌≡◌, ℕ, inl, inr, Bool, true, false, ◌||◌, List, [], ◌∷◌, None, refl, ap, sym, ◌∙◌, subst}
+use Rattle.std.proofs.Common.{◌≡◌, ℕ, inl, inr, Bool, true, false, ◌||◌, List, ◌∷◌, None, refl, ap, sym, ◌∙◌, subst}
 use Rattle.std.specs.Prelude.{Contains, ◌⊎◌, ◌==◌}
 use Rattle.numbers.specs.Digits.{block_of}
 use Rattle.numbers.specs.Subjects.{Subject, Number, Block, subject_eq}
@@ -18,7 +18,6 @@ use Rattle.register.specs.Answers.{Stands}
 use Rattle.register.specs.Settling.{KeepsOthers, SettlesThose, is_any_of, is_of_block}
 use Rattle.register.proofs.Downloads.Awaited.{all-among}
 use Rattle.register.proofs.EveryCall.Before.{LeavesAllBut, meaning_stands, rows_joined, turned}
-use Rattle.register.proofs.EveryCall.Composed.{rows_same}
 use Rattle.register.proofs.EveryCall.Settled.{stays_settled}
 
 -- ---- some numbers
