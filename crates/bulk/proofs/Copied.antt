@@ -39,6 +39,12 @@ other_header rows more raw e other = λ others same. other cc
 pub no_header : (rows : List Row) → rows ≡ [] → (others : List Row) → rows ≢ copy_header ∷ others
 no_header rows e = λ others same. let x : ⊥ = cc in x
 
+pub no_header_read : {K U : Type 0} (has : List Row → Type 0)
+    → (K × ((rows : List Row) → has rows → rows ≡ [])) ⊎ U
+    → (K × ((rows : List Row) → has rows → (others : List Row) → rows ≢ copy_header ∷ others)) ⊎ U
+no_header_read has (inl (k, none)) = inl (k, λ rows h. no_header rows (none rows h))
+no_header_read has (inr u) = inr u
+
 -- ---- reading the rows behind the header
 
 -- these are the entries of the rows that were read

@@ -28,6 +28,12 @@ other_first rows more raw e other = λ others same. other cc
 pub no_first : (rows : List Row) → rows ≡ [] → LacksHeader rows
 no_first rows e = λ others same. let x : ⊥ = cc in x
 
+pub no_first_read : {K U : Type 0} (has : List Row → Type 0)
+    → (K × ((rows : List Row) → has rows → rows ≡ [])) ⊎ U
+    → (K × ((rows : List Row) → has rows → LacksHeader rows)) ⊎ U
+no_first_read has (inl (k, none)) = inl (k, λ rows h. no_first rows (none rows h))
+no_first_read has (inr u) = inr u
+
 -- the report's header broke off
 pub header_broken : (st : State) (rows : List Row) (new : Content) (had has : Option (List ℕ))
     (fault : BulkFault) → fault.kind ≡ Write → fault.rows ≡ 0 → Stands new st

@@ -12,7 +12,7 @@ ghost use Rattle.bulk.specs.Rows.{Row, HasRows, IsPlain};
 
 use crate::fault::FaultKind;
 use crate::fields::{is_text, lrn_in, optional_cic_in, text_in, tn_in};
-use crate::rows::next_row;
+use crate::rows::{first_row, next_row};
 use csv::{ByteRecord, Reader};
 use delivery::RoutedRow;
 use numbers::{BlockId, Routing, Subject};
@@ -116,17 +116,11 @@ fn read_copy_header<R: Read>(alloc: Global, reader: &mut Reader<R>) -> Result<()
         → (others : List Row) → rows ≢ copy_header ∷ others))
         ⊎ IsUnread kind) }
 {
-    let mut row = ByteRecord::new(alloc);
-    match next_row(reader, &mut row) {
-        Ok(true) => {
-            if is_copy_header(&row) {
-                Ok(())
-            } else {
-                Err(FaultKind::BadHeader)
-            }
-        }
-        Ok(false) => Err(FaultKind::BadHeader),
-        Err(kind) => Err(kind),
+    let row = first_row(alloc, reader)?;
+    if is_copy_header(&row) {
+        Ok(())
+    } else {
+        Err(FaultKind::BadHeader)
     }
 }
 

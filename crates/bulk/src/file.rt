@@ -11,9 +11,9 @@ ghost use Rattle.bulk.specs.Running.{Follows, LacksHeader, Reports, RunsFile};
 use crate::fault::{BulkFault, FaultKind};
 use crate::fields::is_header;
 use crate::line::Line;
-use crate::rows::{next_row, open};
+use crate::rows::{first_row, open};
 use crate::running::run_rows;
-use csv::{ByteRecord, Reader};
+use csv::Reader;
 use register::Register;
 use settle::Store;
 use std::alloc::Global;
@@ -33,17 +33,11 @@ fn read_header<R: Read>(alloc: Global, reader: &mut Reader<R>) -> Result<(), Fau
         × ((rows : List Row) → HasRows R.remaining reader.old rows → LacksHeader rows))
         ⊎ IsUnread kind) }
 {
-    let mut row = ByteRecord::new(alloc);
-    match next_row(reader, &mut row) {
-        Ok(true) => {
-            if is_header(&row) {
-                Ok(())
-            } else {
-                Err(FaultKind::BadHeader)
-            }
-        }
-        Ok(false) => Err(FaultKind::BadHeader),
-        Err(kind) => Err(kind),
+    let row = first_row(alloc, reader)?;
+    if is_header(&row) {
+        Ok(())
+    } else {
+        Err(FaultKind::BadHeader)
     }
 }
 
