@@ -1,14 +1,16 @@
 -- The answer that storage fails is no answer of the machine, nor that of a message that is refused.
 use Rattle.std.proofs.Common.{◌≡◌, ◌⊎◌, ◌≤◌, ◌<◌, ℕ, List, [], ◌∷◌, ◌++◌, length, get_or, decimal, codes, Bool, true, false, Option, Some, None, inl, inr, refl, ap, sym, subst, ◌∙◌, arith}
-use Rattle.std.specs.Prelude.{◌==◌, if◌then◌else◌, ⊤}
+use Rattle.std.specs.List.{list_any}
+use Rattle.std.specs.Prelude.{◌==◌, ◌&&◌, ◌||◌, if◌then◌else◌, ⊤}
 use Rattle.itoa.proofs.Decimal.{decimal_two, pair}
+use Rattle.numbers.proofs.Small.{and_first, and_second, equal_number}
 use Rattle.numbers.specs.declared.spid.Spid.{Spid}
 use Rattle.settle.specs.Reads.{HasRisen}
-use Rattle.meaning.specs.Commands.{Command, RegisterCarrier, RegisterRoutingNumber, OpenCode, OldProviderCreate, NewProviderCreate, OnVersion, Donate, Assign, Release, SetWindows}
+use Rattle.meaning.specs.Commands.{VersionCommand, Activate, Command, RegisterCarrier, RegisterRoutingNumber, OpenCode, OldProviderCreate, NewProviderCreate, OnVersion, Donate, Assign, Release, SetWindows}
 use Rattle.meaning.specs.History.{Commands, Acknowledges}
 use Rattle.meaning.specs.Machine.{Reply, Refused, Moved, Registered, LrnAdded, CodeOpened, Shown, Donated, Known, Fetched, Answered, Rows, Awaited, Found, WindowsSet, out, accepted, refused_or, reply_of, answer_of}
 use Rattle.meaning.specs.Reading.{State}
-use Rattle.meaning.specs.Refusals.{Input, Moment, Requests, Asks, Question, Knows, Fetch, ShowVersion, Query, AllInForce, Waiting, Ids, npac, refusal, tests, command_tests, first_that_holds}
+use Rattle.meaning.specs.Refusals.{Input, Moment, Requests, Asks, Question, Knows, Fetch, ShowVersion, Query, AllInForce, Waiting, Ids, npac, refusal, tests, own_tests, first_that_holds}
 use Rattle.bodies.specs.Answer.{answer, refusal_body, phrase}
 use Rattle.bodies.specs.Failures.{failure_text}
 use Rattle.calls.specs.Calls.{Called, Wants, Wonders, Moves, input_of}
@@ -148,9 +150,19 @@ first_differs (t ∷ ts) all k e =
 by_number : (k : ℕ) → class_of (refusal_text k) ≡ 52 → Differs (refusal_text k)
 by_number k is = by_class (refusal_text k) 52 is (omega arith)
 
-commands_differ : (st : State) (caller : ℕ) (c : Command) → AllDiffer (command_tests st caller c)
+-- the numbers of what commands are refused for
+abbrev command_numbers : List ℕ
+command_numbers =
+    1 ∷ 2 ∷ 3 ∷ 4 ∷ 5 ∷ 6 ∷ 7 ∷ 8 ∷ 9 ∷ 10 ∷ 11 ∷ 12 ∷ 13 ∷ 14 ∷ 15 ∷ 16 ∷ 17 ∷ 18 ∷ 19 ∷ 20
+    ∷ 21 ∷ 22 ∷ 23 ∷ 24 ∷ 28 ∷ []
+
+abbrev EachDiffers : List ℕ → Type 0
+EachDiffers [] = ⊤
+EachDiffers (n ∷ ns) = Differs (refusal_text n) × EachDiffers ns
+
+numbers_differ : EachDiffers command_numbers
 unfolding refusal_text failure_text
-commands_differ st caller c = (
+numbers_differ = (
   by_number 1 refl,
   (
     by_number 2 refl,
@@ -218,6 +230,40 @@ commands_differ st caller c = (
   ),
 )
 
+differs_among : (ns : List ℕ) → EachDiffers ns → (k : ℕ) → list_any (λ n. n == k) ns ≡ true
+    → Differs (refusal_text k)
+differs_among [] each k is = cc
+differs_among (n ∷ ns) each k is = go (differs_among ns each.1 k) (n == k) refl is
+  where
+    go : (list_any (λ m. m == k) ns ≡ true → Differs (refusal_text k)) → (b : Bool)
+        → (n == k) ≡ b → (b || list_any (λ m. m == k) ns) ≡ true → Differs (refusal_text k)
+    go later true e f = subst (λ (m : ℕ). Differs (refusal_text m)) (equal_number n k e) each.0
+    go later false e f = later f
+
+-- the tests have such numbers
+abbrev have_numbers : List (ℕ × Bool) → Bool
+have_numbers [] = true
+have_numbers (t ∷ ts) = list_any (λ n. n == t.0) command_numbers && have_numbers ts
+
+each_test_differs : (ts : List (ℕ × Bool)) → have_numbers ts ≡ true → AllDiffer ts
+each_test_differs [] have = tt
+each_test_differs (t ∷ ts) have = (
+  differs_among command_numbers numbers_differ t.0
+      (and_first (list_any (λ n. n == t.0) command_numbers) (have_numbers ts) have),
+  each_test_differs ts
+      (and_second (list_any (λ n. n == t.0) command_numbers) (have_numbers ts) have),
+)
+
+changes_differ : (st : State) (caller id : ℕ) (c : VersionCommand)
+    → AllDiffer (own_tests st caller (OnVersion id c))
+changes_differ st caller id Activate =
+    each_test_differs (own_tests st caller (OnVersion id Activate)) refl
+changes_differ st caller id c = each_test_differs (own_tests st caller (OnVersion id c)) refl
+
+commands_differ : (st : State) (caller : ℕ) (c : Command) → AllDiffer (own_tests st caller c)
+commands_differ st caller (OnVersion id c) = changes_differ st caller id c
+commands_differ st caller c = each_test_differs (own_tests st caller c) refl
+
 acknowledgements_differ : (st : State) (caller id attempt : ℕ)
     → AllDiffer (tests st (Requests caller (Acknowledges id attempt)))
 unfolding tests refusal_text failure_text
@@ -236,9 +282,9 @@ questions_differ st caller Knows = (by_number 1 refl, tt)
 questions_differ st caller (Fetch n) = (by_number 1 refl, tt)
 questions_differ st caller (ShowVersion id) = (by_number 1 refl, (by_number 10 refl, tt))
 questions_differ st caller (Query tn) = (by_number 1 refl, tt)
-questions_differ st caller AllInForce = (by_number 1 refl, tt)
+questions_differ st caller AllInForce = tt
 questions_differ st caller Waiting = (by_number 1 refl, tt)
-questions_differ st caller (Ids tn) = (by_number 1 refl, tt)
+questions_differ st caller (Ids tn) = tt
 
 all_differ : (st : State) (caller : ℕ) (c : Command)
     → AllDiffer (tests st (Requests caller (Commands c)))

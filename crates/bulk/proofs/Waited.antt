@@ -1,13 +1,12 @@
 -- What the register says of the subjects that wait for a carrier.
 use Rattle.std.proofs.Common.{◌≡◌, ℕ, Bool, true, false, List, Option, Some, None, refl, sym, ◌∙◌, ap, subst}
-use Rattle.std.specs.Prelude.{◌==◌}
 use Rattle.numbers.specs.Subjects.{Subject}
 use Rattle.meaning.specs.Content.{Content}
 use Rattle.meaning.specs.declared.refusal.Refusal.{Refusal}
 use Rattle.meaning.specs.declared.refusal.Refusal.TheVariants.{UnknownCarrier}
 use Rattle.meaning.specs.Machine.{Awaited, Refused, out, refused_or}
 use Rattle.meaning.specs.Reading.{State, is_carrier}
-use Rattle.meaning.specs.Refusals.{Asks, Waiting, npac, refusal, tests}
+use Rattle.meaning.specs.Refusals.{Asks, Waiting, refusal, tests}
 use Rattle.meaning.specs.RefusalNumbers.{number_of}
 use Rattle.calls.specs.Calls.{refused_with}
 use Rattle.register.specs.Answers.{AnswersAs, Stands}
@@ -17,7 +16,7 @@ use Rattle.bulk.specs.Findings.{awaited}
 
 -- who may ask
 waiting_by : (st : State) (carrier : ℕ)
-    → refusal st (Asks carrier Waiting) ≡ may_fetch (is_carrier st carrier) (carrier == npac)
+    → refusal st (Asks carrier Waiting) ≡ may_fetch (is_carrier st carrier)
 unfolding tests
 waiting_by st carrier = refl
 
@@ -33,19 +32,19 @@ unfolding out
 waits_are st carrier subjects e =
     let answer = told (refusal st (Asks carrier Waiting)) subjects (awaited st carrier) e in (
       answer.1,
-      known_by (is_carrier st carrier) (carrier == npac) (sym (waiting_by st carrier) ∙ answer.0),
+      known_by (is_carrier st carrier) (sym (waiting_by st carrier) ∙ answer.0),
     )
 
-stranger : (known is_admin : Bool) (k : ℕ) (ys : List Subject)
-    → Refused k ≡ refused_or (may_fetch known is_admin) (Awaited ys) → known ≡ false
-stranger false is_admin k ys e = refl
-stranger true is_admin k ys e = let f : Refused k ≡ Awaited ys = e in let x : ⊥ = cc in absurd x
+stranger : (known : Bool) (k : ℕ) (ys : List Subject)
+    → Refused k ≡ refused_or (may_fetch known) (Awaited ys) → known ≡ false
+stranger false k ys e = refl
+stranger true k ys e = let f : Refused k ≡ Awaited ys = e in let x : ⊥ = cc in absurd x
 
 is_stranger : (st : State) (carrier k : ℕ) → Refused k ≡ out st (Asks carrier Waiting)
     → is_carrier st carrier ≡ false
 unfolding out
 is_stranger st carrier k e =
-    stranger (is_carrier st carrier) (carrier == npac) k (awaited st carrier)
+    stranger (is_carrier st carrier) k (awaited st carrier)
     (e ∙ ap (λ (r : Option ℕ). refused_or r (Awaited (awaited st carrier))) (waiting_by st carrier))
 
 -- it answered that it knows no such carrier
