@@ -11,13 +11,16 @@ use Rattle.meaning.specs.Content.{ClockRow, Content, Represents, SameRows}
 use Rattle.meaning.proofs.Entered.{subject_eq-refl}
 use Rattle.meaning.proofs.Ids.{same_subject}
 use Rattle.meaning.proofs.Lists.{any_there, contains-among, there_any}
-use Rattle.meaning.proofs.Tabled.{or_false}
 use Rattle.numbers.proofs.Small.{same_number, neither, equal_number, impossible}
 use Rattle.settle.specs.Reads.{AreInBlock, Holds, IsInBlock, Opens}
 use Rattle.settle.specs.Settling.{IsSettled, LeavesRows, Settles, Under, is_one_of, is_within, those_with_block}
 use Rattle.settle.proofs.Among.{all-among}
 use Rattle.settle.proofs.Settled.{none-due, stays_settled}
 use Rattle.version.specs.declared.in_use.NumberInUse.{NumberInUse}
+
+pub or_false : (b : Bool) → (b || false) ≡ b
+or_false true = refl
+or_false false = refl
 
 -- ---- the list
 

@@ -19,7 +19,7 @@ use Rattle.meaning.specs.Content.{Content, VersionRow}
 use Rattle.meaning.proofs.Entered.{none_elsewhere, none_with, subject_eq-refl}
 use Rattle.meaning.proofs.Ids.{same_subject}
 use Rattle.meaning.proofs.Lagging.{no_row_at, row_has_id}
-use Rattle.meaning.proofs.Tabled.{or_false}
+use Rattle.settle.proofs.SettledBlock.{or_false}
 use Rattle.settle.specs.Owing.{Owes, SaysStorage}
 use Rattle.settle.specs.Settling.{KeepsMeaning, LeavesRows, Settles, is_one_of}
 use Rattle.settle.proofs.Settled.{rows_joined}
