@@ -183,16 +183,26 @@ fn next_of<R: Read>(
     }
 }
 
-// The buffers of a connection, where there is memory: what was read, an answer, and the router.
-fn buffers(alloc: Global) -> Option<(Held, Room, Router<Route>)>
-    ensures size { IfSome result (λ made. vec_len made.0.bytes ≡ 8192) }
-    ensures empty { IfSome result (λ made. held_bytes made.0 ≡ []) }
-    ensures room { IfSome result (λ made. HasRoom 512 made.1) }
-    ensures router { IfSome result (λ made. made.2 ≡ table) }
-{
-    match (Held::new(alloc), Room::new(alloc), router(alloc)) {
-        (Ok(held), Ok(room), Ok(router)) => Some((held, room, router)),
-        _ => None,
+/// The buffers of a connection: what was read, an answer, and the router.
+#[derive(Drop)]
+struct Buffers {
+    held: Held,
+    room: Room,
+    router: Router<Route>,
+}
+
+impl Buffers {
+    // Empty buffers, where there is memory.
+    fn new(alloc: Global) -> Option<Buffers>
+        ensures size { IfSome result (λ made. vec_len made.held.bytes ≡ 8192) }
+        ensures empty { IfSome result (λ made. held_bytes made.held ≡ []) }
+        ensures room { IfSome result (λ made. HasRoom 512 made.room) }
+        ensures router { IfSome result (λ made. made.router ≡ table) }
+    {
+        match (Held::new(alloc), Room::new(alloc), router(alloc)) {
+            (Ok(held), Ok(room), Ok(router)) => Some(Buffers { held, room, router }),
+            _ => None,
+        }
     }
 }
 
@@ -204,14 +214,12 @@ fn serve_with<S: Store, T: Ticks, R: Read, W: Write>(
     options: &Options,
     reader: &mut R,
     writer: &mut W,
-    held: &mut Held,
-    room: &mut Room,
-    router: &Router<Route>,
+    buffers: &mut Buffers,
 ) -> Result<Served, Fault>
-    requires size { vec_len held.old.bytes ≡ 8192 }
-    requires empty { held_bytes held.old ≡ [] }
-    requires room { HasRoom 512 room.old }
-    requires router { router.now ≡ table }
+    requires size { vec_len buffers.old.held.bytes ≡ 8192 }
+    requires empty { held_bytes buffers.old.held ≡ [] }
+    requires room { HasRoom 512 buffers.old.room }
+    requires router { buffers.old.router ≡ table }
     ensures serves { S.IsUsable register.new.store → (st : State)
         → Stands (S.content register.old.store) st
         → IfSome (R.remaining reader.old)
@@ -238,6 +246,8 @@ fn serve_with<S: Store, T: Ticks, R: Read, W: Write>(
     ensures rises { S.failed register.old.store ≤ S.failed register.new.store }
     ensures honest { S.IsHonest register.new.store → S.IsHonest register.old.store }
 {
+    let Buffers { held, room, router } = buffers;
+    let clock = options.clock_route;
     let mut body = Vec::new(alloc);
     let mut headers = [EMPTY_HEADER_SPAN; FIELD_LIMIT];
     let mut at_hand = None;
@@ -245,23 +255,13 @@ fn serve_with<S: Store, T: Ticks, R: Read, W: Write>(
         let next = match next_of(at_hand, held, &mut headers, router, reader, &mut body) {
             Ok(Some(next)) => next,
             Ok(None) => {
-                return Ok(Served {
-                    count,
-                    end: End::Input,
-                });
+                let end = End::Input;
+                return Ok(Served { count, end });
             }
             Err(NextFault::Read) => return Err(Fault::Read(count)),
             Err(NextFault::Memory) => return Err(Fault::Memory(count)),
         };
-        let end = respond(
-            alloc,
-            register,
-            options.clock_route,
-            ticks,
-            next,
-            &body,
-            room,
-        );
+        let end = respond(alloc, register, clock, ticks, next, &body, room);
         at_hand = next_held(held, &mut headers, router, &mut body);
         // A read may wait for the client, which has to have its answers by then.
         let flushes = end.is_some() || at_hand.is_none();
@@ -270,10 +270,8 @@ fn serve_with<S: Store, T: Ticks, R: Read, W: Write>(
             Err(_) => return Err(Fault::Write(count)),
         }
         if let Some(end) = end {
-            return Ok(Served {
-                count: count + 1,
-                end,
-            });
+            let count = count + 1;
+            return Ok(Served { count, end });
         }
     }
     Err(Fault::Memory(u64::MAX))
@@ -332,10 +330,16 @@ pub fn serve<S: Store, T: Ticks, R: Read, W: Write>(
     ensures rises { S.failed register.old.store ≤ S.failed register.new.store }
     ensures honest { S.IsHonest register.new.store → S.IsHonest register.old.store }
 {
-    let Some((mut held, mut room, router)) = buffers(alloc) else {
+    let Some(mut buffers) = Buffers::new(alloc) else {
         return Err(Fault::Memory(0));
     };
     serve_with(
-        alloc, register, ticks, options, reader, writer, &mut held, &mut room, &router,
+        alloc,
+        register,
+        ticks,
+        options,
+        reader,
+        writer,
+        &mut buffers,
     )
 }

@@ -21,7 +21,7 @@ loop-count-init g c = (
   λ honest. honest,
   λ usable honest. inl usable,
   λ usable. (
-    input_left c.args.held.now (g.R.Read.remaining c.args.reader.now),
+    input_left c.args.buffers.now.held (g.R.Read.remaining c.args.reader.now),
     refl,
     started c.args.options.now.clock_route (g.S.Store.failed c.args.register.now.store)
         (g.S.Store.content c.args.register.now.store) _ (g.R.Read.remaining c.args.reader.now)
