@@ -7,13 +7,15 @@ use Rattle.bulk.proofs.copy.read_copy_header.Goals as goal
 
 pub returns-in_err-row-clause-other : goal.returns-in_err-row-clause-other
 returns-in_err-row-clause-other g c =
-    let none = no_header_read (HasRows g.R.Read.remaining c.args.reader.now) c.in_err-row.ensures.none in
+    let none = no_header_read (HasRows g.R.Read.remaining c.args.reader.now)
+    c.in_err-row.ensures.none in
     search rules
 
 pub returns-then-is_copy_header-clause-header : goal.returns-then-is_copy_header-clause-header
 returns-then-is_copy_header-clause-header g c = λ rows has.
     let first = c.in_ok-row.ensures.first rows has in
-    let named : fields_of c.in_ok-row.row ≡ copy_header = c.is_copy_header.ensures.0 c.if-is_copy_header.true in
+    let named : fields_of c.in_ok-row.row ≡ copy_header =
+    c.is_copy_header.ensures.0 c.if-is_copy_header.true in
     (first.0, first.1 ∙ ap (λ r. r ∷ first.0) named, first.2)
 
 pub returns-clause-other : goal.returns-clause-other
@@ -22,5 +24,6 @@ returns-clause-other g c =
       refl,
       λ rows has.
           let first = c.in_ok-row.ensures.first rows has in
-          other_header rows first.0 (fields_of c.in_ok-row.row) first.1 (λ e. let h = c.is_copy_header.ensures.1 e in cc),
+          other_header rows first.0 (fields_of c.in_ok-row.row) first.1 (λ e. let h =
+          c.is_copy_header.ensures.1 e in cc),
     )

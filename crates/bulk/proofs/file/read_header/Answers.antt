@@ -7,7 +7,8 @@ use Rattle.bulk.proofs.file.read_header.Goals as goal
 
 pub returns-in_err-row-clause-other : goal.returns-in_err-row-clause-other
 returns-in_err-row-clause-other g c =
-    let none = no_first_read (HasRows g.R.Read.remaining c.args.reader.now) c.in_err-row.ensures.none in
+    let none = no_first_read (HasRows g.R.Read.remaining c.args.reader.now)
+    c.in_err-row.ensures.none in
     search rules
 
 pub returns-then-is_header-clause-header : goal.returns-then-is_header-clause-header
@@ -22,5 +23,6 @@ returns-clause-other g c =
       refl,
       λ rows has.
           let first = c.in_ok-row.ensures.first rows has in
-          other_first rows first.0 (fields_of c.in_ok-row.row) first.1 (λ e. let h = c.is_header.ensures.1 e in cc),
+          other_first rows first.0 (fields_of c.in_ok-row.row) first.1 (λ e. let h =
+          c.is_header.ensures.1 e in cc),
     )
