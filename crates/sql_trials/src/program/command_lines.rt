@@ -1,7 +1,7 @@
 //! Command lines, carried out whole, with files that the test makes.
 use super::connections::{CUT, FIRST, LAST, new_listener};
 use crate::said::WINDOWS;
-use npac::parse::{Line, Subcommand, parse};
+use npac::parse::{CommandLine, Subcommand, parse};
 use npac::{run, words_of};
 use std::alloc::{AllocError, Global};
 use std::env::{Env, FillError};
@@ -292,7 +292,7 @@ fn is_port_taken(rt: &HostRuntime) -> Option<bool> {
 }
 
 // Whether the words are this line.
-fn is_line(alloc: Global, text: &str, line: &Line<'_>) -> Option<bool> {
+fn is_line(alloc: Global, text: &str, line: &CommandLine<'_>) -> Option<bool> {
     let words = words_in(alloc, text).ok()?;
     let parsed = parse(alloc, words.as_slice()).ok()?;
     Some(parsed == *line)
@@ -309,7 +309,7 @@ fn are_lines(alloc: Global) -> Option<bool> {
     let all = is_line(
         alloc,
         text,
-        &Line {
+        &CommandLine {
             subcommand,
             windows,
             feed,
@@ -326,7 +326,7 @@ fn are_lines(alloc: Global) -> Option<bool> {
         all && is_line(
             alloc,
             text,
-            &Line {
+            &CommandLine {
                 subcommand,
                 windows,
                 feed,
