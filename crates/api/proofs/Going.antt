@@ -168,6 +168,14 @@ closed_of false end e = cc
 some_inj : (a b : End) → Some a ≡ Some b → a ≡ b
 some_inj a b e = cc
 
+-- with the bytes of the body read another way
+pub responds_on : (offered : Bool) (before behind : Option (List (Option ℕ))) (from to : ℕ)
+    (next : Next) (body body' text : List ℕ) (old new : Content) → body ≡ body'
+    → Responds offered before behind from to next body text old new
+    → Responds offered before behind from to next body' text old new
+responds_on offered before behind from to next body body' text old new same responds =
+    subst (λ b. Responds offered before behind from to next b text old new) same responds
+
 module _ (offered : Bool) (from between : ℕ) (old mid : Content)
     (all left had has : Option (List ℕ)) (before untold : Option (List (Option ℕ))) (k : ℕ)
     (progress : Progress offered from between old mid all left had has before untold k) where
@@ -270,6 +278,11 @@ module _ (offered : Bool) (from between : ℕ) (old mid : Content)
         has = has';
       }
 
+      -- the message, as it came and was answered
+      abbrev exchange : (request : Request) → Answered (Next.Message request) → Exchange
+      exchange request responds =
+          record { tick = responds.0; request = request; body = body; answer = text }
+
       going_then : (request : Request) → request.closes ≡ false → Came (Next.Message request)
           → Answered (Next.Message request) → Appends has has' text
           → (st : State) (input : List ℕ) → Going offered from between st mid input left had has
@@ -278,12 +291,7 @@ module _ (offered : Bool) (from between : ℕ) (old mid : Content)
           let c = at_rest left g.rest (λ i. Comes i (Next.Message request) body left') g.left_is
           comes in
           let r = responds.2 g.end g.stands in
-          let x : Exchange = record {
-            tick = responds.0;
-            request = request;
-            body = body;
-            answer = text;
-          } in
+          let x = exchange request responds in
           record {
             exchanges = g.exchanges ++ x ∷ [];
             end = r.0;
@@ -322,12 +330,7 @@ module _ (offered : Bool) (from between : ℕ) (old mid : Content)
           let c = at_rest left g.rest (λ i. Comes i (Next.Message request) body left') g.left_is
           comes in
           let r = responds.2 g.end g.stands in
-          let x : Exchange = record {
-            tick = responds.0;
-            request = request;
-            body = body;
-            answer = text;
-          } in
+          let x = exchange request responds in
           record {
             exchanges = g.exchanges;
             between = between;
@@ -394,12 +397,7 @@ module _ (offered : Bool) (from between : ℕ) (old mid : Content)
           let c = at_rest left g.rest (λ i. Comes i (Next.Message request) body left') g.left_is
           comes in
           let r = responds.2 g.end g.stands in
-          let x : Exchange = record {
-            tick = responds.0;
-            request = request;
-            body = body;
-            answer = text;
-          } in
+          let x = exchange request responds in
           record {
             exchanges = g.exchanges;
             between = between;

@@ -21,6 +21,7 @@ use Rattle.api.specs.Step.{Step, Meets, MeetsPath, Calls, PathAsks, Answers, Ans
 use Rattle.telnp.specs.Answer.{Uri as TelUri}
 use Rattle.bodies.proofs.ClearLemmas.{same_form}
 use Rattle.api.proofs.UriLemmas.{faultless, not_asked, same_fault, same_uri, same_number as same_asked_number}
+use Rattle.numbers.proofs.Small.{some_is}
 
 refuses_once : (st : State) (fault : MessageFault) (text said : List ℕ) (after later : State)
     → Refuses st fault text after → Refuses st fault said later → IsOnce text said after later
@@ -101,20 +102,17 @@ same_asked : (route : Route) (read : Option Data) (a b : Asked)
 same_asked route None a b x y = absurd x
 same_asked route (Some d) a b x y = same_form route d a b x y
 
-some_number : (n m : ℕ) → Some n ≡ Some m → n ≡ m
-some_number n m e = cc
-
 -- a message on a path asks one thing at most
 asks_once : (route : Route) (body : List ℕ) (a b : Asked) → PathAsks route body a
     → PathAsks route body b → a ≡ b
 asks_once (Version number) body a b x y =
-    x.3 ∙ ap (λ (id : ℕ). Calling (Wonders (ShowVersion id))) (some_number x.0 y.0 (sym x.1 ∙ y.1))
+    x.3 ∙ ap (λ (id : ℕ). Calling (Wonders (ShowVersion id))) (some_is x.0 y.0 (sym x.1 ∙ y.1))
     ∙ sym y.3
 asks_once (Number number) body a b x y =
-    x.4 ∙ ap (λ (tn : ℕ). Calling (Wonders (Ids tn))) (some_number x.0 y.0 (sym x.1 ∙ y.1))
+    x.4 ∙ ap (λ (tn : ℕ). Calling (Wonders (Ids tn))) (some_is x.0 y.0 (sym x.1 ∙ y.1))
     ∙ sym y.4
 asks_once (Downloads count) body a b x y =
-    x.5 ∙ ap (λ (n : ℕ). Calling (Wonders (Fetch n))) (some_number x.0 y.0 (sym x.1 ∙ y.1))
+    x.5 ∙ ap (λ (n : ℕ). Calling (Wonders (Fetch n))) (some_is x.0 y.0 (sym x.1 ∙ y.1))
     ∙ sym y.5
 asks_once Carriers body a b x y = same_asked Carriers (json_of body) a b x y
 asks_once Clock body a b x y = same_asked Clock (json_of body) a b x y

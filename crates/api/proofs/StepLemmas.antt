@@ -1,8 +1,7 @@
 -- What the machine answers, and what refusals mean for a state.
 use Rattle.std.proofs.Common.{◌≡◌, ◌≢◌, ◌⊎◌, ℕ, ◌<◌, ◌≤◌, List, [], length, take, min, Bool, Option, Some, None, Result, Ok, Err, OnOk, OnErr, IfErr, IsSomeAnd, true, false, ◌∷◌, inl, inr, refl, ap, sym, subst, ◌∙◌, arith}
-use Rattle.std.proofs.lemmas.Bool.Decides.{nat_tests}
 use Rattle.std.proofs.lemmas.List.{length-take}
-use Rattle.std.specs.Prelude.{not, ◌==◌, nat_lt, if◌then◌else◌}
+use Rattle.std.specs.Prelude.{◌==◌, nat_lt, if◌then◌else◌}
 use Rattle.meaning.specs.declared.refusal.Refusal.{Refusal}
 use Rattle.meaning.specs.declared.refusal.Refusal.TheVariants.{UnknownCarrier, NotAdmin, UnknownCode, CarrierTaken, CodeTaken, LrnTaken, BadLrn, InPool, WrongOld, NotFound, NotYours, Busy, WrongStatus, DuePast, DueMismatch, NotConcurred, BeforeDue, ConflictSpent, TooLate, TooEarly, Protected, Contaminated, OpenPorts, BlockTaken, NotQueued, OutOfOrder, ClockBack, Full, Storage, NoMemory}
 use Rattle.meaning.specs.RefusalNumbers.{number_of}
@@ -502,14 +501,6 @@ away_or_not U (Err r) from to old new caller tn h blames =
 abbrev only_if : Bool → Option ℕ
 only_if b = if b then None else Some 2
 
-by_test : (b : Bool) → not b ≡ true → only_if b ≡ Some 2
-by_test false e = refl
-by_test true e = let x : ⊥ = cc in absurd x
-
-admitted_by : (b : Bool) → not b ≡ false → only_if b ≡ None
-admitted_by true e = refl
-admitted_by false e = let x : ⊥ = cc in absurd x
-
 -- ---- queries
 
 query_known : (r : Refusal) (from to : ℕ) (st : State) (caller : ℕ) (uri : List ℕ) (new : Content)
@@ -626,10 +617,6 @@ calls_carried from to new st route caller body d asked text e form x =
     let asks : BodyAsks route body asked =
     subst (λ (o : Option Data). IsSomeAnd o (λ (given : Data). HasForm route given asked)) e form in
     (x.0, inr (inr (asked, asks, x.1)), x.2)
-
-pub no_body : (body : List ℕ) → (length body == 0) ≡ true → body ≡ []
-no_body [] h = refl
-no_body (b ∷ bs) h = let x : ⊥ = grind (arith, nat_tests, h) in absurd x
 
 -- what the path asks is carried
 pub asked_carried : (from to : ℕ) (new : Content) (st : State) (IsAsked : Asked

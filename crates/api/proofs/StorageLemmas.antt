@@ -3,7 +3,7 @@ use Rattle.std.proofs.Common.{◌≡◌, ◌⊎◌, ◌≤◌, ◌<◌, ℕ, Lis
 use Rattle.std.specs.List.{list_any}
 use Rattle.std.specs.Prelude.{◌==◌, ◌&&◌, ◌||◌, if◌then◌else◌, ⊤}
 use Rattle.itoa.proofs.Decimal.{decimal_two, pair}
-use Rattle.numbers.proofs.Small.{and_first, and_second, equal_number}
+use Rattle.numbers.proofs.Small.{and_first, and_second, equal_number, some_is}
 use Rattle.numbers.specs.declared.spid.Spid.{Spid}
 use Rattle.settle.specs.Reads.{HasRisen}
 use Rattle.meaning.specs.Commands.{VersionCommand, Activate, Command, RegisterCarrier, RegisterRoutingNumber, OpenCode, OldProviderCreate, NewProviderCreate, OnVersion, Donate, Assign, Release, SetWindows}
@@ -128,9 +128,6 @@ abbrev AllDiffer : List (ℕ × Bool) → Type 0
 AllDiffer [] = ⊤
 AllDiffer (t ∷ ts) = Differs (refusal_text t.0) × AllDiffer ts
 
-same_number : (n k : ℕ) → Some n ≡ Some k → n ≡ k
-same_number n k e = cc
-
 none_is : (k : ℕ) → ¬ (None ≡ Some k)
 none_is k e = cc
 
@@ -138,7 +135,7 @@ pick : (n k : ℕ) (holds : Bool) (rest : Option ℕ) → Differs (refusal_text 
     → (rest ≡ Some k → Differs (refusal_text k)) → (if holds then Some n else rest) ≡ Some k
     → Differs (refusal_text k)
 pick n k true rest differs later e =
-    subst (λ (m : ℕ). Differs (refusal_text m)) (same_number n k e) differs
+    subst (λ (m : ℕ). Differs (refusal_text m)) (some_is n k e) differs
 pick n k false rest differs later e = later e
 
 first_differs : (ts : List (ℕ × Bool)) → AllDiffer ts → (k : ℕ) → first_that_holds ts ≡ Some k
@@ -401,7 +398,7 @@ stranger_differs : (b : Bool) (k : ℕ) → (if b then None else Some 2) ≡ Som
     → Differs (refusal_text k)
 stranger_differs true k e = absurd (none_is k e)
 stranger_differs false k e =
-    subst (λ (m : ℕ). Differs (refusal_text m)) (same_number 2 k e) not_admin
+    subst (λ (m : ℕ). Differs (refusal_text m)) (some_is 2 k e) not_admin
 
 away_differs : (st : State) (caller : ℕ) (called : Called) (k : ℕ)
     → turned_away st caller called ≡ Some k → Differs (refusal_text k)

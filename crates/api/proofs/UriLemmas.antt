@@ -7,6 +7,7 @@ use Rattle.telnp.specs.Answer.{Uri}
 use Rattle.telnp.specs.Faults.{IsRead, fault_of, number_of, parameter_parts, rest_of}
 use Rattle.telnp.proofs.Only.{read_from_uri}
 use Rattle.api.specs.Step.{AsksFor, ComesBack, IsUri}
+use Rattle.bodies.proofs.ClearLemmas.{same_said}
 
 is_read : (text : List ℕ) (uri : Uri) → IsUri text uri → IsRead text uri.number uri.parameters
 is_read text uri h = read_from_uri text uri.number uri.parameters h.parts
@@ -26,9 +27,6 @@ with_parts text number parameters = record { text = text; number = number; param
 alike : (t u m n : List ℕ) (p q : List (List ℕ)) → t ≡ u → m ≡ n → p ≡ q
     → with_parts t m p ≡ with_parts u n q
 alike t u m n p q d e f = cc
-
-same_said : {A : Type 0} (given : Option A) (a b : A) → given ≡ Some a → given ≡ Some b → a ≡ b
-same_said given a b e f = cc
 
 pub same_uri : (text : List ℕ) (a b : Uri) → IsUri text a → IsUri text b → a ≡ b
 same_uri text a b h k =

@@ -316,3 +316,9 @@ abbrev pub Carries : (from to : ℕ) → (old new : Content) → (caller : ℕ) 
     → Type 0
 Carries from to old new caller asked text = (st : State) → Stands old st
     → Carried from to new st caller asked text
+
+-- and so is what is asked in such a way: nothing, which is refused, or one thing
+abbrev pub CallsOn : (from to : ℕ) → (old new : Content) → (IsAsked : Asked → Type 0)
+    → (caller : ℕ) → (text : List ℕ) → Type 0
+CallsOn from to old new IsAsked caller text = (st : State) → Stands old st
+    → (after : State) × Calls from to st IsAsked caller text after × Stands new after

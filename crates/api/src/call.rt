@@ -9,7 +9,7 @@ ghost use Rattle.bodies.specs.Forms.{Asked as AskedSeen, Calling, asked_of as as
 ghost use Rattle.bodies.specs.Rooms.{HasRoom, IsEmpty, IsWritten};
 ghost use Rattle.api.specs.Counting.{HasRoomFor, IsCounted};
 ghost use Rattle.settle.specs.Owing.{IsAnswered, Owes};
-ghost use Rattle.api.specs.Step.{Step, Meets, Calls, Admits, TurnsAway, BodyAsks, IdAsks, NumberAsks, CountAsks, PathAsks, Carries, Carried, IsShort, told, IsReplied, IsWithheld};
+ghost use Rattle.api.specs.Step.{Step, Meets, CallsOn, Admits, TurnsAway, BodyAsks, IdAsks, NumberAsks, CountAsks, PathAsks, Carries, Carried, IsShort, told, IsReplied, IsWithheld};
 
 use crate::query::query;
 use crate::reply::{Counted, put_refused, put_reply, put_success, take_counted};
@@ -209,13 +209,10 @@ fn answer_fields<S: Store, F: Fields>(
     ensures owes { Owes S.IsUsable S.IsHonest S.failed register.old.store register.new.store
         (IsReplied result) ⊥ }
     ensures calls { S.IsUsable register.new.store → (body : List ℕ)
-        → json_of body ≡ Some (F.value fields.now) → (st : State)
-        → Stands (S.content register.old.store) st
-        → (after : State)
-        × Calls (S.failed register.old.store) (S.failed register.new.store) st
-        (BodyAsks route body) caller.number
-        (told result (string_bytes room.new.body)) after
-        × Stands (S.content register.new.store) after }
+        → json_of body ≡ Some (F.value fields.now)
+        → CallsOn (S.failed register.old.store) (S.failed register.new.store)
+        (S.content register.old.store) (S.content register.new.store) (BodyAsks route body)
+        caller.number (told result (string_bytes room.new.body)) }
 {
     match asked_of(alloc, route, fields) {
         Ok(Some(Asked::Call(call))) => answer(register, caller, &call, room),
@@ -242,13 +239,10 @@ fn answer_tree<S: Store>(
     ensures room { HasRoom 512 room.new }
     ensures owes { Owes S.IsUsable S.IsHonest S.failed register.old.store register.new.store
         (IsReplied result) ⊥ }
-    ensures calls { S.IsUsable register.new.store → (st : State)
-        → Stands (S.content register.old.store) st
-        → (after : State)
-        × Calls (S.failed register.old.store) (S.failed register.new.store) st
-        (BodyAsks route body.now) caller.number
-        (told result (string_bytes room.new.body)) after
-        × Stands (S.content register.new.store) after }
+    ensures calls { S.IsUsable register.new.store
+        → CallsOn (S.failed register.old.store) (S.failed register.new.store)
+        (S.content register.old.store) (S.content register.new.store) (BodyAsks route body.now)
+        caller.number (told result (string_bytes room.new.body)) }
 {
     match json(alloc, body) {
         Ok(Some(value)) => answer_fields(alloc, register, route, caller, &value, room),
@@ -272,13 +266,10 @@ fn answer_body<S: Store>(
     ensures room { HasRoom 512 room.new }
     ensures owes { Owes S.IsUsable S.IsHonest S.failed register.old.store register.new.store
         (IsReplied result) ⊥ }
-    ensures calls { S.IsUsable register.new.store → (st : State)
-        → Stands (S.content register.old.store) st
-        → (after : State)
-        × Calls (S.failed register.old.store) (S.failed register.new.store) st
-        (BodyAsks route body.now) caller.number
-        (told result (string_bytes room.new.body)) after
-        × Stands (S.content register.new.store) after }
+    ensures calls { S.IsUsable register.new.store
+        → CallsOn (S.failed register.old.store) (S.failed register.new.store)
+        (S.content register.old.store) (S.content register.new.store) (BodyAsks route body.now)
+        caller.number (told result (string_bytes room.new.body)) }
 {
     let mut flat = Flat::new();
     if flat.read(body) {
@@ -350,13 +341,10 @@ fn answer_message<S: Store>(
     ensures room { HasRoom 512 room.new }
     ensures owes { Owes S.IsUsable S.IsHonest S.failed register.old.store register.new.store
         (IsReplied result) ⊥ }
-    ensures calls { S.IsUsable register.new.store → (st : State)
-        → Stands (S.content register.old.store) st
-        → (after : State)
-        × Calls (S.failed register.old.store) (S.failed register.new.store) st
-        (PathAsks route body.now) caller.number
-        (told result (string_bytes room.new.body)) after
-        × Stands (S.content register.new.store) after }
+    ensures calls { S.IsUsable register.new.store
+        → CallsOn (S.failed register.old.store) (S.failed register.new.store)
+        (S.content register.old.store) (S.content register.new.store) (PathAsks route body.now)
+        caller.number (told result (string_bytes room.new.body)) }
 {
     match route {
         Route::Version(id) => answer(register, caller, &version_asked(id, body)?, room),

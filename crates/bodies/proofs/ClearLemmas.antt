@@ -17,7 +17,7 @@ use Rattle.messages.specs.declared.paths.BlockPath.{BlockPath}
 use Rattle.messages.specs.declared.paths.BlockPath.TheVariants.{Assign as AssignPath, Donate as DonatePath, Release as ReleasePath}
 use Rattle.bodies.specs.Forms.{Asked, Calling, Seeking, items, AreLineTexts, HasBlock, HasUsed, HasBlockCommand, HasRelease, HasVersionCommand, text, whole, HasSpid, HasTn, HasLrn, HasCode, HasCic, HasWindows, HasCommand, HasOrder, HasValues, HasForm, is_left_out, flag}
 
-same_said : {A : Type 0} (given : Option A) (a b : A) → given ≡ Some a → given ≡ Some b → a ≡ b
+pub same_said : {A : Type 0} (given : Option A) (a b : A) → given ≡ Some a → given ≡ Some b → a ≡ b
 same_said given a b e f = cc
 
 same_spid_text : (m n : ℕ) → spid_text m ≡ spid_text n → m ≡ n

@@ -4,13 +4,10 @@ use Rattle.std.specs.Prelude.{String}
 use Rattle.bodies.specs.Answer.{answer}
 use Rattle.bodies.specs.Failures.{failure_text, failure_body, failure_status}
 use Rattle.bodies.specs.declared.fault.Failure.{Failure}
-
-nil_of : (xs : List ℕ) → length xs ≡ 0 → xs ≡ []
-nil_of [] e = refl
-nil_of (x ∷ xs) e = cc
+use Rattle.numbers.proofs.Small.{no_members}
 
 pub no_bytes : {Z : Type 0} (s : String Z) → string_len s ≡ 0 → string_bytes s ≡ []
-no_bytes s e = nil_of (string_bytes s) (omega (arith, e, s.bytes.ok.0))
+no_bytes s e = no_members (string_bytes s) (omega (arith, e, s.bytes.ok.0))
 
 pub refusal_is : (failure : Failure) (body text empty empty_body : List ℕ) (status : ℕ) → empty ≡ []
     → empty_body ≡ [] → status ≡ failure_status failure

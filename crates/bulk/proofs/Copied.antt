@@ -3,10 +3,6 @@ use Rattle.std.proofs.Common.{◌≡◌, ℕ, List, [], ◌∷◌, ◌++◌, len
 use Rattle.std.specs.Prelude.{◌≢◌, ◌⊎◌, Result, Ok, Err, IfOk, IfErr}
 use Rattle.csv.specs.Records.{field_at}
 use Rattle.csv.specs.declared.reader.Reader.{Reader}
-use Rattle.numbers.specs.Digits.{IsBlock, IsTn}
-use Rattle.numbers.specs.Texts.{block_text, subject_text, tn_text}
-use Rattle.numbers.specs.Views.{subject_of}
-use Rattle.numbers.specs.declared.ported.Subject.{Subject}
 use Rattle.numbers.specs.declared.ported.Subject.TheVariants as subject
 use Rattle.delivery.specs.declared.mirror.RoutedRow.{RoutedRow}
 use Rattle.bulk.specs.Audits.{AreEntries, HasNoEntry, IsEntry, IsNoEntry, IsNotRead, copy_header}
@@ -24,13 +20,6 @@ three_fields [] a b c n pa pb pc = absurd (omega (arith, n))
 three_fields (x0 ∷ []) a b c n pa pb pc = absurd (omega (arith, n))
 three_fields (x0 ∷ x1 ∷ []) a b c n pa pb pc = absurd (omega (arith, n))
 three_fields (x0 ∷ x1 ∷ x2 ∷ x3 ∷ xs) a b c n pa pb pc = absurd (omega (arith, n))
-
--- a text that is neither a number's nor a block's
-pub no_subject : (field : List ℕ) → ((n : ℕ) → IsTn n → field ≢ tn_text n)
-    → ((n : ℕ) → IsBlock n → field ≢ block_text n) → (s : Subject)
-    → field ≢ subject_text (subject_of s)
-no_subject field numbers blocks (subject.Number tn) = numbers tn.number tn.valid
-no_subject field numbers blocks (subject.Block block) = blocks block.number block.valid
 
 pub other_header : (rows more : List Row) (raw : Row) → rows ≡ raw ∷ more → (raw ≡ copy_header → ⊥)
     → (others : List Row) → rows ≢ copy_header ∷ others

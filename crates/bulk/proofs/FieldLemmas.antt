@@ -14,9 +14,6 @@ use Rattle.numbers.proofs.SpidLemmas.{utf8_spid}
 pub is_text_spid : (field : List ℕ) (n : ℕ) → IsSpid n → field ≡ spid_text n → IsUtf8 field
 is_text_spid field n valid e = subst IsUtf8 (sym e) (utf8_spid n valid)
 
-pub is_text_digits : (field : List ℕ) (width n : ℕ) → field ≡ digits_of width n → IsUtf8 field
-is_text_digits field width n e = utf8_digits field width n e
-
 pub is_text_minute : (field : List ℕ) (n : ℕ) → IsMinute n → field ≡ minute_text n → IsUtf8 field
 is_text_minute field n valid e =
     subst IsUtf8 (sym e) (IsUtf8-from_ascii (minute_text n) (IsAscii-decimal n (omega arith)))

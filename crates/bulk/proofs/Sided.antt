@@ -17,6 +17,7 @@ use Rattle.meaning.specs.Reading.{InForce}
 use Rattle.bulk.specs.Audits.{AreNew, EachOnce, subjects_in}
 use Rattle.bulk.specs.Sides.{no_sides, routed_after, sides_at, waits_after}
 use Rattle.bulk.specs.declared.sides.Sides.{Sides}
+use Rattle.settle.proofs.Rest.{rest_at}
 
 abbrev Map : Type 0
 Map = BTreeMap Subject Sides
@@ -43,12 +44,6 @@ set_here old new s t f set = set ∙ go (subject_eq (subject_of t) (subject_of s
     go true e = ap f (same_sides old s t e)
     go false e = refl
 
--- the element that is left first
-left_first : {X : Type 0} (xs : List X) (i : ℕ) (x : X) → i < length xs → x ≡ get_or xs i x
-    → drop i xs ≡ x ∷ drop (i + 1) xs
-left_first xs i x within is = drop-cons xs i x within ∙ ap (λ y. y ∷ drop (suc i) xs) (sym is)
-    ∙ ap (λ (n : ℕ). x ∷ drop n xs) (sym (add-one i))
-
 -- ---- what is in force
 
 abbrev pub with_in_force : List RoutedRow → Subject → Sides → Sides
@@ -66,7 +61,7 @@ in_force_turn rows i row within is old new set s =
     (λ sides. record sides { in_force = Some row.routing }) (set s))
     ∙ go (subject_eq (subject_of row.subject) (subject_of s))
     ∙ ap (λ (rs : List RoutedRow). with_in_force rs s (sides_at old s))
-    (sym (left_first rows i row within is))
+    (sym (rest_at rows i row within is))
   where
     go : (b : Bool) → with_in_force (drop (i + 1) rows) s (if b
         then (record (sides_at old s) { in_force = Some row.routing }) else sides_at old s)
@@ -94,7 +89,7 @@ waiting_turn subjects i t within is old new set s =
     (set_here old new s t (λ sides. record sides { waits = true }) (set s))
     ∙ go (subject_eq (subject_of t) (subject_of s))
     ∙ ap (λ (ts : List Subject). with_waiting ts s (sides_at old s))
-    (sym (left_first subjects i t within is))
+    (sym (rest_at subjects i t within is))
   where
     go : (b : Bool) → with_waiting (drop (i + 1) subjects) s (if b
         then (record (sides_at old s) { waits = true }) else sides_at old s)
@@ -123,7 +118,7 @@ copied_turn entries i entry within is old new set s =
     (λ sides. record sides { copied = Some entry.routing }) (set s))
     ∙ go (subject_eq (subject_of entry.subject) (subject_of s))
     ∙ ap (λ (es : List RoutedRow). with_copied es s (sides_at old s))
-    (sym (left_first entries i entry within is))
+    (sym (rest_at entries i entry within is))
   where
     go : (b : Bool) → with_copied (drop (i + 1) entries) s (if b
         then (record (sides_at old s) { copied = Some entry.routing }) else sides_at old s)
@@ -152,7 +147,7 @@ pub entry_taken :
     →
     Taken entries (drop i entries) old → Taken entries (drop (i + 1) entries) new
 entry_taken entries i entry within is old new not set before =
-    let left = left_first entries i entry within is in
+    let left = rest_at entries i entry within is in
     let fresh : list_any (λ t. subject_eq t (subject_of entry.subject)) before.before ≡ false =
     sym (before.copied entry.subject) ∙ not in
     record {

@@ -13,12 +13,7 @@ use Rattle.register.specs.Answers.{AnswersAs, Stands}
 use Rattle.register.proofs.Downloads.Copied.{known_by}
 use Rattle.register.proofs.Downloads.Fetched.{may_fetch}
 use Rattle.bulk.specs.Findings.{awaited}
-
--- who may ask
-waiting_by : (st : State) (carrier : ℕ)
-    → refusal st (Asks carrier Waiting) ≡ may_fetch (is_carrier st carrier)
-unfolding tests
-waiting_by st carrier = refl
+use Rattle.register.proofs.Downloads.Awaited.{waiting_by}
 
 told : (r : Option ℕ) (xs ys : List Subject) → Awaited xs ≡ refused_or r (Awaited ys)
     → (r ≡ None) × (xs ≡ ys)

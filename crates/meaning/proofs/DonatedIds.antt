@@ -4,9 +4,9 @@ use Rattle.std.proofs.lemmas.Bool.Decides.{nat_tests}
 use Rattle.std.proofs.lemmas.List.{length-append}
 use Rattle.std.specs.Prelude.{filter, is_none, nat_lt}
 use Rattle.meaning.specs.Commands.{Donate}
-use Rattle.meaning.specs.History.{Commands, makes, next_id, used_numbers}
+use Rattle.meaning.specs.History.{Commands, makes, used_numbers}
 use Rattle.meaning.specs.Machine.{Donated, accepted, answer_of, ids_from, out, refused_or}
-use Rattle.meaning.specs.Reading.{State, record_now}
+use Rattle.meaning.specs.Reading.{State, record_now, next_of}
 use Rattle.meaning.specs.Refusals.{Requests, contaminated_numbers, refusal}
 use Rattle.meaning.specs.Versions.{version_in_force}
 use Rattle.meaning.proofs.Accepted.{accepted_command}
@@ -40,10 +40,10 @@ used_few st caller block used lrn cic none =
 
 made_few : (st : State) (caller block : ℕ) (used : List ℕ) (lrn : ℕ) (cic : Option ℕ)
     → refusal st (Requests caller (Commands (Donate block used lrn cic))) ≡ None
-    → length (ids_from (next_id st.windows st.history)
+    → length (ids_from (next_of st)
     (length (makes (Commands (Donate block used lrn cic)) (record_now st)))) ≤ 100
 made_few st caller block used lrn cic none =
-    let many = so_many (next_id st.windows st.history)
+    let many = so_many (next_of st)
     (length (makes (Commands (Donate block used lrn cic)) (record_now st))) in
     let less = fewer (λ s. is_none (version_in_force (record_now st s)))
     (used_numbers block used) in
@@ -64,7 +64,7 @@ donated_few st caller block used lrn cic b ids said =
         (Requests caller (Commands (Donate block used lrn cic)))) → length ids ≤ 100
     go (Some k) none e = let x : ⊥ = cc in absurd x
     go None none e =
-        let same : ids ≡ ids_from (next_id st.windows st.history)
+        let same : ids ≡ ids_from (next_of st)
         (length (makes (Commands (Donate block used lrn cic)) (record_now st))) = cc in
         let few = made_few st caller block used lrn cic none in
         omega (arith, few, ap length same)

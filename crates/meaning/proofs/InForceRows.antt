@@ -9,7 +9,7 @@ use Rattle.numbers.proofs.SubjectKeys.{subject_key-exact}
 use Rattle.meaning.specs.Versions.{Version, Record, in_force, version_with}
 use Rattle.meaning.specs.History.{subject_of_id}
 use Rattle.meaning.specs.Reading.{SubjectVersion, InForce, of_its_subject, versions_made, row_inserted, rows_in_force}
-use Rattle.numbers.proofs.Small.{same_number, less_is}
+use Rattle.numbers.proofs.Small.{same_number, less_is, some_is, not_less}
 use Rattle.meaning.proofs.Lists.{Among}
 use Rattle.meaning.proofs.Ascending as ascending
 
@@ -57,9 +57,6 @@ among-inserted r (q ∷ qs) x is = go (among-inserted r qs x) (subject_lt r.subj
     go later false (inr (inl e)) = inl e
     go later false (inr (inr there)) = inr (later (inr there))
 
-le-of : (a b : ℕ) → nat_lt a b ≡ false → b ≤ a
-le-of a b e = grind (arith, nat_tests)
-
 more_above : (a b : ℕ) (qs : List InForce) → a < b → AreAbove b qs → AreAbove a qs
 more_above a b [] less above = tt
 more_above a b (q ∷ qs) less above = (omega (arith, less, above.0), more_above a b qs less above.1)
@@ -75,7 +72,8 @@ inserted-rise r (q ∷ qs) rise apart =
       where
         split : (c : Bool) → nat_lt a b ≡ c → a < b
         split true f = less_is a b f
-        split false f = let ge : b ≤ a = le-of a b f in absurd (apart_from (omega (arith, le, ge)))
+        split false f = let ge : b ≤ a = not_less a b f in
+            absurd (apart_from (omega (arith, le, ge)))
 
     by : (x : InForce) → key q < key r → (x ≡ r) ⊎ Among x qs → key q < key x
     by x less (inl f) = subst (λ (y : InForce). key q < key y) (sym f) less
@@ -87,7 +85,7 @@ inserted-rise r (q ∷ qs) rise apart =
         ((less, more_above (key r) (key q) qs less rise.0), rise)
     go later false e =
         let less : key q < key r =
-        at_most (key q) (key r) (le-of (key r) (key q) e) (apart q (inl refl)) in (
+        at_most (key q) (key r) (not_less (key r) (key q) e) (apart q (inl refl)) in (
           ascending.all_above key (key q) (row_inserted r qs)
               (λ x is. by x less (inserted-among r qs x is)),
           later,
@@ -190,9 +188,6 @@ row-listed at from (s ∷ ss) e id given found force =
   where
     wanted : InForce
     wanted = record { subject = e.subject; routing = e.version.routing }
-
-    some_is : {A : Type 0} (x y : A) → Some x ≡ Some y → x ≡ y
-    some_is x y f = cc
 
     equal_number : (id == from) ≡ true → id ≡ from
     equal_number f = grind (arith, nat_tests)

@@ -10,7 +10,7 @@ use Rattle.meaning.specs.Changes.{enters, changed_at, retired}
 use Rattle.meaning.specs.Judge.{judge, judged_version}
 use Rattle.meaning.specs.History.{Entry, effect, replay, makes, made_by, made_version, with_made, done_to, next_after, id_among, carrier_named, carrier_added, donor_of, assigned_block, present_set}
 use Rattle.meaning.specs.Reading.{State, record_now}
-use Rattle.meaning.specs.Machine.{IsHistory}
+use Rattle.meaning.specs.Machine.{IsHistory, HasHistory}
 use Rattle.meaning.proofs.Ids.{given_apart, all_found}
 use Rattle.meaning.proofs.Entered.{given_now}
 use Rattle.meaning.proofs.Lists.{each, each_two, found_has}
@@ -100,7 +100,7 @@ module _ {P : Property} (keeps : (w : WindowSet) → MovesKeep w P) where
   })
 
   -- of this minute
-  pub version_now : (st : State) → IsHistory st.windows st.history st.now →
+  pub version_now : (st : State) → HasHistory st →
       (s : Subject) (id : ℕ) (v : Version) → version_with id (record_now st s) ≡ Some v →
       P st.now (record_now st s).carriers v
   version_now st is s id v found =

@@ -5,8 +5,7 @@ use Rattle.std.proofs.lemmas.Bool.Decides.{nat_tests}
 use Rattle.numbers.specs.Subjects.{Subject, subject_eq, subject_key, subject_lt}
 use Rattle.numbers.proofs.SubjectKeys.{subject_key-exact}
 use Rattle.meaning.specs.Versions.{Version, in_force, version_with, version_in_force}
-use Rattle.meaning.specs.History.{made_by}
-use Rattle.meaning.specs.Reading.{State, InForce, record_now, all_in_force}
+use Rattle.meaning.specs.Reading.{State, InForce, record_now, all_in_force, made_now}
 use Rattle.meaning.specs.Machine.{with_subject, each_once}
 use Rattle.meaning.specs.Laws.{IsState, AllAbove, SubjectsRise, IsOfForce, ForceIsListed, EachIsOnce}
 use Rattle.numbers.proofs.Small.{true-false, is_less, less_is}
@@ -70,12 +69,12 @@ module _ (st : State) (is : IsState st) where
       ∙ id_found other (record_now st s).versions u also
 
   pub rows_rise : Rise (all_in_force st)
-  rows_rise = listed-rise (record_now st) 1 (made_by st.windows st.history) alone
+  rows_rise = listed-rise (record_now st) 1 (made_now st) alone
 
   -- a row is that of its subject's version in force
   pub row_is : (r : InForce) → Among r (all_in_force st) → IsOfForce st r
   row_is r there =
-      let row = listed-row (record_now st) 1 (made_by st.windows st.history) r there in
+      let row = listed-row (record_now st) 1 (made_now st) r there in
       let stands : version_in_force (record_now st row.e.subject) ≡ Some row.e.version =
       is_in_force row.e.subject row.e.version (among_id row.e.subject row.id row.e.version
       row.is.found) row.force in
@@ -92,12 +91,12 @@ module _ (st : State) (is : IsState st) where
       let among = found-among in_force (record_now st s).versions v stands in
       let found : version_with v.id (record_now st s) ≡ Some v =
       found_by_id st is.history s v among.0 in
-      row-listed (record_now st) 1 (made_by st.windows st.history) (record {
+      row-listed (record_now st) 1 (made_now st) (record {
         subject = s;
         version =
             v;
       }) v.id
-      (found_given (made_by st.windows st.history) s v.id (record_now st s).versions v
+      (found_given (made_now st) s v.id (record_now st s).versions v
       (given_now st is.history s) found) found among.1
 
 pub force_is_listed : ForceIsListed

@@ -23,7 +23,7 @@ use Rattle.meaning.specs.Judge.{is_over, ended, judged_version}
 use Rattle.meaning.specs.History.{Request, Commands, Acknowledges, carriers, carrier_named, carrier_added, awaits_creates, lacks_old_create, lacks_new_create, with_old_create, with_new_create, has_both_creates, side_of, cancelled_by, disconnected, change_of, done_to, makes, blank_version, made_version, id_among}
 use Rattle.meaning.specs.Reading.{State, SubjectVersion, record_now, version_of_id, is_carrier, set_now}
 use Rattle.meaning.specs.Refusals.{Requests, refusal, tests}
-use Rattle.meaning.specs.Machine.{IsHistory}
+use Rattle.meaning.specs.Machine.{HasHistory}
 use Rattle.numbers.proofs.Small.{true-false, denied, and_first, and_second, or_first, equal_number}
 use Rattle.meaning.proofs.Lists.{found_has}
 use Rattle.meaning.proofs.Accepted.{AcceptedCommand, accepted_command, none_holds}
@@ -339,7 +339,7 @@ module _ {P : Property} {w : WindowSet} (keeps : MovesKeep w P) where
         go false = keeps.disconnected m cs v (active, left) p
 
 module _ {P : Property} (st : State) (keeps : MovesKeep (set_now st) P)
-    (is : IsHistory st.windows st.history st.now) (s : Subject) where
+    (is : HasHistory st) (s : Subject) where
   abbrev everyone : List ℕ
   everyone = (record_now st s).carriers
 

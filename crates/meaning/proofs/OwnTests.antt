@@ -10,7 +10,7 @@ use Rattle.meaning.specs.OnVersion.{version_tests, is_number}
 use Rattle.meaning.specs.Reading.{State, SubjectVersion, is_carrier, version_of_id, set_now}
 use Rattle.meaning.specs.Refusals.{Moment, Requests, Asks, Question, Knows, tests, own_tests, has_open, owns, first_that_holds, holds_at}
 use Rattle.meaning.specs.Laws.{RefusedByOwnTests, LeastIsMet}
-use Rattle.numbers.proofs.Small.{and_first, and_second}
+use Rattle.numbers.proofs.Small.{and_first, and_second, some_is}
 
 pub refused_by_own_tests : RefusedByOwnTests
 unfolding tests
@@ -40,9 +40,6 @@ past_all (t ∷ ts) past n rise holds =
 abbrev Least : List (ℕ × Bool) → Type 0
 Least ts = (k n : ℕ) → first_that_holds ts ≡ Some k → holds_at n ts ≡ true → k ≤ n
 
-number_is : (a b : ℕ) → Some a ≡ Some b → a ≡ b
-number_is a b e = cc
-
 -- the first that holds is the least
 least : (ts : List (ℕ × Bool)) (past k n : ℕ) → rises past ts ≡ true
     → first_that_holds ts ≡ Some k → holds_at n ts ≡ true → k ≤ n
@@ -57,9 +54,9 @@ least (t ∷ ts) past k n rise first holds =
         → (if b then Some t.0 else first_that_holds ts) ≡ Some k
         → (if c then t.1 else holds_at n ts) ≡ true → k ≤ n
     go later behind true true e g f is =
-        let same : t.0 ≡ k = number_is t.0 k f in grind (arith, nat_tests, same)
+        let same : t.0 ≡ k = some_is t.0 k f in grind (arith, nat_tests, same)
     go later behind true false e g f is =
-        let same : t.0 ≡ k = number_is t.0 k f in let past_it : t.0 ≤ n = behind is in
+        let same : t.0 ≡ k = some_is t.0 k f in let past_it : t.0 ≤ n = behind is in
         omega (arith, same)
     go later behind false true e g f is = let never : true ≡ false = sym is ∙ e in cc
     go later behind false false e g f is = later f is

@@ -13,8 +13,8 @@ use Rattle.meaning.specs.Judge.{judge, judged_for, judged_version}
 use Rattle.meaning.specs.Conditions.{holds_of}
 use Rattle.meaning.specs.History.{Request, Entry, Commands, HasValues, makes, made_by, made_version, with_made, done_to, next_after, id_among, donor_named, donor_of, assigned_block, or_else, effect, after, meaning, replay, rising, present_set}
 use Rattle.meaning.specs.Laws.{NoPortUnderBlock}
-use Rattle.meaning.specs.Machine.{IsHistory}
-use Rattle.meaning.specs.Reading.{State, record_now, set_now}
+use Rattle.meaning.specs.Machine.{IsHistory, HasHistory}
+use Rattle.meaning.specs.Reading.{State, record_now, set_now, made_now}
 use Rattle.meaning.specs.Refusals.{Requests, refusal, is_in_block, has_open_port}
 use Rattle.meaning.specs.Sound.{NoneInForce, NoneOpen, AreSound}
 use Rattle.meaning.proofs.Accepted.{accepted_command}
@@ -26,7 +26,7 @@ use Rattle.meaning.proofs.Kept.{kept, record_after}
 use Rattle.meaning.proofs.Lists.{everywhere, each, found-among, there_any}
 use Rattle.meaning.proofs.Made.{none_in_force-found}
 use Rattle.meaning.proofs.Minutes.{changed_at-same}
-use Rattle.numbers.proofs.Small.{true-false, and_first, and_second, or_true, same_number, equal_number}
+use Rattle.numbers.proofs.Small.{true-false, and_first, and_second, or_true, same_number, equal_number, or_right, none_there}
 use Rattle.meaning.proofs.Sound.{done_to-same, judged_version-same}
 use Rattle.meaning.proofs.Unique.{Respects, RespectsEach, by_status, judged_version-respects, changed-none, retired-none, open_not_in_force}
 
@@ -152,7 +152,7 @@ abbrev IsDonated : ℕ → Request → Type 0
 IsDonated n (Commands (Donate block used lrn cic)) = block_of n ≡ block
 IsDonated n _ = ⊥
 
-module _ (st : State) (is : IsHistory st.windows st.history st.now) (n : ℕ) where
+module _ (st : State) (is : HasHistory st) (n : ℕ) where
   respected : (caller : ℕ) (everyone : List ℕ) (request : Request)
       → refusal st (Requests caller request) ≡ None →
       RespectsEach (Number n) (done_to (set_now st) (Number n) caller st.now everyone request)
@@ -247,15 +247,11 @@ module _ (w : WindowSet) (p : Version → Bool) (minute : ℕ) (fails : (v : Ver
   retired_before c [] is = cc
   retired_before c (v ∷ vs) is = go (retired_before c vs) (c && in_force v) is
     where
-      behind : (a x : Bool) → x ≡ true → (a || x) ≡ true
-      behind true x e = refl
-      behind false x e = e
-
       go : (list_any p (map (retired w c minute) vs) ≡ true → list_any p vs ≡ true) → (x : Bool)
           → (p (if x then enters w Old minute v else v) || list_any p (map (retired w c minute) vs))
           ≡ true → (p v || list_any p vs) ≡ true
       go later true e =
-          behind (p v) (list_any p vs)
+          or_right (p v) (list_any p vs)
           (later (ap (λ a. a || list_any p (map (retired w c minute) vs)) (sym (fails v)) ∙ e))
       go later false e = or_either (p v) (list_any p (map (retired w c minute) vs)) (list_any p vs)
           later e
@@ -333,7 +329,7 @@ module _ (w : WindowSet) (s : Subject) (p : Version → Bool) (fails : (minute :
 
 -- ---- an entry
 
-module _ (st : State) (is : IsHistory st.windows st.history st.now) (n : ℕ) where
+module _ (st : State) (is : HasHistory st) (n : ℕ) where
   abbrev block_now : List Version
   block_now = (record_now st (Block (block_of n))).versions
 
@@ -368,8 +364,8 @@ module _ (st : State) (is : IsHistory st.windows st.history st.now) (n : ℕ) wh
       let unforced : version_in_force (record_now st (Number n)) ≡ None =
       ap (find in_force) e ∙ ap (λ b. cond b (Some v) (find in_force vs))
       (open_not_in_force (Number n) v.status open_now) ∙ none_found vs rest in
-      let given : AreGiven (made_by st.windows st.history) (Number n) (v ∷ vs) =
-      subst (AreGiven (made_by st.windows st.history) (Number n)) e (given_now st is (Number n)) in
+      let given : AreGiven (made_now st) (Number n) (v ∷ vs) =
+      subst (AreGiven (made_now st) (Number n)) e (given_now st is (Number n)) in
       let found : version_with v.id (record_now st (Number n)) ≡ Some v =
       ap (find (λ u. u.id == v.id)) e ∙ ap (λ b. cond b (Some v) (find (λ u. u.id == v.id) vs))
       (same_number v.id) in
@@ -403,16 +399,12 @@ module _ (st : State) (is : IsHistory st.windows st.history st.now) (n : ℕ) wh
       → IsDonated n request → is_taken (block_of n) block_now ≡ true → ⊥
   donated_never caller (Commands (Donate block used lrn cic)) ok donated taken =
       let free : donor_of block st.history ≡ None =
-      is_some-none (donor_of block st.history)
+      none_there (donor_of block st.history)
       (accepted_command st caller (Donate block used lrn cic) ok 24) in
       let none : block_now ≡ [] =
       undonated st.windows (block_of n) st.history st.now is (ap (λ b. donor_of b st.history)
       donated ∙ free) in
       let never : true ≡ false = sym taken ∙ ap (is_taken (block_of n)) none in cc
-    where
-      is_some-none : (o : Option ℕ) → is_some o ≡ false → o ≡ None
-      is_some-none None e = refl
-      is_some-none (Some x) e = cc
   donated_never caller _ ok donated taken = absurd donated
 
   both_never : (request : Request) → IsAssigned (block_of n) request → IsDonated n request → ⊥

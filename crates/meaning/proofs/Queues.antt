@@ -6,10 +6,10 @@ use Rattle.std.specs.List.{cons_option}
 use Rattle.std.proofs.lemmas.Bool.Decides.{nat_tests}
 use Rattle.numbers.specs.Subjects.{Subject}
 use Rattle.meaning.specs.Versions.{Broadcast, Version, Record, is_among, is_withdrawn, unacknowledged, waiters, version_with}
-use Rattle.meaning.specs.History.{made_by, subject_of_id}
-use Rattle.meaning.specs.Reading.{State, SubjectVersion, Download, record_now, of_its_subject, versions_made, all_versions, version_of_id, download, downloads_of, is_before, inserted, sorted, queue}
+use Rattle.meaning.specs.History.{subject_of_id}
+use Rattle.meaning.specs.Reading.{State, SubjectVersion, Download, record_now, of_its_subject, versions_made, all_versions, version_of_id, download, downloads_of, is_before, inserted, sorted, queue, made_now}
 use Rattle.meaning.specs.Laws.{AllBehind, Rises, IsSentTo, QueueIsWhatWaits}
-use Rattle.meaning.specs.Machine.{IsHistory}
+use Rattle.meaning.specs.Machine.{HasHistory}
 use Rattle.meaning.proofs.Lists.{Among, mapped-from, filtered-from, flat-from, found-among, contained, all_of}
 use Rattle.meaning.proofs.Shown.{id_found}
 use Rattle.meaning.proofs.Tended.{AreBelow, AreApart, tended_kept}
@@ -110,7 +110,7 @@ apart_append (x ∷ xs) ys first second differs = (
     go y (inl there) = first.0 y there
     go y (inr there) = differs x y (inl refl) there
 
-below_each : (n : ℕ) (bs : List Broadcast) (b : Broadcast) → AreBelow n bs → Among b bs
+pub below_each : (n : ℕ) (bs : List Broadcast) (b : Broadcast) → AreBelow n bs → Among b bs
     → b.attempt < n
 below_each n [] b below there = absurd there
 below_each n (x ∷ xs) b below (inl e) = subst (λ (y : Broadcast). y.attempt < n) (sym e) below.0
@@ -189,14 +189,14 @@ apart_listed at test from (s ∷ ss) apart =
         absurd (omega (arith, id, above, its, same.0)))
 
 -- the queue rises
-pub queue_rises : (st : State) → IsHistory st.windows st.history st.now → (c : ℕ)
+pub queue_rises : (st : State) → HasHistory st → (c : ℕ)
     → Rises (queue st c)
 unfolding queue
 queue_rises st is c =
     sorted-rises (flat_map (downloads_of (λ b. is_among c (waiters b))) (all_versions st))
-    (apart_listed (record_now st) (λ b. is_among c (waiters b)) 1 (made_by st.windows st.history)
+    (apart_listed (record_now st) (λ b. is_among c (waiters b)) 1 (made_now st)
     (λ e there.
-    let found = listed-from (record_now st) 1 (made_by st.windows st.history) e there in
+    let found = listed-from (record_now st) 1 (made_now st) e there in
     (version_now tended_kept st is e.subject found.0 e.version found.1).apart))
 
 -- ---- what stands in it
@@ -234,7 +234,7 @@ three true a r e = let f : false ≡ true = e in cc
 three false true r e = let f : false ≡ true = e in cc
 three false false false e = let f : false ≡ true = e in cc
 
-module _ (st : State) (is : IsHistory st.windows st.history st.now) (c : ℕ) where
+module _ (st : State) (is : HasHistory st) (c : ℕ) where
   sent_to : (d : Download) → Among d (queue st c) → IsSentTo st c d
   sent_to d there =
       let q = queued-from st c d there in
@@ -260,7 +260,7 @@ module _ (st : State) (is : IsHistory st.windows st.history st.now) (c : ℕ) wh
   -- the version that is found by an id stands in its subject's record
   version_stands : (id : ℕ) (e : SubjectVersion) → version_of_id st id ≡ Some e
       → version_with id (record_now st e.subject) ≡ Some e.version
-  version_stands id e found = go (subject_of_id id 1 (made_by st.windows st.history)) found
+  version_stands id e found = go (subject_of_id id 1 (made_now st)) found
     where
       inner : (t : Subject) (o : Option Version) → version_with id (record_now st t) ≡ o
           → of_its_subject t o ≡ Some e → version_with id (record_now st e.subject) ≡ Some e.version

@@ -9,7 +9,7 @@ use Rattle.meaning.specs.Versions.{is_among, with_number}
 use Rattle.meaning.specs.Changes.{is_empty}
 use Rattle.meaning.specs.Content.{is_nonempty}
 use Rattle.meaning.specs.History.{Entry, carriers, carrier_named, carrier_added, rising}
-use Rattle.numbers.proofs.Small.{equal_number, same_number}
+use Rattle.numbers.proofs.Small.{equal_number, same_number, greater_differs, or_swapped}
 
 -- ---- one more number
 
@@ -18,11 +18,6 @@ pub among-with_number : (k c : ℕ) (cs : List ℕ)
 among-with_number k c [] = refl
 among-with_number k c (d ∷ ds) = go (among-with_number k c ds) (nat_lt c d) (c == d) refl
   where
-    swap : (x y z : Bool) → (x || (y || z)) ≡ (y || (x || z))
-    swap true true z = refl
-    swap true false z = refl
-    swap false y z = refl
-
     same : (c == d) ≡ true → (c == k) ≡ (d == k)
     same e = let f : c ≡ d = grind (arith, nat_tests) in ap (λ n. n == k) f
 
@@ -35,7 +30,8 @@ among-with_number k c (d ∷ ds) = go (among-with_number k c ds) (nat_lt c d) (c
         ≡ ((c == k) || ((d == k) || is_among k ds))
     go later true b e = refl
     go later false true e = twice (c == k) (d == k) (same e)
-    go later false false e = ap (λ x. (d == k) || x) later ∙ swap (d == k) (c == k) (is_among k ds)
+    go later false false e =
+        ap (λ x. (d == k) || x) later ∙ or_swapped (d == k) (c == k) (is_among k ds)
 
 pub with_number-nonempty : (c : ℕ) (xs : List ℕ) → is_nonempty (with_number c xs) ≡ true
 with_number-nonempty c [] = refl
@@ -103,9 +99,6 @@ same_numbers (x ∷ xs) (y ∷ ys) rise sises same =
     lt_of : (a b : ℕ) → nat_lt a b ≡ true → a ≤ b
     lt_of a b e = grind (arith, nat_tests)
 
-    apart_of : (a b : ℕ) → nat_lt a b ≡ true → (b == a) ≡ false
-    apart_of a b e = grind (arith, nat_tests)
-
     meets : (a b : ℕ) → nat_lt a b ≡ false → nat_lt b a ≡ false → a ≡ b
     meets a b e f = grind (arith, nat_tests)
 
@@ -125,13 +118,15 @@ same_numbers (x ∷ xs) (y ∷ ys) rise sises same =
     heads later true q e f =
         let there : is_among x (y ∷ ys) ≡ true =
         sym (same x) ∙ ap (λ b. b || is_among x xs) (same_number x) in
-        let gone : is_among x (y ∷ ys) ≡ false = ap (λ b. b || is_among x ys) (apart_of x y e)
+        let gone : is_among x (y ∷ ys) ≡ false =
+        ap (λ b. b || is_among x ys) (greater_differs x y e)
         ∙ not_above y ys x (lt_of x y e) sises.0 in
         let never : true ≡ false = sym there ∙ gone in cc
     heads later false true e f =
         let there : is_among y (x ∷ xs) ≡ true =
         same y ∙ ap (λ b. b || is_among y ys) (same_number y) in
-        let gone : is_among y (x ∷ xs) ≡ false = ap (λ b. b || is_among y xs) (apart_of y x f)
+        let gone : is_among y (x ∷ xs) ≡ false =
+        ap (λ b. b || is_among y xs) (greater_differs y x f)
         ∙ not_above x xs y (lt_of y x f) rise.0 in
         let never : true ≡ false = sym there ∙ gone in cc
     heads later false false e f = let e2 : x ≡ y = meets x y e f in
@@ -179,7 +174,7 @@ carriers-rise (e ∷ h) = go (carriers-rise h) (carrier_named e.request)
     go rest None = rest
     go rest (Some c) = with-rise c (carriers h) rest
 
-both_of : (a b : Bool) → T (a && b) → (a ≡ true) × T b
+pub both_of : (a b : Bool) → T (a && b) → (a ≡ true) × T b
 both_of true b t = (refl, t)
 both_of false b t = absurd t
 

@@ -8,8 +8,8 @@ use Rattle.numbers.specs.Subjects.{subject_eq, Subject, Number, Block}
 use Rattle.meaning.specs.Commands.{Donate, Assign, Release}
 use Rattle.meaning.specs.Versions.{Version, Record, in_force, is_open, version_in_force, open_version}
 use Rattle.meaning.specs.Conditions.{holds_of, is_the}
-use Rattle.meaning.specs.History.{Request, Commands, AreLines, used_numbers, makes, made_version, next_id, id_among, donor_of, code_holder, effect, after, meaning}
-use Rattle.meaning.specs.Reading.{State, Server, ByVersion, ByCode, record_now, serving, protected_by, served_by_code, served_by_block, set_now}
+use Rattle.meaning.specs.History.{Request, Commands, AreLines, used_numbers, makes, made_version, id_among, donor_of, code_holder, effect, after, meaning}
+use Rattle.meaning.specs.Reading.{State, Server, ByVersion, ByCode, record_now, serving, protected_by, served_by_code, served_by_block, set_now, next_of}
 use Rattle.meaning.specs.Refusals.{Requests, refusal}
 use Rattle.meaning.specs.Laws.{IsState, KeepsService, is_held, server_of, DonationKeepsService, AssignmentKeepsService, ReleaseKeepsService}
 use Rattle.meaning.specs.Machine.{next, accepted}
@@ -131,7 +131,7 @@ module _ (st : State) (is : IsState st) (caller block : ℕ) (used : List ℕ) (
   accepted_it = accepted_command st caller (Donate block used lrn cic) none
 
   abbrev ids_from : ℕ
-  ids_from = next_id st.windows st.history
+  ids_from = next_of st
 
   -- the record of a number that gets no version
   left_alone : (n : ℕ)

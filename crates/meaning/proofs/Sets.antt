@@ -10,7 +10,7 @@ use Rattle.meaning.specs.Windows.{Windows, AreWindows, WindowSet, first_set}
 use Rattle.meaning.specs.Versions.{Version, version_with}
 use Rattle.meaning.specs.History.{Entry, Request, Commands, HasValues, windows_named, set_added, present_set, set_named, set_of_number, replay}
 use Rattle.meaning.specs.Reading.{State, record_now}
-use Rattle.meaning.specs.Machine.{IsHistory}
+use Rattle.meaning.specs.Machine.{IsHistory, HasHistory}
 use Rattle.meaning.proofs.Lists.{each, found_has}
 use Rattle.meaning.proofs.Kept.{record_after, kept}
 use Rattle.meaning.proofs.Moves.{MovesKeep}
@@ -133,7 +133,7 @@ versions_hold w s =
     })
 
 -- the set that a version holds is that of its number
-pub held-is : (st : State) → IsHistory st.windows st.history st.now
+pub held-is : (st : State) → HasHistory st
     → (s : Subject) (id : ℕ) (v : Version) → version_with id (record_now st s) ≡ Some v
     → IsSetOf st.windows st.history v.held
 held-is st is s id v found =

@@ -6,9 +6,9 @@ use Rattle.meaning.specs.Windows.{Windows, AreWindows}
 use Rattle.meaning.specs.Versions.{Record}
 use Rattle.meaning.specs.Laws.{IsQuiet}
 use Rattle.meaning.specs.History.{Entry, Commands, windows_named, set_of_number, next_id}
-use Rattle.meaning.specs.Reading.{State, set_now, record_now}
+use Rattle.meaning.specs.Reading.{State, set_now, record_now, next_of}
 use Rattle.meaning.specs.Refusals.{Requests, refusal}
-use Rattle.meaning.specs.Machine.{IsHistory, accepted}
+use Rattle.meaning.specs.Machine.{IsHistory, accepted, HasHistory}
 use Rattle.meaning.specs.Content.{Content, Shows, Lags}
 use Rattle.meaning.proofs.Entered.{entered-elsewhere, next_id-same}
 use Rattle.meaning.proofs.Represented.{reached_now}
@@ -24,7 +24,7 @@ windows-record st caller windows s =
     entered-elsewhere st caller (Commands (SetWindows windows)) s refl refl
 
 pub windows-next_id : (st : State) (caller : ℕ) (windows : Windows)
-    → next_id st.windows (after_windows st caller windows).history ≡ next_id st.windows st.history
+    → next_id st.windows (after_windows st caller windows).history ≡ next_of st
 windows-next_id st caller windows = next_id-same st caller (Commands (SetWindows windows)) refl
 
 -- every other entry leaves the sets
@@ -33,7 +33,7 @@ pub sets-same : (w : Windows) (e : Entry) (h : List Entry) (number : ℕ)
 sets-same w e h number none = rw none refl
 
 pub windows-history : (st : State) (caller : ℕ) (windows : Windows) → AreWindows windows
-    → IsHistory st.windows st.history st.now →
+    → HasHistory st →
     refusal st (Requests caller (Commands (SetWindows windows))) ≡ None
     → IsHistory st.windows (after_windows st caller windows).history st.now
 windows-history st caller windows are is ok = (
@@ -46,7 +46,7 @@ windows-history st caller windows are is ok = (
 
 -- rows that show a subject's record, of which nothing is over, lag behind it under the new set too
 pub windows-lag : (st : State) (caller : ℕ) (windows : Windows) → AreWindows windows
-    → IsHistory st.windows st.history st.now →
+    → HasHistory st →
     refusal st (Requests caller (Commands (SetWindows windows))) ≡ None
     → (c : Content) (s : Subject) → Shows c s (record_now st s)
     → IsQuiet st.now (record_now st s).versions →

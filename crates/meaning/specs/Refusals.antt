@@ -7,9 +7,9 @@ use Rattle.numbers.specs.Subjects.{subject_eq, Subject, Number, Block}
 use Rattle.meaning.specs.Commands.{Command, RegisterCarrier, RegisterRoutingNumber, OpenCode, OldProviderCreate, NewProviderCreate, OnVersion, Donate, Assign, Release, SetWindows}
 use Rattle.meaning.specs.Versions.{Version, in_force, is_open, version_in_force, open_version, last_version}
 use Rattle.meaning.specs.Conditions.{limit, holds_of, is_the, is_active, takes_block, has_no_room, is_past, is_another_due, is_late_conflict, has_no_attempt_left}
-use Rattle.meaning.specs.History.{Request, Commands, Acknowledges, carriers, lrn_owner, code_holder, donor_of, next_id, used_numbers, lacks_old_create, lacks_new_create, makes}
+use Rattle.meaning.specs.History.{Request, Commands, Acknowledges, carriers, lrn_owner, code_holder, donor_of, used_numbers, lacks_old_create, lacks_new_create, makes}
 use Rattle.meaning.specs.OnVersion.{version_tests, is_number}
-use Rattle.meaning.specs.Reading.{State, SubjectVersion, Download, Server, InPool, record_now, is_carrier, all_versions, version_of_id, serving, is_served_by, queue, is_before, set_now}
+use Rattle.meaning.specs.Reading.{State, SubjectVersion, Download, Server, InPool, record_now, is_carrier, all_versions, version_of_id, serving, is_served_by, queue, is_before, set_now, next_of}
 
 pub data Question : Type 0 where
   Knows : Question
@@ -88,7 +88,7 @@ has_open_port st block =
 
 -- so many versions more would have an id past the last
 abbrev pub ids_are_out : State → ℕ → Bool
-ids_are_out st versions = nat_lt limit (next_id st.windows st.history + versions)
+ids_are_out st versions = nat_lt limit (next_of st + versions)
 
 -- ---- what a command is refused for
 

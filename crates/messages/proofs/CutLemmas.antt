@@ -12,10 +12,11 @@ use Rattle.messages.specs.declared.fault.MessageFault.{MessageFault}
 use Rattle.messages.specs.declared.fault.MessageFault.TheVariants.{BadRequest, NoPath, BadMethod, TooLarge, BadHead, CutBody}
 use Rattle.messages.specs.declared.message.Request.{Request}
 use Rattle.messages.proofs.MessageLemmas.{OneHead, HeadsAreNoLines}
+use Rattle.numbers.proofs.Small.{some_is}
 
 -- ---- one provider for a text
 
-spid_number : (n m : ℕ) → spid_text n ≡ spid_text m → n ≡ m
+pub spid_number : (n m : ℕ) → spid_text n ≡ spid_text m → n ≡ m
 spid_number n m e =
     let first : n / 16777216 ≡ m / 16777216 = ap (λ (t : List ℕ). get_or t 0 0) e in
     let second : n / 65536 % 256 ≡ m / 65536 % 256 = ap (λ (t : List ℕ). get_or t 1 0) e in
@@ -46,9 +47,6 @@ one_caller (v ∷ w ∷ vs) a b x y = x ∙ sym y
 
 -- ---- one request for a head
 
-some_number : (n m : ℕ) → Some n ≡ Some m → n ≡ m
-some_number n m e = cc
-
 none_number : (n : ℕ) → None ≡ Some n → ⊥
 none_number n e = cc
 
@@ -57,7 +55,7 @@ one_request h a b x y =
     let route = x.route ∙ sym y.route in
     let method = x.method ∙ sym y.method in
     let caller = one_caller (values_of (codes "x-spid") h) a.caller b.caller x.caller y.caller in
-    let size = some_number a.length b.length (sym x.length ∙ y.length) in
+    let size = some_is a.length b.length (sym x.length ∙ y.length) in
     let closes = x.closes ∙ sym y.closes in
     λ i. record {
       route = route i;
@@ -100,7 +98,7 @@ one_size : (input : List ℕ) (n m k l : ℕ) → OneHead → Says input n k →
     → (n ≡ m) × (k ≡ l)
 one_size input n m k l one x y =
     let heads = one input x.0 y.0 x.1 y.1 x.2 y.2 in
-    (some_number n m (sym x.3 ∙ ap body_length heads.0 ∙ y.3), x.4 ∙ ap length heads.1 ∙ sym y.4)
+    (some_is n m (sym x.3 ∙ ap body_length heads.0 ∙ y.3), x.4 ∙ ap length heads.1 ∙ sym y.4)
 
 large_says : (input : List ℕ) → IsTooLarge input → (n : ℕ) × (k : ℕ) × Says input n k
     × (1048576 < n)

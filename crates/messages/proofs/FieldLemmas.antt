@@ -10,7 +10,7 @@ use Rattle.httparse.specs.Spans.{header_bytes, span_bytes, IsWithin}
 use Rattle.messages.specs.declared.head.Occurrence.{Occurrence}
 use Rattle.messages.specs.declared.head.Occurrence.TheVariants.{Absent, Once, Twice}
 use Rattle.messages.specs.Fields.{lower, values_in, IsFound, IsFoundWithin}
-use Rattle.numbers.proofs.Small.{or_right}
+use Rattle.numbers.proofs.Small.{or_right, or_left}
 
 cond-append : (b : Bool) (v : List ℕ) (xs ys : List (List ℕ))
     → cond b (v ∷ xs) xs ++ ys ≡ cond b (v ∷ (xs ++ ys)) (xs ++ ys)
@@ -70,9 +70,6 @@ any_value P name buf hs = list_any P (values_in name (map (header_bytes buf) hs)
 or_false : (a b : Bool) → a ≡ false → b ≡ false → (a || b) ≡ false
 or_false a b e f = rw (e, f) refl
 
-or_true : (a b : Bool) → a ≡ true → (a || b) ≡ true
-or_true a b e = rw e refl
-
 any_more : (P : List ℕ → Bool) (name buf : List ℕ) (hs : List HeaderSpan) (i : ℕ) (d : HeaderSpan)
     → i < length hs →
     any_value P name buf (take (i + 1) hs) ≡ (any_value P name buf (take i hs) || list_any P
@@ -107,11 +104,11 @@ any_found P name buf hs i d l n p =
     let here : any_value P name buf (take (i + 1) hs) ≡ true =
     any_more P name buf hs i d l
     ∙ or_right _ _ (ap (list_any P) (one_value name (header_bytes buf (get_or hs i d)) n)
-    ∙ or_true _ false p) in
+    ∙ or_left _ false p) in
     let cut : take (i + 1) hs ++ drop (i + 1) hs ≡ hs = take-append-drop (i + 1) hs in
     ap (any_value P name buf) (sym cut)
     ∙ ap (list_any P) (ap (values_in name) (map-append (header_bytes buf) (take (i + 1) hs)
-    (drop (i + 1) hs)) ∙ values_in-append name _ _) ∙ list_any-append P _ _ ∙ or_true _ _ here
+    (drop (i + 1) hs)) ∙ values_in-append name _ _) ∙ list_any-append P _ _ ∙ or_left _ _ here
 
 eq_false_by : (xs ys : List ℕ) (b : Bool) → bytes_eq xs ys ≡ b → ¬ (xs ≡ ys)
     → bytes_eq xs ys ≡ false

@@ -6,6 +6,7 @@ use Rattle.messages.specs.declared.held.Held.{Held}
 use Rattle.std.proofs.lemmas.List.{take-append-le, drop-append-le, drop-drop, drop-take, length-take-le}
 use Rattle.std.proofs.Math.Seq.{take-append-add}
 use Rattle.std.proofs.lemmas.Grind.{common_steps}
+use Rattle.numbers.proofs.Small.{no_members}
 
 pub taken_more : (old buf post : List ℕ) (f n : ℕ) → f ≤ length old → n ≤ length buf
     → take (f + n) (take f old ++ (buf ++ post)) ≡ take f old ++ take n buf
@@ -41,11 +42,7 @@ more_held items old new held start filled n had has r e s f h =
 pub none_more : (old new held held' : List ℕ) (filled n : ℕ) (had has : Option (List ℕ))
     (r : ReadsAt old new filled n had has) → held' ≡ held ++ r.more → n ≡ 0 → held' ≡ held
 none_more old new held held' filled n had has r e z =
-    e ∙ ap (λ (t : List ℕ). held ++ t) (nil_of r.more (r.count ∙ z)) ∙ append-nil held
-  where
-    nil_of : (xs : List ℕ) → length xs ≡ 0 → xs ≡ []
-    nil_of [] z = refl
-    nil_of (x ∷ xs) z = cc
+    e ∙ ap (λ (t : List ℕ). held ++ t) (no_members r.more (r.count ∙ z)) ∙ append-nil held
 
 pub Keeps-read : (old new held held' : List ℕ) (filled n : ℕ) (had has : Option (List ℕ))
     (r : ReadsAt old new filled n had has) → held' ≡ held ++ r.more

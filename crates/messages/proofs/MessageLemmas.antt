@@ -17,6 +17,7 @@ use Rattle.messages.specs.declared.message.Request.{Request}
 use Rattle.messages.specs.declared.message.Next.TheVariants.{Message}
 use Rattle.messages.proofs.BodyLemmas.{more_taken}
 use Rattle.messages.proofs.HeldLemmas.{held_length}
+use Rattle.numbers.proofs.Small.{no_members}
 
 pub held_short : (held : Held) → vec_len held.bytes ≡ 8192 → length (held_bytes held) ≤ 8192
 held_short held size =
@@ -71,10 +72,6 @@ message_made (Some input) (Some more) (Some rest) held held' body len h request 
       },
     )
 
-nil_of : (xs : List ℕ) → length xs ≡ 0 → xs ≡ []
-nil_of [] e = refl
-nil_of (x ∷ xs) e = cc
-
 -- a message that is held whole: its body is taken off what is held behind its head, by a body that
 -- was empty
 pub taken_made : (r : Option (List ℕ)) (held held' held'' body body' : List ℕ) (len : ℕ)
@@ -88,7 +85,7 @@ pub taken_made : (r : Option (List ℕ)) (held held' held'' body body' : List �
 taken_made r held held' held'' body body' len h request x asks small e fits empty left taken =
     let behind = prepend_known held' r in
     let none : Consumes behind behind body =
-    subst (Consumes behind behind) (sym (nil_of body empty)) (Consumes-nil behind) in
+    subst (Consumes behind behind) (sym (no_members body empty)) (Consumes-nil behind) in
     let whole : length body' ≡ request.length = omega (
       arith,
       ap length taken,

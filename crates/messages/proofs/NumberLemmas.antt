@@ -1,7 +1,7 @@
 use Rattle.std.proofs.Common.{◌≡◌, ℕ, ◌+◌, ◌-◌, ◌*◌, ◌^◌, ◌<◌, ◌≤◌, List, [], ◌∷◌, ◌++◌, length, take, drop, get_or, Bool, true, false, ◌&&◌, cond, Option, Some, None, refl, ap, ◌∙◌, sym, arith, lit<, add-one}
 use Rattle.std.proofs.Math.Nat.{pow-le-pow_right, pow-suc}
 use Rattle.std.proofs.lemmas.Bool.Decides.{nat_tests}
-use Rattle.std.proofs.lemmas.List.{take_more, take-append-drop, take_all}
+use Rattle.std.proofs.lemmas.List.{take_more, take-append-drop}
 use Rattle.std.specs.Char.{is_ascii_digit, digit_value}
 use Rattle.std.specs.Str.{all_ascii_digits}
 use Rattle.std.specs.Str.Parse.{digits_value, digits_value_after}
@@ -54,22 +54,9 @@ none_by true true x = refl
 none_by true false x = refl
 none_by false b x = refl
 
-some_by : (a b d : Bool) (x : Option ℕ) → a ≡ true → b ≡ true → d ≡ true
-    → x ≡ cond (a && (b && d)) x None
-some_by a b d x e f g = rw (e, f, g) refl
-
 pub none_number : (v : List ℕ) → all_ascii_digits v ≡ false → None ≡ number_of v
 none_number v h =
     rw h (none_by (nat_lt 0 (length v)) (nat_le (length v) 19) (Some (digits_value 10 v)))
-
-pub some_number : (v : List ℕ) (i n : ℕ) → 0 < length v → length v ≤ 19 → length v ≤ i
-    → IsSoFar v i n → Some n ≡ number_of v
-some_number v i n a b l s =
-    let all : take i v ≡ v = take_all i v l in
-    let value : n ≡ digits_value 10 v = s.value ∙ ap (digits_value 10) all in
-    let digits : all_ascii_digits v ≡ true = ap all_ascii_digits (sym all) ∙ s.digits in
-    ap Some value ∙ some_by (nat_lt 0 (length v)) (nat_le (length v) 19) (all_ascii_digits v)
-    (Some (digits_value 10 v)) (grind (arith, nat_tests)) (grind (arith, nat_tests)) digits
 
 -- a byte that is no digit
 pub not_digits : (v : List ℕ) (i : ℕ) → i < length v → is_ascii_digit (get_or v i 0) ≡ false

@@ -1,18 +1,21 @@
 -- A router whose rows have no parameter finds a path by its text.
-use Rattle.std.proofs.Common.{◌≡◌, ℕ, zero, suc, ◌-◌, ◌<◌, List, [], ◌∷◌, length, map, Bool, true, false, ◌&&◌, cond, Option, Some, None, refl, sym, ap, ◌∙◌, subst, arith}
+use Rattle.std.proofs.Common.{◌≡◌, ℕ, zero, suc, ◌-◌, ◌<◌, List, [], ◌∷◌, length, map, Bool, true, false, ◌&&◌, cond, Option, Some, None, refl, sym, ap, ◌∙◌, subst, arith, ◌+◌, drop, get_or, Bor}
+use Rattle.std.proofs.lemmas.List.{drop_more}
 use Rattle.std.proofs.lemmas.Bool.Decides.{nat_tests}
 use Rattle.std.proofs.lemmas.Slice.Eq.{bytes_eq-Decides}
 use Rattle.std.proofs.lemmas.Str.{IsUtf8-from_is_utf8}
-use Rattle.std.specs.Prelude.{option_map, ◌==◌, nat_lt, Result, Err, IfErr}
+use Rattle.std.specs.Prelude.{option_and_then, option_map, ◌==◌, nat_lt, Result, Ok, Err, IfErr, OnOk}
+use Rattle.std.specs.List.{list_all}
 use Rattle.std.specs.Str.{bytes_eq, is_utf8, chars, IsUtf8}
 use lib.Utf8.{encode}
 use Rattle.matchit.specs.Rows.{RowsOf, param_token, catch_all_token}
-use Rattle.matchit.specs.Router.{RouteOf, Refused, nearest}
+use Rattle.matchit.specs.Router.{RouteOf, Refused, Inserted, InsertsRead, nearest, route_from}
+use Rattle.matchit.specs.Route.{Scan, parse_route}
 use Rattle.matchit.specs.declared.error.InsertError.{InsertError}
 use Rattle.matchit.specs.declared.error.InsertError.TheVariants.{Conflict, OutOfMemory, InvalidParam, InvalidParamSegment, InvalidCatchAll}
 use Rattle.matchit.specs.Seek.{first, seek, own, step, or_else, param_step, has_slash}
 use Rattle.messages.specs.declared.paths.Route.{Route}
-use Rattle.messages.specs.Table.{fixed, path_among, paths, table}
+use Rattle.messages.specs.Table.{fixed, path_among, paths, table, all_placed, placed_if_read, placed_unless, texts_of}
 use Rattle.numbers.proofs.Small.{and_both}
 
 abbrev are_bytes : List ℕ → Bool
@@ -121,41 +124,14 @@ among_is : (ps : List (List ℕ × Route)) (target : List ℕ)
 among_is [] target = refl
 among_is (p ∷ ps) target = among_by p ps target (bytes_eq p.0 target) (among_is ps target)
 
+are_fixed : {K : Type 0} (rs : RowsOf K) → list_all (λ row. are_bytes row.0) rs ≡ true → AreFixed rs
+are_fixed [] all = tt
+are_fixed (row ∷ rs) all =
+    let both = and_both (are_bytes row.0) (list_all (λ r. are_bytes r.0) rs) all in
+    (both.0, are_fixed rs both.1)
+
 table_fixed : AreFixed table
-table_fixed = (
-  refl,
-  (
-    refl,
-    (
-      refl,
-      (
-        refl,
-        (
-          refl,
-          (
-            refl,
-            (
-              refl,
-              (
-                refl,
-                (
-                  refl,
-                  (
-                    refl,
-                    (
-                      refl,
-                      (refl, (refl, (refl, (refl, (refl, (refl, (refl, (refl, (refl, tt))))))))),
-                    ),
-                  ),
-                ),
-              ),
-            ),
-          ),
-        ),
-      ),
-    ),
-  ),
-)
+table_fixed = are_fixed table refl
 
 pub path_is : (target : List ℕ) → option_map (λ (r : RouteOf Route). r.value) (first table target)
     ≡ path_among paths target
@@ -188,42 +164,15 @@ not_among (p ∷ ps) target texts n =
     not_among_by p (path_among ps target) target (bytes_eq p.0 target) refl
     (IsUtf8-from_is_utf8 p.0 texts.0) n (not_among ps target texts.1 n)
 
+all_texts : (ps : List (List ℕ × Route)) → list_all (λ p. is_utf8 p.0) ps ≡ true → AreTexts ps
+all_texts [] all = tt
+all_texts (p ∷ ps) all =
+    let both = and_both (is_utf8 p.0) (list_all (λ q. is_utf8 q.0) ps) all in
+    (both.0, all_texts ps both.1)
+
 are_texts : AreTexts paths
 unfolding is_utf8 chars encode
-are_texts = (
-  refl,
-  (
-    refl,
-    (
-      refl,
-      (
-        refl,
-        (
-          refl,
-          (
-            refl,
-            (
-              refl,
-              (
-                refl,
-                (
-                  refl,
-                  (
-                    refl,
-                    (
-                      refl,
-                      (refl, (refl, (refl, (refl, (refl, (refl, (refl, (refl, (refl, tt))))))))),
-                    ),
-                  ),
-                ),
-              ),
-            ),
-          ),
-        ),
-      ),
-    ),
-  ),
-)
+are_texts = all_texts paths refl
 
 pub no_text : (target : List ℕ) → ¬ (IsUtf8 target) → None ≡ path_among paths target
 no_text target n = not_among paths target are_texts n
@@ -237,7 +186,38 @@ is_memory p rs InvalidParamSegment none h = elim h [ ]
 is_memory p rs InvalidParam none h = elim h [ ]
 is_memory p rs InvalidCatchAll none h = elim h [ ]
 
-pub only_memory : {T : Type 0} (p : List ℕ) (rs : RowsOf (RouteOf T)) (e : InsertError)
-    (r : Result (Unit {0}) InsertError)
-    → r ≡ Err e → Refused p rs e → nearest p rs ≡ None → IfErr r (λ e. e ≡ OutOfMemory)
-only_memory p rs e r is h none = rw is (is_memory p rs e none h)
+-- where the first path and all behind it can be placed, those behind it can once it is
+module _ (old new rows : RowsOf (RouteOf Route)) (ps : List (List ℕ × Route)) where
+  abbrev pub IsPlaced : Result (Unit {0}) InsertError → Type 0
+  IsPlaced r = OnOk r (all_placed ps new ≡ Some rows) × IfErr r (λ e. e ≡ OutOfMemory)
+
+  by_near : (route : RouteOf Route) (near : Option (RouteOf Route))
+      → nearest route.pattern old ≡ near → (r : Result (Unit {0}) InsertError)
+      → Inserted route old new r
+      → option_and_then (all_placed ps) (placed_unless old route near) ≡ Some rows → IsPlaced r
+  by_near route None none (Ok u) put all = (ap (all_placed ps) put.1 ∙ all, tt)
+  by_near route None none (Err e) put all = (tt, is_memory route.pattern old e none put.1)
+  by_near route (Some near) is r put all = cc
+
+  by_read : (value : Route) (read : Result Scan InsertError) (r : Result (Unit {0}) InsertError)
+      → InsertsRead read value old new r
+      → option_and_then (all_placed ps) (placed_if_read old value read) ≡ Some rows → IsPlaced r
+  by_read value (Ok read) r put all =
+      by_near (route_from read value) (nearest (route_from read value).pattern old) refl r put all
+  by_read value (Err e) r put all = cc
+
+  pub placed_on : (p : List ℕ × Route) (r : Result (Unit {0}) InsertError)
+      → InsertsRead (parse_route p.0) p.1 old new r → all_placed (p ∷ ps) old ≡ Some rows
+      → IsPlaced r
+  placed_on p r put all = by_read p.1 (parse_route p.0) r put all
+
+-- and so the next of the code's paths
+pub placed_next : (all : List (Bor (List ℕ) × Route)) (i : ℕ) (default : Bor (List ℕ) × Route)
+    (old new rows : RowsOf (RouteOf Route)) (r : Result (Unit {0}) InsertError) → i < length all
+    → InsertsRead (parse_route (get_or all i default).0.now) (get_or all i default).1 old new r
+    → all_placed (texts_of (drop i all)) old ≡ Some rows
+    → IsPlaced old new rows (texts_of (drop (i + 1) all)) r
+placed_next all i default old new rows r inside put all_of =
+    placed_on old new rows (texts_of (drop (i + 1) all))
+    ((get_or all i default).0.now, (get_or all i default).1) r put
+    (ap (λ xs. all_placed (texts_of xs) old) (sym (drop_more all i default inside)) ∙ all_of)

@@ -3,7 +3,7 @@ use Rattle.std.proofs.Common.{◌≡◌, ℕ, ◌<◌, ◌≤◌, List, [], ◌+
 use Rattle.std.specs.Prelude.{IfSome}
 use Rattle.std.specs.Io.KnownBytes.{Consumes, Keeps, prepend_known}
 use Rattle.std.proofs.KnownBytes.{Consumes-kept}
-use Rattle.httparse.specs.Grammar.{RequestHead, HasNoRequest, print_request}
+use Rattle.httparse.specs.Grammar.{RequestHead, print_request}
 use Rattle.httparse.proofs.GrammarLemmas.{request_unique}
 use Rattle.messages.specs.Cuts.{IsMessage, IsRequestOf}
 use Rattle.messages.specs.Fields.{body_length}
@@ -11,9 +11,7 @@ use Rattle.messages.specs.Head.{HasHead}
 use Rattle.messages.specs.Reading.{HasNoWhole, IsReadAhead}
 use Rattle.messages.specs.declared.message.Request.{Request}
 use Rattle.messages.proofs.MessageLemmas.{HoldsHead}
-
-some_number : (n m : ℕ) → Some n ≡ Some m → n ≡ m
-some_number n m e = cc
+use Rattle.numbers.proofs.Small.{some_is}
 
 -- all that was read is held
 pub held_ahead : (all r : Option (List ℕ)) (held : List ℕ) → Keeps all (prepend_known held r)
@@ -26,18 +24,6 @@ held_ahead (Some input) (Some more) held keeps short = record {
   all =
       ap Some keeps;
 }
-
--- all that was read is held, and has no head
-pub no_head_yet : (all r : Option (List ℕ)) (held : List ℕ) → Keeps all (prepend_known held r)
-    → HasNoRequest held → IfSome all (λ input. HasNoWhole input r)
-no_head_yet None r held keeps none = tt
-no_head_yet (Some input) None held keeps none = absurd keeps
-no_head_yet (Some input) (Some more) held keeps none =
-    record {
-      read = held;
-      all = ap Some keeps;
-      none = λ request body rest message. none message.head (body ++ rest) message.front.reads;
-    }
 
 -- where nothing is held, what is left of the input is what the reader has
 pub nothing_held : (all before behind : Option (List ℕ)) (held body : List ℕ)
@@ -61,7 +47,7 @@ short_body read body h request other text rest front asks short message =
     omega (
       arith,
       short,
-      some_number request.length other.length sizes,
+      some_is request.length other.length sizes,
       message.whole,
       ap length heads.1,
       length-append text rest,

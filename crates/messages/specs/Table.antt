@@ -1,10 +1,14 @@
 -- The paths of the interface, their methods, and the router's rows, in the order of their texts.
-use Rattle.std.specs.Prelude.{ℕ, ◌^◌, List, [], ◌∷◌, length, take, drop, codes, map, Bool, true, false, not, ◌&&◌, ◌==◌, nat_lt, Option, Some, None, option_and_then, option_map, if◌then◌else◌}
+use Rattle.std.specs.Prelude.{ℕ, ◌^◌, List, [], ◌∷◌, length, take, drop, codes, map, Bool, true, false, not, ◌&&◌, ◌==◌, nat_lt, Option, Some, None, Result, Ok, Err, option_and_then, option_map, if◌then◌else◌}
+use Rattle.std.specs.Borrow.{Bor}
 use Rattle.std.specs.List.{list_all}
 use Rattle.std.specs.Option.{option_or}
 use Rattle.std.specs.Str.{bytes_eq}
 use Rattle.matchit.specs.Rows.{RowsOf}
-use Rattle.matchit.specs.Router.{RouteOf}
+use Rattle.matchit.specs.Router.{RouteOf, nearest, route_from}
+use Rattle.matchit.specs.Order.{placed}
+use Rattle.matchit.specs.Route.{Scan, parse_route}
+use Rattle.matchit.specs.declared.error.InsertError.{InsertError}
 use Rattle.messages.specs.Fields.{number_of}
 use Rattle.messages.specs.declared.paths.Method.{Method}
 use Rattle.messages.specs.declared.paths.Method.TheVariants.{Get, Post, Other}
@@ -44,28 +48,6 @@ paths =
     ∷ (codes "/subscriptionVersionRemoveFromConflict", OnVersion RemoveFromConflict)
     ∷ (codes "/windows", Windows)
     ∷ []
-
--- all but those of commands on a block or on a version
-abbrev pub first_paths : List (List ℕ × Route)
-first_paths =
-    (codes "/carriers", Carriers)
-    ∷ (codes "/clock", Clock)
-    ∷ (codes "/codes", Codes)
-    ∷ (codes "/downloads/acknowledge", Acknowledge)
-    ∷ (codes "/lrns", RoutingNumbers)
-    ∷ (codes "/query", Query)
-    ∷ (codes "/subscriptionVersionNewSP-Create", NewProviderCreate)
-    ∷ (codes "/subscriptionVersionOldSP-Create", OldProviderCreate)
-    ∷ (codes "/windows", Windows)
-    ∷ []
-
--- all but those of commands on a version
-abbrev pub second_paths : List (List ℕ × Route)
-second_paths =
-    (codes "/blocks/assign", OnBlock Assign)
-    ∷ (codes "/blocks/donate", OnBlock Donate)
-    ∷ (codes "/blocks/release", OnBlock Release)
-    ∷ first_paths
 
 -- the first of these whose text is the target, byte for byte
 abbrev pub path_among : List (List ℕ × Route) → List ℕ → Option Route
@@ -172,3 +154,27 @@ fixed p = (p.0, record { pattern = p.0; text = p.0; names = []; value = p.1 })
 
 abbrev pub table : RowsOf (RouteOf Route)
 table = map fixed paths
+
+-- the rows with the route in its place, where it conflicts with none of them
+abbrev pub placed_unless : RowsOf (RouteOf Route) → RouteOf Route → Option (RouteOf Route)
+    → Option (RowsOf (RouteOf Route))
+placed_unless rows route None = Some (placed (route.pattern, route) rows)
+placed_unless rows route (Some near) = None
+
+-- and where it was read well
+abbrev pub placed_if_read : RowsOf (RouteOf Route) → Route → Result Scan InsertError
+    → Option (RowsOf (RouteOf Route))
+placed_if_read rows value (Err e) = None
+placed_if_read rows value (Ok read) =
+    placed_unless rows (route_from read value) (nearest (route_from read value).pattern rows)
+
+-- paths of the code, by their bytes
+abbrev pub texts_of : List (Bor (List ℕ) × Route) → List (List ℕ × Route)
+texts_of ps = map (λ p. (p.0.now, p.1)) ps
+
+-- the rows with all of these paths, one put after the other
+abbrev pub all_placed : List (List ℕ × Route) → RowsOf (RouteOf Route)
+    → Option (RowsOf (RouteOf Route))
+all_placed [] rows = Some rows
+all_placed (p ∷ ps) rows =
+    option_and_then (all_placed ps) (placed_if_read rows p.1 (parse_route p.0))

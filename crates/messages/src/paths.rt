@@ -1,8 +1,11 @@
-//! The paths of the interface. Edit it seldom: the router's table is computed by its proof.
-ghost use Rattle.std.specs.Prelude.{◌≡◌, [], map, IfOk, IfErr, OnOk};
+//! The paths of the interface, and the router that finds them.
+ghost use Rattle.std.specs.Prelude.{◌≡◌, Some, IfOk, IfErr, OnOk};
+ghost use Rattle.matchit.specs.Rows.{RowsOf};
+ghost use Rattle.matchit.specs.Router.{RouteOf};
+ghost use Rattle.messages.specs.declared.paths.Route.{Route as RouteSeen};
 ghost use Rattle.matchit.specs.declared.error.InsertError.TheVariants.{OutOfMemory};
 ghost use Rattle.std.specs.List.{list_all};
-ghost use Rattle.messages.specs.Table.{table, fixed, first_paths, second_paths, paths, path_among, path_of, numbered_path, number_behind, number_in, is_of_part, is_part as is_one_part, method_of as method_seen, takes as takes_method, among_offered};
+ghost use Rattle.messages.specs.Table.{table, paths, all_placed, texts_of, path_among, path_of, numbered_path, number_behind, number_in, is_of_part, is_part as is_one_part, method_of as method_seen, takes as takes_method, among_offered};
 
 use crate::head::read_number;
 use matchit::{InsertError, Router};
@@ -105,73 +108,66 @@ pub fn offered(route: Option<Route>, clock: bool) -> Option<Route>
     }
 }
 
-// Puts the paths that are one text into a new router. It is lent: a proof is dear where a value
-// with so deep a destructor is owned across many calls that can fail.
-fn insert_paths(router: &mut Router<Route>) -> Result<(), InsertError>
-    requires { router.old ≡ [] }
-    ensures paths { OnOk result (router.new ≡ map fixed first_paths) }
-    ensures memory { IfErr result (λ e. e ≡ OutOfMemory) }
-{
-    router.insert("/carriers", Route::Carriers)?;
-    router.insert("/clock", Route::Clock)?;
-    router.insert("/lrns", Route::RoutingNumbers)?;
-    router.insert("/codes", Route::Codes)?;
-    router.insert("/subscriptionVersionOldSP-Create", Route::OldProviderCreate)?;
-    router.insert("/subscriptionVersionNewSP-Create", Route::NewProviderCreate)?;
-    router.insert("/downloads/acknowledge", Route::Acknowledge)?;
-    router.insert("/query", Route::Query)?;
-    router.insert("/windows", Route::Windows)?;
-    Ok(())
-}
-
-// And those of commands on a block.
-fn insert_block_paths(router: &mut Router<Route>) -> Result<(), InsertError>
-    requires { router.old ≡ map fixed first_paths }
-    ensures paths { OnOk result (router.new ≡ map fixed second_paths) }
-    ensures memory { IfErr result (λ e. e ≡ OutOfMemory) }
-{
-    router.insert("/blocks/assign", Route::OnBlock(BlockPath::Assign))?;
-    router.insert("/blocks/donate", Route::OnBlock(BlockPath::Donate))?;
-    router.insert("/blocks/release", Route::OnBlock(BlockPath::Release))?;
-    Ok(())
-}
-
-// And those of commands on a version.
-fn insert_version_paths(router: &mut Router<Route>) -> Result<(), InsertError>
-    requires { router.old ≡ map fixed second_paths }
-    ensures paths { OnOk result (router.new ≡ table) }
-    ensures memory { IfErr result (λ e. e ≡ OutOfMemory) }
-{
-    use crate::paths::VersionPath::{
-        Activate, Cancel, Disconnect, ModifyRouting, NewProviderCancellationAcknowledge,
-        OldProviderCancellationAcknowledge, PutInConflict, RemoveFromConflict,
-    };
-    router.insert("/subscriptionVersionActivate", Route::OnVersion(Activate))?;
-    router.insert(
+// The paths that are one text.
+const PATHS: [(&str, Route); 20] = [
+    ("/carriers", Route::Carriers),
+    ("/clock", Route::Clock),
+    ("/lrns", Route::RoutingNumbers),
+    ("/codes", Route::Codes),
+    ("/subscriptionVersionOldSP-Create", Route::OldProviderCreate),
+    ("/subscriptionVersionNewSP-Create", Route::NewProviderCreate),
+    (
+        "/subscriptionVersionActivate",
+        Route::OnVersion(VersionPath::Activate),
+    ),
+    (
         "/subscriptionVersionConflict",
-        Route::OnVersion(PutInConflict),
-    )?;
-    router.insert(
+        Route::OnVersion(VersionPath::PutInConflict),
+    ),
+    (
         "/subscriptionVersionRemoveFromConflict",
-        Route::OnVersion(RemoveFromConflict),
-    )?;
-    router.insert("/subscriptionVersionCancel", Route::OnVersion(Cancel))?;
-    router.insert(
+        Route::OnVersion(VersionPath::RemoveFromConflict),
+    ),
+    (
+        "/subscriptionVersionCancel",
+        Route::OnVersion(VersionPath::Cancel),
+    ),
+    (
         "/subscriptionVersionOldSP-CancellationAcknowledge",
-        Route::OnVersion(OldProviderCancellationAcknowledge),
-    )?;
-    router.insert(
+        Route::OnVersion(VersionPath::OldProviderCancellationAcknowledge),
+    ),
+    (
         "/subscriptionVersionNewSP-CancellationAcknowledge",
-        Route::OnVersion(NewProviderCancellationAcknowledge),
-    )?;
-    router.insert(
+        Route::OnVersion(VersionPath::NewProviderCancellationAcknowledge),
+    ),
+    (
         "/subscriptionVersionDisconnect",
-        Route::OnVersion(Disconnect),
-    )?;
-    router.insert(
+        Route::OnVersion(VersionPath::Disconnect),
+    ),
+    (
         "/subscriptionVersionModify",
-        Route::OnVersion(ModifyRouting),
-    )?;
+        Route::OnVersion(VersionPath::ModifyRouting),
+    ),
+    ("/blocks/assign", Route::OnBlock(BlockPath::Assign)),
+    ("/blocks/donate", Route::OnBlock(BlockPath::Donate)),
+    ("/blocks/release", Route::OnBlock(BlockPath::Release)),
+    ("/downloads/acknowledge", Route::Acknowledge),
+    ("/query", Route::Query),
+    ("/windows", Route::Windows),
+];
+
+// Puts these paths into a router, one after the other, where all of them can stand in it.
+fn insert_paths(router: &mut Router<Route>, paths: &[(&str, Route)]) -> Result<(), InsertError>
+    ensures paths { (rows : RowsOf (RouteOf RouteSeen))
+        → all_placed (texts_of paths.now) router.old ≡ Some rows
+        → OnOk result (router.new ≡ rows) }
+    ensures memory { (rows : RowsOf (RouteOf RouteSeen))
+        → all_placed (texts_of paths.now) router.old ≡ Some rows
+        → IfErr result (λ e. e ≡ OutOfMemory) }
+{
+    for (path, route) in paths.iter() {
+        router.insert(path, *route)?;
+    }
     Ok(())
 }
 
@@ -181,9 +177,7 @@ pub fn router(alloc: Global) -> Result<Router<Route>, InsertError>
     ensures memory { IfErr result (λ e. e ≡ OutOfMemory) }
 {
     let mut router = Router::new(alloc);
-    insert_paths(&mut router)?;
-    insert_block_paths(&mut router)?;
-    insert_version_paths(&mut router)?;
+    insert_paths(&mut router, PATHS.as_slice())?;
     Ok(router)
 }
 

@@ -21,7 +21,7 @@ use bulk::{BulkFault, FaultKind, audit, export, run_file};
 use numbers::Spid;
 use register::{OpenFault, Register, law_of_new_stores};
 use settle::Store;
-use sql_store::{FileFault, SqlStore, StoreAt, Unopened, UnopenedAt};
+use sql_store::{FileFault, SqlStore, StoreAt, UnopenedAt};
 use sqlite::{Start, Unknown};
 use std::alloc::Global;
 use std::convert::AsStr;
@@ -296,11 +296,7 @@ fn run_over<T: Files + AllocGlobal + Net + Clock, S: Store, R: Read, W: Write>(
 
 // What is told of a file that is not opened. What is left of it is closed.
 fn open_fault(refused: (FileFault, UnopenedAt<Unknown>)) -> Fault {
-    let (fault, left) = refused;
-    match left {
-        Unopened::Files(files) => drop(files),
-        Unopened::Database(database) => drop(database.into_store()),
-    }
+    let (fault, _left) = refused;
     Fault::Open(match fault {
         FileFault::WindowsDiffer => OpenFault::WindowsDiffer,
         FileFault::Storage => OpenFault::Storage,

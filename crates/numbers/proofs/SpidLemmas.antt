@@ -8,7 +8,7 @@ use Rattle.numbers.specs.Texts.{spid_text}
 use Rattle.numbers.proofs.DigitLemmas.{utf8_small}
 
 -- a character is a byte below 128
-small_character : (c : ℕ) → is_spid_character c ≡ true → c < 128
+pub small_character : (c : ℕ) → is_spid_character c ≡ true → c < 128
 small_character c h = grind (arith, nat_tests)
 
 -- four characters are text

@@ -14,7 +14,7 @@ use Rattle.version.specs.Facts.{Sees}
 use Rattle.meaning.specs.Commands.{Release}
 use Rattle.meaning.specs.Versions.{Version, Broadcast, last_version, version_in_force, with_number}
 use Rattle.meaning.specs.History.{Commands, next_id, code_holder, donor_of, makes, rising, AreLines}
-use Rattle.meaning.specs.Reading.{State, record_now}
+use Rattle.meaning.specs.Reading.{State, record_now, next_of}
 use Rattle.meaning.specs.Conditions.{limit, holds_of, is_the, is_active, takes_block, has_no_attempt_left}
 use Rattle.meaning.specs.Refusals.{Requests, tests, refusal, npac, first_that_holds, holds_at, own_tests, contaminated_numbers as contaminated_in, has_open_port as has_open_port_in}
 use Rattle.numbers.specs.Digits.{block_code_of, number_in}
@@ -27,10 +27,8 @@ use Rattle.pool.specs.Donations.{command_of as donated, lines_of, used_by, unnam
 use Rattle.pool.specs.Assignments.{command_of, assignment_refusal}
 use Rattle.pool.specs.Releases.{is_others, release_refusal}
 use Rattle.meaning.specs.Windows.{Windows}
-
-not_not : (b : Bool) → not (not b) ≡ b
-not_not true = refl
-not_not false = refl
+use Rattle.meaning.proofs.Donated.{with_number-lines, rising-lines}
+use Rattle.numbers.proofs.Small.{not_not}
 
 none_carrier : (o : Option Spid) (p : Option ℕ) → carrier_number o ≡ p → is_none p ≡ is_none o
 none_carrier None p is = ap is_none (sym is)
@@ -105,7 +103,7 @@ assign_by_table : (st : State) (caller : ℕ) (a : Assignment)
       24,
       holds_of (λ (v : Version). takes_block v.status)
           (last_version (record_now st (Block a.block.number))),
-    ) ∷ (28, nat_lt limit (next_id st.windows st.history + 1)) ∷ [])
+    ) ∷ (28, nat_lt limit (next_of st + 1)) ∷ [])
 unfolding tests
 assign_by_table st caller a = refl
 
@@ -124,28 +122,13 @@ donate_by_table : (st : State) (caller : ℕ) (d : Donation)
     ∷ (24, is_some (donor_of d.block.number st.history))
     ∷ (
       28,
-      nat_lt limit (next_id st.windows st.history + length
+      nat_lt limit (next_of st + length
           (makes (Commands (donated d)) (record_now st))),
     ) ∷ [])
 unfolding tests
 donate_by_table st caller d = refl
 
 -- ---- lines
-
-with_number-lines : (n : ℕ) (ns : List ℕ) → n < 1000 → AreLines ns → AreLines (with_number n ns)
-with_number-lines n [] small lines = (small, tt)
-with_number-lines n (m ∷ ms) small lines =
-    go (with_number-lines n ms small lines.1) (nat_lt n m) (n == m)
-  where
-    go : AreLines (with_number n ms) → (b c : Bool) → AreLines (if b then n ∷ m ∷ ms
-        else (if c then m ∷ ms else m ∷ with_number n ms))
-    go rest true c = (small, lines)
-    go rest false true = lines
-    go rest false false = (lines.0, rest)
-
-pub rising-lines : (ns : List ℕ) → AreLines ns → AreLines (rising ns)
-rising-lines [] lines = tt
-rising-lines (n ∷ ns) lines = with_number-lines n (rising ns) lines.0 (rising-lines ns lines.1)
 
 pub are_lines : (ls : List Line) → AreLines (lines_of ls)
 are_lines [] = tt

@@ -8,7 +8,7 @@ use Rattle.version.specs.Facts.{Sees}
 use Rattle.meaning.specs.Commands.{Command}
 use Rattle.meaning.specs.Versions.{in_force, last_version, version_in_force}
 use Rattle.meaning.specs.History.{code_holder, donor_of, next_id}
-use Rattle.meaning.specs.Reading.{State, SubjectVersion, all_versions, record_now}
+use Rattle.meaning.specs.Reading.{State, SubjectVersion, all_versions, record_now, next_of}
 use Rattle.meaning.specs.Refusals.{holds_at, own_tests, is_in_block, has_open_port as has_open_port_in}
 use Rattle.meaning.specs.Laws.{IsState}
 use Rattle.pool.specs.declared.facts.BlockFacts.{BlockFacts}
@@ -23,7 +23,7 @@ pub record BlockFactsAre (st : State) (caller block : ℕ) (c : Command)
   pub donor : carrier_number facts.donor ≡ donor_of block st.history
   pub last : Sees facts.last (last_version (record_now st (Block block)))
   pub ports : has_open_port facts.numbers.now ≡ has_open_port_in st block
-  pub next_id : facts.next_id ≡ next_id st.windows st.history
+  pub next_id : facts.next_id ≡ next_of st
 
 -- those of the numbers with a version in force are the block's in the state: line by line, and as
 -- many beside any used ones

@@ -9,12 +9,14 @@ use Rattle.calls.specs.Calls.{refused_with, reply_of}
 use Rattle.calls.specs.declared.call.Reply.{Reply}
 use Rattle.register.specs.Settling.{AnswersSettled}
 
--- Of the content that stands: refused, it is refused as the machine refuses it, or for want of
--- memory or of the device. Accepted, each content
+-- of the content that stands: as the machine refuses it, or for want of memory or of the device
+abbrev pub Refuses : Content → Input → Refusal → Type 0
+Refuses c input refusal = AnswersSettled c c input (refused_with (number_of refusal))
+
+-- Of the content that stands: refused, it is refused so. Accepted, each content
 -- that the changes make of it is the machine's next state, and the reply is the machine's.
 pub record Decides (c : Content) (input : Input) (changes : Changes)
     (result : Result Reply Refusal) : Type 0 where
-  pub refused : IfErr result (λ refusal. AnswersSettled c c input
-      (refused_with (number_of refusal)))
+  pub refused : IfErr result (Refuses c input)
   pub accepted : IfOk result (λ reply. (m : Content) → IsChanged changes c m →
       AnswersSettled c m input (Some (reply_of reply)))

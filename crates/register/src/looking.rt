@@ -1,6 +1,6 @@
 //! The version that a caller names.
 ghost use Rattle.settle.specs.Owing.{IsAnswer, IsAnswered, Reads};
-ghost use Rattle.std.specs.Prelude.{◌≡◌, Err, IfOk, IfErr};
+ghost use Rattle.std.specs.Prelude.{◌≡◌, Err, IfOk, IfErr, OnOk, is_some};
 ghost use Rattle.std.specs.FinMap.{get};
 ghost use Rattle.meaning.specs.Conditions.{is_the};
 ghost use Rattle.settle.specs.Views.{clock_row_of};
@@ -47,6 +47,27 @@ pub fn look_up<S: Store>(store: &mut S, is_known: bool, id: u64) -> Result<Looke
     };
     let held = held_windows(store, &clock, row.version.held)?;
     Ok(LookedUp { clock, row, held })
+}
+
+/// Looks up the version that a carrier names: first whether it is registered, then the version.
+///
+/// Refused as `look_up` is.
+pub fn look_up_for<S: Store>(store: &mut S, carrier: Spid, id: u64) -> Result<LookedUp, Refusal>
+    ensures found { S.IsUsable store.new
+        → IfOk result (λ found. IsLookedUp (S.content store.old)
+        (is_some (get (S.content store.old).carriers carrier.number)) id
+        (clock_row_of found.clock) found.row (windows_of found.held)) }
+    ensures refused { S.IsUsable store.new
+        → IfErr result (IsLookedUpInVain (S.content store.old)
+        (is_some (get (S.content store.old).carriers carrier.number)) id) }
+    ensures reads { Reads S.IsUsable S.IsHonest S.MayLeave S.content S.failed store.old store.new
+        (IsAnswered result) (S.IsUsable store.new × HasHeldSet (S.content store.old) id
+        × (result ≡ Err Refusal.Storage)) }
+    // a store that is shut answers none
+    ensures open { OnOk result (S.IsHonest store.new → S.IsUsable store.new) }
+{
+    let is_carrier = store.carrier(carrier)?;
+    look_up(store, is_carrier, id)
 }
 
 /// The windows of the set that a version holds: the present one's, or those of an earlier set.

@@ -14,66 +14,28 @@ use Rattle.settle.proofs.Faults.{fault_is_none, storage_by}
 
 module _ {S : Type 0} {IsUsable IsHonest : S → Type 0} {MayLeave : S → Content → Type 0}
     {content : S → Content} {failed : S → ℕ} {a b : S} where
-  -- one after another, both answered
-  pub reads_on : {d : S} {A P B Q : Type 0} → Reads IsUsable IsHonest MayLeave content failed a b A
-      P → A → Reads IsUsable IsHonest MayLeave content failed b d B Q → B →
-      Reads IsUsable IsHonest MayLeave content failed a d ⊤ ⊥
-  reads_on first found second answered = record {
-    same = λ usable. let mid = second.same usable in let start = first.same mid.0 in
-        (start.0, mid.1 ∙ start.1);
-    honest = λ is. first.honest (second.honest is);
-    stays = λ all usable is. second.stays answered (first.stays found usable (second.honest is)) is;
-    rises = le_trans first.rises second.rises;
-    storage = λ never. absurd never;
-    left = λ is m may. first.left (second.honest is) m (second.left is m may);
-  }
-
-  -- and then a fault of the store
-  pub reads_fault : {d : S} {A P B Q : Type 0} {X : Type 0} {c : Content} →
-      Reads IsUsable IsHonest MayLeave content failed a b A P → A →
-      Reads IsUsable IsHonest MayLeave content failed b d B Q →
-      (result : Result X Refusal) (fault : StoreFault) → result ≡ Err (refusal_of fault) →
-      (fault ≡ StorageFault → Q) →
-      Reads IsUsable IsHonest MayLeave content failed a d (IsAnswered result)
-      (SaysStorage (IsUsable d) c (result ≡ Err Storage))
-  reads_fault {d = d} first found second result fault is says = record {
-    same = λ usable. let mid = second.same usable in let start = first.same mid.0 in
-        (start.0, mid.1 ∙ start.1);
-    honest = λ honest. first.honest (second.honest honest);
-    stays = λ answered. absurd (fault_is_none result fault is answered);
-    rises = le_trans first.rises second.rises;
-    storage = λ told. risen-since (failed a) (failed b) (failed d) first.rises second.rises
-        (second.storage (says (storage_by result fault is told.says)));
-    left = λ honest m may. first.left (second.honest honest) m (second.left honest m may);
-  }
-
-  -- and then a refusal that says no storage
-  pub reads_refused : {A Says : Type 0} → Reads IsUsable IsHonest MayLeave content failed a b ⊤ ⊥ →
-      (Says → ⊥) → Reads IsUsable IsHonest MayLeave content failed a b A Says
-  reads_refused read never = record {
+  -- by what is answered and said
+  pub reads_told : {A P Answers Says : Type 0}
+      → Reads IsUsable IsHonest MayLeave content failed a b A P → (Answers → A) → (Says → P)
+      → Reads IsUsable IsHonest MayLeave content failed a b Answers Says
+  reads_told read answers turn = record {
     same = read.same;
     honest = read.honest;
-    stays = λ answered. read.stays tt;
+    stays = λ answered. read.stays (answers answered);
     rises = read.rises;
-    storage = λ says. absurd (never says);
+    storage = λ says. read.storage (turn says);
     left = read.left;
   }
 
-  -- and then what only reads, whatever it says
-  pub reads_then : {d : S} {A P B Q Says : Type 0} → Reads IsUsable IsHonest MayLeave content failed
-      a b A P → A → Reads IsUsable IsHonest MayLeave content failed b d B Q → (Says → Q) →
-      Reads IsUsable IsHonest MayLeave content failed a d B Says
-  reads_then {d = d} first found second turn = record {
-    same = λ usable. let mid = second.same usable in let start = first.same mid.0 in
-        (start.0, mid.1 ∙ start.1);
-    honest = λ honest. first.honest (second.honest honest);
-    stays = λ answered usable honest. second.stays answered (first.stays found usable
-        (second.honest honest)) honest;
-    rises = le_trans first.rises second.rises;
-    storage = λ says. risen-since (failed a) (failed b) (failed d) first.rises second.rises
-        (second.storage (turn says));
-    left = λ honest m may. first.left (second.honest honest) m (second.left honest m may);
-  }
+  pub reads_saying : {A P Says : Type 0} → Reads IsUsable IsHonest MayLeave content failed a b A P
+      → (Says → P) → Reads IsUsable IsHonest MayLeave content failed a b A Says
+  reads_saying read turn = reads_told read (λ answered. answered) turn
+
+  -- a refusal that says no storage
+  pub reads_refused : {A P Answers Says : Type 0}
+      → Reads IsUsable IsHonest MayLeave content failed a b A P → A → (Says → ⊥)
+      → Reads IsUsable IsHonest MayLeave content failed a b Answers Says
+  reads_refused read found never = reads_told read (λ answered. found) (λ says. absurd (never says))
 
   -- and then what only reads, by what is answered and said then
   pub reads_past : {d : S} {A P B Q Answers Says : Type 0} →
@@ -92,14 +54,28 @@ module _ {S : Type 0} {IsUsable IsHonest : S → Type 0} {MayLeave : S → Conte
     left = λ honest m may. first.left (second.honest honest) m (second.left honest m may);
   }
 
-  -- by what it says of storage
-  pub reads_saying : {A P Says : Type 0} → Reads IsUsable IsHonest MayLeave content failed a b A P →
-      (Says → P) → Reads IsUsable IsHonest MayLeave content failed a b A Says
-  reads_saying read turn = record {
-    same = read.same;
-    honest = read.honest;
-    stays = read.stays;
-    rises = read.rises;
-    storage = λ says. read.storage (turn says);
-    left = read.left;
-  }
+  -- one after another, both answered
+  pub reads_on : {d : S} {A P B Q : Type 0} → Reads IsUsable IsHonest MayLeave content failed a b A
+      P → A → Reads IsUsable IsHonest MayLeave content failed b d B Q → B →
+      Reads IsUsable IsHonest MayLeave content failed a d ⊤ ⊥
+  reads_on first found second answered =
+      reads_past first found second (λ it. answered) (λ never. absurd never)
+
+  -- and then a fault of the store
+  pub reads_fault : {d : S} {A P B Q : Type 0} {X : Type 0} {c : Content} →
+      Reads IsUsable IsHonest MayLeave content failed a b A P → A →
+      Reads IsUsable IsHonest MayLeave content failed b d B Q →
+      (result : Result X Refusal) (fault : StoreFault) → result ≡ Err (refusal_of fault) →
+      (fault ≡ StorageFault → Q) →
+      Reads IsUsable IsHonest MayLeave content failed a d (IsAnswered result)
+      (SaysStorage (IsUsable d) c (result ≡ Err Storage))
+  reads_fault first found second result fault is says = reads_past first found second
+      (λ answered. absurd (fault_is_none result fault is answered))
+      (λ told. says (storage_by result fault is told.says))
+
+  -- and then what only reads, whatever it says
+  pub reads_then : {d : S} {A P B Q Says : Type 0} → Reads IsUsable IsHonest MayLeave content failed
+      a b A P → A → Reads IsUsable IsHonest MayLeave content failed b d B Q → (Says → Q) →
+      Reads IsUsable IsHonest MayLeave content failed a d B Says
+  reads_then first found second turn =
+      reads_past first found second (λ answered. answered) turn

@@ -6,7 +6,7 @@ use Rattle.numbers.specs.declared.ported.Subject.{Subject as SubjectCode}
 use Rattle.meaning.specs.Content.{ClockRow, Content, Represents, SameRows}
 use Rattle.meaning.specs.Reading.{State}
 use Rattle.meaning.proofs.Entered.{subject_eq-refl}
-use Rattle.meaning.proofs.Ids.{same_subject}
+use Rattle.meaning.proofs.Ids.{same_subject, other_subject}
 use Rattle.settle.specs.Settling.{IsSettled, KeepsUnder, Under, is_one_of}
 use Rattle.settle.proofs.Settled.{rows_joined, stays_settled}
 use Rattle.numbers.proofs.Small.{impossible}
@@ -26,28 +26,6 @@ abbrev pub SettlesUpTo : ClockRow → (subjects rest : List SubjectCode) → (ol
 SettlesUpTo clock subjects rest old new =
     Under clock old (λ st. HasSettled clock subjects rest old new st)
 
-pub settled_none : (clock : ClockRow) (subjects : List SubjectCode) (old : Content)
-    → SettlesUpTo clock subjects subjects old old
-settled_none clock subjects old st rep is = record {
-  represents = rep;
-  clock_row = is;
-  others = λ t other. record {
-    versions = λ k. refl;
-    broadcasts = λ k a. refl;
-    waits = λ k m j a. refl;
-  };
-  among = λ t its. its;
-  settled = λ t its not. impossible (sym its ∙ not);
-}
-
-pub turned : (s t : Subject) → subject_eq s t ≡ false → subject_eq t s ≡ false
-turned s t apart = go (subject_eq t s) refl
-  where
-    go : (b : Bool) → subject_eq t s ≡ b → b ≡ false
-    go false e = refl
-    go true e = impossible (sym (subject_eq-refl t) ∙ ap (λ x. subject_eq x t)
-        (sym (same_subject t s e)) ∙ apart)
-
 first_named : (x : SubjectCode) (rest : List SubjectCode)
     → is_one_of (x ∷ rest) (subject_of x) ≡ true
 first_named x rest =
@@ -66,9 +44,6 @@ module _ (clock : ClockRow) (subjects rest : List SubjectCode) (x : SubjectCode)
     (kept : KeepsUnder clock mid new)
     (leaves : (t : Subject) → subject_eq (subject_of x) t ≡ false
     → Under clock mid (λ st. SameRows t mid new)) where
-  pub next_kept : KeepsUnder clock old new
-  next_kept st rep is = let was = before st rep is in kept st was.represents was.clock_row
-
   -- the next subject's rows may change, and no other's
   pub next_elsewhere : (t : Subject) → is_one_of subjects t ≡ false
       → Under clock old (λ st. SameRows t old new)
@@ -104,20 +79,9 @@ module _ (clock : ClockRow) (subjects rest : List SubjectCode) (x : SubjectCode)
           (settles st was.represents was.clock_row)
       go t its not false e =
           let was = before st rep is in
-          stays_settled mid new st t (leaves t (turned t (subject_of x) e) st
+          stays_settled mid new st t (leaves t (other_subject t (subject_of x) e) st
           was.represents was.clock_row)
           (was.settled t its (ap (λ b. b || is_one_of rest t) e ∙ not))
-
-pub up_to_kept : (clock : ClockRow) (subjects rest : List SubjectCode) (old new : Content)
-    → SettlesUpTo clock subjects rest old new → KeepsUnder clock old new
-up_to_kept clock subjects rest old new settles st rep is =
-    let has = settles st rep is in (has.represents, has.clock_row)
-
-pub up_to_elsewhere : (clock : ClockRow) (subjects rest : List SubjectCode) (old new : Content)
-    → SettlesUpTo clock subjects rest old new → (t : Subject) → is_one_of subjects t ≡ false
-    → Under clock old (λ st. SameRows t old new)
-up_to_elsewhere clock subjects rest old new settles t other st rep is =
-    (settles st rep is).others t other
 
 pub all_settled : (clock : ClockRow) (subjects : List SubjectCode) (old new : Content)
     → SettlesUpTo clock subjects [] old new → (t : Subject) → is_one_of subjects t ≡ true

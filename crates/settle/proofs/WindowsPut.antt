@@ -7,7 +7,7 @@ use Rattle.meaning.specs.Commands.{SetWindows}
 use Rattle.meaning.specs.Windows.{Windows, AreWindows, WindowSet}
 use Rattle.meaning.specs.Versions.{Version, Record, last_version}
 use Rattle.meaning.specs.History.{Commands, set_of_number, next_id, donor_of}
-use Rattle.meaning.specs.Reading.{State, set_now, record_now}
+use Rattle.meaning.specs.Reading.{State, set_now, record_now, next_of}
 use Rattle.meaning.specs.Refusals.{Requests, refusal}
 use Rattle.meaning.specs.Content.{Content, ClockRow, VersionRow, BroadcastRow, Represents, ClockShows, SameRows, of_subject, stored_set}
 use Rattle.meaning.proofs.Represented.{same_rows_show}
@@ -27,7 +27,7 @@ module _ (st : State) (old new : Content) (caller : ℕ) (windows : Windows) (cl
 
   clock_now : clock ≡ record {
     minute = st.now;
-    next_id = next_id st.windows st.history;
+    next_id = next_of st;
     present = set_now st;
   }
   clock_now = subst (λ o. ClockShows o st) is rep.clock

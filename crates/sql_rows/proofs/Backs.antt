@@ -40,10 +40,7 @@ use Rattle.sql_rows.specs.Content.{next_entry, next_params, carrier_entry, lrn_e
 use Rattle.settle.specs.declared.rows.VersionRow.TheInside.{Inside}
 use Rattle.sql_rows.specs.Values.{number_in, minute_in, lrn_in, cic_in, bool_in, subject_in, spid_in, or_null_in, status_in, routing_in, number_value, spid_value, bool_value, subject_value, lrn_value, cic_value, status_word, sends_word, release_value, by_value, found_in, found_value, subject_number, window_in, set_number_in, action_in, action_word}
 use Rattle.sql_rows.specs.Versions.{version_entry, version_row}
-use Rattle.numbers.proofs.Small.{is_less}
-
-is_at_most : (n m : ℕ) → n ≤ m → nat_le n m ≡ true
-is_at_most n m h = grind arith
+use Rattle.numbers.proofs.Small.{is_less, at_most}
 
 pub number_back : (n : ℕ) → n < 9223372036854775808 → number_in (Int (pos n)) ≡ Some n
 number_back n h = rw (is_less n 9223372036854775808 h) refl
@@ -67,16 +64,16 @@ subject_back (NumberCode tn) =
     let low : nat_lt n 10000000 ≡ false = grind (arith, v.1) in
     rw (is_less n 9223372036854775808 (omega (arith, v.0))) (rw low (rw (
       is_less n 10000000000 v.0,
-      is_at_most 2 (n / 1000000000) v.1,
-      is_at_most 2 (n / 1000000 % 10) v.2,
+      at_most 2 (n / 1000000000) v.1,
+      at_most 2 (n / 1000000 % 10) v.2,
     ) refl))
 subject_back (BlockCode block) =
     let n = block.number in
     let v : IsBlock n = block.valid in
     rw (is_less n 9223372036854775808 (omega (arith, v.0))) (rw (
       is_less n 10000000 v.0,
-      is_at_most 2 (n / 1000000) v.1,
-      is_at_most 2 (n / 1000 % 10) v.2,
+      at_most 2 (n / 1000000) v.1,
+      at_most 2 (n / 1000 % 10) v.2,
     ) refl)
 
 pub found_back : (id : ℕ) (s : SubjectCode) (b : Bool)
@@ -154,7 +151,7 @@ status_back own code.Canceled fits = refl
 
 pub set_number_back : (n : ℕ) → 0 < n → n ≤ 1000 → set_number_in (Int (pos n)) ≡ Some n
 set_number_back n least most =
-    rw (is_less n 9223372036854775808 (omega arith)) (rw (is_less 0 n least, is_at_most n 1000 most)
+    rw (is_less n 9223372036854775808 (omega arith)) (rw (is_less 0 n least, at_most n 1000 most)
     refl)
 
 pub reads_back : (id : ℕ) (v : Inside) → id < 9223372036854775808
@@ -200,8 +197,8 @@ code_back k c =
     let v : IsCode n = k.valid in
     rw (is_less n 9223372036854775808 (omega (arith, v.0)), spid_back c) (rw (
       is_less n 1000000 v.0,
-      is_at_most 2 (n / 100000) v.1,
-      is_at_most 2 (n / 100 % 10) v.2,
+      at_most 2 (n / 100000) v.1,
+      at_most 2 (n / 100 % 10) v.2,
     ) refl)
 
 pub next_back : (id : ℕ) (r : RoutingCode) → id < 9223372036854775808
@@ -225,8 +222,8 @@ block_back k b last =
       last_back b.last last,
     ) (rw (
       is_less n 10000000 v.0,
-      is_at_most 2 (n / 1000000) v.1,
-      is_at_most 2 (n / 1000 % 10) v.2,
+      at_most 2 (n / 1000000) v.1,
+      at_most 2 (n / 1000 % 10) v.2,
     ) refl)
 
 action_back : (a : Action) → action_in (Text (action_word a)) ≡ Some a
@@ -267,7 +264,7 @@ window_back w =
     let least : 0 < w.minutes = w.in_range.0 in
     let most : w.minutes ≤ 525600 = w.in_range.1 in
     rw (is_less w.minutes 9223372036854775808 (omega arith))
-    (rw (is_less 0 w.minutes least, is_at_most w.minutes 525600 most) refl)
+    (rw (is_less 0 w.minutes least, at_most w.minutes 525600 most) refl)
 
 pub set_back : (set : SetCode) → 0 < set.number → set.number ≤ 1000
     → set_entry (stored (set_params set.number (windows_of set.windows)))

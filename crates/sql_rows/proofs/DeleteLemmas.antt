@@ -15,6 +15,7 @@ use Rattle.sqlite_rules.proofs.PlaceLemmas.{tied_same}
 use Rattle.sqlite_rules.proofs.TableLemmas.{int_is}
 use Rattle.sqlite_value.proofs.OrderLemmas.{value_cmp_total}
 use Rattle.std.specs.Cmp.{tied_itself}
+use Rattle.numbers.proofs.Small.{or_true}
 
 abbrev pub hit_by : List ℤ → Row → Bool
 hit_by ids r = list_any (λ id. has_rowid id r) ids
@@ -83,10 +84,6 @@ module _ (p : Row → Bool) where
       (rw is (rw (meets_itself r int) refl))
   hit r (x ∷ xs) (inr at) is int = go (p x) (hit r xs at is int)
     where
-      or_true : (b : Bool) → (b || true) ≡ true
-      or_true true = refl
-      or_true false = refl
-
       go : (b : Bool) → list_any (meets r) (filter p xs) ≡ true
           → list_any (meets r) (cond b (x ∷ filter p xs) (filter p xs)) ≡ true
       go true more = rw more (or_true (meets r x))

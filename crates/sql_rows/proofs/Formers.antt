@@ -44,11 +44,9 @@ use Rattle.sql_rows.proofs.Orders.{same_number}
 use Rattle.sql_rows.proofs.Picked.{Picks, picks}
 use Rattle.sql_rows.proofs.QueryLemmas.{passes, plain_answer}
 use Rattle.sql_rows.proofs.TableLemmas.{shaped_framed}
+use Rattle.numbers.proofs.Small.{some_is}
 
 -- ---- a row that reads is bare
-
-some_is : {X : Type 0} (x y : X) → ◌≡◌ {A = Option X} (Some x) (Some y) → x ≡ y
-some_is x y e = cc
 
 -- what is sent, if anything is
 abbrev sent_by : Status → Option Send

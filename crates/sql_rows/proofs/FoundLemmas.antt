@@ -38,6 +38,7 @@ use Rattle.meaning.proofs.KeyOrders.{broadcast_total}
 use Rattle.sql_rows.proofs.KeyTests.{next_tests, column_passes, equal_numbers, never_below, carrier_tests, lrn_tests, code_tests, block_tests, version_tests, set_tests, clock_tests, broadcast_tests}
 use Rattle.sql_rows.proofs.Inversions.{reads, number_read, number_small, subject_read, found_read, unfound_read, version_key, next_key, broadcast_reads}
 use Rattle.sql_rows.proofs.Backs.{subject_back}
+use Rattle.numbers.proofs.Small.{true_both}
 
 -- the value of an entry
 abbrev pub value_of : {K V : Type 0} → Option (K × V) → Option V
@@ -149,11 +150,6 @@ module _ (db : Trees) where
       → get (content_in db).broadcasts k ≡ None
   no_great_broadcast k great = go (get (content_in db).broadcasts k) refl
     where
-      both_true : (a b : Bool) → a ≡ true → b ≡ true → (a && b) ≡ true
-      both_true true true p q = refl
-      both_true true false p q = absurd (true≢false (sym q))
-      both_true false b p q = absurd (true≢false (sym p))
-
       go : (o : Option BroadcastRow) → get (content_in db).broadcasts k ≡ o → o ≡ None
       go None e = refl
       go (Some w) e =
@@ -161,7 +157,7 @@ module _ (db : Trees) where
           same_broadcast (db 8) k w e in
           let r = broadcast_reads f.row (k, w) f.reads in
           absurd (true≢false
-          (sym (both_true _ _ (number_small (column f.row 1) k.id r.id)
+          (sym (true_both _ _ (number_small (column f.row 1) k.id r.id)
           (number_small (column f.row 2) k.attempt r.attempt)) ∙ great))
 
   -- ---- a version by the column of its subject

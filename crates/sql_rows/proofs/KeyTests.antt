@@ -31,6 +31,7 @@ use Rattle.sql_rows.proofs.Orders.{broadcast_tie, wait_tie, same_number}
 use Rattle.meaning.proofs.KeyOrders.{broadcast_total, wait_total}
 use Rattle.std.proofs.lemmas.Map.Lookups.{exact_bytes}
 use Rattle.sql_rows.proofs.OnceLemmas.{true_of}
+use Rattle.numbers.proofs.Small.{tied}
 
 abbrev pub equals : Value → Value → Bool
 equals v w = is_true (binary (Compare Eq Binary) v w)
@@ -51,12 +52,7 @@ unfolding binary
 texts s t = true_of _
 
 same_text : (s t : List ℕ) → is_eq (value_cmp (Text s) (Text t)) ≡ true → s ≡ t
-same_text s t h = exact_bytes s t (sym (value_cmp-Text s t) ∙ tie (value_cmp (Text s) (Text t)) h)
-  where
-    tie : (o : Ordering) → is_eq o ≡ true → o ≡ Equal
-    tie Less h = absurd (true≢false (sym h))
-    tie Equal h = refl
-    tie Greater h = absurd (true≢false (sym h))
+same_text s t h = exact_bytes s t (sym (value_cmp-Text s t) ∙ tied (value_cmp (Text s) (Text t)) h)
 
 -- texts of providers are tested as their numbers
 pub equal_spids : (m : ℕ) (s : Spid) → spid_in (spid_value m) ≡ Some m

@@ -8,6 +8,7 @@ use Rattle.sqlite_rules.proofs.ListLemmas.{has_filtered, has_kept}
 use Rattle.sql_rows.specs.Found.{AreRead}
 use Rattle.sql_rows.proofs.DueLemmas.{has_permuted}
 use Rattle.sql_rows.proofs.RowLemmas.{same_first, same_rest}
+use Rattle.numbers.proofs.Small.{some_is}
 
 -- the items are the rows of the table that pass the test, as they read
 pub record Lists {T X : Type 0} (seen : T → X) (entry : Row → Option X) (p : Row
@@ -16,9 +17,6 @@ pub record Lists {T X : Type 0} (seen : T → X) (entry : Row → Option X) (p :
       × (entry r ≡ Some (seen x))
   pub each : (r : Row) (e : X) → Has rows r → p r ≡ true → entry r ≡ Some e → (x : T) × Has items x
       × (seen x ≡ e)
-
-same_some : {X : Type 0} (x y : X) → ◌≡◌ {A = Option X} (Some x) (Some y) → x ≡ y
-same_some x y e = cc
 
 pub has_mapped : {A B : Type 0} (f : A → B) (xs : List A) (x : A) → Has xs x → Has (map f xs) (f x)
 has_mapped f [] x at = at
@@ -51,7 +49,7 @@ module _ {T X : Type 0} (seen : T → X) (read : Row → Option X) where
   read_as (g ∷ gs) (y ∷ ys) are f e (inl same) is = (
     y,
     inl refl,
-    same_some (seen y) e (sym (same_first are) ∙ ap read (sym same) ∙ is),
+    some_is (seen y) e (sym (same_first are) ∙ ap read (sym same) ∙ is),
   )
   read_as (g ∷ gs) (y ∷ ys) are f e (inr at) is = let more =
       read_as gs ys (same_rest are) f e at is in (more.0, inr more.1, more.2)

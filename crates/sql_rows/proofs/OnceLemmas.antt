@@ -17,6 +17,7 @@ use Rattle.sqlite_rules.proofs.PlaceLemmas.{tied_same}
 use Rattle.sqlite_rules.proofs.RuleLemmas.{keeps_at}
 use Rattle.sql_rows.specs.Tables.{the_schema, carrier_table, wait_table, broadcast_table}
 use Rattle.sql_rows.proofs.DeleteLemmas.{int_at}
+use Rattle.numbers.proofs.Small.{or_second, or_first}
 
 pub true_of : (b : Bool) → is_true (from_truth (Some b)) ≡ b
 true_of true = refl
@@ -44,16 +45,8 @@ no_differ (Blob a) b x y h = absurd (true≢false (sym x))
 none_does : (p : Row → Bool) (rows : List Row) (r : Row) → list_any p rows ≡ false → Has rows r
     → p r ≡ false
 none_does p [] r h at = absurd at
-none_does p (x ∷ rows) r h (inl same) = ap p same ∙ first (p x) _ h
-  where
-    first : (a b : Bool) → (a || b) ≡ false → a ≡ false
-    first true b e = absurd (true≢false e)
-    first false b e = refl
-none_does p (x ∷ rows) r h (inr at) = none_does p rows r (second (p x) _ h) at
-  where
-    second : (a b : Bool) → (a || b) ≡ false → b ≡ false
-    second true b e = absurd (true≢false e)
-    second false b e = e
+none_does p (x ∷ rows) r h (inl same) = ap p same ∙ or_first (p x) _ h
+none_does p (x ∷ rows) r h (inr at) = none_does p rows r (or_second (p x) _ h) at
 
 and_false : (a b : Bool) → (a && b) ≡ false → a ≡ true → b ≡ false
 and_false true b h e = h

@@ -6,11 +6,9 @@ use Rattle.std.specs.Cmp.{nat_cmp_total, unsigned_tied}
 use Rattle.std.specs.FinMap.{FinMap, get, insert, remove, entries, find, get-entries, get-from_entries, get-insert, get-remove, same_map, nat_cmp-IsAntisymmetric}
 use Rattle.std.proofs.lemmas.Bool.Decides.{nat_tests}
 use Rattle.sql_rows.specs.Over.{over}
+use Rattle.sql_rows.proofs.Orders.{same_number}
 
 module _ {X Y : Type 0} (change : Option Y → X → X) where
-  ties : (k j : ℕ) → eq_by_cmp nat_cmp k j ≡ true → k ≡ j
-  ties k j e = let h : (k == j) ≡ true = sym (unsigned_tied k j) ∙ e in grind (arith, nat_tests)
-
   found : (more : FinMap nat_cmp Y) (es : List (ℕ × X)) (k : ℕ)
       → find nat_cmp k (map (λ (e : ℕ × X). (e.0, change (get more e.0) e.1)) es)
       ≡ option_map (change (get more k)) (find nat_cmp k es)
@@ -23,7 +21,7 @@ module _ {X Y : Type 0} (change : Option Y → X → X) where
           cond b (Some (change (get more e.0) e.1))
           (find nat_cmp k (map (λ (x : ℕ × X). (x.0, change (get more x.0) x.1)) es))
           ≡ option_map (change (get more k)) (cond b (Some e.1) (find nat_cmp k es))
-      go true same later = ap (λ j. Some (change (get more j) e.1)) (sym (ties k e.0 same))
+      go true same later = ap (λ j. Some (change (get more j) e.1)) (sym (same_number k e.0 same))
       go false same later = later
 
   pub get-over : (bare : FinMap nat_cmp X) (more : FinMap nat_cmp Y) (k : ℕ)
@@ -48,7 +46,7 @@ module _ {X Y : Type 0} (change : Option Y → X → X) where
           ≡ cond (eq_by_cmp nat_cmp j k) (Some (change (get next k) x))
           (get (over change bare more) j)
       at j true e = ap (λ b. option_map (change (get next j)) (cond b (Some x) (get bare j))) e
-          ∙ ap (λ i. Some (change (get next i) x)) (ties j k e)
+          ∙ ap (λ i. Some (change (get next i) x)) (same_number j k e)
           ∙ sym (ap (λ b. cond b (Some (change (get next k) x)) (get (over change bare more) j)) e)
       at j false e = ap (λ b. option_map (change (get next j)) (cond b (Some x) (get bare j))) e
           ∙ ap (λ o. option_map (change o) (get bare j)) (others j e) ∙ sym (get-over bare more j)

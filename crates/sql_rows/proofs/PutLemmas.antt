@@ -27,7 +27,7 @@ use Rattle.sql_rows.specs.declared.statement.Table.TheVariants.{Carrier, Lrn, Co
 use Rattle.meaning.proofs.KeyOrders.{broadcast_total, broadcast_exact, wait_total, wait_exact}
 use Rattle.sql_rows.proofs.KeyTests.{next_tests, set_tests, carrier_tests, lrn_tests, code_tests, block_tests, version_tests, clock_tests, broadcast_tests, wait_tests}
 use Rattle.sql_rows.proofs.Casts.{next_cast, set_cast, next_in, carrier_cast, lrn_cast, code_cast, block_cast, version_cast, broadcast_cast, wait_cast, clock_cast}
-use Rattle.sql_rows.proofs.TableLemmas.{Leaves, framed_twice, put, taken, carriers_framed, lrns_framed, codes_framed, blocks_framed, versions_framed, nexts_framed, broadcasts_framed, waits_framed, sets_framed, clock_framed}
+use Rattle.sql_rows.proofs.TableLemmas.{Leaves, framed_twice, put, taken, content_framed}
 use Rattle.sql_rows.proofs.Over.{over-remove}
 use Rattle.sql_rows.proofs.Rerouted.{row-put}
 use Rattle.sql_rows.proofs.Backs.{carrier_back}
@@ -54,7 +54,7 @@ module _ (old new : Database) (shaped : AreShaped old.trees) where
         schema = (r.added (next_in r.mid.trees 0 ∷ carrier_params s.number)
             (carrier_cast r.mid.trees s.number)).schema;
         shaped = l.shaped;
-        is = carriers_framed old.trees new.trees l.frame
+        is = content_framed Carrier old.trees new.trees l.frame
             ∙ ap (λ m. record (content_in old.trees) { carriers = m }) l.map;
       }
 
@@ -68,7 +68,7 @@ module _ (old new : Database) (shaped : AreShaped old.trees) where
       record {
         schema = (r.added (stored (owner_params n v)) (lrn_cast r.mid.trees n v)).schema;
         shaped = l.shaped;
-        is = lrns_framed old.trees new.trees l.frame
+        is = content_framed Lrn old.trees new.trees l.frame
             ∙ ap (λ m. record (content_in old.trees) { lrns = m }) l.map;
       }
 
@@ -85,7 +85,7 @@ module _ (old new : Database) (shaped : AreShaped old.trees) where
       record {
         schema = (r.added (stored (owner_params n v)) (code_cast r.mid.trees n v)).schema;
         shaped = l.shaped;
-        is = codes_framed old.trees new.trees l.frame
+        is = content_framed Code old.trees new.trees l.frame
             ∙ ap (λ m. record (content_in old.trees) { codes = m }) l.map;
       }
 
@@ -101,7 +101,7 @@ module _ (old new : Database) (shaped : AreShaped old.trees) where
       record {
         schema = (r.added (stored (block_params n v)) (block_cast r.mid.trees n v)).schema;
         shaped = l.shaped;
-        is = blocks_framed old.trees new.trees l.frame
+        is = content_framed Block old.trees new.trees l.frame
             ∙ ap (λ m. record (content_in old.trees) { blocks = m }) l.map;
       }
 
@@ -118,10 +118,11 @@ module _ (old new : Database) (shaped : AreShaped old.trees) where
       record {
         schema = (r.added (stored (set_params n w)) (set_cast r.mid.trees n w)).schema;
         shaped = l.shaped;
-        is = sets_framed old.trees new.trees l.frame ∙ ap (λ m. record (content_in old.trees) {
-          sets = m;
-          clock = clock_from m (clocks_in (old.trees 21));
-        }) l.map;
+        is = content_framed WindowSet old.trees new.trees l.frame
+            ∙ ap (λ m. record (content_in old.trees) {
+              sets = m;
+              clock = clock_from m (clocks_in (old.trees 21));
+            }) l.map;
       }
 
   pub put_clock : (c : StoredClock) → clock_entry (stored (clock_params 0 c)) ≡ Some (0, c)
@@ -136,9 +137,10 @@ module _ (old new : Database) (shaped : AreShaped old.trees) where
       record {
         schema = (r.added (stored (clock_params 0 c)) (clock_cast r.mid.trees 0 c)).schema;
         shaped = l.shaped;
-        is = clock_framed old.trees new.trees l.frame ∙ ap (λ o. record (content_in old.trees) {
-          clock = option_and_then (with_windows (sets_in (old.trees 17))) o;
-        }) (ap (λ m. get m 0) l.map ∙ get-insert nat_cmp_total _ 0 c 0);
+        is = content_framed Clock old.trees new.trees l.frame
+            ∙ ap (λ o. record (content_in old.trees) {
+              clock = option_and_then (with_windows (sets_in (old.trees 17))) o;
+            }) (ap (λ m. get m 0) l.map ∙ get-insert nat_cmp_total _ 0 c 0);
       }
 
   pub put_broadcast : (k : BroadcastKey) (v : BroadcastRow)
@@ -156,7 +158,7 @@ module _ (old new : Database) (shaped : AreShaped old.trees) where
         schema = (r.added (next_in r.mid.trees 8 ∷ broadcast_params k v)
             (broadcast_cast r.mid.trees k v)).schema;
         shaped = l.shaped;
-        is = broadcasts_framed old.trees new.trees l.frame
+        is = content_framed Broadcast old.trees new.trees l.frame
             ∙ ap (λ m. record (content_in old.trees) { broadcasts = m }) l.map;
       }
 
@@ -177,7 +179,7 @@ module _ (old new : Database) (shaped : AreShaped old.trees) where
         schema = (r.added (next_in r.mid.trees 10 ∷ wait_params (wait_key_of c) v)
             (wait_cast r.mid.trees (wait_key_of c) v)).schema;
         shaped = l.shaped;
-        is = waits_framed old.trees new.trees l.frame
+        is = content_framed Wait old.trees new.trees l.frame
             ∙ ap (λ m. record (content_in old.trees) { waits = m }) l.map;
       }
 
@@ -191,7 +193,7 @@ module _ (old new : Database) (shaped : AreShaped old.trees) where
       record {
         schema = r.schema;
         shaped = l.shaped;
-        is = broadcasts_framed old.trees new.trees l.frame
+        is = content_framed Broadcast old.trees new.trees l.frame
             ∙ ap (λ m. record (content_in old.trees) { broadcasts = m }) l.map;
       }
 
@@ -206,7 +208,7 @@ module _ (old new : Database) (shaped : AreShaped old.trees) where
       record {
         schema = r.schema;
         shaped = l.shaped;
-        is = waits_framed old.trees new.trees l.frame
+        is = content_framed Wait old.trees new.trees l.frame
             ∙ ap (λ m. record (content_in old.trees) { waits = m }) l.map;
       }
 
@@ -288,10 +290,10 @@ module _ (old mid new : Database) (shaped : AreShaped old.trees) (n : ℕ) where
             (turn (nexts_in (old.trees 16)));
       }
   together change turn first second =
-      nexts_framed mid.trees new.trees second.frame
+      content_framed NextRouting mid.trees new.trees second.frame
       ∙ ap (λ (c : Content). record c {
         versions = over rerouted (versions_in (mid.trees 18)) (nexts_in (new.trees 16));
-      }) (versions_framed old.trees mid.trees first.frame)
+      }) (content_framed Version old.trees mid.trees first.frame)
       ∙ ap (λ m. record (content_in old.trees) {
         versions = over rerouted m (nexts_in (new.trees 16));
       }) first.map

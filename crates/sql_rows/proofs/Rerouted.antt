@@ -54,11 +54,6 @@ module _ {B : Type 0} (f : VersionRow → B) (same : (n : Option Routing) (v : V
   seen n None = refl
   seen n (Some v) = ap Some (same n v)
 
-  pub seen-over : (rows : FinMap nat_cmp VersionRow) (more : FinMap nat_cmp Routing) (id : ℕ)
-      → option_map f (get (over rerouted rows more) id) ≡ option_map f (get rows id)
-  seen-over rows more id = ap (option_map f) (get-over rerouted rows more id)
-      ∙ seen (get more id) (get rows id)
-
 -- ---- from the tables as they stand to the content
 
 module _ (rows : FinMap nat_cmp VersionRow) (more : FinMap nat_cmp Routing) where
@@ -155,22 +150,6 @@ module _ (db : Trees) where
   version_whole id (Some v) None h e own = absurd h
 
 -- ---- what a routing found makes of a row
-
-other_status : (n : Option Routing) (s : Status) → next_of s ≡ None → rerouted_status n s ≡ s
-other_status None (Sending Create) e = refl
-other_status (Some put) (Sending Create) e = refl
-other_status None (Sending Delete) e = refl
-other_status (Some put) (Sending Delete) e = refl
-other_status n (Sending (Modify put)) e = absurd cc
-other_status n Pending e = refl
-other_status n Conflict e = refl
-other_status n (CancelPending by) e = refl
-other_status n Active e = refl
-other_status n PartialFailure e = refl
-other_status n Failed e = refl
-other_status n (DisconnectPending release) e = refl
-other_status n Old e = refl
-other_status n Canceled e = refl
 
 no_next : (s : Status) → rerouted_status None s ≡ s
 no_next (Sending Create) = refl

@@ -1,6 +1,6 @@
 -- Lists that rise and have the same members are one list; a finite map's entries are such a list.
 use Rattle.std.proofs.Common.{◌≡◌, List, [], ◌∷◌, Bool, true, false, cond, Some, inl, inr, refl, sym, ap, ◌∙◌, true≢false, Less, Equal, Greater}
-use Rattle.std.specs.Prelude.{◌⊎◌, T}
+use Rattle.std.specs.Prelude.{◌⊎◌}
 use Rattle.std.specs.declared.cmp.Ordering.{Ordering}
 use Rattle.std.specs.Ordering.{eq_by_cmp, is_eq, is_lt, ordering_reverse}
 use Rattle.std.specs.Cmp.{IsTotalOrder, tied_itself}
@@ -55,10 +55,6 @@ module _ {X : Type 0} (c : X → X → Ordering) (never : (x y : X) → c x y �
       go rest (inr is) (inl e) = same_head rest (sym e)
       go rest (inr is) (inr also) =
           absurd (never x y (head_of x xs up y also) (head_of y ys high x is))
-
-to_T : (b : Bool) → b ≡ true → T b
-to_T true e = tt
-to_T false e = absurd (true≢false (sym e))
 
 less_of : (o : Ordering) → is_lt o ≡ true → o ≡ Less
 less_of Less e = refl

@@ -5,9 +5,7 @@ use Rattle.numbers.specs.Texts.{spid_text}
 use Rattle.sql_rows.specs.Values.{spid_from}
 use Rattle.std.proofs.lemmas.Bool.Decides.{nat_tests}
 use Rattle.numbers.specs.Spids.{is_spid_character}
-
-small_character : (c : ℕ) → is_spid_character c ≡ true → c < 128
-small_character c h = grind (arith, nat_tests)
+use Rattle.numbers.proofs.SpidLemmas.{small_character}
 
 digits : (n a b c d : ℕ) → n ≡ a * 16777216 + b * 65536 + c * 256 + d → b < 128 → c < 128 → d < 128
     → spid_text n ≡ a ∷ b ∷ c ∷ d ∷ []

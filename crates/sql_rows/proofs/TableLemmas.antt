@@ -1,7 +1,9 @@
 -- What rows taken away and put in do to the maps.
-use Rattle.std.proofs.Common.{◌≡◌, ◌≢◌, ◌⊎◌, inl, inr, ℕ, [], ◌∷◌, Bool, true, false, cond, Option, Some, None, refl, sym, ap, subst, ◌∙◌, arith}
+use Rattle.std.proofs.Common.{◌≡◌, ◌==◌, inl, inr, List, [], ◌∷◌, Bool, true, false, cond, Option, Some, None, refl, sym, ap, subst, ◌∙◌}
+use Rattle.std.proofs.lemmas.Bool.{cond-true, cond-false}
+use Rattle.std.proofs.lemmas.Bool.Decides.{eqb_tells}
 use Rattle.std.specs.declared.cmp.Ordering.{Ordering}
-use Rattle.std.specs.Ordering.{nat_cmp, eq_by_cmp}
+use Rattle.std.specs.Ordering.{eq_by_cmp}
 use Rattle.std.specs.Cmp.{IsTotalOrder, eq_by_cmp_equiv}
 use Rattle.std.specs.FinMap.{FinMap, get, insert, remove, get-insert, get-remove, same_map, IsAntisymmetric}
 use Rattle.sqlite.specs.Order.{Row}
@@ -10,27 +12,21 @@ use Rattle.sqlite.specs.View.{IsShaped, is_int}
 use Rattle.sqlite_trees.specs.declared.store.Shape.TheVariants.{Table as AsTable}
 use Rattle.sqlite_trees.proofs.TreeLemmas.{IsShaped-put_row}
 use Rattle.sqlite.specs.Effect.{Database}
-use Rattle.meaning.specs.Content.{broadcast_cmp, wait_cmp}
-use Rattle.sql_rows.specs.Versions.{rerouted, version_entry}
-use Rattle.sql_rows.specs.Over.{over as both}
-use Rattle.sql_rows.specs.Content.{content_of, content_in, versions_in, nexts_in, next_entry, carrier_entry, lrn_entry, code_entry, block_entry, broadcast_entry, wait_entry, clock_entry, sets_in, clocks_in, clock_from}
+use Rattle.sql_rows.specs.Content.{content_of, content_in}
 use Rattle.sql_rows.specs.Shaped.{AreShaped}
 use Rattle.sql_rows.specs.Statements.{tree_of, key_test}
 use Rattle.sql_rows.specs.declared.statement.Table.{Table}
-use Rattle.sql_rows.specs.declared.statement.Table.TheVariants.{Carrier, Lrn, Code, Block, OldVersion, Broadcast, Wait, OldClock, NextRouting, WindowSet, Version, Clock}
+use Rattle.sql_rows.specs.declared.statement.Table.TheVariants.{Carrier, Lrn, Code, Block, Broadcast, Wait, NextRouting, WindowSet, Version, Clock}
 use Rattle.sql_rows.proofs.QueryLemmas.{passes}
 use Rattle.sql_rows.proofs.RowLemmas.{Tests, content_kept, content_added, put_adds}
 use Rattle.sql_rows.proofs.DeleteLemmas.{filter_shaped}
 use Rattle.sql_rows.specs.Written.{Removed, Replaced, IsFrame, cast_rows}
 
-alike : (m n : ℕ) → (m ≡ n) ⊎ (m ≢ n)
-alike m n = grind arith
-
 pub shaped_framed : (t : Table) (db next : Trees) → IsFrame t db next
     → IsShaped AsTable (next (tree_of t)) → AreShaped db → AreShaped next
-shaped_framed t db next frame given shaped u = elim (alike (tree_of u) (tree_of t)) [
-  | inl same ↦ subst (λ n. IsShaped AsTable (next n)) (sym same) given
-  | inr other ↦ subst (IsShaped AsTable) (sym (frame u other)) (shaped u)
+shaped_framed t db next frame given shaped u = elim (eqb_tells (tree_of u) (tree_of t)) [
+  | inl same ↦ subst (λ n. IsShaped AsTable (next n)) (sym same.1) given
+  | inr other ↦ subst (IsShaped AsTable) (sym (frame u other.1)) (shaped u)
 ]
 
 -- rows taken away leave the shape
@@ -100,185 +96,30 @@ module _ (t : Table) {K V : Type 0} (R : K → K → Ordering) (o : IsTotalOrder
 
 -- ---- the content with one table changed
 
-module _ (db next : Trees) where
-  pub carriers_framed : IsFrame Carrier db next → content_in next ≡ record (content_in db) {
-    carriers = content_of nat_cmp carrier_entry (next 0);
-  }
-  carriers_framed f = rw (
-    f Lrn (λ e. omega arith),
-    f Code (λ e. omega arith),
-    f Block (λ e. omega arith),
-    f Broadcast (λ e. omega arith),
-    f Wait (λ e. omega arith),
-    f NextRouting (λ e. omega arith),
-    f WindowSet (λ e. omega arith),
-    f Version (λ e. omega arith),
-    f Clock (λ e. omega arith),
-  ) refl
+-- these trees, with other rows in a table
+abbrev pub replaced : Table → List Row → Trees → Trees
+replaced t rows db n = cond (n == tree_of t) rows (db n)
 
-  pub lrns_framed : IsFrame Lrn db next → content_in next ≡ record (content_in db) {
-    lrns =
-        content_of nat_cmp lrn_entry (next 2);
-  }
-  lrns_framed f = rw (
-    f Carrier (λ e. omega arith),
-    f Code (λ e. omega arith),
-    f Block (λ e. omega arith),
-    f Broadcast (λ e. omega arith),
-    f Wait (λ e. omega arith),
-    f NextRouting (λ e. omega arith),
-    f WindowSet (λ e. omega arith),
-    f Version (λ e. omega arith),
-    f Clock (λ e. omega arith),
-  ) refl
-
-  pub codes_framed : IsFrame Code db next → content_in next ≡ record (content_in db) {
-    codes =
-        content_of nat_cmp code_entry (next 3);
-  }
-  codes_framed f = rw (
-    f Carrier (λ e. omega arith),
-    f Lrn (λ e. omega arith),
-    f Block (λ e. omega arith),
-    f Broadcast (λ e. omega arith),
-    f Wait (λ e. omega arith),
-    f NextRouting (λ e. omega arith),
-    f WindowSet (λ e. omega arith),
-    f Version (λ e. omega arith),
-    f Clock (λ e. omega arith),
-  ) refl
-
-  pub blocks_framed : IsFrame Block db next → content_in next ≡ record (content_in db) {
-    blocks = content_of nat_cmp block_entry (next 4);
-  }
-  blocks_framed f = rw (
-    f Carrier (λ e. omega arith),
-    f Lrn (λ e. omega arith),
-    f Code (λ e. omega arith),
-    f Broadcast (λ e. omega arith),
-    f Wait (λ e. omega arith),
-    f NextRouting (λ e. omega arith),
-    f WindowSet (λ e. omega arith),
-    f Version (λ e. omega arith),
-    f Clock (λ e. omega arith),
-  ) refl
-
-  pub versions_framed : IsFrame Version db next → content_in next ≡ record (content_in db) {
-    versions = both rerouted (content_of nat_cmp version_entry (next 18)) (nexts_in (db 16));
-  }
-  versions_framed f = rw (
-    f Carrier (λ e. omega arith),
-    f Lrn (λ e. omega arith),
-    f Code (λ e. omega arith),
-    f Block (λ e. omega arith),
-    f Broadcast (λ e. omega arith),
-    f Wait (λ e. omega arith),
-    f NextRouting (λ e. omega arith),
-    f WindowSet (λ e. omega arith),
-    f Clock (λ e. omega arith),
-  ) refl
-
-  pub nexts_framed : IsFrame NextRouting db next → content_in next ≡ record (content_in db) {
-    versions = both rerouted (versions_in (db 18)) (content_of nat_cmp next_entry (next 16));
-  }
-  nexts_framed f = rw (
-    f Carrier (λ e. omega arith),
-    f Lrn (λ e. omega arith),
-    f Code (λ e. omega arith),
-    f Block (λ e. omega arith),
-    f Broadcast (λ e. omega arith),
-    f Wait (λ e. omega arith),
-    f WindowSet (λ e. omega arith),
-    f Version (λ e. omega arith),
-    f Clock (λ e. omega arith),
-  ) refl
-
-  pub broadcasts_framed : IsFrame Broadcast db next → content_in next ≡ record (content_in db) {
-    broadcasts = content_of broadcast_cmp broadcast_entry (next 8);
-  }
-  broadcasts_framed f = rw (
-    f Carrier (λ e. omega arith),
-    f Lrn (λ e. omega arith),
-    f Code (λ e. omega arith),
-    f Block (λ e. omega arith),
-    f Wait (λ e. omega arith),
-    f NextRouting (λ e. omega arith),
-    f WindowSet (λ e. omega arith),
-    f Version (λ e. omega arith),
-    f Clock (λ e. omega arith),
-  ) refl
-
-  pub waits_framed : IsFrame Wait db next → content_in next ≡ record (content_in db) {
-    waits = content_of wait_cmp wait_entry (next 10);
-  }
-  waits_framed f = rw (
-    f Carrier (λ e. omega arith),
-    f Lrn (λ e. omega arith),
-    f Code (λ e. omega arith),
-    f Block (λ e. omega arith),
-    f Broadcast (λ e. omega arith),
-    f NextRouting (λ e. omega arith),
-    f WindowSet (λ e. omega arith),
-    f Version (λ e. omega arith),
-    f Clock (λ e. omega arith),
-  ) refl
-
-  pub sets_framed : IsFrame WindowSet db next → content_in next ≡ record (content_in db) {
-    sets = sets_in (next 17);
-    clock = clock_from (sets_in (next 17)) (clocks_in (db 21));
-  }
-  sets_framed f = rw (
-    f Carrier (λ e. omega arith),
-    f Lrn (λ e. omega arith),
-    f Code (λ e. omega arith),
-    f Block (λ e. omega arith),
-    f Broadcast (λ e. omega arith),
-    f Wait (λ e. omega arith),
-    f NextRouting (λ e. omega arith),
-    f Version (λ e. omega arith),
-    f Clock (λ e. omega arith),
-  ) refl
-
-  pub clock_framed : IsFrame Clock db next → content_in next ≡ record (content_in db) {
-    clock = clock_from (sets_in (db 17)) (content_of nat_cmp clock_entry (next 21));
-  }
-  clock_framed f = rw (
-    f Carrier (λ e. omega arith),
-    f Lrn (λ e. omega arith),
-    f Code (λ e. omega arith),
-    f Block (λ e. omega arith),
-    f Broadcast (λ e. omega arith),
-    f Wait (λ e. omega arith),
-    f NextRouting (λ e. omega arith),
-    f WindowSet (λ e. omega arith),
-    f Version (λ e. omega arith),
-  ) refl
-
-  -- the tables of an earlier form are no part of it
-  pub old_version_framed : IsFrame OldVersion db next → content_in next ≡ content_in db
-  old_version_framed f = rw (
-    f Carrier (λ e. omega arith),
-    f Lrn (λ e. omega arith),
-    f Code (λ e. omega arith),
-    f Block (λ e. omega arith),
-    f Broadcast (λ e. omega arith),
-    f Wait (λ e. omega arith),
-    f NextRouting (λ e. omega arith),
-    f WindowSet (λ e. omega arith),
-    f Version (λ e. omega arith),
-    f Clock (λ e. omega arith),
-  ) refl
-
-  pub old_clock_framed : IsFrame OldClock db next → content_in next ≡ content_in db
-  old_clock_framed f = rw (
-    f Carrier (λ e. omega arith),
-    f Lrn (λ e. omega arith),
-    f Code (λ e. omega arith),
-    f Block (λ e. omega arith),
-    f Broadcast (λ e. omega arith),
-    f Wait (λ e. omega arith),
-    f NextRouting (λ e. omega arith),
-    f WindowSet (λ e. omega arith),
-    f Version (λ e. omega arith),
-    f Clock (λ e. omega arith),
-  ) refl
+-- a change of one table is a change of the content there alone
+pub content_framed : (t : Table) (db next : Trees) → IsFrame t db next
+    → content_in next ≡ content_in (replaced t (next (tree_of t)) db)
+content_framed t db next frame = rw (
+  is Carrier,
+  is Lrn,
+  is Code,
+  is Block,
+  is Broadcast,
+  is Wait,
+  is NextRouting,
+  is WindowSet,
+  is Version,
+  is Clock,
+) refl
+  where
+    is : (u : Table) → next (tree_of u) ≡ replaced t (next (tree_of t)) db (tree_of u)
+    is u = elim (eqb_tells (tree_of u) (tree_of t)) [
+      | inl same ↦ ap next same.1
+          ∙ sym (cond-true (tree_of u == tree_of t) (next (tree_of t)) (db (tree_of u)) same.0)
+      | inr other ↦ frame u other.1
+          ∙ sym (cond-false (tree_of u == tree_of t) (next (tree_of t)) (db (tree_of u)) other.0)
+    ]

@@ -26,7 +26,7 @@ use Rattle.sqlite.specs.Term.{Term, col}
 use Rattle.sqlite.proofs.Callers.{IsPlain, command_of, statement_of, runs_as, one_step}
 use Rattle.sql_rows.specs.Moving.{IsCleared, clear_text, table_of_old}
 use Rattle.sql_rows.specs.declared.moving.OldTable.{OldTable}
-use Rattle.sql_rows.proofs.MovingLemmas.{clear_is, clear_plain}
+use Rattle.sql_rows.proofs.MovingLemmas.{clear_is, clear_plain, went, same_value}
 use Rattle.sql_rows.specs.Tables.{the_schema}
 use Rattle.sql_rows.specs.Statements.{plain_query, slot_of, table_of, tree_of, key_test, delete_text, insert_text, insert_terms, width_of, insert_command}
 use Rattle.sql_rows.specs.declared.statement.Table.{Table}
@@ -35,15 +35,6 @@ use Rattle.sql_rows.specs.Written.{IsFrame, Removed, Added, cast_rows}
 use Rattle.sql_rows.proofs.StatementLemmas.{delete_is, delete_plain, insert_is, insert_plain}
 use Rattle.sql_rows.proofs.QueryLemmas.{passes, plain_answer}
 use Rattle.sql_rows.proofs.DeleteLemmas.{deleted}
-
--- a part that gave a value did not stop on the way
-went : {B E R : Type 0} {b : B} {Stops : E → Type 0} → ((stop : E) × Stops stop × (Ok b ≡ Err stop))
-    ⊎ R → R
-went (inl stopped) = absurd (let e = stopped.2 in cc)
-went (inr on) = on
-
-same_value : {B E : Type 0} {a b : B} → ◌≡◌ {A = Result B E} (Ok a) (Ok b) → a ≡ b
-same_value e = cc
 
 slot_is : (t : Table) → slice_get the_schema.tables (slot_of t) ≡ Some (table_of t)
 slot_is Carrier = refl

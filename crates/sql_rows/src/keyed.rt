@@ -1,6 +1,5 @@
 //! Rows with their keys, as a query shows them.
 ghost use Rattle.std.specs.Prelude.{◌≡◌, ◌<◌, option_map};
-ghost use Rattle.sqlite.specs.Order.{column};
 ghost use Rattle.version.specs.Views.{windows_of};
 ghost use Rattle.sql_rows.specs.Content.{windows_in};
 

@@ -1,12 +1,12 @@
 //! Values on their way into a statement.
-ghost use Rattle.std.specs.Prelude.{◌≡◌, ◌<◌, ◌*◌, ◌+◌, pos, negsuc, codes, option_map, IfSome};
+ghost use Rattle.std.specs.Prelude.{◌≡◌, ◌<◌, pos, negsuc, option_map, IfSome};
 ghost use Rattle.sqlite.specs.declared.types.Value.TheVariants.{Int, Text};
 ghost use Rattle.sqlite.specs.Value.{owned};
 ghost use Rattle.sqlite.specs.Values.{or_null};
 ghost use Rattle.numbers.specs.Texts.{spid_text};
 ghost use Rattle.numbers.specs.Views.{subject_of, routing_of, minute_of};
 ghost use Rattle.meaning.specs.Views.{status_of};
-ghost use Rattle.sql_rows.specs.Values.{number_value, subject_number, subject_value, bool_value, lrn_value, cic_of, cic_value, status_word, action_word, sends_word, release_value, side_word, by_value, found_value};
+ghost use Rattle.sql_rows.specs.Values.{number_value, subject_number, subject_value, bool_value, lrn_value, cic_of, cic_value, status_word, action_word, sends_word, release_value, by_value, found_value};
 
 use meaning::{Action, Side, Status};
 use numbers::{Cic, Minute, Routing, Subject};

@@ -1,5 +1,5 @@
 //! A version's row as a query shows it, and as a statement takes it.
-ghost use Rattle.std.specs.Prelude.{◌≡◌, ◌<◌, map, option_map, Some, IsTrue, List};
+ghost use Rattle.std.specs.Prelude.{◌≡◌, ◌<◌, map, option_map, Some, IsTrue};
 ghost use Rattle.sqlite.specs.Value.{owned};
 ghost use Rattle.numbers.specs.Texts.{spid_text};
 ghost use Rattle.meaning.specs.Views.{status_of};

@@ -35,7 +35,7 @@ use Rattle.sql_store.specs.declared.blocks.Role.TheVariants.{InForce, Open}
 use Rattle.sql_store.proofs.ListLemmas.{all_there, sorted_map}
 use Rattle.sql_store.proofs.MappedLemmas.{from_filter_mapped, has_filter_mapped}
 use Rattle.sql_store.proofs.WaiterLemmas.{has_any}
-use Rattle.numbers.proofs.Small.{equal_number, or_right}
+use Rattle.numbers.proofs.Small.{equal_number, or_right, number_equal, or_left}
 
 -- ---- numbers of the block by one column
 
@@ -129,9 +129,6 @@ module _ (db : Trees) (standing : Role) where
 
 -- ---- both columns
 
-same_is : (m n : ℕ) → m ≡ n → (m == n) ≡ true
-same_is m n e = grind (arith, nat_tests)
-
 told_by : (b : Bool) (So : Type 0) → (b ≡ true → So) → (So → b ≡ true) → IsTold b So
 told_by true So says back = says refl
 told_by false So says back = λ so. true≢false (sym (back so))
@@ -140,7 +137,8 @@ module _ (c : Content) (block : ℕ) (standing : Role) (listed : List Tn)
     (are : AreNumbers c standing block listed) where
   listed_there : (tn : Tn) → Has listed tn → is_listed listed tn ≡ true
   listed_there tn at =
-      has_any (λ (t : Tn). t.number == tn.number) listed tn at (same_is tn.number tn.number refl)
+      has_any (λ (t : Tn). t.number == tn.number) listed tn at (number_equal tn.number tn.number
+      refl)
 
   listed_told : (tn : Tn) → block_of tn.number ≡ block
       → IsTold (is_listed listed tn) (Stands c standing tn.number)
@@ -149,7 +147,8 @@ module _ (c : Content) (block : ℕ) (standing : Role) (listed : List Tn)
       let t = some_has (λ (t : Tn). t.number == tn.number) listed e in
       subst (Stands c standing) (equal_number t.0.number tn.number t.2) (are.only t.0 t.1).1)
       (λ stands. let t = are.each tn.number own stands in
-      has_any (λ (t : Tn). t.number == tn.number) listed t.0 t.1 (same_is t.0.number tn.number t.2))
+      has_any (λ (t : Tn). t.number == tn.number) listed t.0 t.1 (number_equal t.0.number tn.number
+      t.2))
 
 has_appended : {X : Type 0} (xs ys : List X) (x : X) → Has (xs ++ ys) x → Has xs x ⊎ Has ys x
 has_appended [] ys x at = inr at
@@ -167,10 +166,6 @@ has_first (z ∷ zs) ys x (inr at) = inr (has_first zs ys x at)
 has_second : {X : Type 0} (xs ys : List X) (x : X) → Has ys x → Has (xs ++ ys) x
 has_second [] ys x at = at
 has_second (z ∷ zs) ys x at = inr (has_second zs ys x at)
-
-left_true : (a b : Bool) → a ≡ true → (a || b) ≡ true
-left_true true b e = refl
-left_true false b e = absurd (true≢false (sym e))
 
 pub block_is : (c : Content) (block : ℕ) (in_force opened tns : List Tn)
     → AreNumbers c InForce block in_force → AreNumbers c Open block opened
@@ -215,7 +210,7 @@ block_is c block in_force opened tns one two rises only each = record {
           is_in_force = listed_told c block InForce in_force one tn own;
           is_open = listed_told c block Open opened two tn own;
           in_use = elim where_it_is [
-            | inl first ↦ left_true _ _ (listed_there c block InForce in_force one tn first)
+            | inl first ↦ or_left _ _ (listed_there c block InForce in_force one tn first)
             | inr second ↦ or_right _ _ (listed_there c block Open opened two tn second)
           ];
         }

@@ -196,12 +196,6 @@ looked_then a b d answered one two = record {
       two.survives;
 }
 
--- a call in a transaction that was made was made in one that had not ended
-pub not_ended : {X : Type 0} (inside : Bool) (r : Result ℕ Error) (n : ℕ) (e : Error) → r ≡ Ok n
-    → (inside ≡ false → (r ≡ Err e) × X) → IsTrue inside
-not_ended true r n e was ended = refl
-not_ended false r n e was ended = absurd (let h = (ended refl).0 in cc)
-
 -- ---- calls in a transaction
 
 -- an execution in a transaction keeps the last commit
@@ -271,6 +265,17 @@ statement_writes g old new sql params r done Did clean_of ended runs survives co
     }
 
 -- ---- changes in turn
+
+-- what has not changed
+pub survives_still : (a : State) → Survives a a (λ _. ⊥)
+survives_still a = record {
+  clean = omega arith;
+  shield = λ s. s;
+  counts = omega arith;
+  limit = refl;
+  closes = λ clean up. inl up;
+  crash = λ clean db may. inl may;
+}
 
 module _ (a b c : State) where
   pub kept_then : (IsTrue b.is_open → Kept a b) → (IsTrue c.is_open → Kept b c) → IsTrue c.is_open
@@ -342,14 +347,6 @@ module _ (a b c : State) where
     survives = both_survive first.survives two.survives;
   }
 
-  pub stops_then : (f g h : Content → Content) → Makes a b true f → Makes b c false g
-      → Makes a c false h
-  stops_then f g h first two = record {
-    made = λ no. absurd (true≢false (sym no));
-    kept = kept_then first.kept two.kept;
-    survives = both_survive first.survives two.survives;
-  }
-
   -- one more of many
   pub goes_then : (f left next whole : Content → Content) → Goes a b left whole → Makes b c true f
       → ((m : Content) → next (f m) ≡ left m) → Goes a c next whole
@@ -362,14 +359,6 @@ module _ (a b c : State) where
     is = λ clean inside.
         ap next (two.made refl clean (first.inside (earlier two.survives clean) inside)).is
         ∙ same (content_at b) ∙ first.is (earlier two.survives clean) inside;
-    kept = kept_then first.kept two.kept;
-    survives = both_survive first.survives two.survives;
-  }
-
-  pub goes_stop : (f left whole h : Content → Content) → Goes a b left whole → Makes b c false f
-      → Makes a c false h
-  goes_stop f left whole h first two = record {
-    made = λ no. absurd (true≢false (sym no));
     kept = kept_then first.kept two.kept;
     survives = both_survive first.survives two.survives;
   }

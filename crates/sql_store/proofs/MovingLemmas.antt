@@ -51,12 +51,12 @@ use Rattle.sql_rows.proofs.Picked.{Picks}
 use Rattle.sql_rows.proofs.MovingLemmas.{old_query_is, old_query_plain, old_query_unlisted}
 use Rattle.sql_rows.proofs.PutLemmas.{version_left}
 use Rattle.sql_rows.proofs.StatementLemmas.{query_is, query_plain, query_selects, query_unlisted}
-use Rattle.sql_rows.proofs.TableLemmas.{framed_twice, old_clock_framed, old_version_framed, removed_shaped, versions_framed}
+use Rattle.sql_rows.proofs.TableLemmas.{framed_twice, content_framed, removed_shaped}
 use Rattle.sql_store.specs.Changes.{if_some, with_set}
 use Rattle.sql_store.specs.Moving.{Alters, AreOldShaped, ArePutBut, HasIds, IsBarePut, IsBegunAs, IsCarried, IsCarriedOver, IsFilled, IsGrown, IsIndexed, IsOfForm, IsOldPut, IsOldTaken, IsRebuilt, IsRebuiltAs, IsThinned, Moves, WereItsWindows, WereOtherWindows, all_of, all_old, ids_in, put_if, seen_of}
 use Rattle.sql_store.specs.Store.{IsInside, IsSame, Kept, Looked, Makes, Writes, Wrote}
 use Rattle.sql_store.proofs.WholeLemmas.{moved_read}
-use Rattle.sql_store.proofs.CallLemmas.{both_survive, call_keeps, earlier, fails_as, fails_open, fails_same, kept_then, looked_then, query_commits_nothing, shown_open, shown_same, shown_unchanged}
+use Rattle.sql_store.proofs.CallLemmas.{both_survive, call_keeps, earlier, fails_as, fails_open, fails_same, kept_then, looked_then, query_commits_nothing, shown_open, shown_same, shown_unchanged, survives_still}
 
 -- ---- calls in turn
 
@@ -331,14 +331,7 @@ put_none a ids = record {
     };
   };
   kept = λ up. record { was_open = up; committed = refl };
-  survives = record {
-    clean = omega arith;
-    shield = λ s. s;
-    counts = omega arith;
-    limit = refl;
-    closes = λ clean up. inl up;
-    crash = λ clean db may. inl may;
-  };
+  survives = survives_still a;
 }
 
 module _ (a b c : State) (id : ℕ) (more ids : List ℕ) where
@@ -389,14 +382,7 @@ thinned_none a = record {
     did = record { schema = λ e. e; shaped = λ s. s; frame = λ u other. refl };
   };
   kept = λ up. record { was_open = up; committed = refl };
-  survives = record {
-    clean = omega arith;
-    shield = λ s. s;
-    counts = omega arith;
-    limit = refl;
-    closes = λ clean up. inl up;
-    crash = λ clean db may. inl may;
-  };
+  survives = survives_still a;
 }
 
 inside_thinned : (a b : State) → IsInside a → Wrote a b IsThinned → IsInside b
@@ -472,17 +458,22 @@ module _ (a b : State) (id : ℕ) where
   asked_unchanged rows =
       shown_unchanged one_text one_key a b rows (query_selects OldVersionNumbered)
 
-  pub asked_kept : {R : Type 0} (items : R → List Row) (r : Result R Error)
+  -- with this text and these parameters
+  pub asked_kept : {sql : List ℕ} {params : Row} → sql ≡ one_text → params ≡ one_key
+      → {R : Type 0} (items : R → List Row) (r : Result R Error)
       → (IsTrue b.is_open → HasCleanDisk b)
-      → (HasCleanDisk b → IfOk r (λ found. Shown one_text one_key a b (items found)))
-      → (HasCleanDisk b → IfErr r (λ e. FailsToQuery one_text one_key a b e
-      ⊎ IsTooLate one_text one_key a b e)) → IsTrue b.is_open → Kept a b
-  asked_kept items (Ok found) clean_of shown fails up = let u =
-      asked_unchanged (items found) (shown (clean_of up)) in record {
+      → (HasCleanDisk b → IfOk r (λ found. Shown sql params a b (items found)))
+      → (HasCleanDisk b → IfErr r (λ e. FailsToQuery sql params a b e
+      ⊎ IsTooLate sql params a b e)) → IsTrue b.is_open → Kept a b
+  asked_kept text key items (Ok found) clean_of shown fails up = let u =
+      asked_unchanged (items found) (subst₂ (λ sql params. Shown sql params a b (items found))
+      text key (shown (clean_of up))) in record {
         was_open = u.0.was_open;
         committed = u.0.committed_is;
       }
-  asked_kept items (Err e) clean_of shown fails up = go (fails (clean_of up))
+  asked_kept text key items (Err e) clean_of shown fails up =
+      go (subst₂ (λ sql params. FailsToQuery sql params a b e ⊎ IsTooLate sql params a b e)
+      text key (fails (clean_of up)))
     where
       left : IsUnchanged a b ⊎ IsRolledBack a b → Kept a b
       left (inl u) = record { was_open = u.0.was_open; committed = u.0.committed_is }
@@ -594,7 +585,8 @@ filled ids clock a e shaped it =
         clock = two.rows;
       };
       content = λ sets versions clocks.
-          old_clock_framed d.trees e.trees two.frame ∙ old_version_framed c.trees d.trees one.frame
+          content_framed OldClock d.trees e.trees two.frame ∙ content_framed OldVersion c.trees
+          d.trees one.frame
           ∙ changed.2
           ∙ ap (first_set clock) (put_content b put sets versions clocks)
           ∙ with_first (all_old a.trees ids empty) clock a.trees;
@@ -604,7 +596,7 @@ filled ids clock a e shaped it =
         → a.trees 21 ≡ [] → content_in b.trees ≡ content_with Modify (all_old a.trees ids empty)
         None a.trees
     put_content b put sets versions clocks =
-        versions_framed a.trees b.trees put.frame
+        content_framed Version a.trees b.trees put.frame
         ∙ ap (λ m. content_over m) (put.versions shaped
         ∙ ap (λ rows. all_old a.trees ids (versions_in rows)) versions)
         ∙ blank_over sets clocks

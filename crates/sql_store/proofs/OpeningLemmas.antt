@@ -2,9 +2,8 @@
 use Rattle.std.proofs.Common.{◌≡◌, ◌≤◌, inl, inr, suc, Bool, List, [], ◌∷◌, arith, length, refl, sym, ap, subst}
 use Rattle.std.specs.List.{AllByRecursion, AllZip}
 use Rattle.sqlite.specs.State.{IsLive}
-use Rattle.sqlite_trees.specs.Props.{IsShaped-prop}
+use Rattle.sqlite_trees.specs.Props.{AllByRecursion-prop, IsShaped-prop}
 use Rattle.sqlite_trees.specs.declared.store.Shape.TheVariants.{Table as AsTable}
-use mathlib.Core.HLevel.{×_prop}
 use Rattle.std.specs.Prelude.{filter}
 use Rattle.sqlite.specs.Start.{FindsIn}
 use Rattle.sqlite.specs.Recovery.{Image}
@@ -46,107 +45,48 @@ use Rattle.sql_store.specs.Moving.{AreOldShaped, IsMovedFrom, IsOfForm, of_earli
 use Rattle.sql_store.specs.Store.{IsOurs}
 
 -- the laws of a store that is not broken give the shape of each table
+each_shaped : (v : View) → IsOrdered v.shape v.trees → (ts : List Table)
+    → AllByRecursion (λ (t : Table). v.shape t.tree ≡ AsTable) ts
+    → AllByRecursion (λ (t : Table). IsShaped AsTable (v.trees t.tree)) ts
+each_shaped v ordered [] laid = tt
+each_shaped v ordered (t ∷ ts) laid = (
+  subst (λ s. IsShaped s (v.trees t.tree)) laid.0 (ordered t.tree),
+  each_shaped v ordered ts laid.1,
+)
+
+tables_shaped : (k : Schema) (v : View) → IsListed (v.trees catalog_tree) v.shape v.reals
+    → IsOrdered v.shape v.trees → IsSound k v.trees
+    → AllByRecursion (λ (t : Table). IsShaped AsTable (v.trees t.tree)) k.tables
+tables_shaped k v listed ordered sound =
+    each_shaped v ordered k.tables (laid_out listed (objects_rise v listed ordered)
+    sound.lists.listed).tables
+
 pub shaped_by_laws : (v : View) → IsListed (v.trees catalog_tree) v.shape v.reals
     → IsOrdered v.shape v.trees → IsSound the_schema v.trees → AreShaped v.trees
-shaped_by_laws v listed ordered sound = shaped
+shaped_by_laws v listed ordered sound = shaped (tables_shaped the_schema v listed ordered sound)
   where
-    shaped : AreShaped v.trees
-    shaped Carrier =
-        subst (λ s. IsShaped s (v.trees 0)) (laid_out listed (objects_rise v listed ordered)
-        sound.lists.listed).tables.0 (ordered 0)
-    shaped Lrn =
-        subst (λ s. IsShaped s (v.trees 2)) (laid_out listed (objects_rise v listed ordered)
-        sound.lists.listed).tables.1.0 (ordered 2)
-    shaped Code =
-        subst (λ s. IsShaped s (v.trees 3)) (laid_out listed (objects_rise v listed ordered)
-        sound.lists.listed).tables.1.1.0 (ordered 3)
-    shaped Block =
-        subst (λ s. IsShaped s (v.trees 4)) (laid_out listed (objects_rise v listed ordered)
-        sound.lists.listed).tables.1.1.1.0 (ordered 4)
-    shaped OldVersion =
-        subst (λ s. IsShaped s (v.trees 5)) (laid_out listed (objects_rise v listed ordered)
-        sound.lists.listed).tables.1.1.1.1.0 (ordered 5)
-    shaped Broadcast =
-        subst (λ s. IsShaped s (v.trees 8)) (laid_out listed (objects_rise v listed ordered)
-        sound.lists.listed).tables.1.1.1.1.1.0 (ordered 8)
-    shaped Wait =
-        subst (λ s. IsShaped s (v.trees 10)) (laid_out listed (objects_rise v listed ordered)
-        sound.lists.listed).tables.1.1.1.1.1.1.0 (ordered 10)
-    shaped OldClock =
-        subst (λ s. IsShaped s (v.trees 12)) (laid_out listed (objects_rise v listed ordered)
-        sound.lists.listed).tables.1.1.1.1.1.1.1.0 (ordered 12)
-    shaped NextRouting =
-        subst (λ s. IsShaped s (v.trees 16)) (laid_out listed (objects_rise v listed ordered)
-        sound.lists.listed).tables.1.1.1.1.1.1.1.1.0 (ordered 16)
-    shaped WindowSet =
-        subst (λ s. IsShaped s (v.trees 17)) (laid_out listed (objects_rise v listed ordered)
-        sound.lists.listed).tables.1.1.1.1.1.1.1.1.1.0 (ordered 17)
-    shaped Version =
-        subst (λ s. IsShaped s (v.trees 18)) (laid_out listed (objects_rise v listed ordered)
-        sound.lists.listed).tables.1.1.1.1.1.1.1.1.1.1.0 (ordered 18)
-    shaped Clock =
-        subst (λ s. IsShaped s (v.trees 21)) (laid_out listed (objects_rise v listed ordered)
-        sound.lists.listed).tables.1.1.1.1.1.1.1.1.1.1.1.0 (ordered 21)
+    shaped : AllByRecursion (λ (t : Table). IsShaped AsTable (v.trees t.tree)) the_schema.tables
+        → AreShaped v.trees
+    shaped l Carrier = l.0
+    shaped l Lrn = l.1.0
+    shaped l Code = l.1.1.0
+    shaped l Block = l.1.1.1.0
+    shaped l OldVersion = l.1.1.1.1.0
+    shaped l Broadcast = l.1.1.1.1.1.0
+    shaped l Wait = l.1.1.1.1.1.1.0
+    shaped l OldClock = l.1.1.1.1.1.1.1.0
+    shaped l NextRouting = l.1.1.1.1.1.1.1.1.0
+    shaped l WindowSet = l.1.1.1.1.1.1.1.1.1.0
+    shaped l Version = l.1.1.1.1.1.1.1.1.1.1.0
+    shaped l Clock = l.1.1.1.1.1.1.1.1.1.1.1.0
 
 pub old_shaped_by_laws : (f : Form) (v : View) → IsListed (v.trees catalog_tree) v.shape v.reals
     → IsOrdered v.shape v.trees → IsSound (schema_of f) v.trees → AreOldShaped f v.trees
-old_shaped_by_laws First v listed ordered sound = let l =
-    (laid_out listed (objects_rise v listed ordered) sound.lists.listed).tables in (
-      subst (λ s. IsShaped s (v.trees 0)) l.0 (ordered 0),
-      (
-        subst (λ s. IsShaped s (v.trees 2)) l.1.0 (ordered 2),
-        (
-          subst (λ s. IsShaped s (v.trees 3)) l.1.1.0 (ordered 3),
-          (
-            subst (λ s. IsShaped s (v.trees 4)) l.1.1.1.0 (ordered 4),
-            (
-              subst (λ s. IsShaped s (v.trees 5)) l.1.1.1.1.0 (ordered 5),
-              (
-                subst (λ s. IsShaped s (v.trees 8)) l.1.1.1.1.1.0 (ordered 8),
-                (
-                  subst (λ s. IsShaped s (v.trees 10)) l.1.1.1.1.1.1.0 (ordered 10),
-                  (subst (λ s. IsShaped s (v.trees 12)) l.1.1.1.1.1.1.1.0 (ordered 12), tt),
-                ),
-              ),
-            ),
-          ),
-        ),
-      ),
-    )
-old_shaped_by_laws Modify v listed ordered sound = let l =
-    (laid_out listed (objects_rise v listed ordered) sound.lists.listed).tables in (
-      subst (λ s. IsShaped s (v.trees 0)) l.0 (ordered 0),
-      (
-        subst (λ s. IsShaped s (v.trees 2)) l.1.0 (ordered 2),
-        (
-          subst (λ s. IsShaped s (v.trees 3)) l.1.1.0 (ordered 3),
-          (
-            subst (λ s. IsShaped s (v.trees 4)) l.1.1.1.0 (ordered 4),
-            (
-              subst (λ s. IsShaped s (v.trees 5)) l.1.1.1.1.0 (ordered 5),
-              (
-                subst (λ s. IsShaped s (v.trees 8)) l.1.1.1.1.1.0 (ordered 8),
-                (
-                  subst (λ s. IsShaped s (v.trees 10)) l.1.1.1.1.1.1.0 (ordered 10),
-                  (
-                    subst (λ s. IsShaped s (v.trees 12)) l.1.1.1.1.1.1.1.0 (ordered 12),
-                    (subst (λ s. IsShaped s (v.trees 16)) l.1.1.1.1.1.1.1.1.0 (ordered 16), tt),
-                  ),
-                ),
-              ),
-            ),
-          ),
-        ),
-      ),
-    )
+old_shaped_by_laws f = tables_shaped (schema_of f)
 
 pub AreOldShaped-prop : (f : Form) (db : Trees) → IsProp (AreOldShaped f db)
-AreOldShaped-prop f db = each (schema_of f).tables
-  where
-    each : (ts : List Table)
-        → IsProp (AllByRecursion (λ (t : Table). IsShaped AsTable (db t.tree)) ts)
-    each [] a b = refl
-    each (t ∷ ts) a b = ×_prop (IsShaped-prop AsTable _) (each ts) a b
+AreOldShaped-prop f db = AllByRecursion-prop (λ (t : Table). IsShaped AsTable (db t.tree))
+    (λ t. IsShaped-prop AsTable (db t.tree)) (schema_of f).tables
 
 -- what was opened over a store that is not broken is as an open of files leaves it
 pub was_opened : (v : View) (s : State) → IsListed (v.trees catalog_tree) v.shape v.reals

@@ -1,5 +1,5 @@
 -- Rows that are read one at a time.
-use Rattle.std.proofs.Common.{◌≡◌, ◌⊎◌, inl, inr, ℕ, List, [], ◌∷◌, ◌++◌, Bool, Option, Some, Result, Ok, Err, IfOk, OnErr, OnOk, is_ok, IsTrue, true≢false, arith, false, sym, ap, ap₂, subst, ◌∙◌}
+use Rattle.std.proofs.Common.{◌≡◌, ◌⊎◌, inl, inr, ℕ, List, [], ◌∷◌, ◌++◌, Bool, Option, Some, None, Result, Ok, Err, IfOk, OnErr, OnOk, is_ok, IsTrue, true≢false, arith, false, refl, sym, ap, ap₂, subst, ◌∙◌}
 use Rattle.std.proofs.lemmas.List.{map-append}
 use Rattle.sqlite.specs.Clock.{timed}
 use Rattle.sqlite.specs.Effect.{Database}
@@ -12,7 +12,7 @@ use Rattle.sqlite.specs.Store.{Ghosts}
 use Rattle.sqlite.proofs.Callers.{begun_plain, unchanged_then}
 use Rattle.sql_rows.specs.Found.{AreRead}
 use Rattle.sql_rows.specs.declared.fault.Fault.{Fault}
-use Rattle.sql_store.specs.Through.{HasReadAll, TellsNone, Unmoved}
+use Rattle.sql_store.specs.Through.{HasReadAll, ReadsOn, TellsNone, Unmoved}
 use Rattle.sql_rows.specs.Moving.{IsTableOf}
 use Rattle.sql_rows.specs.Statements.{all_text}
 use Rattle.sql_rows.specs.declared.moving.Form.{Form}
@@ -28,7 +28,7 @@ use Rattle.sql_store.specs.Moving.{AreIdsOf, HasIds, IsOfForm}
 use Rattle.sql_store.specs.Store.{IsOurs, IsSame, Looked}
 use Rattle.sql_store.specs.Whole.{IsRead}
 use Rattle.sql_store.proofs.MovingLemmas.{old_answers}
-use Rattle.sql_store.proofs.CallLemmas.{answers, shown_open, shown_same}
+use Rattle.sql_store.proofs.CallLemmas.{answers, both_survive, earlier, shown_open, shown_same, survives_still}
 
 -- a query that begins was asked of a connection that was open
 begun_open : {S : Type 0} (g : Ghosts S) (sql : List ℕ) (params : Row) (old new : Held S)
@@ -44,7 +44,7 @@ begins g sql old new plain h = begun_plain g sql [] old new (plain (begun_open g
     h
 
 -- one more row was read
-pub one_more : {X : Type 0} (read : Row → Option X) (rows : List Row) (xs : List X) (r : Row)
+one_more : {X : Type 0} (read : Row → Option X) (rows : List Row) (xs : List X) (r : Row)
     (x : X) → AreRead read rows xs → read r ≡ Some x → AreRead read (rows ++ r ∷ []) (xs ++ x ∷ [])
 one_more read rows xs r x are is =
     map-append read rows (r ∷ []) ∙ ap₂ ◌++◌ are (ap (λ o. o ∷ []) is)
@@ -93,13 +93,13 @@ rolled_from first old new same (inr it) = inr (record {
 })
 
 module _ {S : Type 0} (g : Ghosts S) (first here new : Held S) (so : Unmoved g first here) where
-  pub moved_on : IsUnchanged (state g here) (state g new) → Unmoved g first new
+  moved_on : IsUnchanged (state g here) (state g new) → Unmoved g first new
   moved_on it = elim so [
     | inl same ↦ inr (subst (λ h. IsUnchanged (state g h) (state g new)) same it)
     | inr was ↦ inr (unchanged_then (state g first) (state g here) (state g new) was it)
   ]
 
-  pub rolled_on : IsUnchanged (state g here) (state g new)
+  rolled_on : IsUnchanged (state g here) (state g new)
       ⊎ IsRolledBack (state g here) (state g new) → Unmoved g first new
       ⊎ IsRolledBack (state g first) (state g new)
   rolled_on it = elim so [
@@ -114,7 +114,7 @@ module _ {S : Type 0} (g : Ghosts S) (first here new : Held S) (so : Unmoved g f
       widened (inl it) = inl (inr it)
       widened (inr it) = inr it
 
-  pub shown_on : (sql : List ℕ) (rows : List Row)
+  shown_on : (sql : List ℕ) (rows : List Row)
       → IsPlain (understood (state g first).now.schema sql)
       → Shown sql [] (state g here) (state g new) rows
       → Shown sql [] (state g first) (state g new) rows
@@ -122,6 +122,70 @@ module _ {S : Type 0} (g : Ghosts S) (first here new : Held S) (so : Unmoved g f
     | inl same ↦ subst (λ h. Shown sql [] (state g h) (state g new) rows) same it
     | inr was ↦ shown_from sql [] (state g first) (state g here) (state g new) rows plain was it
   ]
+
+-- the rows so far were given and read, as `P` tells, and nothing was changed
+pub record ReadsSoFar {S X : Type 0} (g : Ghosts S) (read : Row → Option X) (P : List X → Type 0)
+    (first here : Held S) : Type 0 where
+  pub given : HasCleanDisk (state g here) → (sql : List ℕ) → HasGiven g sql [] first []
+      → (rows : List Row) × (xs : List X) × HasGiven g sql [] here rows × AreRead read rows xs
+      × P xs
+  pub same : HasCleanDisk (state g here) → Unmoved g first here
+  pub mode : first.in_transaction ≡ false → here.in_transaction ≡ false
+  pub survives : Survives (state g first) (state g here) (λ _. ⊥)
+
+module _ {S X : Type 0} (g : Ghosts S) (read : Row → Option X) (P : List X → Type 0)
+    (first : Held S) where
+  -- none was asked for yet
+  pub reads_none : P [] → ReadsSoFar g read P first first
+  reads_none told = record {
+    given = λ clean sql begun. ([], [], begun, refl, told);
+    same = λ clean. inl refl;
+    mode = λ idle. idle;
+    survives = survives_still (state g first);
+  }
+
+  module _ (here new : Held S) (so : ReadsSoFar g read P first here)
+      (survives : Survives (state g here) (state g new) (λ _. ⊥)) where
+    before : HasCleanDisk (state g new) → HasCleanDisk (state g here)
+    before = earlier (state g first) (state g here) (state g new) survives
+
+    -- one more was read, and `Q` tells of it too
+    pub reads_one : (Q : List X → Type 0) (x : X) → ((xs : List X) → P xs → Q (xs ++ x ∷ []))
+        → (HasCleanDisk (state g new) → (sql : List ℕ) (given : List Row)
+        → HasGiven g sql [] here given → ReadsOn g read sql here new given (Some x))
+        → (HasCleanDisk (state g new) → IsUnchanged (state g here) (state g new))
+        → (here.in_transaction ≡ false → new.in_transaction ≡ false) → ReadsSoFar g read Q first new
+    reads_one Q x more reads same mode = record {
+      given = λ clean sql begun.
+          let (rows, xs, given, are, told) = so.given (before clean) sql begun in
+          let (row, now, is) = reads clean sql rows given in
+          (rows ++ row ∷ [], xs ++ x ∷ [], now, one_more read rows xs row x are is, more xs told);
+      same = λ clean. moved_on g first here new (so.same (before clean)) (same clean);
+      mode = λ idle. mode (so.mode idle);
+      survives = both_survive (state g first) (state g here) (state g new) so.survives survives;
+    }
+
+    -- no row is left
+    pub reads_all : (HasCleanDisk (state g new) → (sql : List ℕ) (given : List Row)
+        → HasGiven g sql [] here given → ReadsOn g read sql here new given None)
+        → HasCleanDisk (state g new) → (sql : List ℕ)
+        → IsPlain (understood (state g first).now.schema sql) → HasGiven g sql [] first []
+        → HasReadAll read sql (state g first) (state g new) P
+    reads_all reads clean sql plain begun =
+        let (rows, xs, given, are, told) = so.given (before clean) sql begun in (
+          rows,
+          xs,
+          shown_on g first here new (so.same (before clean)) sql rows plain (reads clean sql rows
+              given),
+          are,
+          told,
+        )
+
+    -- the next was not read
+    pub reads_no_more : (HasCleanDisk (state g new) → IsUnchanged (state g here) (state g new)
+        ⊎ IsRolledBack (state g here) (state g new)) → HasCleanDisk (state g new)
+        → Unmoved g first new ⊎ IsRolledBack (state g first) (state g new)
+    reads_no_more left clean = rolled_on g first here new (so.same (before clean)) (left clean)
 
 -- and so it is from where the query was asked
 module _ {S : Type 0} (g : Ghosts S) (first here new : Held S) (was : IsUnchanged (state g first)
@@ -133,22 +197,31 @@ module _ {S : Type 0} (g : Ghosts S) (first here new : Held S) (was : IsUnchange
   left_from (inl (inr it)) = rolled_from (state g first) (state g here) (state g new) was (inl it)
   left_from (inr it) = rolled_from (state g first) (state g here) (state g new) was (inr it)
 
-module _ {S R : Type 0} (g : Ghosts S) (sql : List ℕ) (first here new : Held S)
+-- the query was asked with this text
+module _ {S : Type 0} (g : Ghosts S) (sql : List ℕ) {text : List ℕ} (is : text ≡ sql)
+    (first here new : Held S)
     (plain : IsTrue (state g first).is_open → IsPlain (understood first.schema sql))
-    (begun : HasBegun g sql [] first here) where
-  -- what was read of a query from its start
-  pub read_from : {X : Type 0} (read : Row → Option X) (P : R → List X
+    (asked : HasCleanDisk (state g here) → HasBegun g text [] first here)
+    (survives : Survives (state g here) (state g new) (λ _. ⊥)) where
+  begun : HasCleanDisk (state g new) → HasBegun g sql [] first here
+  begun clean = subst (λ t. HasBegun g t [] first here) is
+      (asked (earlier (state g first) (state g here) (state g new) survives clean))
+
+  -- what was read of it from its start
+  pub read_from : {R X : Type 0} (read : Row → Option X) (P : R → List X
       → Type 0) (r : Result R Fault)
-      → IfOk r (λ a. (sql : List ℕ) → IsPlain (understood (state g here).now.schema sql)
-      → HasGiven g sql [] here [] → HasReadAll read sql (state g here) (state g new) (P a))
+      → (HasCleanDisk (state g new) → IfOk r (λ a. (sql : List ℕ)
+      → IsPlain (understood (state g here).now.schema sql) → HasGiven g sql [] here []
+      → HasReadAll read sql (state g here) (state g new) (P a)))
+      → HasCleanDisk (state g new)
       → IfOk r (λ a. HasReadAll read sql (state g first) (state g new) (P a))
-  read_from read P (Err e) it = tt
-  read_from read P (Ok a) it =
-      let (given, was) = begins g sql first here plain begun in
+  read_from read P (Err e) it clean = tt
+  read_from read P (Ok a) it clean =
+      let (given, was) = begins g sql first here plain (begun clean) in
       let known = plain was.0.was_open in
       let (rows, xs, shown, are, so) =
-      it sql (subst (λ (d : Database). IsPlain (understood d.schema sql)) (sym was.0.now_is) known)
-      given in (
+      it clean sql (subst (λ (d : Database). IsPlain (understood d.schema sql)) (sym was.0.now_is)
+      known) given in (
         rows,
         xs,
         shown_from sql [] (state g first) (state g here) (state g new) rows known was shown,
@@ -156,12 +229,13 @@ module _ {S R : Type 0} (g : Ghosts S) (sql : List ℕ) (first here new : Held S
         so,
       )
 
-  pub err_from : (r : Result R Fault)
-      → OnErr r (Unmoved g here new ⊎ IsRolledBack (state g here) (state g new))
-      → OnErr r (IsUnchanged (state g first) (state g new)
+  pub err_from : {R : Type 0} (r : Result R Fault) → (HasCleanDisk (state g new)
+      → OnErr r (Unmoved g here new ⊎ IsRolledBack (state g here) (state g new)))
+      → HasCleanDisk (state g new) → OnErr r (IsUnchanged (state g first) (state g new)
       ⊎ IsRolledBack (state g first) (state g new))
-  err_from (Ok a) it = tt
-  err_from (Err e) it = left_from g first here new (begins g sql first here plain begun).1 it
+  err_from (Ok a) it clean = tt
+  err_from (Err e) it clean =
+      left_from g first here new (begins g sql first here plain (begun clean)).1 (it clean)
 
 -- ---- what a table's rows say
 

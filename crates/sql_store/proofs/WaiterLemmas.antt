@@ -13,7 +13,6 @@ use Rattle.numbers.specs.declared.spid.Spid.{Spid}
 use Rattle.meaning.specs.Content.{Content, WaitKey, wait_cmp}
 use Rattle.settle.specs.Views.{spid_of}
 use Rattle.settle.specs.Reads.{AreCarriers, AreWaiters, is_last_wait}
-use Rattle.settle.proofs.Among.{same_truth}
 use Rattle.sql_rows.specs.Content.{content_in, wait_in, wait_shown}
 use Rattle.sql_rows.specs.declared.keyed.KeyedWait.{KeyedWait}
 use Rattle.sql_rows.proofs.Inversions.{number_small, wait_reads}
@@ -24,7 +23,7 @@ use Rattle.meaning.proofs.KeyOrders.{wait_total}
 use Rattle.sql_rows.proofs.Picked.{Picks}
 use Rattle.sql_rows.proofs.QueriesListed.{wait_seen}
 use Rattle.sql_store.specs.Lists.{is_waiting}
-use Rattle.numbers.proofs.Small.{and_both, true_both, equal_number, some_there}
+use Rattle.numbers.proofs.Small.{and_both, true_both, equal_number, some_there, number_equal, same_truth}
 
 abbrev pub key_at : ℕ → (minute id attempt : ℕ) → WaitKey
 key_at carrier minute id attempt = record {
@@ -49,9 +48,6 @@ has_any p (y ∷ ys) x (inr at) is = or_true (p y) (has_any p ys x at is)
     or_true true e = refl
     or_true false e = e
 
-same_is : (m n : ℕ) → m ≡ n → (m == n) ≡ true
-same_is m n e = grind (arith, nat_tests)
-
 module _ (c : Content) (minute id attempt : ℕ) where
   abbrev waits_there : ℕ → Bool
   waits_there k = is_some (get c.waits (key_at k minute id attempt))
@@ -66,8 +62,9 @@ module _ (c : Content) (minute id attempt : ℕ) where
         let key = ap (λ (e : WaitKey × Subject). e.0) w.2 in
         has_any (λ (w : KeyedWait). (w.key.minute.number == minute)
         && (w.key.carrier.number == carrier.number)) waits w.0 w.1
-        (true_both _ _ (same_is w.0.key.minute.number minute (ap (λ (k : WaitKey). k.minute) key))
-        (same_is w.0.key.carrier.number carrier.number (ap (λ (k : WaitKey). k.carrier) key))))
+        (true_both _ _ (number_equal w.0.key.minute.number minute (ap (λ (k : WaitKey). k.minute)
+        key))
+        (number_equal w.0.key.carrier.number carrier.number (ap (λ (k : WaitKey). k.carrier) key))))
         (λ e.
         let w = some_has (λ (w : KeyedWait). (w.key.minute.number == minute)
         && (w.key.carrier.number == carrier.number)) waits e in

@@ -1,5 +1,5 @@
 //! A commit.
-ghost use Rattle.std.specs.Prelude.{◌≡◌, false, IsTrue, is_ok, map, option_map};
+ghost use Rattle.std.specs.Prelude.{◌≡◌, false, IsTrue, is_ok};
 ghost use Rattle.sqlite.specs.Held.{state};
 ghost use Rattle.numbers.specs.Views.{subject_of};
 ghost use Rattle.settle.specs.Views.{spid_of, lrn_of, code_of, block_of, block_row_of, broadcast_row_of, broadcast_key_of, wait_key_of};

@@ -1,5 +1,5 @@
 //! A store over the file at a path.
-ghost use Rattle.std.specs.Prelude.{◌≡◌, [], IsTrue, IfErr, IfOk, IfSome};
+ghost use Rattle.std.specs.Prelude.{◌≡◌, [], IsTrue, IfErr, IfOk};
 ghost use Rattle.meaning.specs.Content.{empty_content};
 ghost use Rattle.sql_rows.specs.Content.{content_in};
 ghost use Rattle.sqlite.specs.Closing.{IsCopied};
@@ -22,6 +22,7 @@ use sqlite_disk::Disk;
 use windows::Windows;
 
 /// What is handed back with the fault, where a file is not opened.
+#[derive(Drop)]
 pub enum Unopened<S: Alter, L> {
     /// What is left of files that hold no database, if they were opened.
     Files(L),

@@ -7,6 +7,7 @@ ghost use Rattle.sql_store.specs.Refusal.{IsCleanYet, may_leave_of, trees_of};
 use sqlite::{Alter, Connection};
 
 /// What is handed back with the fault, where a database is refused.
+#[derive(Drop)]
 pub enum Refused<S: Alter> {
     Connection(Connection<S>),
     Store(S),

@@ -308,28 +308,6 @@ const SETS: Added<'static> = Added {
     ],
 };
 
-fn is_column(column: &Column, wanted: &WantedColumn<'_>) -> bool
-    ensures { IsTrue result → column.now ≡ column_of wanted.now }
-{
-    column.name.as_slice() == wanted.name
-        && column.kind == wanted.kind
-        && column.is_strict
-        && column.not_null == wanted.not_null
-        && matches!(column.default, Value::Null)
-        && matches!(column.collation, Collation::Binary)
-}
-
-fn are_columns(columns: &[Column], wanted: &[WantedColumn<'_>]) -> bool
-    ensures { IsTrue result → columns.now ≡ map column_of wanted.now }
-{
-    match (columns, wanted) {
-        ([], []) => true,
-        ([column, columns @ ..], [first, wanted @ ..]) => is_column(column, first)
-            && are_columns(columns, wanted),
-        _ => false,
-    }
-}
-
 fn is_plain(order: &Order) -> bool
     ensures { IsTrue result → order.now ≡ plain }
 {
@@ -370,31 +348,36 @@ fn has_no_rules(table: &Table) -> bool
         && !table.is_counted
 }
 
-fn is_table(table: &Table, wanted: &WantedTable<'_>) -> bool
-    ensures { IsTrue result → table.now ≡ table_of wanted.now }
-{
-    table.tree == wanted.tree
-        && table.name.as_slice() == wanted.name
-        && table.key == wanted.key
-        && table.primary.as_slice() == wanted.primary
-        && are_keys(
-            table.uniques.as_slice(),
-            table.orders.as_slice(),
-            wanted.uniques,
-        )
-        && are_columns(table.columns.as_slice(), wanted.columns)
-        && has_no_rules(table)
+// What a file is to have, as its schema lists it.
+trait Wanted<T> {
+    ghost listed: { Self → T };
+
+    fn is(&self, item: &T) -> bool
+        ensures { IsTrue result → item.now ≡ listed self.now };
 }
 
-// What stands behind these tables, if they are there.
-fn behind_tables<'a>(tables: &'a [Table], wanted: &[WantedTable<'_>]) -> Option<&'a [Table]>
-    ensures { IfSome result (λ more. tables.now ≡ map table_of wanted.now ++ more.now) }
+impl Wanted<Column> for WantedColumn<'_> {
+    ghost listed = { column_of };
+
+    fn is(&self, column: &Column) -> bool {
+        column.name.as_slice() == self.name
+            && column.kind == self.kind
+            && column.is_strict
+            && column.not_null == self.not_null
+            && matches!(column.default, Value::Null)
+            && matches!(column.collation, Collation::Binary)
+    }
+}
+
+// What stands behind these in the schema's list, if they are there.
+fn behind<'a, T, W: Wanted<T>>(listed: &'a [T], wanted: &[W]) -> Option<&'a [T]>
+    ensures { IfSome result (λ more. listed.now ≡ map W.listed wanted.now ++ more.now) }
 {
-    match (tables, wanted) {
+    match (listed, wanted) {
         (more, []) => Some(more),
-        ([table, tables @ ..], [first, wanted @ ..]) => {
-            if is_table(table, first) {
-                behind_tables(tables, wanted)
+        ([item, listed @ ..], [first, wanted @ ..]) => {
+            if first.is(item) {
+                behind(listed, wanted)
             } else {
                 None
             }
@@ -403,31 +386,40 @@ fn behind_tables<'a>(tables: &'a [Table], wanted: &[WantedTable<'_>]) -> Option<
     }
 }
 
-fn is_index(index: &Index, wanted: &WantedIndex<'_>) -> bool
-    ensures { IsTrue result → index.now ≡ index_of wanted.now }
+fn are_columns(columns: &[Column], wanted: &[WantedColumn<'_>]) -> bool
+    ensures { IsTrue result → columns.now ≡ map column_of wanted.now }
 {
-    index.name.as_slice() == wanted.name
-        && index.tree == wanted.tree
-        && index.table == wanted.table
-        && index.columns.as_slice() == wanted.columns
-        && is_plain(&index.order)
-        && index.is_unique == wanted.is_unique
+    matches!(behind(columns, wanted), Some([]))
 }
 
-// What stands behind these indexes, if they are there.
-fn behind_indexes<'a>(indexes: &'a [Index], wanted: &[WantedIndex<'_>]) -> Option<&'a [Index]>
-    ensures { IfSome result (λ more. indexes.now ≡ map index_of wanted.now ++ more.now) }
-{
-    match (indexes, wanted) {
-        (more, []) => Some(more),
-        ([index, indexes @ ..], [first, wanted @ ..]) => {
-            if is_index(index, first) {
-                behind_indexes(indexes, wanted)
-            } else {
-                None
-            }
-        }
-        _ => None,
+impl Wanted<Table> for WantedTable<'_> {
+    ghost listed = { table_of };
+
+    fn is(&self, table: &Table) -> bool {
+        table.tree == self.tree
+            && table.name.as_slice() == self.name
+            && table.key == self.key
+            && table.primary.as_slice() == self.primary
+            && are_keys(
+                table.uniques.as_slice(),
+                table.orders.as_slice(),
+                self.uniques,
+            )
+            && are_columns(table.columns.as_slice(), self.columns)
+            && has_no_rules(table)
+    }
+}
+
+impl Wanted<Index> for WantedIndex<'_> {
+    ghost listed = { index_of };
+
+    fn is(&self, index: &Index) -> bool {
+        index.name.as_slice() == self.name
+            && index.tree == self.tree
+            && index.table == self.table
+            && index.columns.as_slice() == self.columns
+            && is_plain(&index.order)
+            && index.is_unique == self.is_unique
     }
 }
 
@@ -439,10 +431,7 @@ fn are_of(tables: &[Table], indexes: &[Index], steps: &[Added<'_>]) -> bool
     let [first, steps @ ..] = steps else {
         return tables.is_empty() && indexes.is_empty();
     };
-    match (
-        behind_tables(tables, first.tables),
-        behind_indexes(indexes, first.indexes),
-    ) {
+    match (behind(tables, first.tables), behind(indexes, first.indexes)) {
         (Some(tables), Some(indexes)) => are_of(tables, indexes, steps),
         _ => false,
     }

@@ -1,7 +1,6 @@
 //! Queries.
 ghost use Rattle.std.specs.Prelude.{◌≡◌, false, [], IsTrue, IfOk, is_ok, map, option_map};
 ghost use Rattle.sqlite.specs.Held.{state};
-ghost use Rattle.sqlite.specs.Order.{Row as RowSeen};
 ghost use Rattle.sqlite.specs.Values.{bound};
 ghost use Rattle.sqlite.specs.Query.{IsAnswer};
 ghost use Rattle.sqlite.specs.Program.{overlay};

@@ -1,5 +1,5 @@
 //! The store over a database of SQL.
-ghost use Rattle.std.specs.Prelude.{◌≡◌, ◌≤◌, false, Err, IfOk, IsTrue, Ok, OnErr, OnOk, is_ok};
+ghost use Rattle.std.specs.Prelude.{◌≡◌, ◌≤◌, false, Err, IfOk, IsTrue, Ok, OnErr, is_ok};
 ghost use Rattle.sqlite.specs.Held.{state};
 ghost use Rattle.settle.specs.Owing.{Counts};
 ghost use Rattle.settle.specs.Reads.{HasRisen};

@@ -1,5 +1,5 @@
 -- The broadcasts about a subject that wait for a carrier, listed by the index.
-use Rattle.std.proofs.Common.{◌≡◌, ◌<◌, ℕ, Bool, true, false, cond, List, [], ◌++◌, Option, Some, None, refl, ap, sym, ◌∙◌, subst, arith}
+use Rattle.std.proofs.Common.{◌≡◌, ◌<◌, ℕ, Bool, true, false, cond, List, [], ◌++◌, Option, Some, None, refl, ap, sym, ◌∙◌, subst}
 use Rattle.std.specs.Prelude.{◌==◌, ◌&&◌, not, option_map, is_some, if◌then◌else◌}
 use Rattle.std.specs.declared.cmp.Ordering.TheVariants.{Less, Equal}
 use Rattle.std.specs.declared.ops.Bound.TheVariants.{Included}
@@ -11,7 +11,6 @@ use Rattle.std.specs.BTreeMap as tree
 use Rattle.std.specs.BTreeMap.{BTreeMap, is_at}
 use Rattle.std.specs.BTreeMap.Range.{entries_between, range_contains}
 use Rattle.std.specs.FinMap.{get}
-use Rattle.std.proofs.lemmas.Bool.Decides.{nat_tests}
 use Rattle.std.proofs.lemmas.List.{append-nil}
 use Rattle.numbers.specs.Subjects.{Subject, subject_key}
 use Rattle.numbers.specs.Views.{subject_of, key_of}
@@ -34,17 +33,7 @@ use Rattle.numbers.proofs.Small.{equal_number, tied}
 use Rattle.numbers.proofs.Small.{same_number, true_both}
 use Rattle.store.proofs.RowsFlat.{download_total, download_exact, get-waits_of}
 use Rattle.store.proofs.RowsChanged.{subject_download_total, subject_download_exact}
-
--- all broadcasts about the subject are from the first to the last
-from_first : (s m i a : ℕ)
-    → is_le (ordering_then (nat_cmp s s)
-    (ordering_then (nat_cmp 0 m) (ordering_then (nat_cmp 0 i) (nat_cmp 0 a)))) ≡ true
-from_first s m i a = grind (arith, nat_tests)
-
-to_last : (s m i a : ℕ) → m < 1099511627776 → i < 18446744073709551616 → a < 18446744073709551616 →
-    not (is_lt (ordering_then (nat_cmp s s) (ordering_then (nat_cmp 1099511627775 m)
-    (ordering_then (nat_cmp 18446744073709551615 i) (nat_cmp 18446744073709551615 a))))) ≡ true
-to_last s m i a p q r = grind (arith, nat_tests)
+use Rattle.store.proofs.CarrierKeys.{to_last, from_first}
 
 in_part : {A : Type 0} (b : Bool) (o : Option A) (d : A) → cond b o None ≡ Some d → o ≡ Some d
 in_part true o d e = e

@@ -28,8 +28,8 @@ use Rattle.store.specs.declared.keys.SubjectVersion.{SubjectVersion as SubjectVe
 use Rattle.store.proofs.Maps.{get-map_of, set_map_of, entry-of, get-set}
 use Rattle.store.proofs.Orders.{subject_version_total, subject_version_exact}
 use Rattle.store.proofs.Listed.{Among, contained, all-places, among-mapped}
-use Rattle.store.proofs.SubjectsListed.{filtered-among, found-entry, all-of}
-use Rattle.numbers.proofs.Small.{or_true, same_number, equal_number, tied, true_both}
+use Rattle.store.proofs.SubjectsListed.{all-of, filtered-among, found-entry}
+use Rattle.numbers.proofs.Small.{or_true, same_number, equal_number, tied, true_both, or_false}
 
 -- ---- what a walk has gathered
 
@@ -37,10 +37,6 @@ use Rattle.numbers.proofs.Small.{or_true, same_number, equal_number, tied, true_
 abbrev is_number : ℕ → Option ℕ → Bool
 is_number n None = false
 is_number n (Some k) = eq_by_cmp nat_cmp k n
-
-or-false : (b : Bool) → (b || false) ≡ b
-or-false true = refl
-or-false false = refl
 
 or-assoc : (a b c : Bool) → ((a || b) || c) ≡ (a || (b || c))
 or-assoc true b c = refl
@@ -68,7 +64,7 @@ module _ (mark : Option Marks → Marks) where
     met : (see : Option Marks → Bool) → ((o : Option Marks) → see (Some (mark o)) ≡ true)
         → (es : List (SubjectVersionCode × Unit {0})) (m : FinMap nat_cmp Marks) →
         see (get (marked mark column block versions es m) n) ≡ (see (get m n) || list_any names es)
-    met see says [] m = sym (or-false (see (get m n)))
+    met see says [] m = sym (or_false (see (get m n)))
     met see says (e ∷ es) m =
         met see says es (with_number mark (number_at column block (get versions e.0.id)) m)
         ∙ ap (λ b. b || list_any names es)
@@ -77,7 +73,7 @@ module _ (mark : Option Marks → Marks) where
       where
         go : (b : Bool) → see (cond b (Some (mark (get m n))) (get m n)) ≡ (see (get m n) || b)
         go true = says (get m n) ∙ sym (or_true (see (get m n)))
-        go false = sym (or-false (see (get m n)))
+        go false = sym (or_false (see (get m n)))
 
     -- what it leaves as it is
     kept : (see : Option Marks → Bool) → ((o : Option Marks) → see (Some (mark o)) ≡ see o)

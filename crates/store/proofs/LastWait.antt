@@ -11,13 +11,12 @@ use Rattle.meaning.specs.Versions.{is_among}
 use Rattle.settle.specs.Reads.{is_last_wait}
 use Rattle.settle.specs.Views.{spid_of, wait_key_of}
 use Rattle.settle.specs.declared.rows.WaitKey.{WaitKey}
-use Rattle.settle.proofs.Among.{same_truth, among-filtered, among_keys}
+use Rattle.settle.proofs.Among.{among-filtered, among_keys}
 use Rattle.store.specs.Tables.{content_of, is_another}
 use Rattle.store.specs.WaitRows.{download_of, wait_for}
 use Rattle.store.specs.declared.tables.Tables.{Tables}
 use Rattle.store.proofs.Maps.{get-map_of}
-use Rattle.store.proofs.Orders.{is_some-option_map}
-use Rattle.numbers.proofs.Small.{or_right, same_number, numbers_turned, equal_number, and_both}
+use Rattle.numbers.proofs.Small.{or_right, same_number, numbers_turned, equal_number, and_both, true_both, mapped_there, same_truth}
 
 -- ---- lists of numbers
 
@@ -76,10 +75,6 @@ alone own waits registered ks cs are wait =
     ∙ ap not (same_truth (list_any (λ k. not (k == own)) (filter waits ks))
     (list_any (λ k. not (k == own) && registered k) cs) there back)
   where
-    both : (a b : Bool) → a ≡ true → b ≡ true → (a && b) ≡ true
-    both true b e f = f
-    both false b e f = e
-
     there : list_any (λ k. not (k == own)) (filter waits ks) ≡ true
         → list_any (λ k. not (k == own) && registered k) cs ≡ true
     there e =
@@ -87,7 +82,7 @@ alone own waits registered ks cs are wait =
         let is = and_both (is_among found.0 ks) (waits found.0)
         (sym (among-filtered waits found.0 ks) ∙ found.1) in
         passes (λ k. not (k == own) && registered k) cs found.0 (sym (wait found.0) ∙ is.1)
-        (both (not (found.0 == own)) (registered found.0) found.2 (sym (are found.0) ∙ is.0))
+        (true_both (not (found.0 == own)) (registered found.0) found.2 (sym (are found.0) ∙ is.0))
 
     back : list_any (λ k. not (k == own) && registered k) cs ≡ true
         → list_any (λ k. not (k == own)) (filter waits ks) ≡ true
@@ -95,7 +90,8 @@ alone own waits registered ks cs are wait =
         let found = passing (λ k. not (k == own) && registered k) cs e in
         let is = and_both (not (found.0 == own)) (registered found.0) found.2 in
         passes (λ k. not (k == own)) (filter waits ks) found.0
-        (among-filtered waits found.0 ks ∙ both (is_among found.0 ks) (waits found.0) (are found.0
+        (among-filtered waits found.0 ks ∙ true_both (is_among found.0 ks) (waits found.0)
+        (are found.0
         ∙ is.1) (wait found.0 ∙ found.1))
         is.0
 
@@ -118,5 +114,5 @@ last-is t wait cs waits =
         ≡ is_another t wait.carrier c
     another c = ap (λ b. not (c.number == wait.carrier.number) && b)
         (ap is_some (get-map_of spid_of (λ (u : Unit {0}). u) nat_cmp_total nat_cmp-IsAntisymmetric
-        t.carriers c) ∙ is_some-option_map (λ (u : Unit {0}). u)
+        t.carriers c) ∙ mapped_there (λ (u : Unit {0}). u)
         (tree.get (on spid_of nat_cmp) t.carriers c))

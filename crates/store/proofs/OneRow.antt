@@ -7,6 +7,7 @@ use Rattle.numbers.specs.Subjects.{Subject}
 use Rattle.numbers.specs.declared.spid.Spid.{Spid}
 use Rattle.settle.specs.Views.{spid_of}
 use Rattle.store.specs.WaitRows.{IsAdded, IsWithout}
+use Rattle.numbers.proofs.Small.{or_swapped}
 
 pub any-seen : (c : ℕ) (ks : List Spid) → list_any (λ k. c == k) (map spid_of ks)
     ≡ list_any (λ (k : Spid). c == k.number) ks
@@ -19,12 +20,7 @@ any-more : (c d : ℕ) (ks : List Spid) (k : Spid) → k.number ≡ d
     ≡ ((c == d) || list_any (λ x. c == x) (map spid_of ks))
 any-more c d [] k e = ap (λ n. (c == n) || false) e
 any-more c d (x ∷ ks) k e = ap (λ b. (c == x.number) || b) (any-more c d ks k e)
-    ∙ swap (c == x.number) (c == d) (list_any (λ y. c == y) (map spid_of ks))
-  where
-    swap : (a b y : Bool) → (a || (b || y)) ≡ (b || (a || y))
-    swap true true y = refl
-    swap true false y = refl
-    swap false b y = refl
+    ∙ or_swapped (c == x.number) (c == d) (list_any (λ y. c == y) (map spid_of ks))
 
 pub added : (s : Subject) (d : ℕ) (ks : List Spid) (k : Spid) (old : Subject) → k.number ≡ d
     → old ≡ s → IsAdded d s (old, map spid_of ks) (old, map spid_of (ks ++ k ∷ []))

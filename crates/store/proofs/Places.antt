@@ -1,5 +1,5 @@
 -- A row put into a table that no index goes with, and put back.
-use Rattle.std.proofs.Common.{◌≡◌, ℕ, Option, Some, refl, ap, sym, ◌∙◌, subst}
+use Rattle.std.proofs.Common.{rules, ◌≡◌, ℕ, Option, Some, ap, sym, ◌∙◌, subst}
 use Rattle.std.specs.Prelude.{IsSome, OnErr, Result, Ok, Err}
 use Rattle.std.specs.declared.cmp.Ordering.{Ordering}
 use Rattle.std.specs.Ordering.{on}
@@ -7,24 +7,15 @@ use Rattle.std.specs.Cmp.{IsTotalOrder, nat_cmp_total}
 use Rattle.std.specs.BTreeMap as tree
 use Rattle.std.specs.BTreeMap.{BTreeMap}
 use Rattle.std.specs.FinMap.{FinMap, IsAntisymmetric, nat_cmp-IsAntisymmetric}
-use Rattle.numbers.specs.declared.block_id.BlockId.{BlockId}
-use Rattle.numbers.specs.declared.code_id.CodeId.{CodeId}
-use Rattle.numbers.specs.declared.lrn.Lrn.{Lrn}
-use Rattle.numbers.specs.declared.spid.Spid.{Spid}
 use Rattle.numbers.specs.Subjects.{Subject}
 use Rattle.meaning.specs.Content.{Content, wait_cmp}
-use Rattle.delivery.specs.declared.broadcast.Broadcast.{Broadcast}
-use Rattle.settle.specs.declared.rows.BlockRow.{BlockRow}
-use Rattle.settle.specs.declared.rows.BroadcastKey.{BroadcastKey}
-use Rattle.settle.specs.declared.rows.ClockRow.{ClockRow}
-use Rattle.windows.specs.declared.window.Windows.{Windows}
 use Rattle.store.specs.Maps.{map_of, set, IsSame, IsSet}
 use Rattle.store.specs.Places.{Place, IsPutAt, carriers, lrns, codes, blocks, broadcasts, sets}
-use Rattle.store.specs.Tables.{content_of, KeepIndexes, IsKept, IsSpare, AddNoSpare}
-use Rattle.store.specs.Tables.IndexKey.{Held, Opened, Due}
+use Rattle.store.specs.Tables.{content_of, KeepIndexes, IsKept, IsKeptBelow}
 use Rattle.store.specs.declared.tables.Tables.{Tables}
 use Rattle.store.proofs.Maps.{same_map_of, set_map_of, still_there, back}
 use Rattle.meaning.proofs.KeyOrders.{broadcast_total, broadcast_exact}
+use Rattle.store.proofs.Spare.{below-beside}
 use Rattle.store.proofs.Undone.{all-kept}
 
 pub on-err : {V E : Type 0} {P : Type 0} (r : Result V E) → P → OnErr r P
@@ -47,7 +38,8 @@ pub record IsPlace {K X L Y : Type 0} {R : L → L
       ≡ place.with_column c b
   pub keeps : (t : Tables) (m : BTreeMap K X) → KeepIndexes t (place.with_table t m)
       × KeepIndexes (place.with_table t m) t
-  pub spares : (t : Tables) (m : BTreeMap K X) → AddNoSpare t (place.with_table t m)
+  pub versions : (t : Tables) (m : BTreeMap K X)
+      → (content_of (place.with_table t m)).versions ≡ (content_of t).versions
 
 keeps-then : (a b c : Tables) → KeepIndexes a b → KeepIndexes b c → KeepIndexes a c
 keeps-then a b c p q = (
@@ -120,122 +112,37 @@ module _ {K X L Y : Type 0} {R : L → L → Ordering} (place : Place K X L Y R)
       }
 
   -- no key goes with it, so none is to be forgotten
-  pub unindexed : (key : K) (before : Option X) (start mid now : Tables)
-      → IsPutAt place key before start mid → AddNoSpare mid now → AddNoSpare start now
-  unindexed key before start mid now put later k spare =
-      is.spares start put.0 k (subst (λ t. IsSpare t k) put.1 (later k spare))
+  pub unindexed : (key : K) (before : Option X) (least : ℕ) (start mid now : Tables)
+      → IsPutAt place key before start mid → IsKeptBelow least mid now
+      → IsKeptBelow least start now
+  unindexed key before least start mid now put =
+      below-beside least start mid now (ap (λ t. (content_of t).versions) put.1
+      ∙ is.versions start put.0)
+      (subst (λ t. KeepIndexes t start) (sym put.1) (is.keeps start put.0).1)
 
 -- ---- each of the tables
 
--- other rows in tables that no index goes with make no key spare
-beside_indexes : (t : Tables) (a : BTreeMap Spid (Unit {0})) (b : BTreeMap Lrn Spid)
-    (c : BTreeMap CodeId Spid) (d : BTreeMap BlockId BlockRow) (e : BTreeMap BroadcastKey Broadcast)
-    (f : BTreeMap ℕ Windows) →
-    AddNoSpare t (record t {
-      carriers = a;
-      lrns = b;
-      codes = c;
-      blocks = d;
-      broadcasts = e;
-      sets = f;
-    })
-beside_indexes t a b c d e f (Held k) spare = spare
-beside_indexes t a b c d e f (Opened k) spare = spare
-beside_indexes t a b c d e f (Due k) spare = spare
-
--- nor do another clock, and other downloads
-pub beside_taken : (t : Tables) (clock : Option ClockRow) (e : BTreeMap BroadcastKey Broadcast)
-    (w : FinMap wait_cmp Subject) → AddNoSpare t (record t {
-      clock = clock;
-      broadcasts = e;
-      waits =
-          w;
-    })
-beside_taken t clock e w (Held k) spare = spare
-beside_taken t clock e w (Opened k) spare = spare
-beside_taken t clock e w (Due k) spare = spare
-
 -- a download that was put
-pub wait-unindexed : (start mid now : Tables) (w : FinMap wait_cmp Subject)
-    → mid ≡ record start { waits = w } → AddNoSpare mid now → AddNoSpare start now
-wait-unindexed start mid now w put later k spare =
-    beside_taken start start.clock start.broadcasts w k
-    (subst (λ t. IsSpare t k) put (later k spare))
+pub wait-unindexed : (least : ℕ) (start mid now : Tables) (w : FinMap wait_cmp Subject)
+    → mid ≡ record start { waits = w } → IsKeptBelow least mid now → IsKeptBelow least start now
+wait-unindexed least start mid now w put =
+    below-beside least start mid now (ap (λ (t : Tables). t.versions) put)
+    (subst (λ t. KeepIndexes t start) (sym put) (all-kept start))
 
 pub carriers-is : IsPlace carriers
-carriers-is = record {
-  total = nat_cmp_total;
-  exact = nat_cmp-IsAntisymmetric;
-  seen = λ t. refl;
-  writes = λ t m. refl;
-  holds = λ t m. refl;
-  same = λ c. refl;
-  again = λ c a b. refl;
-  keeps = λ t m. (all-kept t, all-kept t);
-  spares = λ t m. beside_indexes t m t.lrns t.codes t.blocks t.broadcasts t.sets;
-}
+carriers-is = search (rules, nat_cmp_total, nat_cmp-IsAntisymmetric)
 
 pub lrns-is : IsPlace lrns
-lrns-is = record {
-  total = nat_cmp_total;
-  exact = nat_cmp-IsAntisymmetric;
-  seen = λ t. refl;
-  writes = λ t m. refl;
-  holds = λ t m. refl;
-  same = λ c. refl;
-  again = λ c a b. refl;
-  keeps = λ t m. (all-kept t, all-kept t);
-  spares = λ t m. beside_indexes t t.carriers m t.codes t.blocks t.broadcasts t.sets;
-}
+lrns-is = search (rules, nat_cmp_total, nat_cmp-IsAntisymmetric)
 
 pub codes-is : IsPlace codes
-codes-is = record {
-  total = nat_cmp_total;
-  exact = nat_cmp-IsAntisymmetric;
-  seen = λ t. refl;
-  writes = λ t m. refl;
-  holds = λ t m. refl;
-  same = λ c. refl;
-  again = λ c a b. refl;
-  keeps = λ t m. (all-kept t, all-kept t);
-  spares = λ t m. beside_indexes t t.carriers t.lrns m t.blocks t.broadcasts t.sets;
-}
+codes-is = search (rules, nat_cmp_total, nat_cmp-IsAntisymmetric)
 
 pub blocks-is : IsPlace blocks
-blocks-is = record {
-  total = nat_cmp_total;
-  exact = nat_cmp-IsAntisymmetric;
-  seen = λ t. refl;
-  writes = λ t m. refl;
-  holds = λ t m. refl;
-  same = λ c. refl;
-  again = λ c a b. refl;
-  keeps = λ t m. (all-kept t, all-kept t);
-  spares = λ t m. beside_indexes t t.carriers t.lrns t.codes m t.broadcasts t.sets;
-}
+blocks-is = search (rules, nat_cmp_total, nat_cmp-IsAntisymmetric)
 
 pub broadcasts-is : IsPlace broadcasts
-broadcasts-is = record {
-  total = broadcast_total;
-  exact = broadcast_exact;
-  seen = λ t. refl;
-  writes = λ t m. refl;
-  holds = λ t m. refl;
-  same = λ c. refl;
-  again = λ c a b. refl;
-  keeps = λ t m. (all-kept t, all-kept t);
-  spares = λ t m. beside_indexes t t.carriers t.lrns t.codes t.blocks m t.sets;
-}
+broadcasts-is = search (rules, broadcast_total, broadcast_exact)
 
 pub sets-is : IsPlace sets
-sets-is = record {
-  total = nat_cmp_total;
-  exact = nat_cmp-IsAntisymmetric;
-  seen = λ t. refl;
-  writes = λ t m. refl;
-  holds = λ t m. refl;
-  same = λ c. refl;
-  again = λ c a b. refl;
-  keeps = λ t m. (all-kept t, all-kept t);
-  spares = λ t m. beside_indexes t t.carriers t.lrns t.codes t.blocks t.broadcasts m;
-}
+sets-is = search (rules, nat_cmp_total, nat_cmp-IsAntisymmetric)

@@ -2,9 +2,8 @@
 use Rattle.std.proofs.Common.{◌≡◌, ◌<◌, ℕ, true, false, List, [], ◌∷◌, length, get_or, map, Option, Some, None, refl, ap, sym, ◌∙◌, subst, arith}
 use Rattle.std.specs.Prelude.{is_some, option_map}
 use Rattle.std.specs.Ordering.{nat_cmp, on}
-use Rattle.std.specs.Cmp.{nat_cmp_total}
 use Rattle.std.specs.BTreeMap.{BTreeMap}
-use Rattle.std.specs.FinMap.{FinMap, get, nat_cmp-IsAntisymmetric}
+use Rattle.std.specs.FinMap.{FinMap, get}
 use Rattle.numbers.specs.Views.{subject_of}
 use Rattle.meaning.specs.Content.{Content, VersionRow, broadcast_cmp}
 use Rattle.delivery.specs.declared.broadcast.Broadcast.{Broadcast}
@@ -17,14 +16,16 @@ use Rattle.version.specs.Views.{set_of}
 use Rattle.store.specs.Maps.{IsSet, set}
 use Rattle.store.specs.Places.{broadcasts}
 use Rattle.store.specs.Steps.{PutsNoOthers}
-use Rattle.store.specs.Tables.{content_of, from_waits, with_version, AddNoSpare, AddSpareOnly, AreIndexed, AreKeysOf, HaveKeys, IsKeyOf, KeepIndexes, KeepOtherVersions, NoneSpare, WasKeyOf}
+use Rattle.store.specs.Tables.{content_of, from_waits, with_version, AddNoSpare, AreIndexed, AreKeysOf, AreKeysTaken, AreLeftBy, AreNoKeys, AreUnneeded, HaveKeys, IsOneOf, KeepIndexes, KeepOtherVersions}
+use Rattle.store.specs.declared.guesses.Guesses.{Guesses}
 use Rattle.store.specs.declared.keys.VersionKeys.{VersionKeys}
 use Rattle.store.specs.declared.tables.Tables.{Tables}
 use Rattle.store.proofs.Changed.{version_first, broadcast_first}
-use Rattle.store.proofs.Maps.{get-set_here}
+use Rattle.store.proofs.Forgotten.{indexed-beside, left-by, no-key, none-taken}
 use Rattle.store.proofs.Places.{put-shown, broadcasts-is}
-use Rattle.store.proofs.Spare.{spares-after, spares-with_version, stands-beside}
+use Rattle.store.proofs.Spare.{spares-after, spares-same}
 use Rattle.store.proofs.Undone.{indexed-kept, indexed-with_version}
+use Rattle.numbers.proofs.Small.{no_members}
 
 -- what such changes are
 sole-changes : (c : ChangesCode) → PutsNoOthers c
@@ -73,15 +74,11 @@ sole-broadcast c e old m others none one put last was =
 
 -- ---- short lists
 
-pub none-there : {A : Type 0} (xs : List A) → length xs ≡ 0 → xs ≡ []
-none-there [] e = refl
-none-there (x ∷ xs) e = grind (arith, e)
-
 pub one-there : {A : Type 0} (xs : List A) (e : A) → length xs ≡ 1 → e ≡ get_or xs 0 e → xs ≡ e ∷ []
 one-there [] e len is = grind (arith, len)
 one-there (x ∷ xs) e len is =
     let rest : length xs ≡ 0 = omega (arith, len) in
-    ap (λ y. y ∷ xs) (sym is) ∙ ap (λ ys. e ∷ ys) (none-there xs rest)
+    ap (λ y. y ∷ xs) (sym is) ∙ ap (λ ys. e ∷ ys) (no_members xs rest)
 
 -- ---- a version's row, put in the place of the one that was there
 
@@ -94,50 +91,46 @@ sole-indexed old mid id row keys versions small same keeps put of there indexed 
     indexed-with_version mid id row keys versions small put of there
     (indexed-kept old mid same keeps indexed)
 
--- no key is spare that was not, but for those of the row before
-pub sole-spares : (old new : Tables) (id : ℕ) (row : VersionRow) (keys : VersionKeys)
-    → AreKeysOf id row keys → KeepOtherVersions keys new old
-    → content_of new ≡ with_version (content_of old) id (Some row) →
-    AddSpareOnly (WasKeyOf id (get (content_of old).versions id)) old new
-sole-spares old new id row keys of adds put =
-    spares-with_version old new id row (get (content_of old).versions id) refl put
-    (stands-beside new old id row keys of adds)
+pub sole-content : (old mid : Tables) (id : ℕ) (row : VersionRow)
+    (versions : FinMap nat_cmp VersionRow) → content_of mid ≡ content_of old
+    → versions ≡ set (content_of mid).versions id (Some row)
+    → content_of (record mid { versions = versions }) ≡ with_version (content_of old) id (Some row)
+sole-content old mid id row versions same put =
+    ap (λ m. record (content_of mid) { versions = m }) put
+    ∙ ap (λ c. with_version c id (Some row)) same
 
--- the keys are those of the row that is there now
-pub keys-there : (versions written : FinMap nat_cmp VersionRow) (id : ℕ) (row : VersionRow)
-    (keys : VersionKeys) → written ≡ set versions id (Some row) → AreKeysOf id row keys
-    → (r : VersionRow) → get written id ≡ Some r → AreKeysOf id r keys
-keys-there versions written id row keys put of r at =
-    let e : Some row ≡ Some r =
-    sym (get-set_here nat_cmp_total nat_cmp-IsAntisymmetric versions id (Some row))
-    ∙ ap (λ m. get m id) (sym put) ∙ at in
-    let same : row ≡ r = cc in
-    subst (λ x. AreKeysOf id x keys) same of
+-- and the keys are taken away that the row before had and the row does not need
+pub sole-taken : (old put new : Tables) (versions : FinMap nat_cmp VersionRow) (guesses : Guesses)
+    (id : ℕ) (row : VersionRow) (standing keys taken : VersionKeys) → id < 18446744073709551616
+    → ((r : VersionRow) → get (content_of old).versions id ≡ Some r → AreKeysOf id r standing)
+    → (get (content_of old).versions id ≡ None → AreNoKeys standing) → AreKeysOf id row keys
+    → AreUnneeded standing keys taken → content_of put ≡ content_of old → KeepIndexes old put
+    → KeepOtherVersions keys put old → versions ≡ set (content_of put).versions id (Some row)
+    → HaveKeys keys put → AreIndexed old
+    → AreKeysTaken taken (record put { versions = versions; guesses = guesses }) new
+    → AreIndexed new × AddNoSpare old new
+sole-taken old put new versions guesses id row standing keys taken small own without of left same
+    keeps adds written there indexed is =
+    let mid = record put { versions = versions; guesses = guesses } in
+    let by = left-by old mid id row standing keys taken own without of left adds
+    (sole-content old put id row versions same written) in (
+      indexed-beside mid new taken is by.unneeded
+          (sole-indexed old put id row keys versions small same keeps written of there indexed),
+      spares-after (IsOneOf taken) old mid mid new by.others (λ k spare. spare)
+          (spares-same mid new is.content is.adds) (none-taken mid new taken is),
+    )
 
-pub some-there : {P : Type 0} (versions written : FinMap nat_cmp VersionRow) (id : ℕ)
-    (row : VersionRow) → written ≡ set versions id (Some row) → get written id ≡ None → P
-some-there versions written id row put none =
-    let no : Some row ≡ None =
-    sym (get-set_here nat_cmp_total nat_cmp-IsAntisymmetric versions id (Some row))
-    ∙ ap (λ m. get m id) (sym put) ∙ none in
-    cc
+-- no row stood there
+pub not-there : (old mid : Tables) (id : ℕ) → content_of mid ≡ content_of old
+    → is_some (get (content_of mid).versions id) ≡ false → get (content_of old).versions id ≡ None
+not-there old mid id same none =
+    ap (λ (c : Content). get c.versions id) (sym same) ∙ go (get (content_of mid).versions id) none
+  where
+    go : (w : Option VersionRow) → is_some w ≡ false → w ≡ None
+    go None e = refl
+    go (Some r) e = let no : true ≡ false = e in cc
 
--- what follows from the row that stood there
-pub of-stood : {P : Type 0} (before : Option VersionRow) → is_some before ≡ true
-    → ((r : VersionRow) → before ≡ Some r → P) → P
-of-stood None e f = let no : false ≡ true = e in cc
-of-stood (Some r) e f = f r refl
-
--- its keys are taken away, but for those that are needed
-pub sole-forgotten : (id : ℕ) (before : Option VersionRow) (old mid new : Tables)
-    → is_some before ≡ true → ((r : VersionRow) → before ≡ Some r → NoneSpare (IsKeyOf id r) new) →
-    AddSpareOnly (WasKeyOf id before) old mid → AddNoSpare mid new → AddNoSpare old new
-sole-forgotten id None old mid new e none put later = let no : false ≡ true = e in cc
-sole-forgotten id (Some r) old mid new e none put later =
-    spares-after (WasKeyOf id (Some r)) old mid mid new put (λ k spare. spare) later (none r refl)
-
--- none stood there, so that none is to be taken away
-pub sole-new : (id : ℕ) (before : Option VersionRow) (old new : Tables) → is_some before ≡ false
-    → AddSpareOnly (WasKeyOf id before) old new → AddNoSpare old new
-sole-new id None old new e put k spare = put k (λ was. was) spare
-sole-new id (Some r) old new e put k spare = let no : true ≡ false = e in cc
+-- so that no key is to be taken away
+pub sole-new : (id : ℕ) (keys : VersionKeys) (old new : Tables) → AreNoKeys keys
+    → AreLeftBy id keys old new → AddNoSpare old new
+sole-new id keys old new none left k spare = left.others k (no-key keys none k) spare

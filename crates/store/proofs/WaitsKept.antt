@@ -1,6 +1,6 @@
 -- The downloads of the rows of the code, one of which is put or taken away.
-use Rattle.std.proofs.Common.{◌≡◌, ℕ, Bool, true, false, cond, List, [], ◌∷◌, length, Option, Some, None, refl, ap, sym, ◌∙◌, arith}
-use Rattle.std.specs.Prelude.{◌==◌, ◌&&◌, Result, Ok, Err, IfOk, OnOk, OnErr, IfSome, option_map}
+use Rattle.std.proofs.Common.{◌≡◌, ℕ, Bool, true, false, cond, List, [], ◌∷◌, Option, Some, None, refl, ap, sym, ◌∙◌, arith}
+use Rattle.std.specs.Prelude.{◌==◌, ◌&&◌, Result, Ok, Err, IfOk, OnOk, OnErr, option_map}
 use Rattle.std.specs.List.{list_any}
 use Rattle.std.specs.Ordering.{on, eq_by_cmp, is_eq, nat_cmp, ordering_then}
 use Rattle.std.specs.Map.{lookup}
@@ -8,8 +8,6 @@ use Rattle.std.specs.BTreeMap.{BTreeMap, is_at}
 use Rattle.std.proofs.lemmas.Bool.Decides.{nat_tests}
 use Rattle.std.specs.FinMap.{FinMap, get, empty, get-empty, from_entries, same_map}
 use Rattle.numbers.specs.Subjects.{Subject}
-use Rattle.numbers.specs.Views.{subject_of}
-use Rattle.numbers.specs.declared.ported.Subject.{Subject as SubjectCode}
 use Rattle.meaning.specs.Content.{WaitKey, wait_cmp}
 use Rattle.store.specs.Maps.{set, seen_entries, IsSet}
 use Rattle.store.specs.WaitRows.{Download, download_cmp, download_of, row_key_of, row_in, Waiting, waiting_of, rows_of, about_of, waits_of, awaited, subject_download_of, subject_download_cmp, SubjectDownload, IsFirst, IsAdded, IsWithout}
@@ -82,14 +80,14 @@ by-order old new b w is q =
 
 -- the row of a download's broadcast
 pub row-at : (rows : List (RowKeyCode × WaitingCode)) (b : RowKeyCode) (k : WaitKey)
-    (w : Option WaitingCode) → row_key_of b ≡ download_of k → row_in rows b ≡ w →
+    (w : Option WaitingCode) → row_key_of b ≡ download_of k → lookup (same_key b) rows ≡ w →
     get (rows_of rows) (download_of k) ≡ option_map waiting_of w
 row-at rows b k w e is =
     ap (get (rows_of rows)) (sym e) ∙ get-seen row_key_of waiting_of download_total download_exact
-    rows b ∙ ap (option_map waiting_of) is
+    rows b ∙ ap (option_map waiting_of) (sym (hash-at rows b) ∙ is)
 
 pub wait-at : (rows : List (RowKeyCode × WaitingCode)) (b : RowKeyCode) (k : WaitKey)
-    (w : Option WaitingCode) → row_key_of b ≡ download_of k → row_in rows b ≡ w →
+    (w : Option WaitingCode) → row_key_of b ≡ download_of k → lookup (same_key b) rows ≡ w →
     get (waits_of (rows_of rows)) k ≡ awaited (option_map waiting_of w) k.carrier
 wait-at rows b k w e is =
     get-waits_of (rows_of rows) k ∙ ap (λ o. awaited o k.carrier) (row-at rows b k w e is)
@@ -118,7 +116,7 @@ key-written old new key k v e is q =
     (get (about_of old) q)) e
 
 -- a row written, and then taken away
-pub row-gone : (old mid new : FinMap download_cmp Waiting) (d : Download) (w : Option Waiting)
+row-gone : (old mid new : FinMap download_cmp Waiting) (d : Download) (w : Option Waiting)
     → IsRow old mid d w → IsRow mid new d None → IsRow old new d None
 row-gone old mid new d w put taken q = taken q ∙ go (eq_by_cmp download_cmp d q) refl
   where
@@ -126,6 +124,14 @@ row-gone old mid new d w put taken q = taken q ∙ go (eq_by_cmp download_cmp d 
         → cond b None (get mid q) ≡ cond b None (get old q)
     go true t = refl
     go false t = put q ∙ ap (λ b. cond b w (get old q)) t
+
+-- a row that was written, and taken away
+pub row-taken : (old mid new : List (RowKeyCode × WaitingCode)) (b : RowKeyCode) (k : WaitKey)
+    (w : WaitingCode) → row_key_of b ≡ download_of k → IsPut old mid b (Some w)
+    → IsPut mid new b None → IsRow (rows_of old) (rows_of new) (download_of k) None
+row-taken old mid new b k w e put taken =
+    row-gone (rows_of old) (rows_of mid) (rows_of new) (download_of k) (Some (waiting_of w))
+    (row-written old mid b k (Some w) e put) (row-written mid new b k None e taken)
 
 -- ---- what a result says
 
@@ -138,10 +144,6 @@ pub on-ok-from : {V E Q : Type 0} {P : V → Type 0} (r : Result V E) → ((v : 
     → OnOk r Q
 on-ok-from (Ok v) f p = f v p
 on-ok-from (Err e) f p = tt
-
-pub on-err-then : {V E P Q : Type 0} (r : Result V E) → (P → Q) → OnErr r P → OnErr r Q
-on-err-then (Ok v) f p = tt
-on-err-then (Err e) f p = f p
 
 -- ---- a carrier is added to a row that is there
 
@@ -157,18 +159,6 @@ pub added-waits : (old new : FinMap download_cmp Waiting) (k : WaitKey) (s : Sub
 added-waits old new k s was now there row added =
     row-changed old new k (Some now) (Some s) row (λ c. added.each c
     ∙ ap (λ o. cond (c == k.carrier) (Some s) (awaited o c)) (sym there))
-
--- what was there has the row's subject
-pub same-subject : (c : ℕ) (s : Subject) (was now : Waiting) (before : Option SubjectCode)
-    → option_map subject_of before ≡ awaited (Some was) c → IsAdded c s was now
-    → IfSome before (λ b. subject_of b ≡ s)
-same-subject c s was now None e added = tt
-same-subject c s was now (Some b) e added = go (list_any (λ k. c == k) was.1) e
-  where
-    go : (y : Bool) → Some (subject_of b) ≡ cond y (Some was.0) None → subject_of b ≡ s
-    go true e = (let f : Some (subject_of b) ≡ Some was.0 = e in let g : subject_of b ≡ was.0 =
-        cc in g) ∙ added.subject
-    go false e = let no : Some (subject_of b) ≡ None = e in cc
 
 -- ---- the first carrier of a row
 
@@ -205,7 +195,3 @@ not-there m k none =
     go : (q : WaitKey) (b : Bool) → eq_by_cmp wait_cmp k q ≡ b → cond b None (get m q) ≡ get m q
     go q true t = sym none ∙ ap (get m) (wait_exact k q (tied _ t))
     go q false t = refl
-
-pub none-left : {X : Type 0} (xs : List X) → length xs ≡ 0 → xs ≡ []
-none-left [] e = refl
-none-left (x ∷ xs) e = absurd (omega arith)

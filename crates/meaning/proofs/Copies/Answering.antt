@@ -10,8 +10,8 @@ use Rattle.meaning.specs.Changes.{acknowledged_broadcast, acknowledged_by, chang
 use Rattle.meaning.specs.History.{Acknowledges}
 use Rattle.meaning.specs.Reading.{State, SubjectVersion, Download, record_now, version_of_id, download, downloads_of, downloads_acknowledged, first_of, is_before, queue, set_now}
 use Rattle.meaning.specs.Refusals.{Requests, refusal, tests, is_download, is_preceded}
-use Rattle.meaning.specs.Machine.{IsHistory}
-use Rattle.numbers.proofs.Small.{same_number, true-false, and_first, and_second, denied, some_is, equal_number}
+use Rattle.meaning.specs.Machine.{HasHistory}
+use Rattle.numbers.proofs.Small.{same_number, true-false, and_first, and_second, denied, some_is, equal_number, negated, true_both}
 use Rattle.meaning.proofs.Lists.{Among, any_there, there_any, mapped-from, mapped-to, filtered-from, filtered-to, flat-from, flat-to, each, each_there, each-among}
 use Rattle.meaning.proofs.Accepted.{none_holds}
 use Rattle.meaning.proofs.Entered.{found_is, subject_eq-refl}
@@ -28,6 +28,7 @@ use Rattle.meaning.proofs.Copies.Steps.{changed_placed}
 use Rattle.meaning.proofs.Copies.Order.{IsLower, AreLower}
 use Rattle.meaning.proofs.Copies.Passing.{completed_own}
 use Rattle.meaning.specs.Windows.{WindowSet}
+use Rattle.meaning.proofs.Queues.{below_each}
 
 -- ---- one of a list is marked
 
@@ -193,12 +194,6 @@ module _ (w : WindowSet) (c id attempt : ℕ) where
 
 -- ---- the broadcasts of a version
 
-below_each : (n : ℕ) (bs : List Broadcast) (b : Broadcast) → AreBelow n bs → Among b bs
-    → b.attempt < n
-below_each n [] b below is = absurd is
-below_each n (x ∷ xs) b below (inl e) = subst (λ (y : Broadcast). y.attempt < n) (sym e) below.0
-below_each n (x ∷ xs) b below (inr is) = below_each n xs b below.1 is
-
 -- an attempt is one broadcast's
 one_attempt : (bs : List Broadcast) (a b : Broadcast) → AreApart bs → Among a bs → Among b bs
     → a.attempt ≡ b.attempt → a ≡ b
@@ -251,7 +246,7 @@ pub none_first : (ds : List Download) (d : Download) → first_of ds ≡ None �
 none_first [] d e there = there
 none_first (x ∷ xs) d e there = cc
 
-module _ (st : State) (is : IsHistory st.windows st.history st.now) (s : Subject)
+module _ (st : State) (is : HasHistory st) (s : Subject)
     (c id attempt : ℕ) where
   abbrev pub versions : List Version
   versions = (record_now st s).versions
@@ -385,17 +380,13 @@ module _ (st : State) (is : IsHistory st.windows st.history st.now) (s : Subject
     first_in_turn d there is =
         go (list_any (λ e. subject_eq e.subject d.subject && is_before e d) (queue st c)) refl
       where
-        both : (x y : Bool) → x ≡ true → y ≡ true → (x && y) ≡ true
-        both true y e f = f
-        both false y e f = cc
-
         go : (t : Bool) → list_any (λ e. subject_eq e.subject d.subject && is_before e d)
             (queue st c) ≡ t → t ≡ false
         go false e = refl
         go true e = true-false (is_preceded (queue st c) id attempt)
             (there_any (λ x. is_download id attempt x && list_any
             (λ y. subject_eq y.subject x.subject && is_before y x) (queue st c)) d (queue st c)
-            there (both (is_download id attempt d) _ is e)) in_turn
+            there (true_both (is_download id attempt d) _ is e)) in_turn
 
     -- what waits is of the version and broadcast that the entry acknowledges
     waits_for : (d : Download) → (own_one : IsOf d)
@@ -442,7 +433,7 @@ module _ (st : State) (is : IsHistory st.windows st.history st.now) (s : Subject
         ∙ ap (λ k. (id == id) && (k == attempt)) one.has_attempt
         ∙ ap (λ b. b && (attempt == attempt)) (same_number id) ∙ same_number attempt in
         let not_yet : is_among c one.broadcast.acknowledged ≡ false =
-        out (is_among c one.broadcast.acknowledged) (sym (waits_or_not c one.broadcast stands)
+        negated (is_among c one.broadcast.acknowledged) (sym (waits_or_not c one.broadcast stands)
         ∙ waits.1) in
         let before : list_any (λ e. subject_eq e.subject s && is_before e (download_of s p))
         (queue st c) ≡ false =
@@ -459,7 +450,3 @@ module _ (st : State) (is : IsHistory st.windows st.history st.now) (s : Subject
         one.version.broadcasts) one.broadcast
         (filtered-to (stands_for (Carrier c)) one.version.broadcasts one.broadcast one.sent
         stands)))))
-      where
-        out : (b : Bool) → not b ≡ true → b ≡ false
-        out true e = cc
-        out false e = refl

@@ -11,10 +11,10 @@ use Rattle.meaning.specs.Versions.{Version, version_in_force}
 use Rattle.meaning.specs.History.{Request, Commands, Acknowledges, Entry, replay}
 use Rattle.meaning.specs.Reading.{State, Download, InForce, record_now, registers, routing_in_force, all_in_force, downloads_acknowledged, first_of, download, queue, copy_of}
 use Rattle.meaning.specs.Refusals.{Requests, refusal, is_download}
-use Rattle.meaning.specs.Machine.{IsHistory}
+use Rattle.meaning.specs.Machine.{IsHistory, HasHistory}
 use Rattle.meaning.specs.Laws.{IsState, IsOfForce, CopyIsHanded}
 use Rattle.meaning.specs.Copies.{applied, started, rows_handed, acknowledged_of, and_then, downloads_handed, copy_handed}
-use Rattle.numbers.proofs.Small.{same_number, and_first, and_second, equal_number}
+use Rattle.numbers.proofs.Small.{same_number, and_first, and_second, equal_number, negated}
 use Rattle.meaning.proofs.Lists.{Among, any_there, there_any, found-among, found-there, each_there}
 use Rattle.meaning.proofs.Ids.{same_subject}
 use Rattle.meaning.proofs.Entered.{subject_eq-refl}
@@ -102,7 +102,7 @@ fold_then s start ds (Some d) = fold-append (λ before d. applied d s before) st
 
 -- the carrier's own acknowledgement: what it says of a subject is what the download in the queue
 -- says
-module _ (st : State) (is : IsHistory st.windows st.history st.now) (s : Subject) (c id attempt : ℕ)
+module _ (st : State) (is : HasHistory st) (s : Subject) (c id attempt : ℕ)
     (ok : refusal st (Requests c (Acknowledges id attempt)) ≡ None) where
   abbrev of_it : Option Download
   of_it = first_of (flat_map (downloads_acknowledged c c (Acknowledges id attempt))
@@ -177,11 +177,8 @@ others_take : (c caller : ℕ) (request : Request) (waiting : List Download)
     → is_others (Carrier c) caller request ≡ true → acknowledged_of c caller request waiting ≡ None
 others_take c caller (Commands command) waiting other = refl
 others_take c caller (Acknowledges id attempt) waiting other =
-    ap (λ b. if b then find (is_download id attempt) waiting else None) (out (caller == c) other)
-  where
-    out : (b : Bool) → not b ≡ true → b ≡ false
-    out true e = cc
-    out false e = refl
+    ap (λ b. if b then find (is_download id attempt) waiting
+    else None) (negated (caller == c) other)
 
 module _ (w : Windows) (are : AreWindows w) (c : ℕ) (s : Subject) where
   abbrev at : List Entry → Entry → State

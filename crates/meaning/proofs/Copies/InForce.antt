@@ -8,7 +8,7 @@ use Rattle.meaning.specs.Statuses.{Send}
 use Rattle.meaning.specs.Statuses.{Status, Pending, Conflict, CancelPending, Sending, Active, PartialFailure, Failed, DisconnectPending, Old, Canceled}
 use Rattle.meaning.specs.Versions.{Broadcast, Version, in_force, in_force_status, is_among, is_withdrawn, is_open_broadcast, is_open_outcome}
 use Rattle.meaning.specs.Reading.{State, SubjectVersion, Download, record_now, all_versions, any_open}
-use Rattle.meaning.specs.Machine.{IsHistory}
+use Rattle.meaning.specs.Machine.{HasHistory}
 use Rattle.meaning.specs.Laws.{is_steady, CopyIsInForce}
 use Rattle.numbers.proofs.Small.{true-false}
 use Rattle.meaning.proofs.Lists.{Among, there_any, each_two, each_there}
@@ -120,7 +120,7 @@ none_any test xs none x there = go (test x) refl
     go true e = true-false (list_any test xs) (there_any test x xs there e) none
     go false e = refl
 
-all_closed : (st : State) → IsHistory st.windows st.history st.now → any_open st ≡ false
+all_closed : (st : State) → HasHistory st → any_open st ≡ false
     → (s : Subject) → AllByRecursion (λ (v : Version). AllClosed v.broadcasts)
     (record_now st s).versions
 all_closed st is none s =

@@ -9,7 +9,7 @@ use Rattle.meaning.specs.History.{Request, Commands, Acknowledges, Entry, effect
 use Rattle.meaning.specs.Reading.{SubjectVersion, Download, registers, downloads_of, downloads_acknowledged, first_of}
 use Rattle.meaning.specs.Machine.{IsHistory}
 use Rattle.meaning.specs.Laws.{CopyIsPublished}
-use Rattle.numbers.proofs.Small.{true-false, denied, equal_number}
+use Rattle.numbers.proofs.Small.{true-false, denied, equal_number, negated}
 use Rattle.meaning.proofs.Kept.{record_after, kept}
 use Rattle.meaning.proofs.Copies.{Carrier, Nobody, placed, AreInOrder}
 use Rattle.meaning.proofs.Copies.Published.{all_answered, held_is_published}
@@ -71,11 +71,7 @@ others_none c caller (Commands command) es other =
 others_none c caller (Acknowledges id attempt) es other =
     none_of (downloads_acknowledged c caller (Acknowledges id attempt))
     (λ e. ap (λ t. if t && (e.version.id == id) then downloads_of (λ b. b.attempt == attempt) e
-    else []) (out (caller == c) other)) es
-  where
-    out : (b : Bool) → not b ≡ true → b ≡ false
-    out true e = cc
-    out false e = refl
+    else []) (negated (caller == c) other)) es
 
 -- one that is not another's and no registration is its acknowledgement
 pub its_own : (c caller : ℕ) (request : Request) → registers c request ≡ false

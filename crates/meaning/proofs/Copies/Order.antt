@@ -22,6 +22,7 @@ use Rattle.meaning.proofs.KeptVersions.{versions_kept}
 use Rattle.meaning.proofs.Copies.{Look, Carrier, Nobody, Placed, stands_for, place, own_of, own, placed, download_of, AreInOrder, all_append, each_own, each_placed}
 use Rattle.meaning.proofs.Copies.Followed.{IsThinned, IsNext, thinned_each}
 use Rattle.meaning.proofs.Copies.Dated.{dated_kept}
+use Rattle.numbers.proofs.Small.{number_equal, is_less}
 
 -- ---- the ids of a record
 
@@ -309,12 +310,6 @@ before_is s p q up lower = go (nat_lt q.minute p.minute) refl lower
     tail : (nat_lt q.minute p.minute) ≡ false → (q.minute == p.minute) ≡ true
     tail e = grind (arith, nat_tests)
 
-    less : (a b : ℕ) → a < b → nat_lt a b ≡ true
-    less a b below = grind (arith, nat_tests)
-
-    even : (a b : ℕ) → a ≡ b → (a == b) ≡ true
-    even a b same = grind (arith, nat_tests)
-
     second : (x y z : Bool) → y ≡ true → z ≡ true → (x || (y && z)) ≡ true
     second true y z e f = refl
     second false true z e f = f
@@ -330,10 +325,10 @@ before_is s p q up lower = go (nat_lt q.minute p.minute) refl lower
         && (nat_lt q.id p.id || ((q.id == p.id) && nat_lt q.attempt p.attempt)))) ≡ true
     go true e is = first (nat_lt q.minute p.minute) _ e
     go false e (inl is) = second (nat_lt q.minute p.minute) (q.minute == p.minute) _ (tail e)
-        (first (nat_lt q.id p.id) _ (less q.id p.id is))
+        (first (nat_lt q.id p.id) _ (is_less q.id p.id is))
     go false e (inr is) = second (nat_lt q.minute p.minute) (q.minute == p.minute) _ (tail e)
-        (second (nat_lt q.id p.id) (q.id == p.id) _ (even q.id p.id is.0)
-        (less q.attempt p.attempt is.1))
+        (second (nat_lt q.id p.id) (q.id == p.id) _ (number_equal q.id p.id is.0)
+        (is_less q.attempt p.attempt is.1))
 
 pub in_order : (s : Subject) (ps : List Placed) → MinutesFall ps → AreLower ps → AreInOrder s ps
 in_order s [] fall lower = tt

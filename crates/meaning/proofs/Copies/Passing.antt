@@ -13,10 +13,10 @@ use Rattle.meaning.specs.Versions.{Broadcast, Version, with_number, is_among, is
 use Rattle.meaning.specs.Changes.{enters, sent, completed, acknowledged_broadcast, acknowledged_by, nobody_is_missing, joined_broadcast, joined_by, changed_at, of_id}
 use Rattle.meaning.specs.Conditions.{holds_of, is_active, can_activate}
 use Rattle.meaning.specs.History.{Request, Commands, Acknowledges, Entry, effect, replay, makes, made_by, made_version, with_made, done_to, change_of, cancelled_by, side_of, has_both_creates, disconnected, with_old_create, with_new_create, lacks_old_create, lacks_new_create, next_after, id_among, donor_of, assigned_block, blank_version, present_set}
-use Rattle.meaning.specs.Reading.{State, SubjectVersion, record_now, version_of_id, registers, set_now}
+use Rattle.meaning.specs.Reading.{State, SubjectVersion, record_now, version_of_id, registers, set_now, made_now}
 use Rattle.meaning.specs.OnVersion.{is_number}
 use Rattle.meaning.specs.Refusals.{Requests, refusal}
-use Rattle.meaning.specs.Machine.{IsHistory}
+use Rattle.meaning.specs.Machine.{IsHistory, HasHistory}
 use Rattle.meaning.specs.Sound.{NoneOpen, AreSound}
 use Rattle.meaning.proofs.Lists.{everywhere, each}
 use Rattle.meaning.proofs.Accepted.{AcceptedCommand, accepted_command}
@@ -34,6 +34,7 @@ use Rattle.meaning.proofs.Copies.Followed.{IsThinned, IsNext, thinned_same, thin
 use Rattle.meaning.proofs.Copies.Told.{told_kept}
 use Rattle.meaning.proofs.Copies.Served.{are_served}
 use Rattle.meaning.proofs.Copies.Steps.{Lasts, closed_same, sent_next, thins_next, changed_thinned, open_next, force_next}
+use Rattle.numbers.proofs.Small.{negated}
 
 -- ---- whom a request is of
 
@@ -48,11 +49,7 @@ is_others Closed caller request = true
 other_number : (k c : ℕ) → not (k == c) ≡ true → (rs : List ℕ)
     → is_among c (with_number k rs) ≡ is_among c rs
 other_number k c other rs =
-    among-with_number c k rs ∙ ap (λ b. b || is_among c rs) (out (k == c) other)
-  where
-    out : (b : Bool) → not b ≡ true → b ≡ false
-    out true e = cc
-    out false e = refl
+    among-with_number c k rs ∙ ap (λ b. b || is_among c rs) (negated (k == c) other)
 
 joined_wanted : (o : Look) (caller k : ℕ) → is_others o caller (Commands (RegisterCarrier k)) ≡ true
     → (b : Broadcast) → wants o (with_number k b.recipients) ≡ wants o b.recipients
@@ -227,7 +224,7 @@ active_closes s (v ∷ vs) sound active = (
   sound.0,
 )
 
-module _ (o : Look) (st : State) (is : IsHistory st.windows st.history st.now) (s : Subject)
+module _ (o : Look) (st : State) (is : HasHistory st) (s : Subject)
     (lasts : Lasts o (record_now st s).carriers) where
   abbrev everyone : List ℕ
   everyone = (record_now st s).carriers
@@ -235,7 +232,7 @@ module _ (o : Look) (st : State) (is : IsHistory st.windows st.history st.now) (
   abbrev versions : List Version
   versions = (record_now st s).versions
 
-  given : AreGiven (made_by st.windows st.history) s versions
+  given : AreGiven (made_now st) s versions
   given = given_now st is s
 
   -- what a change of each version makes of the list
@@ -270,7 +267,7 @@ module _ (o : Look) (st : State) (is : IsHistory st.windows st.history st.now) (
       open_next (set_now st) o st.now (of_id id (sent (set_now st) Create everyone st.now)) s
       versions (sound_now st is s)
       (of_id-each (λ v u. IsThinned (own o v) (own o u) ⊎ (IsNext st.now (own o v) (own o u)
-      × (is_open s v ≡ true))) (λ v. inl (thinned_same (own o v))) (made_by st.windows st.history) s
+      × (is_open s v ≡ true))) (λ v. inl (thinned_same (own o v))) (made_now st) s
       id (sent (set_now st) Create everyone st.now) versions given
       (λ v found. inr (
         sent_next (set_now st) o everyone lasts Create st.now v,
@@ -292,7 +289,7 @@ module _ (o : Look) (st : State) (is : IsHistory st.windows st.history st.now) (
           → Passes (of_id id change)
       go None none = thins_next (set_now st) o st.now (of_id id change) versions
           (of_id-each (λ v u. IsThinned (own o v) (own o u)) (λ v. thinned_same (own o v))
-          (made_by st.windows st.history) s id change versions given (λ v found. let both : None
+          (made_now st) s id change versions given (λ v found. let both : None
           ≡ Some v = sym none ∙ found in cc))
       go (Some v) found = forced (of_id id change)
           (none_open-found s versions
@@ -301,7 +298,7 @@ module _ (o : Look) (st : State) (is : IsHistory st.windows st.history st.now) (
           (sym (version_of_id_is st s id v given found)) ∙ alone))
           (of_id-each (λ u x. IsThinned (own o u) (own o x) ⊎ (IsNext st.now (own o u) (own o x)
           × (in_force u ≡ true))) (λ u. inl (thinned_same (own o u)))
-          (made_by st.windows st.history) s id change versions given
+          (made_now st) s id change versions given
           (λ u there. inr (
             step u,
             ap in_force_status

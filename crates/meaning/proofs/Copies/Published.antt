@@ -8,9 +8,9 @@ use Rattle.numbers.specs.Subjects.{Subject, subject_eq}
 use Rattle.numbers.specs.Routings.{Routing}
 use Rattle.meaning.specs.Versions.{Broadcast, Version, is_among, is_withdrawn, waiters, unacknowledged}
 use Rattle.meaning.specs.Reading.{State, SubjectVersion, Download, record_now, download, downloads_of, is_before, inserted, sorted, last, starting_row, published, queue}
-use Rattle.meaning.specs.Machine.{IsHistory}
+use Rattle.meaning.specs.Machine.{HasHistory}
 use Rattle.meaning.specs.Laws.{NothingWaits}
-use Rattle.numbers.proofs.Small.{equal_number}
+use Rattle.numbers.proofs.Small.{equal_number, greater_differs, false_second}
 use Rattle.meaning.proofs.Entered.{subject_eq-refl}
 use Rattle.meaning.proofs.Lists.{each, each_there, each-among, each_mapped}
 use Rattle.meaning.proofs.Copies.{Carrier, Placed, stands_for, place, own, placed, download_of, AreInOrder, AllMarked, held, each_placed}
@@ -71,7 +71,7 @@ acknowledged_else c b stands idle =
     go true e = refl
     go false e = cc
 
-module _ (st : State) (is : IsHistory st.windows st.history st.now) (c : ℕ) (s : Subject) where
+module _ (st : State) (is : HasHistory st) (c : ℕ) (s : Subject) where
   -- where no download of the queue passes a test, whatever passes it is acknowledged
   pub answered_else : (test : Download → Bool) → list_any test (queue st c) ≡ false →
       AllByRecursion (λ p. test (download_of s p) ≡ true
@@ -107,9 +107,6 @@ none_last d (e ∷ es) none = go (is_before d e) none.0 (none_last d es none.1)
 nat_apart : (a b : ℕ) → nat_lt a b ≡ true → nat_lt b a ≡ false
 nat_apart a b e = grind (arith, nat_tests)
 
-nat_apart_eq : (a b : ℕ) → nat_lt a b ≡ true → (b == a) ≡ false
-nat_apart_eq a b e = grind (arith, nat_tests)
-
 nat_same_lt : (a b : ℕ) → (a == b) ≡ true → nat_lt b a ≡ false
 nat_same_lt a b e = grind (arith, nat_tests)
 
@@ -123,13 +120,9 @@ not_before d e is = go (nat_lt e.minute d.minute) (e.minute == d.minute) (nat_lt
     neither false true r e1 f = cc
     neither false false r e1 f = refl
 
-    last_one : (p q : Bool) → q ≡ false → (p && q) ≡ false
-    last_one true q f = f
-    last_one false q f = refl
-
     inner : (p q r : Bool) → p ≡ false → r ≡ false → (p || (q && r)) ≡ false
     inner true q r e1 f = cc
-    inner false q r e1 f = last_one q r f
+    inner false q r e1 f = false_second q r f
 
     go : (p q r t u : Bool) → nat_lt e.minute d.minute ≡ p → (e.minute == d.minute) ≡ q
         → nat_lt e.id d.id ≡ r → (e.id == d.id) ≡ t → nat_lt e.attempt d.attempt ≡ u
@@ -137,11 +130,11 @@ not_before d e is = go (nat_lt e.minute d.minute) (e.minute == d.minute) (nat_lt
         is_before d e ≡ false
     go true q r t u e1 e2 e3 e4 e5 f =
         neither (nat_lt d.minute e.minute) (d.minute == e.minute) _ (nat_apart e.minute d.minute e1)
-        (nat_apart_eq e.minute d.minute e1)
+        (greater_differs e.minute d.minute e1)
     go false true true t u e1 e2 e3 e4 e5 f =
         inner (nat_lt d.minute e.minute) (d.minute == e.minute) _ (nat_same_lt e.minute d.minute e2)
         (neither (nat_lt d.id e.id) (d.id == e.id) _ (nat_apart e.id d.id e3)
-        (nat_apart_eq e.id d.id e3))
+        (greater_differs e.id d.id e3))
     go false true false true true e1 e2 e3 e4 e5 f =
         inner (nat_lt d.minute e.minute) (d.minute == e.minute) _ (nat_same_lt e.minute d.minute e2)
         (inner (nat_lt d.id e.id) (d.id == e.id) _ (nat_same_lt e.id d.id e4)

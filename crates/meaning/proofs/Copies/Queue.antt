@@ -4,9 +4,9 @@ use Rattle.std.specs.Prelude.{◌==◌, flat_map, filter, if◌then◌else◌}
 use Rattle.std.specs.List.{list_any, cons_option}
 use Rattle.numbers.specs.Subjects.{Subject}
 use Rattle.meaning.specs.Versions.{Broadcast, Version, Record, is_among, waiters, version_with}
-use Rattle.meaning.specs.History.{subject_of_id, made_by}
-use Rattle.meaning.specs.Reading.{State, SubjectVersion, Download, record_now, of_its_subject, versions_made, all_versions, download, downloads_of, is_before, inserted, sorted, queue}
-use Rattle.meaning.specs.Machine.{IsHistory}
+use Rattle.meaning.specs.History.{subject_of_id}
+use Rattle.meaning.specs.Reading.{State, SubjectVersion, Download, record_now, of_its_subject, versions_made, all_versions, download, downloads_of, is_before, inserted, sorted, queue, made_now}
+use Rattle.meaning.specs.Machine.{HasHistory}
 use Rattle.numbers.proofs.Small.{some_is, true-false, equal_number}
 use Rattle.meaning.proofs.Lists.{Among, there_any, mapped-from, mapped-to, filtered-from, filtered-to, flat-from, flat-to, each-among}
 use Rattle.meaning.proofs.Ids.{found_given, all_found, given_apart}
@@ -130,7 +130,7 @@ queued-from st c d is =
     listed.0.version.broadcasts) d listed.2 in
     let sent = filtered-from (λ b. is_among c (waiters b)) listed.0.version.broadcasts mapped.0
     mapped.1 in
-    let found = listed-from (record_now st) 1 (made_by st.windows st.history) listed.0 listed.1 in
+    let found = listed-from (record_now st) 1 (made_now st) listed.0 listed.1 in
     record {
       at = listed.0;
       broadcast = mapped.0;
@@ -141,13 +141,13 @@ queued-from st c d is =
       is = mapped.2;
     }
 
-module _ (st : State) (is : IsHistory st.windows st.history st.now) (s : Subject) where
+module _ (st : State) (is : HasHistory st) (s : Subject) where
   -- each version of a record is found by its id
   pub found_by_id : (v : Version) → Among v (record_now st s).versions
       → version_with v.id (record_now st s) ≡ Some v
   found_by_id v there =
       each-among (λ u. version_with u.id (record_now st s) ≡ Some u) (record_now st s).versions v
-      (all_found (record_now st s).versions (given_apart (made_by st.windows st.history) s
+      (all_found (record_now st s).versions (given_apart (made_now st) s
       (record_now st s).versions (given_now st is s))) there
 
   -- each version of a record is one of all
@@ -155,11 +155,11 @@ module _ (st : State) (is : IsHistory st.windows st.history st.now) (s : Subject
       → Among (let e : SubjectVersion = record { subject = s; version = v } in e) (all_versions st)
   is_listed v there =
       let found : version_with v.id (record_now st s) ≡ Some v = found_by_id v there in
-      listed-to (record_now st) 1 (made_by st.windows st.history) (record {
+      listed-to (record_now st) 1 (made_now st) (record {
         subject = s;
         version =
             v;
-      }) v.id (found_given (made_by st.windows st.history) s v.id (record_now st s).versions v
+      }) v.id (found_given (made_now st) s v.id (record_now st s).versions v
       (given_now st is s) found) found
 
   pub queued-to : (c : ℕ) (v : Version) (b : Broadcast) → Among v (record_now st s).versions

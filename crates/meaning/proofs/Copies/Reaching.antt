@@ -3,12 +3,12 @@ use Rattle.std.proofs.Common.{◌≡◌, ℕ, Bool, true, false, ◌||◌, List,
 use Rattle.std.specs.Prelude.{◌==◌, if◌then◌else◌}
 use Rattle.std.specs.List.{AllByRecursion}
 use Rattle.meaning.specs.declared.words.Outcome.{Outcome}
-use Rattle.meaning.specs.declared.words.Outcome.TheVariants.{Open, AllAcknowledged}
+use Rattle.meaning.specs.declared.words.Outcome.TheVariants.{Open}
 use Rattle.meaning.specs.Versions.{Broadcast, is_among, with_number, is_open_broadcast, is_open_outcome}
-use Rattle.meaning.specs.Changes.{on_newest, outcome_at_end, acknowledged_broadcast, joined_broadcast}
+use Rattle.meaning.specs.Changes.{on_newest, acknowledged_broadcast, joined_broadcast}
 use Rattle.meaning.proofs.Rising.{among-with_number}
 use Rattle.meaning.proofs.Moves.{MovesKeep}
-use Rattle.meaning.proofs.Copies.Told.{end_closes}
+use Rattle.meaning.proofs.Sends.{sends_kept}
 use Rattle.meaning.specs.Windows.{WindowSet}
 
 abbrev pub Reaches : List ℕ → Broadcast → Type 0
@@ -52,32 +52,11 @@ joined_reach cs c (b ∷ bs) all = (go (is_open_broadcast b) refl, joined_reach 
 
 -- every move keeps it
 pub reach_kept : (w : WindowSet) → MovesKeep w (λ m cs v. AllReach cs v.broadcasts)
-reach_kept w = record {
-  later = λ m n cs v up is. is;
-  joined = λ c m cs v is. joined_reach cs c v.broadcasts is;
-  made_old = λ m cs id old_provider new_provider due some. tt;
-  made_new = λ routing m cs id old_provider new_provider due some. tt;
-  made_sent =
-      λ routing protective m cs id old_provider new_provider due some.
-      (λ opened k among. among, tt);
-  old_create = λ m cs v awaits is. is;
-  new_create = λ routing m cs v awaits is. is;
-  pending = λ m cs v from is. is;
-  conflict = λ spent m cs v from is. is;
-  cancel_pending = λ by m cs v from is. is;
-  canceled = λ m cs v from is. is;
-  active = λ m cs v from is. is;
-  planned = λ release m cs v may is. is;
-  old = λ m cs v force is. is;
-  activated = λ m cs v may is. (λ opened k among. among, is);
-  disconnected = λ m cs v may is. (λ opened k among. among, is);
-  released = λ m cs v from is. (λ opened k among. among, is);
-  modified = λ routing m cs v may is. (λ opened k among. among, is);
-  ended = λ action m cs v from is. closed_reach cs (outcome_at_end v.broadcasts) v.broadcasts
-      (end_closes v.broadcasts) is;
-  answered = λ c attempt m cs v may is. answered_reach cs c attempt v.broadcasts is;
-  closed = λ c attempt action m cs v may is. closed_reach cs AllAcknowledged
-      (map (acknowledged_broadcast c attempt) v.broadcasts) (λ e. cc)
-      (answered_reach cs c attempt v.broadcasts is);
-  whole = λ c attempt m cs v may is. answered_reach cs c attempt v.broadcasts is;
-}
+reach_kept w = sends_kept (record {
+  later = λ m n cs attempt bs up is. is;
+  joined = λ c m cs attempt. joined_reach cs c;
+  none = λ m cs. tt;
+  sends = λ action m cs v is. (λ opened k among. among, is);
+  closes = λ outcome closed m cs attempt bs. closed_reach cs outcome bs closed;
+  answers = λ c attempt m cs last bs among. answered_reach cs c attempt bs;
+})

@@ -16,7 +16,7 @@ use Rattle.meaning.specs.Versions.{Version, Record, in_force, in_force_status, o
 use Rattle.meaning.specs.Changes.{enters, sent, status_after, outcome_at_end, completed, acknowledged_by, nobody_is_missing, changed_at, retired}
 use Rattle.meaning.specs.Judge.{is_over, ended, judged_version, judge}
 use Rattle.meaning.specs.History.{Request, Entry, Commands, Acknowledges, effect, replay, made_by, makes, made_version, with_made, done_to, change_of, cancelled_by, side_of, awaits_creates, has_both_creates, disconnected, with_old_create, with_new_create, lacks_old_create, lacks_new_create, next_after, id_among, donor_of, assigned_block, present_set}
-use Rattle.meaning.specs.Reading.{State, record_now, set_now}
+use Rattle.meaning.specs.Reading.{State, record_now, set_now, made_now}
 use Rattle.meaning.specs.Conditions.{is_active, can_activate, is_pending, is_conflict, is_cancel_pending}
 use Rattle.meaning.specs.Refusals.{Requests, refusal}
 use Rattle.meaning.specs.Machine.{IsHistory}
@@ -350,7 +350,7 @@ acknowledged_follows w c attempt minute v =
     go PartialFailure e = ap (λ x. follows true x Active) e
     go _ e = follows_itself true v.status
 
-module _ (st : State) (s : Subject) (given : AreGiven (made_by st.windows st.history) s
+module _ (st : State) (s : Subject) (given : AreGiven (made_now st) s
     (record_now st s).versions) where
   change_follows : (caller id : ℕ) (everyone : List ℕ) (c : VersionCommand)
       → AcceptedCommand st caller (OnVersion id c) → (v : Version)
@@ -402,7 +402,7 @@ module _ (st : State) (s : Subject) (given : AreGiven (made_by st.windows st.his
       (follows_itself false v.status)) (record_now st s).versions
   done_follows caller everyone (Commands (OnVersion id c)) ok =
       of_id-each (λ v u. follows false v.status u.status ≡ true)
-      (λ v. follows_itself false v.status) (made_by st.windows st.history) s id
+      (λ v. follows_itself false v.status) (made_now st) s id
       (change_of (set_now st) caller st.now everyone c) (record_now st s).versions given
       (λ v found. change_follows caller id everyone c (accepted_command st caller (OnVersion id c)
       ok) v found)
@@ -414,7 +414,7 @@ module _ (st : State) (s : Subject) (given : AreGiven (made_by st.windows st.his
       (record_now st s).versions
   done_follows caller everyone (Acknowledges id attempt) ok =
       of_id-each (λ v u. follows true v.status u.status ≡ true) (λ v. follows_itself true v.status)
-      (made_by st.windows st.history) s id (acknowledged_by (set_now st) caller attempt st.now)
+      (made_now st) s id (acknowledged_by (set_now st) caller attempt st.now)
       (record_now st s).versions given
       (λ v found. acknowledged_follows (set_now st) caller attempt st.now v)
   done_follows caller everyone (Commands (RegisterCarrier spid)) ok =

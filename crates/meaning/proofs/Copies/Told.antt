@@ -14,6 +14,7 @@ use Rattle.meaning.specs.Changes.{status_after, routing_after, on_newest, outcom
 use Rattle.meaning.specs.History.{awaits_creates}
 use Rattle.meaning.proofs.Lists.{each}
 use Rattle.meaning.proofs.Moves.{MovesKeep, MayActivate, is_before_sending, is_unserved, is_planned}
+use Rattle.meaning.proofs.Sends.{end_closes}
 use Rattle.meaning.specs.Windows.{WindowSet}
 
 -- ---- what is said of a version
@@ -212,14 +213,6 @@ closed_told (Modify put) SomeAcknowledged closed routing bs told =
     closing_says (Some put) (Says routing) (λ xs says. says.0) SomeAcknowledged refl refl bs told
 closed_told (Modify put) NoneAcknowledged closed routing bs told =
     none_says (Some put) routing bs told
-
-pub end_closes : (bs : List Broadcast) → outcome_at_end bs ≡ Open → ⊥
-end_closes [] is = cc
-end_closes (b ∷ bs) is = go b.acknowledged is
-  where
-    go : (cs : List ℕ) → outcome_at_end (record b { acknowledged = cs } ∷ bs) ≡ Open → ⊥
-    go [] e = cc
-    go (c ∷ cs) e = cc
 
 pub answered_told : (c attempt : ℕ) (status : Status) (routing : Option Routing)
     (bs : List Broadcast) → IsToldAs status routing bs

@@ -7,14 +7,14 @@ use Rattle.meaning.specs.Windows.{WindowSet}
 use Rattle.meaning.specs.Versions.{Version, Record, in_force, is_open, sends_create, is_among, unacknowledged, waiters, version_with, last_version}
 use Rattle.meaning.specs.Changes.{is_empty, acknowledged_by, retired, changed_at, of_id}
 use Rattle.meaning.specs.Laws.{IsQuiet}
-use Rattle.meaning.specs.History.{Acknowledges, effect, after, meaning, donor_of, carriers, made_by}
-use Rattle.meaning.specs.Reading.{State, View, record_now, view_of, set_now}
+use Rattle.meaning.specs.History.{Acknowledges, donor_of, carriers}
+use Rattle.meaning.specs.Reading.{State, View, record_now, view_of, set_now, made_now}
 use Rattle.meaning.specs.Refusals.{Requests, refusal}
 use Rattle.meaning.specs.Machine.{IsHistory, Shown, accepted, answer_of}
 use Rattle.meaning.specs.Content.{Content, VersionRow, BroadcastRow, BlockRow, BroadcastKey, ClockRow, SameRows, Shows, row_of, of_subject, stored_broadcast, stored_wait, broadcast_with}
 use Rattle.meaning.proofs.Ids.{same_subject}
-use Rattle.numbers.proofs.Small.{equal_number, and_both}
-use Rattle.meaning.proofs.Entered.{judged-now, given_now, sound_now, entered-elsewhere, none_elsewhere, none_with}
+use Rattle.numbers.proofs.Small.{equal_number, and_both, same_truth}
+use Rattle.meaning.proofs.Entered.{entered-record, given_now, sound_now, entered-elsewhere, none_elsewhere, none_with}
 use Rattle.meaning.proofs.Shown.{some_is, own, others}
 use Rattle.meaning.proofs.Tended.{IsTended, tended_kept}
 use Rattle.meaning.proofs.KeptVersions.{version_now}
@@ -31,10 +31,10 @@ use Rattle.register.specs.Acknowledging.{answered_row, own_rows, acknowledging}
 use Rattle.register.proofs.Asking.Alone.{one_in_force}
 use Rattle.register.proofs.Records.Touched.{RegistryShows, touched-stands}
 use Rattle.register.proofs.OnVersions.OnVersion.{acknowledge-names, clock_same, shown_is}
-use Rattle.settle.proofs.Tables.{same_broadcast_with}
+use Rattle.meaning.proofs.Shown.{same_broadcast_with}
 use Rattle.settle.proofs.Taking.{sends_create-open, retired_broadcasts, version_after, others_after}
 use Rattle.settle.proofs.KeptRows.{row_there, puts_of, the_replaced, replaced_row, put_last, none_apart, retired_apart, retired_shows}
-use Rattle.settle.proofs.Among.{among-filtered, same_truth, among_keys}
+use Rattle.settle.proofs.Among.{among-filtered, among_keys}
 use Rattle.register.proofs.Downloads.Queued.{IsAwaited, waiting-awaited, awaited-waiting}
 use Rattle.register.proofs.Downloads.Answering.{last_is, acknowledged_one, left_without, waiters_are, answered_one, row_was, stored_before, stored_after, waits_after, answered_all, acknowledged_is, other_broadcast, this_broadcast, takes_is, acknowledging-quiet, acknowledged_id, last-same}
 
@@ -179,13 +179,8 @@ record_after st caller id attempt s = record {
 acknowledged-record : (st : State) (caller id attempt : ℕ) (s : Subject)
     → record_now (accepted st (Requests caller (Acknowledges id attempt))) s ≡ record_after st
     caller id attempt s
-unfolding meaning after effect
 acknowledged-record st caller id attempt s =
-    judged-now (set_now st) st.now (effect (set_now st) s None (donor_of 0 st.history) (record {
-      minute = st.now;
-      caller = caller;
-      request = Acknowledges id attempt;
-    }) (record_now st s))
+    entered-record st caller (Acknowledges id attempt) s [] refl refl
 
 -- ---- rows put
 
@@ -215,7 +210,7 @@ module _ (st : State) (old : Content) (stands : Stands old st) (s : Subject)
       stay : of_subject t (λ (y : VersionRow). y.subject) (replaced_row (set_now st) st.now s
           (record_now st s) old takes_over k) ≡ of_subject t (λ (y : VersionRow). y.subject)
           (get old.versions k)
-      stay = retired_apart (set_now st) st.now s (made_by st.windows st.history) (record_now st s)
+      stay = retired_apart (set_now st) st.now s (made_now st) (record_now st s)
           old due.shows (given_now st stands.represents.history s) takes_over t apart k
 
       go : (a b : Bool) → (id == k) ≡ b → of_subject t (λ (y : VersionRow). y.subject) (if a && b
@@ -323,14 +318,14 @@ module _ (st : State) (old new : Content) (stands : Stands old st) (caller : ℕ
       (sym takes_over_is ∙ e)).1
 
   hit : version_with id (record_after st caller id attempt s) ≡ Some (change is.version)
-  hit = version_after (set_now st) (made_by st.windows st.history) s st.now id change
+  hit = version_after (set_now st) (made_now st) s st.now id change
       (acknowledged_id (set_now st) caller attempt st.now) (record_now st s).versions is.version
       (given_now st stands.represents.history s) (sound_now st stands.represents.history s) is.found
       opens
 
   miss : (k : ℕ) → (id == k) ≡ false → version_with k (record_after st caller id attempt s)
       ≡ option_map (retired (set_now st) takes_over st.now) (version_with k (record_now st s))
-  miss k apart = others_after (set_now st) (made_by st.windows st.history) s st.now id change
+  miss k apart = others_after (set_now st) (made_now st) s st.now id change
       (acknowledged_id (set_now st) caller attempt st.now) (record_now st s).versions is.version
       (given_now st stands.represents.history s) (sound_now st stands.represents.history s) is.found
       opens k apart
@@ -386,7 +381,7 @@ module _ (st : State) (old new : Content) (stands : Stands old st) (caller : ℕ
             ap (of_subject s (λ (y : VersionRow). y.subject))
             (never completes (Some (row_of s finished)) (replaced_row (set_now st) st.now s
             (record_now st s) old takes_over k))
-            ∙ retired_shows (set_now st) st.now s (made_by st.windows st.history) (record_now st s)
+            ∙ retired_shows (set_now st) st.now s (made_now st) (record_now st s)
             old due.shows (given_now st stands.represents.history s) (one_in_force st old stands s)
             takes_over k
             ∙ sym (ap (option_map (row_of s)) (miss k f))

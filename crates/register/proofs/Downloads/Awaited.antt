@@ -94,7 +94,7 @@ module _ (st : State) (c : Content) (stands : Stands c st) (settled : (s : Subje
 
 -- ---- who may ask
 
-waiting_by : (st : State) (caller : ℕ)
+pub waiting_by : (st : State) (caller : ℕ)
     → refusal st (Asks caller Waiting) ≡ may_fetch (is_carrier st caller)
 unfolding tests
 waiting_by st caller = refl

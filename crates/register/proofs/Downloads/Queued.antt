@@ -11,7 +11,7 @@ use Rattle.meaning.specs.Refusals.{Requests, refusal, tests, first_that_holds, n
 use Rattle.meaning.specs.Content.{Content, VersionRow, of_subject, stored_wait, broadcast_with, row_of}
 use Rattle.meaning.proofs.Entered.{found_is}
 use Rattle.meaning.proofs.Ids.{same_subject}
-use Rattle.numbers.proofs.Small.{equal_number, and_both, same_number}
+use Rattle.numbers.proofs.Small.{equal_number, and_both, same_number, same_truth}
 use Rattle.meaning.proofs.Lagging.{no_row_now}
 use Rattle.meaning.proofs.Shown.{id_found, some_is, own}
 use Rattle.meaning.proofs.Tended.{AreApart, tended_kept}
@@ -227,11 +227,6 @@ module _ (st : State) (c : Content) (stands : Stands c st) (carrier : ℕ) where
           contained keys key.0 key.1.0 key.1.1 key.1.2,
           record { subject = of_it; minute = sym key.2; id = sym key.3; attempt = sym key.4 },
         )
-
-    same_truth : (x y : Bool) → (x ≡ true → y ≡ true) → (y ≡ true → x ≡ true) → x ≡ y
-    same_truth true y there back = sym (there refl)
-    same_truth false true there back = back refl
-    same_truth false false there back = refl
 
     module _ (id attempt : ℕ) (v : Version) (found : version_with id (record_now st s)
         ≡ Some v) where

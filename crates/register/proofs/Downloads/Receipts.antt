@@ -7,8 +7,8 @@ use Rattle.numbers.specs.Views.{subject_of}
 use Rattle.meaning.specs.Views.{status_of}
 use Rattle.meaning.specs.declared.words.Outcome.TheVariants.{Open, SomeAcknowledged}
 use Rattle.meaning.specs.Versions.{Broadcast, Version, sends_create, version_with}
-use Rattle.meaning.specs.History.{Acknowledges, made_by}
-use Rattle.meaning.specs.Reading.{State, View, record_now, view_of, set_now}
+use Rattle.meaning.specs.History.{Acknowledges}
+use Rattle.meaning.specs.Reading.{State, View, record_now, view_of, set_now, made_now}
 use Rattle.meaning.specs.declared.refusal.Refusal.{Refusal}
 use Rattle.meaning.specs.RefusalNumbers.{number_of}
 use Rattle.meaning.specs.Refusals.{Input, Requests, refusal}
@@ -51,6 +51,14 @@ use Rattle.register.proofs.Asking.Alone.{one_in_force}
 use Rattle.register.proofs.Downloads.Queued.{IsAwaited, found-awaited, refused_unknown, refused_not_found, refused_by_keys}
 use Rattle.register.proofs.Downloads.Answering.{answered_all, row_was}
 use Rattle.register.proofs.Downloads.Acknowledged.{broadcast_there, broadcast_read, acknowledged-stands, acknowledged-leaves, acknowledged-answer}
+
+-- the downloads that were read of a content that was as the old one wait there
+pub waits_read : (old read : Content) (carrier : ℕ) (s : Subject) (found slice : List DownloadKey)
+    → read ≡ old → slice ≡ found → AreWaitsAbout read carrier s found
+    → AreWaitsAbout old carrier s slice
+waits_read old read carrier s found slice same is waits =
+    subst (λ m. AreWaitsAbout m carrier s slice) same
+    (subst (AreWaitsAbout read carrier s) (sym is) waits)
 
 -- ---- rows of the code
 
@@ -303,9 +311,6 @@ answers_acknowledged old new caller id attempt clock row held u keys key broadca
         complete : completes u.version attempt last ≡ (last && (awaited.version.attempt == attempt))
         complete = ap (λ n. last && (n == attempt)) same_attempt
 
-        answered_version : Version
-        answered_version = answered_all caller attempt st.now awaited.version
-
         held_is : held ≡ awaited.version.held.windows
         held_is = row_held st old clock stands.represents clock_is row.subject id awaited.version
             awaited.found row row_is held are_held
@@ -389,7 +394,7 @@ answers_acknowledged old new caller id attempt clock row held u keys key broadca
         versions_same =
             ap (λ ps. ps ++ own_rows (completes u.version attempt last) id
             (row_of (subject_of after.subject) (seen_by windows after)))
-            (retired_read (set_now st) st.now row.subject (made_by st.windows st.history)
+            (retired_read (set_now st) st.now row.subject (made_now st)
             (record_now st row.subject) old due.shows (given_now st stands.represents.history
             row.subject)
             (one_in_force st old stands row.subject) (λ t. (

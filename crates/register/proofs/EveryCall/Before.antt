@@ -11,7 +11,7 @@ use Rattle.numbers.specs.declared.block_id.BlockId.{BlockId}
 use Rattle.numbers.specs.declared.tn.Tn.{Tn}
 use Rattle.numbers.specs.declared.ported.Subject.{Subject as SubjectCode}
 use Rattle.numbers.specs.declared.ported.Subject.TheVariants.{Number as NumberCode, Block as BlockCode}
-use Rattle.meaning.specs.Machine.{IsHistory, Reply}
+use Rattle.meaning.specs.Machine.{Reply, HasHistory}
 use Rattle.meaning.specs.Reading.{State, record_now}
 use Rattle.meaning.specs.Refusals.{Input}
 use Rattle.meaning.specs.Versions.{Version, version_with}
@@ -19,14 +19,13 @@ use Rattle.meaning.specs.Content.{Content, VersionRow}
 use Rattle.meaning.proofs.Entered.{none_elsewhere, none_with, subject_eq-refl}
 use Rattle.meaning.proofs.Ids.{same_subject}
 use Rattle.meaning.proofs.Lagging.{no_row_at, row_has_id}
-use Rattle.settle.proofs.SettledBlock.{or_false}
 use Rattle.settle.specs.Owing.{Owes, SaysStorage}
 use Rattle.settle.specs.Settling.{KeepsMeaning, LeavesRows, Settles, is_one_of}
 use Rattle.settle.proofs.Settled.{rows_joined}
 use Rattle.settle.proofs.Risen.{risen-since}
 use Rattle.register.specs.Answers.{Stands, AnswersAs}
 use Rattle.register.specs.Settling.{AnswersSettled, AreSettled, KeepsOthers, LeavesOthers, SaysOnceSettled, SettlesThose, is_of_id, is_of_number, settles}
-use Rattle.numbers.proofs.Small.{impossible}
+use Rattle.numbers.proofs.Small.{impossible, or_false}
 
 -- ---- some subjects
 
@@ -58,7 +57,7 @@ module _ (those : State → Subject → Bool) (chosen : Subject → Bool) (old n
 -- ---- the subject of a version
 
 -- an id is that of one subject's version
-one_subject : (st : State) → IsHistory st.windows st.history st.now → (id : ℕ) (s t : Subject)
+one_subject : (st : State) → HasHistory st → (id : ℕ) (s t : Subject)
     → is_of_id id st s ≡ true → is_of_id id st t ≡ true → t ≡ s
 one_subject st history id s t its also = go (subject_eq s t) refl
   where

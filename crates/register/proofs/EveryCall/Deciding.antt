@@ -1,18 +1,18 @@
 -- What a command comes to, exit by exit, and what becomes of it once its changes are made.
 use Rattle.std.proofs.Common.{◌≡◌, Some, refl, sym, subst}
-use Rattle.std.specs.Prelude.{Result, Ok, Err}
+use Rattle.std.specs.Prelude.{Result, Ok, Err, IfErr}
 use Rattle.meaning.specs.Content.{Content}
 use Rattle.meaning.specs.Reading.{State}
 use Rattle.meaning.specs.RefusalNumbers.{number_of}
 use Rattle.meaning.specs.Refusals.{Input, refusal}
 use Rattle.meaning.specs.declared.refusal.Refusal.{Refusal}
-use Rattle.settle.specs.Changes.{Changes, IsChanged}
+use Rattle.settle.specs.Changes.{Changes, IsChanged, no_changes}
 use Rattle.settle.specs.Faults.{refusal_of}
 use Rattle.settle.specs.declared.store.StoreFault.{StoreFault}
 use Rattle.calls.specs.Calls.{refused_with, replied, reply_of}
 use Rattle.calls.specs.declared.call.Reply.{Reply as ReplyCode}
 use Rattle.register.specs.Answers.{Stands}
-use Rattle.register.specs.Deciding.{Decides}
+use Rattle.register.specs.Deciding.{Decides, Refuses}
 use Rattle.register.specs.Settling.{AnswersSettled, AreSettled}
 use Rattle.register.proofs.EveryCall.Composed.{answers_fault, answers_refused}
 
@@ -37,6 +37,12 @@ module _ (c : Content) (input : Input) (changes : Changes) (result : Result Repl
       Decides c input changes result
   decides_fault fault is = decides_replied (refusal_of fault) is
       (answers_fault c c input reply_of result fault is refl)
+
+-- and so where nothing is decided yet
+pub refused_fault : {X : Type 0} (c : Content) (input : Input) (result : Result X Refusal)
+    (fault : StoreFault) → result ≡ Err (refusal_of fault) → IfErr result (Refuses c input)
+refused_fault c input result fault is = subst (λ x. IfErr x (Refuses c input)) (sym is)
+    (decides_fault c input no_changes (Err (refusal_of fault)) fault refl).refused
 
 -- as the machine refuses
 pub decides_refused : (c : Content) (input : Input) (changes : Changes) (r : Refusal) →

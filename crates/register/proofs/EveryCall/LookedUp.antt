@@ -1,20 +1,26 @@
 -- What is answered where a version is looked up, in vain or not.
-use Rattle.std.proofs.Common.{◌≡◌, ℕ, Bool, true, false, inl, inr, None, refl, sym, ◌∙◌, subst}
+use Rattle.std.proofs.Common.{◌≡◌, ℕ, Bool, true, false, inl, inr, None, refl, ap, sym, ◌∙◌, subst}
 use Rattle.std.specs.Prelude.{Result, Err}
+use Rattle.meaning.specs.Reading.{State}
+use Rattle.meaning.specs.declared.refusal.Refusal.TheVariants.{Storage}
+use Rattle.settle.specs.Owing.{IsAnswered, Reads}
+use Rattle.settle.proofs.Faults.{same_refusal}
+use Rattle.settle.proofs.ReadOn.{reads_told}
+use Rattle.register.specs.Answers.{Stands}
 use Rattle.std.specs.FinMap.{get}
-use Rattle.meaning.specs.Content.{Content, ClockRow}
+use Rattle.meaning.specs.Content.{ClockRow, Content}
+use Rattle.meaning.specs.Windows.{Windows}
+use Rattle.settle.specs.declared.rows.VersionRow.{VersionRow}
 use Rattle.meaning.specs.Machine.{Reply}
 use Rattle.meaning.specs.Refusals.{Input}
 use Rattle.meaning.specs.declared.refusal.Refusal.{Refusal}
-use Rattle.settle.specs.declared.rows.VersionRow.{VersionRow}
 use Rattle.calls.specs.Calls.{refused_with, replied, reply_of}
 use Rattle.register.specs.Deciding.{Decides}
-use Rattle.register.specs.Looking.{IsLookedUp, IsLookedUpInVain}
-use Rattle.register.specs.Settling.{AnswersSettled}
+use Rattle.register.specs.Looking.{HasHeldSet, IsLookedUp, IsLookedUpInVain}
+use Rattle.register.specs.Settling.{AnswersSettled, AreSettled, SaysOnceSettled}
 use Rattle.settle.specs.Changes.{Changes}
 use Rattle.calls.specs.declared.call.Reply.{Reply as ReplyCode}
 use Rattle.register.proofs.EveryCall.Composed.{answers_without}
-use Rattle.meaning.specs.Windows.{Windows}
 use Rattle.register.proofs.EveryCall.Deciding.{decides_replied}
 
 pub looked_up_before : (old mid : Content) (is_known : Bool) (id : ℕ) (clock : ClockRow)
@@ -44,15 +50,32 @@ answers_in_vain old mid new input is_known id seen result r is early late vain u
         (missing registered none)
     go (inr (inr past)) = answers_without old new input _ past (late ∙ early)
 
--- the same, before anything is written
-pub decides_in_vain : (old mid : Content) (input : Input) (changes : Changes) (is_known : Bool)
-    (id : ℕ) (result : Result ReplyCode Refusal) (r : Refusal) → result ≡ Err r → mid ≡ old →
-    IsLookedUpInVain mid is_known id r →
-    (is_known ≡ false → AnswersSettled old old input (refused_with 1)) →
-    (is_known ≡ true → get old.versions id ≡ None → AnswersSettled old old input
-    (refused_with 10)) →
-    Decides old input changes result
-decides_in_vain old mid input changes is_known id result r is same vain unknown missing =
+-- the same, before anything is written and where nothing else was read
+pub decides_in_vain : (old : Content) (input : Input) (changes : Changes) (is_known : Bool)
+    (id : ℕ) (result : Result ReplyCode Refusal) (r : Refusal) → result ≡ Err r
+    → IsLookedUpInVain old is_known id r
+    → (is_known ≡ false → AnswersSettled old old input (refused_with 1))
+    → (is_known ≡ true → get old.versions id ≡ None → AnswersSettled old old input
+    (refused_with 10)) → Decides old input changes result
+decides_in_vain old input changes is_known id result r is vain unknown missing =
     decides_replied old input changes result r is
-    (answers_in_vain old old old input is_known id reply_of result r is refl refl
-    (subst (λ m. IsLookedUpInVain m is_known id r) same vain) unknown missing)
+    (answers_in_vain old old old input is_known id reply_of result r is refl refl vain unknown
+    missing)
+
+-- and what was read for it
+module _ {S : Type 0} {IsUsable IsHonest : S → Type 0} {MayLeave : S → Content → Type 0}
+    {content : S → Content} {failed : S → ℕ} {a b : S} where
+  pub reads_in_vain : {A B : Type 0} {old : Content} {id : ℕ} {input : Input} (r : Refusal)
+      (result : Result A Refusal) → result ≡ Err r
+      → Reads IsUsable IsHonest MayLeave content failed a b
+      (IsAnswered {A = B} (Err r))
+      (IsUsable b × HasHeldSet old id × (◌≡◌ {A = Result B Refusal} (Err r) (Err Storage)))
+      → ((st : State) → Stands old st → AreSettled old st input → HasHeldSet old id)
+      → Reads IsUsable IsHonest MayLeave content failed a b (IsAnswered result)
+      (SaysOnceSettled (IsUsable b) old input (result ≡ Err Storage))
+  reads_in_vain r result is read held = reads_told read (subst IsAnswered is)
+      (λ says. (
+        says.usable,
+        held says.st says.stands says.settled,
+        ap Err (same_refusal r result is says.says),
+      ))

@@ -14,7 +14,7 @@ use Rattle.meaning.specs.Conditions.{limit}
 use Rattle.meaning.specs.Content.{ClockRow, Content, stored_block}
 use Rattle.meaning.specs.History.{Commands, donor_of, made_version, next_id, with_made}
 use Rattle.meaning.specs.Machine.{Shown, accepted, answer_of}
-use Rattle.meaning.specs.Reading.{State, View, record_now, view_of, set_now}
+use Rattle.meaning.specs.Reading.{State, View, record_now, view_of, set_now, next_of}
 use Rattle.meaning.specs.RefusalNumbers.{number_of}
 use Rattle.meaning.specs.Refusals.{Requests, is_in_block, refusal}
 use Rattle.meaning.specs.Versions.{Version, version_with}
@@ -41,7 +41,7 @@ use Rattle.register.proofs.OnBlocks.BlockFacts.{block_facts_are}
 use Rattle.register.proofs.EveryCall.Composed.{Views, answers_accepted, answers_refused_same}
 use Rattle.register.proofs.Records.MadeSent.{AreBegun, bare}
 use Rattle.register.proofs.OnVersions.OnVersion.{clock_is_of, clock_of, shown_is}
-use Rattle.register.proofs.Records.Pooled.{made-records, pooled-leaves, pooled-stands}
+use Rattle.register.proofs.Records.Pooled.{made-records, pooled-stands}
 use Rattle.register.proofs.EveryCall.Unfailing.{never_storage}
 
 is_there : {A : Type 0} (o : Option A) → is_none o ≡ false → (x : A) × (o ≡ Some x)
@@ -100,7 +100,7 @@ module _ (old new : Content) (caller : ℕ) (a : Assignment) (clock : ClockRow) 
       after_it = accepted st (Requests caller (Commands (assigned a)))
 
       abbrev first : ℕ
-      first = next_id st.windows st.history
+      first = next_of st
 
       none : refusal st (Requests caller (Commands (assigned a))) ≡ None
       none = refused_read st stands settled ∙ sym accepts
@@ -124,12 +124,12 @@ module _ (old new : Content) (caller : ℕ) (a : Assignment) (clock : ClockRow) 
           (Commands (assigned a)))) same_clock (is.version id caller cs))
 
       begun : List Begun
-      begun = begun_of (set_now st).windows (next_id st.windows st.history, version) ∷ []
+      begun = begun_of (set_now st).windows (next_of st, version) ∷ []
 
       are : AreBegun (set_now st) st.now everyone blank (λ id. refl) (λ id. refl) (λ id. refl)
-          (next_id st.windows st.history)
-          (begun_of (set_now st).windows (next_id st.windows st.history, version) ∷ [])
-      are = (refl, ap bare (made (next_id st.windows st.history) []), tt)
+          (next_of st)
+          (begun_of (set_now st).windows (next_of st, version) ∷ [])
+      are = (refl, ap bare (made (next_of st) []), tt)
 
       the_donor : (d : ℕ) × (donor_of a.block.number st.history ≡ Some d)
       the_donor =
@@ -137,29 +137,29 @@ module _ (old new : Content) (caller : ℕ) (a : Assignment) (clock : ClockRow) 
           none 10)
 
       donor_named : version.old_provider.number ≡ the_donor.0
-      donor_named = ap (λ (v : Version). v.old_provider) (made (next_id st.windows st.history) [])
+      donor_named = ap (λ (v : Version). v.old_provider) (made (next_of st) [])
           ∙ ap (λ o. (unsent_block (set_now st) o a.holder.number st.now a.routing.lrn.number cic
           0).old_provider) the_donor.1
 
       room : clock.next_id + 1 ≤ limit
       room =
-          let test : nat_lt limit (next_id st.windows st.history + 1) ≡ false =
+          let test : nat_lt limit (next_of st + 1) ≡ false =
           accepted_command st caller (assigned a) none 28 in
           subst (λ k. k + 1 ≤ limit) (ap (λ (k : ClockRow). k.next_id) (sym same_clock))
-          (not_past (next_id st.windows st.history + 1) test)
+          (not_past (next_of st + 1) test)
 
       abbrev next : ClockMove
-      next = record { minute = st.now; next_id = next_id st.windows st.history + 1 }
+      next = record { minute = st.now; next_id = next_of st + 1 }
 
       put : IsChanged
           (pooling (sending_each st.now Create
-          (begun_of (set_now st).windows (next_id st.windows st.history, version) ∷ []) everyone)
-          (assigned_row a.block.number the_donor.0 (next_id st.windows st.history)) next) old new
+          (begun_of (set_now st).windows (next_of st, version) ∷ []) everyone)
+          (assigned_row a.block.number the_donor.0 (next_of st)) next) old new
       put = subst
           (λ d. IsChanged
           (pooling (sending_each st.now Create
-          (begun_of (set_now st).windows (next_id st.windows st.history, version) ∷ []) everyone)
-          (assigned_row a.block.number d (next_id st.windows st.history)) next) old new) donor_named
+          (begun_of (set_now st).windows (next_of st, version) ∷ []) everyone)
+          (assigned_row a.block.number d (next_of st)) next) old new) donor_named
           (subst (λ (k : ClockRow). IsChanged
           (pooling (sending_each k.minute Create
           (begun_of k.present.windows (k.next_id, version) ∷ []) everyone)
@@ -190,21 +190,12 @@ module _ (old new : Content) (caller : ℕ) (a : Assignment) (clock : ClockRow) 
           go true e = cc
 
       assigned-stands : Stands new after_it
+          × LeavesOthers old new st (Requests caller (Commands (assigned a)))
       assigned-stands =
           pooled-stands st caller (Commands (assigned a)) (Block a.block.number ∷ []) blank
           (assignment-makes st caller a.block.number a.holder.number a.routing.lrn.number cic)
-          old new (begun_of (set_now st).windows (next_id st.windows st.history, version) ∷ [])
-          everyone (assigned_row a.block.number the_donor.0 (next_id st.windows st.history)) next
-          stands none
-          are (refl, tt) (ap (λ t. t ∷ []) is.subject) are_all put
-          (λ t named. settled t (here t named)) blocks refl
-
-      assigned-leaves : LeavesOthers old new st (Requests caller (Commands (assigned a)))
-      assigned-leaves =
-          pooled-leaves st caller (Commands (assigned a)) (Block a.block.number ∷ []) blank
-          (assignment-makes st caller a.block.number a.holder.number a.routing.lrn.number cic)
-          old new (begun_of (set_now st).windows (next_id st.windows st.history, version) ∷ [])
-          everyone (assigned_row a.block.number the_donor.0 (next_id st.windows st.history)) next
+          old new (begun_of (set_now st).windows (next_of st, version) ∷ [])
+          everyone (assigned_row a.block.number the_donor.0 (next_of st)) next
           stands none
           are (refl, tt) (ap (λ t. t ∷ []) is.subject) are_all put
           (λ t named. settled t (here t named)) blocks refl within
@@ -213,24 +204,24 @@ module _ (old new : Content) (caller : ℕ) (a : Assignment) (clock : ClockRow) 
 
       abbrev made_one : Version
       made_one = sent (set_now st) Create (record_now st (Block a.block.number)).carriers st.now
-          (blank (next_id st.windows st.history))
+          (blank (next_of st))
 
-      in_front : version_with (next_id st.windows st.history)
+      in_front : version_with (next_of st)
           (record_now after_it (Block a.block.number)) ≡ Some made_one
       in_front =
-          ap (version_with (next_id st.windows st.history))
+          ap (version_with (next_of st))
           (made-records st caller (Commands (assigned a)) (Block a.block.number ∷ []) blank
           (assignment-makes st caller a.block.number a.holder.number a.routing.lrn.number cic)
           (Block a.block.number))
-          ∙ ap (λ b. version_with (next_id st.windows st.history) (record {
+          ∙ ap (λ b. version_with (next_of st) (record {
             carriers = (record_now st (Block a.block.number)).carriers;
-            versions = with_made (if b then Some (next_id st.windows st.history)
+            versions = with_made (if b then Some (next_of st)
                 else None) (λ id. sent (set_now st) Create
                 (record_now st (Block a.block.number)).carriers st.now (blank id))
                 (record_now st (Block a.block.number)).versions;
           })) (subject_eq-refl (Block a.block.number))
-          ∙ ap (λ b. cond b (Some made_one) (version_with (next_id st.windows st.history)
-          (record_now st (Block a.block.number)))) (same_number (next_id st.windows st.history))
+          ∙ ap (λ b. cond b (Some made_one) (version_with (next_of st)
+          (record_now st (Block a.block.number)))) (same_number (next_of st))
 
       seen_as : view ≡ view_of after_it (record {
         subject = Block a.block.number;
@@ -250,18 +241,18 @@ module _ (old new : Content) (caller : ℕ) (a : Assignment) (clock : ClockRow) 
           })) (ap (λ (k : ClockRow). k.next_id) same_clock)
           ∙ ap (λ t. view_of after_it (record {
             subject = t;
-            version = version_of (next_id st.windows st.history) made_one.broadcasts
+            version = version_of (next_of st) made_one.broadcasts
                 (set_now st).windows version;
           })) is.subject
           ∙ ap (λ v. view_of after_it (record { subject = Block a.block.number; version = v }))
-          (made (next_id st.windows st.history) (record_now st (Block a.block.number)).carriers)
+          (made (next_of st) (record_now st (Block a.block.number)).carriers)
 
       assigned-answer : Shown (Some view) ≡ answer_of st after_it
           (Requests caller (Commands (assigned a)))
       assigned-answer =
           ap (λ x. Shown (Some x)) seen_as
-          ∙ sym (shown_is after_it (Block a.block.number) (next_id st.windows st.history) made_one
-          assigned-stands.represents.history in_front)
+          ∙ sym (shown_is after_it (Block a.block.number) (next_of st) made_one
+          assigned-stands.0.represents.history in_front)
 
     pub answers_assigned : AnswersSettled old new (Requests caller (Commands (assigned a)))
         (Some (Shown (Some view)))
@@ -269,6 +260,6 @@ module _ (old new : Content) (caller : ℕ) (a : Assignment) (clock : ClockRow) 
         (Shown (Some view)) (λ st stands settled. (
           none st stands settled,
           assigned-answer st stands settled,
-          assigned-stands st stands settled,
-          assigned-leaves st stands settled,
+          (assigned-stands st stands settled).0,
+          (assigned-stands st stands settled).1,
         ))

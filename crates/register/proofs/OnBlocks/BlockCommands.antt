@@ -1,6 +1,6 @@
 -- The commands on a block: what each makes and changes.
 use Rattle.std.proofs.Common.{◌≡◌, ℕ, Bool, true, false, cond, not, ◌&&◌, ◌||◌, List, [], ◌∷◌, map, Option, Some, None, refl, ap, sym, ◌∙◌}
-use Rattle.std.specs.Prelude.{◌==◌, filter, is_none, is_some, option_map, unwrap_or, if◌then◌else◌}
+use Rattle.std.specs.Prelude.{◌==◌, filter, is_none, option_map, unwrap_or, if◌then◌else◌}
 use Rattle.std.specs.List.{list_any}
 use Rattle.std.specs.FinMap.{get}
 use Rattle.numbers.specs.Digits.{number_in}
@@ -10,13 +10,13 @@ use Rattle.meaning.specs.Commands.{Donate, Assign, Release}
 use Rattle.meaning.specs.Versions.{Version, Record, first_of_versions, in_force, last_version, version_in_force, version_with}
 use Rattle.meaning.specs.Changes.{sent}
 use Rattle.meaning.specs.Content.{BlockRow, Content, stored_block}
-use Rattle.meaning.specs.History.{AreLines, Commands, blank_version, donor_of, made_by, next_id, or_else, rising, used_numbers, with_made}
+use Rattle.meaning.specs.History.{AreLines, Commands, blank_version, donor_of, or_else, rising, used_numbers, with_made}
 use Rattle.meaning.specs.Machine.{accepted}
-use Rattle.meaning.specs.Reading.{State, record_now, set_now}
+use Rattle.meaning.specs.Reading.{State, record_now, set_now, next_of, made_now}
 use Rattle.meaning.specs.Refusals.{Requests, refusal}
 use Rattle.meaning.proofs.Accepted.{accepted_command}
 use Rattle.meaning.proofs.Entered.{given_now, subject_eq-refl}
-use Rattle.numbers.proofs.Small.{equal_number}
+use Rattle.numbers.proofs.Small.{equal_number, none_there}
 use Rattle.meaning.proofs.Protected.{undonated}
 use Rattle.settle.specs.Changes.{put_row}
 use Rattle.register.specs.Answers.{Stands}
@@ -24,7 +24,7 @@ use Rattle.register.proofs.Asking.Alone.{one_in_force}
 use Rattle.register.proofs.Records.Pooled.{MakesSent, made-records, unmade-same}
 use Rattle.register.proofs.OnVersions.SecondCreate.{same_change}
 use Rattle.register.proofs.Records.Stepped.{StepsOne}
-use Rattle.settle.proofs.SettledEach.{turned}
+use Rattle.meaning.proofs.Ids.{other_subject}
 use Rattle.meaning.proofs.Lists.{each}
 use Rattle.std.proofs.Common.{arith}
 use Rattle.std.proofs.lemmas.Bool.Decides.{nat_tests}
@@ -76,10 +76,6 @@ no_block b block test (line ∷ lines) =
     go later true = later
     go later false = later
 
-is_some-none : {A : Type 0} (o : Option A) → is_some o ≡ false → o ≡ None
-is_some-none None e = refl
-is_some-none (Some x) e = cc
-
 -- the block's row: its donor, and no version
 abbrev pub donated_row : (block donor : ℕ) → Option (ℕ × BlockRow)
 donated_row block donor = Some (block, record { donor = donor; last = None })
@@ -100,7 +96,7 @@ donation-blocks st old caller block used lrn cic lines stands none k = go (block
         (no_block b block (λ s. is_none (version_in_force (record_now st s))) (rising used))
 
     free : donor_of block st.history ≡ None
-    free = is_some-none (donor_of block st.history)
+    free = none_there (donor_of block st.history)
         (accepted_command st caller (Donate block used lrn cic) none 24)
 
     row_of : Option Version → ℕ → BlockRow
@@ -156,7 +152,7 @@ assigned_row block donor id = Some (block, record { donor = donor; last = Some i
 
 pub assignment-blocks : (st : State) (old : Content) (caller block holder lrn : ℕ) (cic : Option ℕ)
     (donor : ℕ) → Stands old st → donor_of block st.history ≡ Some donor → (k : ℕ) →
-    put_row ◌==◌ (assigned_row block donor (next_id st.windows st.history)) k (get old.blocks k)
+    put_row ◌==◌ (assigned_row block donor (next_of st)) k (get old.blocks k)
     ≡ stored_block (accepted st (Requests caller (Commands (Assign block holder lrn cic)))) k
 assignment-blocks st old caller block holder lrn cic donor stands donated k = go (block == k) refl
   where
@@ -172,7 +168,7 @@ assignment-blocks st old caller block holder lrn cic donor stands donated k = go
     go : (b : Bool) → (block == k) ≡ b →
         (if b then Some (record {
           donor = donor;
-          last = Some (next_id st.windows st.history);
+          last = Some (next_of st);
         }) else get old.blocks k)
         ≡ option_map
         (row_of (last_version
@@ -195,7 +191,7 @@ assignment-blocks st old caller block holder lrn cic donor stands donated k = go
         (unsent_block (set_now st) (donor_of block st.history) holder st.now lrn cic)
         (assignment-makes st caller block holder lrn cic) (Block k))
         ∙ ap (λ b. Some
-        (row_of (first_of_versions (with_made (if b then Some (next_id st.windows st.history)
+        (row_of (first_of_versions (with_made (if b then Some (next_of st)
         else None) (λ id. sent (set_now st) Create (record_now st (Block k)).carriers st.now
         (unsent_block (set_now st) (donor_of block st.history) holder st.now lrn cic id))
         (record_now st (Block k)).versions)) donor)) here)
@@ -223,12 +219,12 @@ release-steps st old caller block v stands found forced = record {
   };
   names = record {
     unmade = λ at. refl;
-    elsewhere = λ t vs apart none. turned (Block block) t apart;
+    elsewhere = λ t vs apart none. other_subject (Block block) t apart;
   };
   does = each (λ u same. ap (λ b. if b && in_force u
       then sent (set_now st) Delete (record_now st (Block block)).carriers st.now u
       else u) (subject_eq-refl (Block block)) ∙ same) (record_now st (Block block)).versions
-      (same_change (made_by st.windows st.history) (Block block) in_force
+      (same_change (made_now st) (Block block) in_force
       (sent (set_now st) Delete (record_now st (Block block)).carriers st.now) v.id
       (record_now st (Block block)).versions v
       (given_now st stands.represents.history (Block block))

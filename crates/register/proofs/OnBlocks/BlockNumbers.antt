@@ -6,12 +6,11 @@ use Rattle.numbers.specs.Digits.{block_of, number_in}
 use Rattle.numbers.specs.Subjects.{Subject, Number, Block, subject_eq, subject_key}
 use Rattle.version.specs.declared.in_use.NumberInUse.{NumberInUse}
 use Rattle.meaning.specs.Versions.{Version, in_force, is_open, version_in_force, version_with}
-use Rattle.meaning.specs.History.{made_by}
 use Rattle.meaning.specs.Laws.{IsState}
-use Rattle.meaning.specs.Reading.{State, SubjectVersion, InForce, record_now, all_versions, all_in_force, set_now}
+use Rattle.meaning.specs.Reading.{State, SubjectVersion, InForce, record_now, all_versions, all_in_force, set_now, made_now}
 use Rattle.meaning.specs.Refusals.{is_in_block, has_open_port as has_open_port_in}
 use Rattle.meaning.specs.Content.{Content, VersionRow, row_of, subject_if}
-use Rattle.numbers.proofs.Small.{and_first, and_second, same_number, or_right, true_both, some_there, equal_number}
+use Rattle.numbers.proofs.Small.{and_first, and_second, same_number, or_right, true_both, some_there, equal_number, negated, same_truth, is_none_there}
 use Rattle.meaning.proofs.Lists.{Among, any_there, there_any, contains-among, mapped-from, mapped-to, filtered-from, filtered-to, found-among}
 use Rattle.meaning.proofs.Ascending as ascending
 use Rattle.meaning.proofs.Entered.{sound_now, subject_eq-refl}
@@ -49,22 +48,8 @@ not_told : {So : Type 0} (b : Bool) → IsTold b So → (So → ⊥) → b ≡ f
 not_told false told never = refl
 not_told true told never = absurd (never told)
 
--- two tests that hold together are equal
-same_tests : (a b : Bool) → (a ≡ true → b ≡ true) → (b ≡ true → a ≡ true) → a ≡ b
-same_tests true b there back = sym (there refl)
-same_tests false true there back = back refl
-same_tests false false there back = refl
-
 not_is : (b : Bool) → b ≡ false → not b ≡ true
 not_is b e = ap not e
-
-is_not : (b : Bool) → not b ≡ true → b ≡ false
-is_not false e = refl
-is_not true e = cc
-
-none_there : {A : Type 0} (o : Option A) → is_none o ≡ true → o ≡ None
-none_there None e = refl
-none_there (Some x) e = cc
 
 -- a later number has a later key
 grows : (n m : ℕ) → n < m → subject_key (Number n) < subject_key (Number m)
@@ -122,7 +107,7 @@ module _ (st : State) (c : Content) (stands : Stands c st) where
     force-none : is_none (version_in_force (record_now st s)) ≡ true → Holds c s → ⊥
     force-none none held =
         let v = holds-force held in
-        let never : None ≡ Some v.0 = sym (none_there (version_in_force (record_now st s)) none)
+        let never : None ≡ Some v.0 = sym (is_none_there (version_in_force (record_now st s)) none)
         ∙ v.1 in cc
 
   -- ---- the numbers of a block
@@ -157,7 +142,7 @@ module _ (st : State) (c : Content) (stands : Stands c st) where
         let due : IsSettled c st s = number_settled x.0.tn.number is.own in
         let opened : x.0.is_open ≡ true = and_first x.0.is_open (not x.0.is_in_force) x.2 in
         let free : x.0.is_in_force ≡ false =
-        is_not x.0.is_in_force (and_second x.0.is_open (not x.0.is_in_force) x.2) in
+        negated x.0.is_in_force (and_second x.0.is_open (not x.0.is_in_force) x.2) in
         let v = opens-open s due (told_is x.0.is_open is.is_open opened) in
         let none : is_none (version_in_force (record_now st s)) ≡ true =
         none-force s due (told_not x.0.is_in_force is.is_in_force free) in
@@ -195,7 +180,7 @@ module _ (st : State) (c : Content) (stands : Stands c st) where
     ports_back : list_any is_port (all_versions st) ≡ true → has_open_port numbers ≡ true
     ports_back has =
         let e = any_there is_port (all_versions st) has in
-        let found = listed-from (record_now st) 1 (made_by st.windows st.history) e.0 e.1 in
+        let found = listed-from (record_now st) 1 (made_now st) e.0 e.1 in
         go e.0.subject e.0.version found.0 found.1 e.2
       where
         go : (s : Subject) (v : Version) (id : ℕ) → version_with id (record_now st s) ≡ Some v →
@@ -205,7 +190,7 @@ module _ (st : State) (c : Content) (stands : Stands c st) where
         go (Block b) v id found test = cc
 
     pub ports_are : has_open_port numbers ≡ has_open_port_in st block
-    ports_are = same_tests (has_open_port numbers) (has_open_port_in st block) ported
+    ports_are = same_truth (has_open_port numbers) (has_open_port_in st block) ported
         ports_back
 
     -- ---- numbers with a version in force
@@ -263,7 +248,7 @@ module _ (st : State) (c : Content) (stands : Stands c st) where
         ≡ is_some (version_in_force (record_now st (Number (number_in block line))))
     lines_are line small =
         let own : block_of (number_in block line) ≡ block = in_this_block block line small in
-        same_tests (list_any (subject_eq (Number (number_in block line)))
+        same_truth (list_any (subject_eq (Number (number_in block line)))
         (in_force_numbers numbers))
         (is_some (version_in_force (record_now st (Number (number_in block line)))))
         (line_told (number_in block line) own) (line_back (number_in block line) own)

@@ -13,6 +13,7 @@ use Rattle.meaning.proofs.Lagging.{no_row_at}
 use Rattle.settle.specs.declared.rows.BlockRow.{BlockRow as BlockRowCode}
 use Rattle.settle.specs.Views.{block_row_of}
 use Rattle.register.specs.Blocks.{IsRowThere, last_id}
+use Rattle.meaning.proofs.Answered.{first_has_id}
 
 -- the id that a row names
 abbrev pub named_by : Option BlockRow → Option ℕ
@@ -29,13 +30,6 @@ pub stored_last : (donor : Option ℕ) (last : Option ℕ)
     ≡ (elim donor [ Some d ↦ last | None ↦ None ])
 stored_last None last = refl
 stored_last (Some d) last = refl
-
-pub first_has_id : (vs : List Version) (v : Version) → first_of_versions vs ≡ Some v
-    → has_id v.id vs ≡ true
-first_has_id [] v is = cc
-first_has_id (u ∷ us) v is = let same : u ≡ v = cc in
-    ap (λ (x : Version). (x.id == v.id) || has_id v.id us) same ∙ ap (λ b. b || has_id v.id us)
-    (same_number v.id)
 
 -- a version of a record has a row
 pub row_is_there : (st : State) (c : Content) → Represents c st → (s : Subject) (id : ℕ)

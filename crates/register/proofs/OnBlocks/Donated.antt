@@ -12,7 +12,7 @@ use Rattle.meaning.specs.Conditions.{limit}
 use Rattle.meaning.specs.Content.{ClockRow, Content, stored_block}
 use Rattle.meaning.specs.History.{AreLines, Commands, next_id, rising, used_numbers}
 use Rattle.meaning.specs.Machine.{Donated, Reply, accepted, ids_from}
-use Rattle.meaning.specs.Reading.{State, record_now, set_now}
+use Rattle.meaning.specs.Reading.{State, record_now, set_now, next_of}
 use Rattle.meaning.specs.RefusalNumbers.{number_of}
 use Rattle.meaning.specs.Refusals.{Requests, is_in_block, refusal}
 use Rattle.meaning.specs.Versions.{version_in_force}
@@ -27,7 +27,7 @@ use Rattle.pool.specs.declared.donation.Donation.{Donation}
 use Rattle.pool.specs.declared.facts.BlockFacts.{BlockFacts}
 use Rattle.pool.specs.Donations.{AreProtective, IsPlanned, block_tests, command_of as donated, donation_refusal, donor_tests, lines_of, made_numbers, used_by}
 use Rattle.pool.specs.Facts.{in_force_numbers}
-use Rattle.pool.proofs.BlockRefused.{are_lines, donation_makes, donation_refused, rising-lines}
+use Rattle.pool.proofs.BlockRefused.{are_lines, donation_makes, donation_refused}
 use Rattle.calls.specs.Calls.{replied}
 use Rattle.register.specs.declared.blocks.BlockRead.{BlockRead}
 use Rattle.register.specs.Answers.{Stands}
@@ -41,7 +41,8 @@ use Rattle.register.proofs.EveryCall.Composed.{answers_accepted}
 use Rattle.register.proofs.EveryCall.Unfailing.{never_storage}
 use Rattle.register.proofs.OnVersions.OnVersion.{clock_is_of, clock_of}
 use Rattle.register.proofs.OnBlocks.Planned.{Once, cic_of, once-apart, planned-begun, planned-subjects, used_once}
-use Rattle.register.proofs.Records.Pooled.{pooled-leaves, pooled-stands}
+use Rattle.register.proofs.Records.Pooled.{pooled-stands}
+use Rattle.meaning.proofs.Donated.{rising-lines}
 use Rattle.meaning.specs.Windows.{WindowSet}
 
 -- a donation is not refused with storage
@@ -153,13 +154,13 @@ module _ (old new : Content) (caller : ℕ) (d : Donation) (clock : ClockRow) (r
       news_are = sym (donation_makes st d facts (facts_numbers_are st old stands d.block.number
           settled read has.is_read clock has.clock_is caller (donated d) facts has.are refl))
 
-      first_is : facts.next_id ≡ next_id st.windows st.history
+      first_is : facts.next_id ≡ next_of st
       first_is = has.are.next_id ∙ ap (λ (k : ClockRow). k.next_id) same_clock
 
-      planned : AreProtective (set_now st) caller st.now d (next_id st.windows st.history) news
+      planned : AreProtective (set_now st) caller st.now d (next_of st) news
           versions
       planned = subst (λ ss. AreProtective (set_now st) caller st.now d
-          (next_id st.windows st.history) ss versions) news_are
+          (next_of st) ss versions) news_are
           (subst (λ k. AreProtective (set_now st) caller st.now d k
           (made_numbers (used_by d) (in_force_numbers facts.numbers.now)) versions) first_is
           (subst (λ (k : ClockRow). AreProtective k.present caller k.minute d facts.next_id
@@ -167,38 +168,38 @@ module _ (old new : Content) (caller : ℕ) (d : Donation) (clock : ClockRow) (r
           plan))
 
       subjects : map (λ (b : Begun). b.subject) begun ≡ news
-      subjects = planned-subjects (set_now st) caller st.now d (next_id st.windows st.history) news
+      subjects = planned-subjects (set_now st) caller st.now d (next_of st) news
           versions planned
 
-      ids_from_first : ids ≡ ids_from (next_id st.windows st.history) (length news)
+      ids_from_first : ids ≡ ids_from (next_of st) (length news)
       ids_from_first =
-          ids_are ∙ planned-ids (set_now st) caller st.now d (next_id st.windows st.history) news
+          ids_are ∙ planned-ids (set_now st) caller st.now d (next_of st) news
           versions planned
 
       many : length versions ≡ length news
-      many = so_many (set_now st) caller st.now d (next_id st.windows st.history) news versions
+      many = so_many (set_now st) caller st.now d (next_of st) news versions
           planned
 
       room : clock.next_id + length versions ≤ limit
       room =
-          let test : nat_lt limit (next_id st.windows st.history + length news) ≡ false =
+          let test : nat_lt limit (next_of st + length news) ≡ false =
           accepted_command st caller (donated d) none 28 in
           subst (λ n. clock.next_id + n ≤ limit) (sym many) (subst (λ k. k + length news ≤ limit)
           (ap (λ (k : ClockRow). k.next_id) (sym same_clock))
-          (not_past (next_id st.windows st.history + length news) test))
+          (not_past (next_of st + length news) test))
 
       abbrev next : ClockMove
       next = record {
         minute = st.now;
         next_id =
-            next_id st.windows st.history + length
+            next_of st + length
             (to_protect st d.block.number (lines_of d.used.now));
       }
 
       put : IsChanged (pooling (sending_each st.now Create begun everyone)
           (donated_row d.block.number caller) next) old new
       put = subst (λ n. let row : ClockMove =
-          record { minute = st.now; next_id = next_id st.windows st.history + n } in
+          record { minute = st.now; next_id = next_of st + n } in
           IsChanged (pooling (sending_each st.now Create begun everyone)
           (donated_row d.block.number caller) row) old new) many
           (subst (λ (k : ClockRow). IsChanged
@@ -227,31 +228,14 @@ module _ (old new : Content) (caller : ℕ) (d : Donation) (clock : ClockRow) (r
           go true e = let never : true ≡ false = sym (is_due t e) ∙ other in cc
 
       donated-stands : Stands new (accepted st (Requests caller (Commands (donated d))))
+          × LeavesOthers old new st (Requests caller (Commands (donated d)))
       donated-stands =
-          let makes_them =
-          donation-makes st caller d.block.number (lines_of d.used.now) d.routing.lrn.number
-          (cic_of d) lines in
           pooled-stands st caller (Commands (donated d)) news (protective (set_now st) caller st.now
-          d.routing.lrn.number (cic_of d)) makes_them
+          d.routing.lrn.number (cic_of d))
+          (donation-makes st caller d.block.number (lines_of d.used.now) d.routing.lrn.number
+          (cic_of d) lines)
           old new begun everyone (donated_row d.block.number caller) next stands none
-          (planned-begun (set_now st) everyone caller st.now d (next_id st.windows st.history) news
-          versions planned)
-          (once-apart (set_now st) st.now everyone (protective (set_now st) caller st.now
-          d.routing.lrn.number (cic_of d)) (λ id. refl) (λ id. refl) (λ id. refl) begun
-          (subst Once (sym subjects)
-          (used_once d.block.number (λ s. is_none (version_in_force (record_now st s)))
-          (lines_of d.used.now))))
-          subjects are_all put (λ t named. settled t (is_due t named)) blocks refl
-
-      donated-leaves : LeavesOthers old new st (Requests caller (Commands (donated d)))
-      donated-leaves =
-          let makes_them =
-          donation-makes st caller d.block.number (lines_of d.used.now) d.routing.lrn.number
-          (cic_of d) lines in
-          pooled-leaves st caller (Commands (donated d)) news (protective (set_now st) caller st.now
-          d.routing.lrn.number (cic_of d)) makes_them
-          old new begun everyone (donated_row d.block.number caller) next stands none
-          (planned-begun (set_now st) everyone caller st.now d (next_id st.windows st.history) news
+          (planned-begun (set_now st) everyone caller st.now d (next_of st) news
           versions planned)
           (once-apart (set_now st) st.now everyone (protective (set_now st) caller st.now
           d.routing.lrn.number (cic_of d)) (λ id. refl) (λ id. refl) (λ id. refl) begun
@@ -267,6 +251,6 @@ module _ (old new : Content) (caller : ℕ) (d : Donation) (clock : ClockRow) (r
         (Donated d.block.number ids) (λ st stands settled. (
           none st stands settled,
           ap (Donated d.block.number) (ids_from_first st stands settled),
-          donated-stands st stands settled,
-          donated-leaves st stands settled,
+          (donated-stands st stands settled).0,
+          (donated-stands st stands settled).1,
         ))

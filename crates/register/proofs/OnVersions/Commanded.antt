@@ -238,23 +238,20 @@ pub record HasRead (old : Content) (caller id : ℕ) (c : VersionCommand) (clock
   pub are_held : AreHeld old clock u.version.held held
   pub tells : Tells old c (subject_of u.version.subject) u.version.new_provider.number told
 
--- by the contents of which each was read
-pub has_read : (old first second : Content) (caller id : ℕ) (c : VersionCommand) (clock : ClockRow)
-    (held : Windows) (u : Inside) (known : Bool) (told : Told) → first ≡ old → second ≡ old →
-    known ≡ is_some (get old.carriers caller) →
-    IsLookedUp first known id clock (version_row_of u) held →
-    Tells second c (subject_of u.version.subject) u.version.new_provider.number told →
-    HasRead old caller id c clock held u told
-has_read old first second caller id c clock held u known told at_first at_second is looked tells =
-    let found = subst (λ m. IsLookedUp m known id clock (version_row_of u) held) at_first looked in
-    record {
-      known = sym is ∙ found.known;
-      clock_is = found.clock_is;
-      found = found.found;
-      are_held = found.are_held;
-      tells = subst (λ m. Tells m c (subject_of u.version.subject)
-          u.version.new_provider.number told) at_second tells;
-    }
+-- what is told was read of a content that was as the first
+pub has_read : (old read : Content) (caller id : ℕ) (c : VersionCommand) (clock : ClockRow)
+    (held : Windows) (u : Inside) (told : Told) → read ≡ old
+    → IsLookedUp old (is_some (get old.carriers caller)) id clock (version_row_of u) held
+    → Tells read c (subject_of u.version.subject) u.version.new_provider.number told
+    → HasRead old caller id c clock held u told
+has_read old read caller id c clock held u told same looked tells = record {
+  known = looked.known;
+  clock_is = looked.clock_is;
+  found = looked.found;
+  are_held = looked.are_held;
+  tells = subst (λ m. Tells m c (subject_of u.version.subject) u.version.new_provider.number told)
+      same tells;
+}
 
 module _ (old : Content) (caller id : ℕ) (c : VersionCommand) (clock : ClockRow) (held : Windows)
     (u : Inside) (told : Told)

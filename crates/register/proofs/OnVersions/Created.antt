@@ -8,7 +8,7 @@ use Rattle.meaning.specs.Versions.{Version, Broadcast}
 use Rattle.meaning.specs.Judge.{is_over}
 use Rattle.meaning.specs.Laws.{IsQuiet}
 use Rattle.meaning.specs.History.{Commands, next_id}
-use Rattle.meaning.specs.Reading.{State, record_now}
+use Rattle.meaning.specs.Reading.{State, record_now, next_of}
 use Rattle.meaning.specs.Conditions.{limit, holds_of}
 use Rattle.meaning.specs.Refusals.{Requests, refusal}
 use Rattle.meaning.specs.Machine.{shown, reply_of}
@@ -28,11 +28,11 @@ use Rattle.settle.specs.Settling.{IsSettled}
 use Rattle.register.specs.Answers.{Stands}
 use Rattle.register.specs.Settling.{AnswersSettled, AreSettled, is_of_number, settles_for}
 use Rattle.calls.specs.Calls.{refused_with}
-use Rattle.register.specs.Serving.{AreRead, IsHeld, IsOpened}
+use Rattle.register.specs.Serving.{AreRead, IsHeld, IsJudgedBy, IsOpened, are_known}
 use Rattle.register.proofs.EveryCall.Composed.{answers_refused_same, first_refusal}
 use Rattle.register.proofs.OnVersions.OnVersion.{LeavesRegistry}
 use Rattle.register.proofs.EveryCall.Settled.{number_of_number}
-use Rattle.register.proofs.OnVersions.FactsRead.{are_known, unknown_is, refused_by_facts}
+use Rattle.register.proofs.OnVersions.FactsRead.{unknown_is, refused_by_facts}
 
 -- ---- the subjects that a create settles
 
@@ -57,29 +57,21 @@ settles_number st c =
 
 -- ---- what was read, and refusals
 
-pub record HasRead (old : Content) (caller : ℕ) (c : CreateCode) (clock : ClockRow)
-    (held : Option VersionCode) (opened : Option (ℕ × VersionCode)) (block : Option VersionCode)
-    (facts : CreateFacts) : Type 0 where
-  pub known : are_known old c caller ≡ true
-  pub clock_is : old.clock ≡ Some clock
-  pub is_held : IsHeld old (Number c.tn.number) held
-  pub is_opened : IsOpened old (Number c.tn.number) opened
-  pub is_block : IsHeld old (Block (block_of c.tn.number)) block
-  pub read : AreRead old c clock.next_id held opened block facts
-
 -- the number's rows were read of one content and the rest of another, both as the first was
-pub has_read : (old first second : Content) (caller : ℕ) (c : CreateCode) (clock : ClockRow)
+pub judged_by : (old first second : Content) (caller : ℕ) (c : CreateCode) (clock : ClockRow)
     (held : Option VersionCode) (opened : Option (ℕ × VersionCode)) (block : Option VersionCode)
-    (facts : CreateFacts) →
-    first ≡ old → second ≡ old → are_known old c caller ≡ true → old.clock ≡ Some clock →
-    IsHeld first (Number c.tn.number) held → IsOpened first (Number c.tn.number) opened
-    → IsHeld first (Block (block_of c.tn.number)) block →
-    AreRead second c clock.next_id held opened block facts
-    → HasRead old caller c clock held opened block facts
-has_read old first second caller c clock held opened block facts one two known clock_is is_held
+    (facts : CreateFacts) → first ≡ old → second ≡ old → are_known old c caller ≡ true
+    → old.clock ≡ Some clock → IsHeld first (Number c.tn.number) held
+    → IsOpened first (Number c.tn.number) opened
+    → IsHeld first (Block (block_of c.tn.number)) block
+    → AreRead second c clock.next_id held opened block facts → IsJudgedBy old caller c clock facts
+judged_by old first second caller c clock held opened block facts one two known clock_is is_held
     is_opened is_block read = record {
       known = known;
       clock_is = clock_is;
+      held = held;
+      opened = opened;
+      block = block;
       is_held = subst (λ (m : Content). IsHeld m (Number c.tn.number) held) one is_held;
       is_opened = subst (λ (m : Content). IsOpened m (Number c.tn.number) opened) one is_opened;
       is_block = subst (λ (m : Content). IsHeld m (Block (block_of c.tn.number)) block) one
@@ -88,27 +80,20 @@ has_read old first second caller c clock held opened block facts one two known c
     }
 
 pub refused_as : (st : State) (old : Content) (caller : ℕ) (c : CreateCode) (clock : ClockRow)
-    (held : Option VersionCode) (opened : Option (ℕ × VersionCode)) (block : Option VersionCode)
-    (facts : CreateFacts) →
-    HasRead old caller c clock held opened block facts → Stands old st
+    (facts : CreateFacts) → IsJudgedBy old caller c clock facts → Stands old st
     → AreSettled old st (Requests caller (Commands (command_of c)))
     → refusal st (Requests caller (Commands (command_of c))) ≡ create_refusal clock.present.windows
     clock.minute caller c facts
-refused_as st old caller c clock held opened block facts has stands settled =
-    refused_by_facts st old caller c clock held opened block facts stands
-    (create_settled old st caller c settled) has.known has.clock_is has.is_held has.is_opened
-    has.is_block has.read
+refused_as st old caller c clock facts has stands settled =
+    refused_by_facts st old caller c clock facts stands (create_settled old st caller c settled) has
 
 pub answers_create_refused : (old new : Content) (caller : ℕ) (c : CreateCode) (clock : ClockRow)
-    (held : Option VersionCode) (opened : Option (ℕ × VersionCode)) (block : Option VersionCode)
-    (facts : CreateFacts) (k : ℕ) →
-    new ≡ old → HasRead old caller c clock held opened block facts
+    (facts : CreateFacts) (k : ℕ) → new ≡ old → IsJudgedBy old caller c clock facts
     → Some k ≡ create_refusal clock.present.windows clock.minute caller c facts →
     AnswersSettled old new (Requests caller (Commands (command_of c))) (refused_with k)
-answers_create_refused old new caller c clock held opened block facts k same has refused =
+answers_create_refused old new caller c clock facts k same has refused =
     answers_refused_same old new (Requests caller (Commands (command_of c))) k same
-    (λ st stands settled. refused_as st old caller c clock held opened block facts has stands
-    settled ∙ sym refused)
+    (λ st stands settled. refused_as st old caller c clock facts has stands settled ∙ sym refused)
 
 pub answers_create_unknown : (old new : Content) (caller : ℕ) (c : CreateCode) → new ≡ old
     → are_known old c caller ≡ false
@@ -148,7 +133,7 @@ pub reply_by : (creator : Creator) (st new : State) (caller tn old_provider new_
     reply_of st new caller (command_by creator tn old_provider new_provider due)
     ≡ shown new
     (id_or (find (lacks creator old_provider new_provider) (record_now st (Number tn)).versions)
-    (next_id st.windows st.history))
+    (next_of st))
 reply_by (OldProvider authorized) st new caller tn old_provider new_provider due = refl
 reply_by (NewProvider routing) st new caller tn old_provider new_provider due = refl
 

@@ -25,11 +25,12 @@ use Rattle.pool.specs.Facts.{carrier_number}
 use Rattle.pool.specs.Serving.{ServingFactsAre, carrier_of, served_by_code, served_by_version}
 use Rattle.pool.proofs.Served.{serving-is}
 use Rattle.register.specs.Answers.{Stands}
-use Rattle.register.specs.Serving.{AreRead, IsHeld, IsOpened, is_lrn_good, is_released}
+use Rattle.register.specs.Serving.{IsHeld, IsJudgedBy, IsOpened, are_known, is_lrn_good, is_released}
 use Rattle.register.proofs.OnVersions.OnVersion.{clock_is_of}
 use Rattle.register.specs.Settling.{is_of_number}
 use Rattle.register.proofs.EveryCall.Settled.{number_of_number, block_of_number}
 use Rattle.register.proofs.Asking.Columns.{IsFound, opened_is, held_is}
+use Rattle.numbers.proofs.Small.{mapped_there}
 
 -- ---- what was found is seen
 
@@ -73,11 +74,6 @@ carriers_known true true true e = refl
 carriers_known true true false e = cc
 carriers_known true false c e = cc
 carriers_known false b c e = cc
-
-abbrev pub are_known : Content → CreateCode → ℕ → Bool
-are_known old c caller =
-    is_some (get old.carriers c.old_provider.number)
-    && (is_some (get old.carriers c.new_provider.number) && is_some (get old.carriers caller))
 
 known_are : (st : State) (old : Content) (c : CreateCode) (caller : ℕ) (b : Bool) → Stands old st
     → are_known old c caller ≡ b →
@@ -128,10 +124,6 @@ lrn_by st old lrns (NewProvider routing) caller tn old_provider new_provider due
 
 -- ---- who serves
 
-is_some_mapped : {A B : Type 0} (f : A → B) (o : Option A) → is_some (option_map f o) ≡ is_some o
-is_some_mapped f None = refl
-is_some_mapped f (Some x) = refl
-
 is_none_mapped : {A B : Type 0} (f : A → B) (o : Option A) → is_none o ≡ is_none (option_map f o)
 is_none_mapped f None = refl
 is_none_mapped f (Some x) = refl
@@ -177,72 +169,70 @@ released_is (Some u) None sees = absurd sees
 -- ---- all facts
 
 module _ (st : State) (old : Content) (caller : ℕ) (c : CreateCode) (clock : ClockRow)
-    (held : Option VersionCode) (opened : Option (ℕ × VersionCode)) (block : Option VersionCode)
-    (facts : CreateFacts)
-    (stands : Stands old st) (settled : (s : Subject) → is_of_number c.tn.number st s ≡ true
-    → IsSettled old st s) (known : are_known old c caller ≡ true) (clock_is : old.clock
-    ≡ Some clock)
-    (is_held : IsHeld old (Number c.tn.number) held) (is_opened : IsOpened old (Number c.tn.number)
-    opened) (is_block : IsHeld old (Block (block_of c.tn.number)) block)
-    (read : AreRead old c clock.next_id held opened block facts) where
+    (facts : CreateFacts) (stands : Stands old st)
+    (settled : (s : Subject) → is_of_number c.tn.number st s ≡ true → IsSettled old st s)
+    (has : IsJudgedBy old caller c clock facts) where
   -- what tells who serves the number is so in the state
-  they_serve : ServingFactsAre st c.tn.number read.server.0
+  they_serve : ServingFactsAre st c.tn.number has.read.server.0
   they_serve =
-      let row = read.server.1 in
+      let row = has.read.server.1 in
       record {
         in_force = subst (λ o. Sees o (version_in_force (record_now st (Number c.tn.number))))
             (sym row.in_force)
-            (sees_held st old (Number c.tn.number) held stands
-            (settled (Number c.tn.number) (number_of_number st c.tn.number)) is_held);
+            (sees_held st old (Number c.tn.number) has.held stands
+            (settled (Number c.tn.number) (number_of_number st c.tn.number)) has.is_held);
         opened = subst
             (λ o. Sees o (open_version (Number c.tn.number) (record_now st (Number c.tn.number))))
             (sym row.opened)
-            (sees_opened st old (Number c.tn.number) opened stands
-            (settled (Number c.tn.number) (number_of_number st c.tn.number)) is_opened);
+            (sees_opened st old (Number c.tn.number) has.opened stands
+            (settled (Number c.tn.number) (number_of_number st c.tn.number)) has.is_opened);
         donated = row.donated ∙ ap is_some (stands.represents.blocks (block_of c.tn.number))
-            ∙ is_some_mapped _ (donor_of (block_of c.tn.number) st.history);
+            ∙ mapped_there _ (donor_of (block_of c.tn.number) st.history);
         block = subst
             (λ o. Sees o (version_in_force (record_now st (Block (block_of c.tn.number)))))
             (sym row.block)
-            (sees_held st old (Block (block_of c.tn.number)) block stands
-            (settled (Block (block_of c.tn.number)) (block_of_number st c.tn.number)) is_block);
+            (sees_held st old (Block (block_of c.tn.number)) has.block stands
+            (settled (Block (block_of c.tn.number)) (block_of_number st c.tn.number)) has.is_block);
         code = row.code ∙ stands.represents.codes (code_of c.tn.number);
       }
 
   server_is : carrier_number facts.server ≡ carrier_of (serving st c.tn.number)
-  server_is = read.server.2 ∙ ap carrier_of (serving-is st c.tn.number read.server.0 they_serve)
+  server_is =
+      has.read.server.2 ∙ ap carrier_of (serving-is st c.tn.number has.read.server.0 they_serve)
 
   nobody_is : facts.is_code_open ≡ true → is_none facts.server ≡ is_in_pool (serving st c.tn.number)
   nobody_is is =
-      is_none_mapped (λ (s : Spid). s.number) facts.server ∙ ap is_none read.server.2
-      ∙ in_pool_is (option_map seen read.server.0.in_force) (option_map seen read.server.0.opened)
-      (served_by_code read.server.0)
-      (by_code_is (option_map seen read.server.0.block_in_force) read.server.0.is_donated
-      (carrier_number read.server.0.code_holder) (ap is_some read.server.1.code ∙ sym read.code
+      is_none_mapped (λ (s : Spid). s.number) facts.server ∙ ap is_none has.read.server.2
+      ∙ in_pool_is (option_map seen has.read.server.0.in_force)
+      (option_map seen has.read.server.0.opened)
+      (served_by_code has.read.server.0)
+      (by_code_is (option_map seen has.read.server.0.block_in_force) has.read.server.0.is_donated
+      (carrier_number has.read.server.0.code_holder) (ap is_some has.read.server.1.code
+      ∙ sym has.read.code
       ∙ is))
-      ∙ ap is_in_pool (serving-is st c.tn.number read.server.0 they_serve)
+      ∙ ap is_in_pool (serving-is st c.tn.number has.read.server.0 they_serve)
 
   pub facts_are : FactsAre st caller c facts
   facts_are = record {
-    code = read.code ∙ ap is_some (stands.represents.codes (code_of c.tn.number));
-    lrn = read.lrn ∙ lrn_by st old stands.represents.lrns c.creator caller c.tn.number
+    code = has.read.code ∙ ap is_some (stands.represents.codes (code_of c.tn.number));
+    lrn = has.read.lrn ∙ lrn_by st old stands.represents.lrns c.creator caller c.tn.number
         c.old_provider.number c.new_provider.number c.due.number;
     pool = nobody_is;
     server = λ is. ap (is_the c.old_provider.number) server_is ∙ served_is c.old_provider.number
         (serving st c.tn.number);
     opened = subst (λ o. Sees (option_map (λ e. e.1) o) (open_version (Number c.tn.number)
-        (record_now st (Number c.tn.number)))) (sym read.opened)
-        (sees_opened st old (Number c.tn.number) opened stands
-        (settled (Number c.tn.number) (number_of_number st c.tn.number)) is_opened);
+        (record_now st (Number c.tn.number)))) (sym has.read.opened)
+        (sees_opened st old (Number c.tn.number) has.opened stands
+        (settled (Number c.tn.number) (number_of_number st c.tn.number)) has.is_opened);
     in_force = subst (λ o. Sees o (version_in_force (record_now st (Number c.tn.number))))
-        (sym read.in_force) (sees_held st old (Number c.tn.number) held stands
-        (settled (Number c.tn.number) (number_of_number st c.tn.number)) is_held);
-    block = read.block
-        ∙ released_is block (version_in_force (record_now st (Block (block_of c.tn.number))))
-        (sees_held st old (Block (block_of c.tn.number)) block stands
-        (settled (Block (block_of c.tn.number)) (block_of_number st c.tn.number)) is_block);
-    next_id = read.next_id ∙ ap (λ (k : ClockRow). k.next_id)
-        (clock_is_of old st clock stands.represents clock_is);
+        (sym has.read.in_force) (sees_held st old (Number c.tn.number) has.held stands
+        (settled (Number c.tn.number) (number_of_number st c.tn.number)) has.is_held);
+    block = has.read.block
+        ∙ released_is has.block (version_in_force (record_now st (Block (block_of c.tn.number))))
+        (sees_held st old (Block (block_of c.tn.number)) has.block stands
+        (settled (Block (block_of c.tn.number)) (block_of_number st c.tn.number)) has.is_block);
+    next_id = has.read.next_id ∙ ap (λ (k : ClockRow). k.next_id)
+        (clock_is_of old st clock stands.represents has.clock_is);
   }
 
   -- so a create is refused as they say
@@ -250,6 +240,6 @@ module _ (st : State) (old : Content) (caller : ℕ) (c : CreateCode) (clock : C
       clock.present.windows clock.minute caller c facts
   refused_by_facts = create_refused st caller c facts facts_are stands.represents.history
       ∙ ap (λ b. if b then Some 1 else create_refusal (set_now st).windows st.now caller c facts)
-      (known_is st old c caller stands known)
+      (known_is st old c caller stands has.known)
       ∙ ap (λ (k : ClockRow). create_refusal k.present.windows k.minute caller c facts)
-      (sym (clock_is_of old st clock stands.represents clock_is))
+      (sym (clock_is_of old st clock stands.represents has.clock_is))

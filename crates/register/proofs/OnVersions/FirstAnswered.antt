@@ -1,18 +1,18 @@
 -- What a first create answers and leaves, over contents.
-use Rattle.std.proofs.Common.{◌≡◌, ℕ, ◌+◌, ◌≤◌, false, cond, [], ◌∷◌, Option, Some, None, refl, ap, sym, ◌∙◌, subst}
+use Rattle.std.proofs.Common.{◌≡◌, ℕ, ◌+◌, ◌≤◌, false, cond, [], ◌∷◌, Some, None, refl, ap, sym, ◌∙◌, subst}
 use Rattle.std.specs.Prelude.{◌==◌, option_map}
 use Rattle.std.specs.List.{list_any}
 use Rattle.numbers.specs.Subjects.{Subject, Number, Block, subject_eq}
 use Rattle.numbers.specs.Views.{subject_of}
 use Rattle.meaning.specs.Versions.{Version, Record, version_with, open_version, last_version}
 use Rattle.meaning.specs.History.{Request, Commands, made_version, makes, next_id, donor_of, assigned_block}
-use Rattle.meaning.specs.Reading.{State, View, record_now, view_of, set_now}
+use Rattle.meaning.specs.Reading.{State, View, record_now, view_of, set_now, next_of}
 use Rattle.meaning.specs.Conditions.{limit, holds_of}
 use Rattle.meaning.specs.Refusals.{Requests, refusal}
 use Rattle.meaning.specs.Machine.{Shown, accepted, answer_of, shown}
 use Rattle.meaning.specs.Content.{Content, ClockRow, ClockShows}
 use Rattle.meaning.proofs.Creates.{found_is_open, any_is_open}
-use Rattle.meaning.proofs.Entered.{next_id-below, sound_now}
+use Rattle.meaning.proofs.Entered.{entered-ids, next_id-below, sound_now}
 use Rattle.version.specs.declared.version.Version.{Version as VersionCode}
 use Rattle.version.specs.declared.create.Create.{Create as CreateCode}
 use Rattle.version.specs.declared.create.CreateFacts.{CreateFacts}
@@ -22,6 +22,7 @@ use Rattle.version.specs.Creates.{command_of, create_refusal, lacks, answered_by
 use Rattle.settle.specs.Changes.{IsChanged, ClockMove}
 use Rattle.settle.specs.Settling.{IsSettled}
 use Rattle.register.specs.Answers.{Stands}
+use Rattle.register.specs.Serving.{IsJudgedBy}
 use Rattle.register.specs.Settling.{AnswersSettled, AreSettled, LeavesOthers}
 use Rattle.settle.specs.Sending.{putting}
 use Rattle.register.proofs.EveryCall.Composed.{answers_accepted, Views}
@@ -29,10 +30,10 @@ use Rattle.register.proofs.OnVersions.OnVersion.{IsOnOne, clock_of, clock_is_of,
 use Rattle.register.proofs.OnVersions.FactsRead.{facts_are}
 use Rattle.register.proofs.Records.Touched.{clock-moves}
 use Rattle.register.proofs.EveryCall.HeldSets.{windows-now}
-use Rattle.register.proofs.OnVersions.FirstCreate.{made-record, made-elsewhere, made-next_id, next_is_free, putting-are, made-shows, made-quiet, made-id, made-unsent, create-leaves, create-makes, create-concerns}
+use Rattle.register.proofs.OnVersions.FirstCreate.{made-record, made-elsewhere, next_is_free, putting-are, made-shows, made-quiet, made-id, made-unsent, create-leaves, create-makes, create-concerns}
 use Rattle.register.proofs.OnVersions.SecondCreate.{lacking-open, create-carrier}
 use Rattle.register.proofs.EveryCall.Settled.{number_of_number, leaves_but}
-use Rattle.register.proofs.OnVersions.Created.{create_settled, settles_number, HasRead, refused_as, create-registry, id_or, reply_by, none_answers, if_holds-none, first_created}
+use Rattle.register.proofs.OnVersions.Created.{create_settled, settles_number, refused_as, create-registry, id_or, reply_by, none_answers, if_holds-none, first_created}
 use Rattle.numbers.proofs.Small.{same_number}
 
 module _ (st : State) (old new : Content) (caller : ℕ) (c : CreateCode) (next : ClockMove)
@@ -40,7 +41,7 @@ module _ (st : State) (old new : Content) (caller : ℕ) (c : CreateCode) (next 
     (none : refusal st (Requests caller (Commands (command_of c))) ≡ None)
     (lacking : holds_of (lacks c.creator c.old_provider.number c.new_provider.number)
     (open_version (Number c.tn.number) (record_now st (Number c.tn.number))) ≡ false)
-    (next_is : next ≡ record { minute = st.now; next_id = next_id st.windows st.history + 1 }) where
+    (next_is : next ≡ record { minute = st.now; next_id = next_of st + 1 }) where
   abbrev s : Subject
   s = Number c.tn.number
 
@@ -51,10 +52,10 @@ module _ (st : State) (old new : Content) (caller : ℕ) (c : CreateCode) (next 
   after_it = accepted st (Requests caller request)
 
   abbrev id : ℕ
-  id = next_id st.windows st.history
+  id = next_of st
 
   abbrev made : Version
-  made = made_version (set_now st) (next_id st.windows st.history) caller st.now
+  made = made_version (set_now st) (next_of st) caller st.now
       (record_now st (Number c.tn.number)).carriers
       (donor_of (assigned_block (Commands (command_of c))) st.history) (Commands (command_of c))
 
@@ -95,14 +96,14 @@ module _ (st : State) (old new : Content) (caller : ℕ) (c : CreateCode) (next 
         (elsewhere (Block b) refl);
   }
 
-  module _ (changed : IsChanged (putting (next_id st.windows st.history) (Number c.tn.number) made
+  module _ (changed : IsChanged (putting (next_of st) (Number c.tn.number) made
       (Some next)) old new) where
     clock_after : ClockShows new.clock after_it
     clock_after = clock-moves st caller request
         (create-registry c.creator caller c.tn.number c.old_provider.number c.new_provider.number
         c.due.number).unset old new stands next changed.clock
         (next_is ∙ ap (λ k. let m : ClockMove = record { minute = st.now; next_id = k } in m)
-        (sym (made-next_id st caller request s one_made)))
+        (sym (entered-ids st caller request (s ∷ []) one_made)))
 
     first-stands : Stands new after_it
     first-stands = on_version-stands st old new caller request s id (putting id s made (Some next))
@@ -154,9 +155,8 @@ module _ (st : State) (old new : Content) (caller : ℕ) (c : CreateCode) (next 
         c.new_provider.number c.due.number)
 
 pub answers_first : (old new : Content) (caller : ℕ) (c : CreateCode) (clock : ClockRow)
-    (next : ClockMove) (held : Option VersionCode) (opened : Option (ℕ × VersionCode))
-    (block : Option VersionCode) (facts : CreateFacts) (m : VersionCode) (view : View) →
-    HasRead old caller c clock held opened block facts → None
+    (next : ClockMove) (facts : CreateFacts) (m : VersionCode) (view : View) →
+    IsJudgedBy old caller c clock facts → None
     ≡ create_refusal clock.present.windows clock.minute caller c facts →
     IsCreated clock.present clock.minute c (answered_by c facts.opened) (First m) →
     (clock.next_id ≤ limit → next ≡ record { minute = clock.minute; next_id = clock.next_id + 1 }) →
@@ -164,8 +164,7 @@ pub answers_first : (old new : Content) (caller : ℕ) (c : CreateCode) (clock :
     (Some next)) old new →
     Views clock.present.windows clock clock.next_id m view →
     AnswersSettled old new (Requests caller (Commands (command_of c))) (Some (Shown (Some view)))
-answers_first old new caller c clock next held opened block facts m view has accepts created next_is
-    changed views =
+answers_first old new caller c clock next facts m view has accepts created next_is changed views =
     answers_accepted old new (Requests caller (Commands (command_of c))) (Shown (Some view)) each
   where
     first : (answered_by c facts.opened ≡ None) × IsMade clock.present clock.minute c m
@@ -211,49 +210,48 @@ answers_first old new caller c clock next held opened block facts m view has acc
         now : clock.minute ≡ st.now
         now = ap (λ (k : ClockRow). k.minute) same_clock
 
-        the_id : clock.next_id ≡ next_id st.windows st.history
+        the_id : clock.next_id ≡ next_of st
         the_id = ap (λ (k : ClockRow). k.next_id) same_clock
 
         none : refusal st (Requests caller (Commands (command_of c))) ≡ None
-        none = refused_as st old caller c clock held opened block facts has stands settled
+        none = refused_as st old caller c clock facts has stands settled
             ∙ sym accepts
 
         lacking : holds_of (lacks c.creator c.old_provider.number c.new_provider.number)
             (open_version (Number c.tn.number) (record_now st (Number c.tn.number))) ≡ false
         lacking = none_answers c facts.opened (open_version (Number c.tn.number)
             (record_now st (Number c.tn.number)))
-            (facts_are st old caller c clock held opened block facts stands
-            (create_settled old st caller c settled) has.known has.clock_is has.is_held
-            has.is_opened has.is_block has.read).opened first.0
+            (facts_are st old caller c clock facts stands (create_settled old st caller c settled)
+            has).opened first.0
 
         below : clock.next_id ≤ limit
         below = subst (λ k. k ≤ limit) (sym the_id) (next_id-below st.windows st.history st.now
             stands.represents.history)
 
-        next_now : next ≡ record { minute = st.now; next_id = next_id st.windows st.history + 1 }
+        next_now : next ≡ record { minute = st.now; next_id = next_of st + 1 }
         next_now = next_is below ∙ ap (λ (k : ClockRow). let x : ClockMove =
             record { minute = k.minute; next_id = k.next_id + 1 } in x) same_clock
 
-        made_now : IsMade (set_now st) st.now c m
-        made_now = subst (λ (k : ClockRow). IsMade k.present k.minute c m) same_clock first.1
+        is_made : IsMade (set_now st) st.now c m
+        is_made = subst (λ (k : ClockRow). IsMade k.present k.minute c m) same_clock first.1
 
-        version : version_of (next_id st.windows st.history) [] (set_now st).windows m
-            ≡ made_version (set_now st) (next_id st.windows st.history) caller st.now
+        version : version_of (next_of st) [] (set_now st).windows m
+            ≡ made_version (set_now st) (next_of st) caller st.now
             (record_now st (Number c.tn.number)).carriers
             (donor_of (assigned_block (Commands (command_of c))) st.history)
             (Commands (command_of c))
-        version = made_now.version (next_id st.windows st.history) caller
+        version = is_made.version (next_of st) caller
             (record_now st (Number c.tn.number)).carriers
             (donor_of (assigned_block (Commands (command_of c))) st.history)
 
-        change : IsChanged (putting (next_id st.windows st.history) (Number c.tn.number)
-            (made_version (set_now st) (next_id st.windows st.history) caller st.now
+        change : IsChanged (putting (next_of st) (Number c.tn.number)
+            (made_version (set_now st) (next_of st) caller st.now
             (record_now st (Number c.tn.number)).carriers
             (donor_of (assigned_block (Commands (command_of c))) st.history)
             (Commands (command_of c))) (Some next)) old new
-        change = subst (λ (x : Version). IsChanged (putting (next_id st.windows st.history)
+        change = subst (λ (x : Version). IsChanged (putting (next_of st)
             (Number c.tn.number) x (Some next)) old new) version
-            (subst (λ t. IsChanged (putting (next_id st.windows st.history) t
+            (subst (λ t. IsChanged (putting (next_of st) t
             (seen_by (set_now st).windows m) (Some next)) old new) first.1.subject
             (subst (λ (k : ClockRow). IsChanged
             (putting k.next_id (subject_of m.subject) (seen_by k.present.windows m) (Some next))

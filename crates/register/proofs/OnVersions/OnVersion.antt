@@ -6,9 +6,9 @@ use Rattle.numbers.specs.Subjects.{Subject, Block, subject_eq}
 use Rattle.meaning.specs.Versions.{Version, Record, is_among, version_with, last_version, first_of_versions}
 use Rattle.meaning.specs.Changes.{of_id}
 use Rattle.meaning.specs.History.{Request, Acknowledges, HasValues, carrier_named, carrier_added, lrn_named, code_named, donor_named, makes, next_id, carriers, lrn_owner, code_holder, donor_of, or_else, windows_named}
-use Rattle.meaning.specs.Reading.{State, record_now, view_of, set_now}
+use Rattle.meaning.specs.Reading.{State, record_now, view_of, set_now, next_of}
 use Rattle.meaning.specs.Refusals.{Requests, refusal}
-use Rattle.meaning.specs.Machine.{IsHistory, Shown, accepted, shown}
+use Rattle.meaning.specs.Machine.{Shown, accepted, shown, HasHistory}
 use Rattle.meaning.specs.Laws.{IsQuiet}
 use Rattle.meaning.specs.Content.{Content, ClockRow, BlockRow, Shows, Represents, ClockShows, SameRows}
 use Rattle.meaning.proofs.Ids.{same_subject}
@@ -25,7 +25,7 @@ use Rattle.meaning.specs.Windows.{WindowSet}
 abbrev pub clock_of : State → ClockRow
 clock_of st = record {
   minute = st.now;
-  next_id = next_id st.windows st.history;
+  next_id = next_of st;
   present = set_now st;
 }
 
@@ -138,7 +138,7 @@ last-same id f keeps (v ∷ vs) = ap (λ k. Some k) (go (v.id == id))
 
 module _ (st : State) (caller : ℕ) (request : Request) (s : Subject) (id : ℕ) (v : Version)
     (names : NamesVersion id s request)
-    (history : IsHistory st.windows st.history st.now) (found : version_with id (record_now st s)
+    (history : HasHistory st) (found : version_with id (record_now st s)
     ≡ Some v) where
   elsewhere_same : (t : Subject) → subject_eq s t ≡ false
       → record_now (accepted st (Requests caller request)) t ≡ record_now st t
@@ -179,7 +179,7 @@ module _ (st : State) (caller : ℕ) (request : Request) (s : Subject) (id : ℕ
 
 -- the version that is shown
 pub shown_is : (st : State) (s : Subject) (id : ℕ) (v : Version)
-    → IsHistory st.windows st.history st.now → version_with id (record_now st s) ≡ Some v →
+    → HasHistory st → version_with id (record_now st s) ≡ Some v →
     shown st id ≡ Shown (Some (view_of st (record { subject = s; version = v })))
 shown_is st s id v history found =
     ap (λ o. Shown (option_map (view_of st) o)) (found_is st history s id v found)

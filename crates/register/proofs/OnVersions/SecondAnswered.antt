@@ -1,13 +1,13 @@
 -- What a second create answers and leaves, over contents.
-use Rattle.std.proofs.Common.{◌≡◌, ℕ, true, false, [], map, Option, Some, None, refl, ap, sym, ◌∙◌, subst}
+use Rattle.std.proofs.Common.{◌≡◌, ℕ, true, false, [], map, Some, None, refl, ap, sym, ◌∙◌, subst}
 use Rattle.std.specs.Prelude.{◌==◌, option_map, if◌then◌else◌}
 use Rattle.std.specs.List.{list_any}
 use Rattle.numbers.specs.Subjects.{Subject, Number, Block, subject_eq}
 use Rattle.numbers.specs.Views.{subject_of}
 use Rattle.meaning.specs.Versions.{Version, Record, is_open, version_with, open_version, last_version}
 use Rattle.meaning.specs.Changes.{of_id}
-use Rattle.meaning.specs.History.{Request, Commands, makes, made_by, next_id}
-use Rattle.meaning.specs.Reading.{State, View, record_now, view_of, set_now}
+use Rattle.meaning.specs.History.{Request, Commands, makes}
+use Rattle.meaning.specs.Reading.{State, View, record_now, view_of, set_now, next_of, made_now}
 use Rattle.meaning.specs.Conditions.{holds_of}
 use Rattle.meaning.specs.Refusals.{Requests, refusal}
 use Rattle.meaning.specs.Machine.{Shown, accepted, answer_of, shown}
@@ -25,7 +25,7 @@ use Rattle.settle.specs.Changes.{IsChanged}
 use Rattle.settle.specs.Settling.{IsSettled}
 use Rattle.register.specs.Answers.{Stands}
 use Rattle.register.specs.Looking.{AreHeld, HasSet}
-use Rattle.register.specs.Serving.{IsOpened}
+use Rattle.register.specs.Serving.{IsJudgedBy, IsOpened}
 use Rattle.meaning.specs.Windows.{Windows}
 use Rattle.meaning.proofs.Sets.{IsSetOf, held-is, present-is}
 use Rattle.register.proofs.EveryCall.HeldSets.{has_set, held-are, held_read, windows-now}
@@ -41,7 +41,7 @@ use Rattle.register.proofs.OnVersions.SecondCreate.{one_of, lacking-open, with_c
 use Rattle.meaning.proofs.HasCreate.{create_kept}
 use Rattle.meaning.proofs.KeptVersions.{version_now}
 use Rattle.register.proofs.EveryCall.Settled.{number_of_number, leaves_but}
-use Rattle.register.proofs.OnVersions.Created.{create_settled, settles_number, HasRead, refused_as, create-registry, id_or, reply_by, lacks_as, second_created, found_quiet}
+use Rattle.register.proofs.OnVersions.Created.{create_settled, settles_number, refused_as, create-registry, id_or, reply_by, lacks_as, second_created, found_quiet}
 
 module _ (st : State) (old new : Content) (caller : ℕ) (c : CreateCode) (id : ℕ) (v : Version)
     (clock : ClockRow) (stands : Stands old st) (due : IsSettled old st (Number c.tn.number))
@@ -119,7 +119,7 @@ module _ (st : State) (old new : Content) (caller : ℕ) (c : CreateCode) (id : 
       (changed-shows (set_now st) s id change (with_create-id (set_now st) c.creator st.now) v
       (with_create-broadcasts (set_now st) c.creator st.now v) (record_now st s) None old new
       changed found due.shows)
-      (changed-quiet (set_now st) st.now (made_by st.windows st.history) s id change
+      (changed-quiet (set_now st) st.now (made_now st) s id change
       (record_now st s).versions v (given_now st stands.represents.history s) found
       (with_create-quiet (set_now st) (windows-now old st stands.represents) c.creator
       c.old_provider.number c.new_provider.number st.now v
@@ -147,7 +147,7 @@ module _ (st : State) (old new : Content) (caller : ℕ) (c : CreateCode) (id : 
       (ap (version_with id) record_is ∙ version_with-changed id change
       (with_create-id (set_now st) c.creator st.now) (record_now st s).versions v found))
       ∙ ap (shown after_it) (sym (id_found id (record_now st s).versions v found))
-      ∙ ap (λ o. shown after_it (id_or o (next_id st.windows st.history)))
+      ∙ ap (λ o. shown after_it (id_or o (next_of st)))
       (sym (found_is_open s (lacks c.creator c.old_provider.number c.new_provider.number)
       (lacking-open c.creator c.tn.number c.old_provider.number c.new_provider.number)
       (record_now st s).versions (sound_now st stands.represents.history s)
@@ -157,16 +157,15 @@ module _ (st : State) (old new : Content) (caller : ℕ) (c : CreateCode) (id : 
       c.new_provider.number c.due.number)
 
 answers_open : (old new : Content) (caller : ℕ) (c : CreateCode) (clock : ClockRow)
-    (held : Option VersionCode) (id : ℕ) (u : VersionCode) (block : Option VersionCode)
-    (facts : CreateFacts) (m : VersionCode) (w : Windows) (view : View) →
-    HasRead old caller c clock held (Some (id, u)) block facts
+    (id : ℕ) (u : VersionCode) (facts : CreateFacts) (m : VersionCode) (w : Windows)
+    (view : View) → (has : IsJudgedBy old caller c clock facts) → has.opened ≡ Some (id, u)
     → None ≡ create_refusal clock.present.windows clock.minute caller c facts
     → is_lacked c (seen u) ≡ true → Becomes (with_create clock.present c.creator clock.minute) u m →
     AreHeld old clock m.held w → IsChanged (putting id (subject_of m.subject) (seen_by w m) None)
     old new → Views w clock id m view →
     AnswersSettled old new (Requests caller (Commands (command_of c))) (Some (Shown (Some view)))
-answers_open old new caller c clock held id u block facts m w view has accepts lacked becomes
-    are_held changed views =
+answers_open old new caller c clock id u facts m w view has opened accepts lacked becomes are_held
+    changed views =
     answers_accepted old new (Requests caller (Commands (command_of c))) (Shown (Some view)) each
   where
     each : (st : State) → Stands old st
@@ -210,7 +209,8 @@ answers_open old new caller c clock held id u block facts m w view has accepts l
             × (open_version (Number c.tn.number) (record_now st (Number c.tn.number)) ≡ Some v)
             × (version_with id (record_now st (Number c.tn.number)) ≡ Some v) × (IsSeen u v)
             × (subject_of u.subject ≡ Number c.tn.number)
-        found = opened_is st old (Number c.tn.number) (Some (id, u)) stands due has.is_opened
+        found = opened_is st old (Number c.tn.number) (Some (id, u)) stands due
+            (subst (IsOpened old (Number c.tn.number)) opened has.is_opened)
 
         same_clock : clock ≡ clock_of st
         same_clock = clock_is_of old st clock stands.represents has.clock_is
@@ -219,7 +219,7 @@ answers_open old new caller c clock held id u block facts m w view has accepts l
         now = ap (λ (k : ClockRow). k.minute) same_clock
 
         none : refusal st (Requests caller (Commands (command_of c))) ≡ None
-        none = refused_as st old caller c clock held (Some (id, u)) block facts has stands settled
+        none = refused_as st old caller c clock facts has stands settled
             ∙ sym accepts
 
         lacking : lacks c.creator c.old_provider.number c.new_provider.number found.0 ≡ true
@@ -265,19 +265,17 @@ answers_open old new caller c clock held id u block facts m w view has accepts l
             (subst (λ t. IsChanged (putting id t (seen_by w m) None) old new) subject changed)
 
 pub answers_second : (old new : Content) (caller : ℕ) (c : CreateCode) (clock : ClockRow)
-    (held : Option VersionCode) (opened : Option (ℕ × VersionCode)) (block : Option VersionCode)
-    (facts : CreateFacts) (id : ℕ) (m : VersionCode) (w : Windows) (view : View) →
-    HasRead old caller c clock held opened block facts
+    (facts : CreateFacts) (id : ℕ) (m : VersionCode) (w : Windows) (view : View)
+    → IsJudgedBy old caller c clock facts
     → None ≡ create_refusal clock.present.windows clock.minute caller c facts
     → IsCreated clock.present clock.minute c (answered_by c facts.opened) (Second id m) →
     AreHeld old clock m.held w → IsChanged (putting id (subject_of m.subject) (seen_by w m) None)
     old new → Views w clock id m view →
     AnswersSettled old new (Requests caller (Commands (command_of c))) (Some (Shown (Some view)))
-answers_second old new caller c clock held opened block facts id m w view has accepts created
-    are_held changed views =
-    answers_open old new caller c clock held id second.0 block facts m w view
-    (subst (λ o. HasRead old caller c clock held o block facts) (sym has.read.opened ∙ second.1)
-    has) accepts second.2 second.3 are_held changed views
+answers_second old new caller c clock facts id m w view has accepts created are_held changed
+    views =
+    answers_open old new caller c clock id second.0 facts m w view has
+    (sym has.read.opened ∙ second.1) accepts second.2 second.3 are_held changed views
   where
     second : (u : VersionCode) × (facts.opened ≡ Some (id, u)) × (is_lacked c (seen u) ≡ true) ×
         Becomes (with_create clock.present c.creator clock.minute) u m
@@ -285,13 +283,11 @@ answers_second old new caller c clock held opened block facts id m w view has ac
 
 -- of the set that the version then holds there are windows
 pub second_has_set : (old : Content) (caller : ℕ) (c : CreateCode) (clock : ClockRow)
-    (held : Option VersionCode) (opened : Option (ℕ × VersionCode)) (block : Option VersionCode)
-    (facts : CreateFacts) (id : ℕ) (m : VersionCode) →
-    HasRead old caller c clock held opened block facts →
+    (facts : CreateFacts) (id : ℕ) (m : VersionCode) → IsJudgedBy old caller c clock facts →
     IsCreated clock.present clock.minute c (answered_by c facts.opened) (Second id m) →
     (st : State) → Stands old st → AreSettled old st (Requests caller (Commands (command_of c))) →
     HasSet old clock m.held
-second_has_set old caller c clock held opened block facts id m has created st stands settled =
+second_has_set old caller c clock facts id m has created st stands settled =
     subst (λ k. HasSet old clock k) (sym (ap (λ (x : Version). x.held.number) seen_after))
     (has_set st old clock stands.represents has.clock_is
     (with_create (set_now st) c.creator st.now found.0).held its_set)

@@ -1,7 +1,6 @@
 -- A second create: the record after it, and the rows that show it.
 use Rattle.std.proofs.Common.{◌≡◌, ℕ, Bool, true, false, cond, not, ◌&&◌, ◌||◌, List, [], ◌∷◌, map, Option, Some, None, refl, ap, sym, ◌∙◌}
-use Rattle.std.specs.Prelude.{◌==◌, find, is_some, is_none, option_map, option_and_then, if◌then◌else◌}
-use Rattle.std.specs.FinMap.{get}
+use Rattle.std.specs.Prelude.{◌==◌, find, is_some, is_none, option_and_then, if◌then◌else◌}
 use Rattle.std.specs.List.{AllByRecursion}
 use Rattle.numbers.specs.Subjects.{Subject, Number, subject_eq}
 use Rattle.meaning.specs.Windows.{AreWindows, WindowSet, Windows}
@@ -10,16 +9,16 @@ use Rattle.meaning.specs.Versions.{Version, Record, Broadcast, in_force, is_open
 use Rattle.meaning.specs.Changes.{of_id, changed_at, retired}
 use Rattle.meaning.specs.Judge.{is_over, has_ended}
 use Rattle.meaning.specs.Laws.{IsQuiet}
-use Rattle.meaning.specs.History.{Request, Commands, Entry, carrier_named, carrier_added, makes, made_by, next_after, id_among, donor_of, assigned_block, effect, after, meaning, done_to, awaits_creates}
-use Rattle.meaning.specs.Reading.{State, record_now, set_now}
+use Rattle.meaning.specs.History.{Request, Commands, carrier_named, makes, done_to, awaits_creates}
+use Rattle.meaning.specs.Reading.{State, record_now, set_now, made_now}
 use Rattle.meaning.specs.Refusals.{Requests}
 use Rattle.meaning.specs.Machine.{accepted}
-use Rattle.meaning.specs.Content.{Content, VersionRow, BroadcastRow, Shows, row_of, of_subject, stored_broadcast, stored_wait, broadcast_with}
+use Rattle.meaning.specs.Content.{Content, Shows}
 use Rattle.meaning.proofs.Settling.{newborn}
 use Rattle.meaning.specs.Concerns.{has_id}
 use Rattle.meaning.proofs.Ids.{AreGiven}
-use Rattle.meaning.proofs.Shown.{own, some_is}
-use Rattle.meaning.proofs.Entered.{judged-now, subject_eq-refl, version_with-changed, version_with-other, changed_at-map_where, brings_none}
+use Rattle.meaning.proofs.Shown.{some_is}
+use Rattle.meaning.proofs.Entered.{entered-record, subject_eq-refl, version_with-changed, version_with-other, changed_at-map_where, brings_none}
 use Rattle.meaning.proofs.Creates.{lacks_old-open, lacks_new-open}
 use Rattle.version.specs.declared.create.Creator.{Creator}
 use Rattle.version.specs.declared.create.Creator.TheVariants.{OldProvider, NewProvider}
@@ -29,7 +28,8 @@ use Rattle.settle.specs.Sending.{putting}
 use Rattle.settle.proofs.Passing.{NonePass, OnePasses, none_found}
 use Rattle.register.proofs.OnVersions.FirstCreate.{retained_newborn}
 use Rattle.meaning.proofs.HasCreate.{HasCreate, HasCreateAs}
-use Rattle.numbers.proofs.Small.{true-false, no_takeover, equal_number}
+use Rattle.numbers.proofs.Small.{true-false, no_takeover, equal_number, still_false, or_first, or_second}
+use Rattle.register.proofs.OnVersions.FirstCreate.{put-shows}
 
 -- ---- changes that are the same
 
@@ -53,17 +53,9 @@ same_leaving : (test : Version → Bool) (f : Version → Version) (id : ℕ) (v
 same_leaving test f id [] none gone = tt
 same_leaving test f id (v ∷ vs) none gone = (
   ap (λ b. if b then f v else v) none.0
-      ∙ sym (ap (λ b. if b then f v else v) (first (v.id == id) (has_id id vs) gone)),
-  same_leaving test f id vs none.1 (second (v.id == id) (has_id id vs) gone),
+      ∙ sym (ap (λ b. if b then f v else v) (or_first (v.id == id) (has_id id vs) gone)),
+  same_leaving test f id vs none.1 (or_second (v.id == id) (has_id id vs) gone),
 )
-  where
-    first : (p q : Bool) → (p || q) ≡ false → p ≡ false
-    first true q e = cc
-    first false q e = refl
-
-    second : (p q : Bool) → (p || q) ≡ false → q ≡ false
-    second true q e = cc
-    second false q e = e
 
 -- to change the one that passes the test is to change the one of its id
 pub same_change : (made : List Subject) (s : Subject) (test : Version → Bool) (f : Version
@@ -133,14 +125,10 @@ with_create-broadcasts w (OldProvider true) minute v = refl
 with_create-broadcasts w (OldProvider false) minute v = refl
 with_create-broadcasts w (NewProvider routing) minute v = refl
 
-never_false : (b : Bool) → (not b && false) ≡ false
-never_false true = refl
-never_false false = refl
-
 with_create-forces_none : (w : WindowSet) (creator : Creator) (minute : ℕ) (v : Version)
     → (not (in_force v) && in_force (with_create w creator minute v)) ≡ false
 with_create-forces_none w (OldProvider true) minute v = no_takeover (in_force v)
-with_create-forces_none w (OldProvider false) minute v = never_false (in_force v)
+with_create-forces_none w (OldProvider false) minute v = still_false (in_force v)
 with_create-forces_none w (NewProvider routing) minute v = no_takeover (in_force v)
 
 done_by : (w : WindowSet) (creator : Creator) (caller minute tn old_provider new_provider due : ℕ)
@@ -175,7 +163,7 @@ create-carrier (NewProvider routing) tn old_provider new_provider due = refl
 pub second-record : (st : State) (caller : ℕ) (creator : Creator) (tn old_provider new_provider due
     id : ℕ) (v : Version) →
     makes (Commands (command_by creator tn old_provider new_provider due)) (record_now st) ≡ [] →
-    AreGiven (made_by st.windows st.history) (Number tn) (record_now st (Number tn)).versions
+    AreGiven (made_now st) (Number tn) (record_now st (Number tn)).versions
     → OnePasses (lacks creator old_provider new_provider) (record_now st (Number tn)).versions →
     version_with id (record_now st (Number tn)) ≡ Some v → lacks creator old_provider new_provider v
     ≡ true →
@@ -186,30 +174,11 @@ pub second-record : (st : State) (caller : ℕ) (creator : Creator) (tn old_prov
       versions = map (of_id id (with_create (set_now st) creator st.now))
           (record_now st (Number tn)).versions;
     }
-unfolding meaning after effect
 second-record st caller creator tn old_provider new_provider due id v unmade given one found
     lacking =
     let request : Request = Commands (command_by creator tn old_provider new_provider due) in
-    let entry : Entry = record {
-      minute = st.now;
-      caller = caller;
-      request = Commands (command_by creator tn old_provider new_provider due);
-    } in
-    judged-now (set_now
-    (accepted st
-    (Requests caller (Commands (command_by creator tn old_provider new_provider due))))) st.now
-    (effect (set_now st) (Number tn)
-    (id_among (Number tn) (next_after (made_by st.windows st.history))
-    (makes request (record_now st))) (donor_of (assigned_block request) st.history) entry
-    (record_now st (Number tn)))
-    ∙ ap (λ new. effect (set_now st) (Number tn)
-    (id_among (Number tn) (next_after (made_by st.windows st.history)) new)
-    (donor_of (assigned_block request) st.history) entry (record_now st (Number tn))) unmade
-    ∙ ap (λ o. record {
-      carriers = carrier_added o (record_now st (Number tn)).carriers;
-      versions = changed_at (set_now st) st.now (done_to (set_now st) (Number tn) caller st.now
-          (record_now st (Number tn)).carriers request) (record_now st (Number tn)).versions;
-    }) (create-carrier creator tn old_provider new_provider due)
+    entered-record st caller request (Number tn) [] unmade
+    (create-carrier creator tn old_provider new_provider due)
     ∙ ap (λ vs. record { carriers = (record_now st (Number tn)).carriers; versions = vs })
     (changed_at-each (set_now st) st.now (done_to (set_now st) (Number tn) caller st.now
     (record_now st (Number tn)).carriers request) (λ u. if lacks creator old_provider new_provider u
@@ -220,14 +189,14 @@ second-record st caller creator tn old_provider new_provider due id v unmade giv
     then with_create (set_now st) creator st.now u
     else u) (of_id id (with_create (set_now st) creator st.now))
     (record_now st (Number tn)).versions
-    (same_change (made_by st.windows st.history) (Number tn)
+    (same_change (made_now st) (Number tn)
     (lacks creator old_provider new_provider) (with_create (set_now st) creator st.now) id
     (record_now st (Number tn)).versions v given one found lacking)
     ∙ changed_at-map_where id (with_create (set_now st) creator st.now)
     (with_create-id (set_now st) creator st.now) (set_now st) st.now
     (record_now st (Number tn)).versions
     (brings_none id (with_create (set_now st) creator st.now) (with_create-id (set_now st) creator
-    st.now) (made_by st.windows st.history) (Number tn) (record_now st (Number tn)).versions v given
+    st.now) (made_now st) (Number tn) (record_now st (Number tn)).versions v given
     found (with_create-forces_none (set_now st) creator st.now v)))
 
 -- ---- nothing is over
@@ -236,18 +205,10 @@ still_quiet : (w : WindowSet) (now : ℕ) (id : ℕ) (f : Version → Version) (
     → has_id id vs ≡ false → IsQuiet now vs → IsQuiet now (map (of_id id f) vs)
 still_quiet w now id f [] gone quiet = tt
 still_quiet w now id f (v ∷ vs) gone quiet = (
-  go (v.id == id) (first (v.id == id) (has_id id vs) gone),
-  still_quiet w now id f vs (second (v.id == id) (has_id id vs) gone) quiet.1,
+  go (v.id == id) (or_first (v.id == id) (has_id id vs) gone),
+  still_quiet w now id f vs (or_second (v.id == id) (has_id id vs) gone) quiet.1,
 )
   where
-    first : (p q : Bool) → (p || q) ≡ false → p ≡ false
-    first true q e = cc
-    first false q e = refl
-
-    second : (p q : Bool) → (p || q) ≡ false → q ≡ false
-    second true q e = cc
-    second false q e = e
-
     go : (b : Bool) → b ≡ false → is_over now (if b then f v else v) (if b then f v else v).status
         ≡ false
     go true e = cc
@@ -374,64 +335,14 @@ pub changed-shows : (w : WindowSet) (s : Subject) (id : ℕ) (f : Version → Ve
       carriers = r.carriers;
       versions = map (of_id id f) r.versions;
     })
-changed-shows w s id f keeps v same r clock old new changed found shows = record {
-  versions = λ k. ap (of_subject s (λ (x : VersionRow). x.subject)) (changed.versions k)
-      ∙ version_at k (id == k) refl;
-  broadcasts =
-      λ k a. ap (of_subject s (λ (x : BroadcastRow). x.subject)) (changed.broadcasts (record {
-        id =
-            k;
-        attempt = a;
-      })) ∙ shows.broadcasts k a ∙ ap (option_and_then (stored_broadcast s))
-      (same_broadcast k a (id == k) refl);
-  waits = λ c n k a. ap (of_subject s (λ t. t)) (changed.waits (record {
-    carrier = c;
-    minute = n;
-    id = k;
-    attempt = a;
-  })) ∙ shows.waits c n k a ∙ ap (option_and_then (stored_wait s c n))
-      (same_broadcast k a (id == k) refl);
-}
-  where
-    hit : (k : ℕ) → (id == k) ≡ true → version_with k (record {
+changed-shows w s id f keeps v same r clock old new changed found shows =
+    put-shows s id (f v) clock old new changed r
+    (record { carriers = r.carriers; versions = map (of_id id f) r.versions }) shows
+    (λ k e. ap (λ j. version_with j (record {
       carriers = r.carriers;
       versions = map (of_id id f) r.versions;
-    }) ≡ Some (f v)
-    hit k e = ap (λ j. version_with j (record {
-      carriers = r.carriers;
-      versions = map (of_id id f) r.versions;
-    })) (sym (equal_number id k e)) ∙ version_with-changed id f keeps r.versions v found
-
-    was : (k : ℕ) → (id == k) ≡ true → version_with k r ≡ Some v
-    was k e = ap (λ j. version_with j r) (sym (equal_number id k e)) ∙ found
-
-    miss : (k : ℕ) → (id == k) ≡ false → version_with k (record {
-      carriers = r.carriers;
-      versions = map (of_id id f) r.versions;
-    }) ≡ version_with k r
-    miss k e = version_with-other id f keeps k r.versions e
-
-    version_at : (k : ℕ) (b : Bool) → (id == k) ≡ b
-        → of_subject s (λ (x : VersionRow). x.subject) (if b then Some (row_of s (f v))
-        else get old.versions k)
-        ≡ option_map (row_of s) (version_with k (record {
-          carriers = r.carriers;
-          versions = map (of_id id f) r.versions;
-        }))
-    version_at k true e = own s (λ (x : VersionRow). x.subject) (row_of s (f v)) refl
-        ∙ sym (ap (option_map (row_of s)) (hit k e))
-    version_at k false e = shows.versions k ∙ sym (ap (option_map (row_of s)) (miss k e))
-
-    same_broadcast : (k a : ℕ) (b : Bool) → (id == k) ≡ b
-        → broadcast_with k a r ≡ broadcast_with k a (record {
-          carriers = r.carriers;
-          versions = map (of_id id f) r.versions;
-        })
-    same_broadcast k a true e =
-        ap (option_and_then (λ (x : Version). find (λ b. b.attempt == a) x.broadcasts)) (was k e)
-        ∙ sym (ap (λ bs. find (λ (b : Broadcast). b.attempt == a) bs) same)
-        ∙ sym (ap (option_and_then (λ (x : Version). find (λ b. b.attempt == a) x.broadcasts))
-        (hit k e))
-    same_broadcast k a false e =
-        sym (ap (option_and_then (λ (x : Version). find (λ b. b.attempt == a) x.broadcasts))
-        (miss k e))
+    })) (sym (equal_number id k e)) ∙ version_with-changed id f keeps r.versions v found)
+    (λ k e. version_with-other id f keeps k r.versions e)
+    (λ k a e. ap (option_and_then (λ (x : Version). find (λ b. b.attempt == a) x.broadcasts))
+    (ap (λ j. version_with j r) (sym (equal_number id k e)) ∙ found)
+    ∙ sym (ap (λ bs. find (λ (b : Broadcast). b.attempt == a) bs) same))

@@ -12,8 +12,8 @@ use Rattle.meaning.specs.Changes.{sent, of_id, routing_sent}
 use Rattle.meaning.specs.Concerns.{has_id}
 use Rattle.meaning.specs.Content.{Content, Shows, row_of}
 use Rattle.meaning.specs.History.{id_among, with_made}
-use Rattle.meaning.proofs.Entered.{none_with, subject_eq-refl}
-use Rattle.meaning.proofs.Ids.{same_subject}
+use Rattle.meaning.proofs.Entered.{none_with}
+use Rattle.meaning.proofs.Ids.{other_subject, same_subject}
 use Rattle.meaning.proofs.Represented.{same_rows_show}
 use Rattle.numbers.proofs.Small.{or_first, or_second, same_number}
 use Rattle.settle.specs.Changes.{IsChanged}
@@ -134,14 +134,6 @@ module _ (w : WindowSet) (now : ℕ) (everyone : List ℕ) (blank : ℕ → Vers
   abbrev begins : Subject → List Begun → Bool
   begins t bs = list_any (λ (x : Begun). subject_eq t x.subject) bs
 
-  turned : (s t : Subject) → subject_eq s t ≡ false → subject_eq t s ≡ false
-  turned s t e = go (subject_eq t s) refl
-    where
-      go : (b : Bool) → subject_eq t s ≡ b → b ≡ false
-      go false f = refl
-      go true f = let same : s ≡ t = same_subject t s f in let never : true ≡ false =
-          sym (subject_eq-refl t) ∙ ap (λ x. subject_eq x t) (sym same) ∙ e in cc
-
   changed_as : (b : Begun) (from : ℕ) (cs : List ℕ) (c : Content) → b.id ≡ from
       → b.version ≡ bare (sent w Create [] now (blank from)) →
       IsChanged (sending from now Create b.subject (sent w Create cs now (blank from))
@@ -161,10 +153,10 @@ module _ (w : WindowSet) (now : ℕ) (everyone : List ℕ) (blank : ℕ → Vers
       → Shows (applied (sending_one w now Create everyone b) c) t r
   one_aside b from c t r is apart free shows =
       same_rows_show t c (applied (sending_one w now Create everyone b) c) r
-      (stays_aside w c (applied (sending_one w now Create everyone b) c)
+      (stays_aside c (applied (sending_one w now Create everyone b) c)
       (sending_one w now Create everyone b) b.subject b.id
       (sending-are b.id w now Create b.subject b.version (routing_sent Create b.version) everyone)
-      (one_changed w now Create everyone b c) t r shows (turned t b.subject apart)
+      (one_changed w now Create everyone b c) t r shows (other_subject t b.subject apart)
       (ap (λ k. version_with k r) is ∙ free)) shows
 
   aside : (bs : List Begun) (from : ℕ) (c : Content) (t : Subject) (r : Record) → AreBegun from bs

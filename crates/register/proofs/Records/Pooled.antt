@@ -8,23 +8,23 @@ use Rattle.std.proofs.lemmas.Bool.Decides.{nat_tests}
 use Rattle.numbers.specs.Subjects.{Subject, subject_eq}
 use Rattle.meaning.specs.Statuses.{Create}
 use Rattle.meaning.specs.Versions.{Version, Record, in_force, is_among, version_with}
-use Rattle.meaning.specs.Changes.{changed_at, sent}
+use Rattle.meaning.specs.Changes.{sent}
 use Rattle.meaning.specs.Laws.{IsQuiet}
 use Rattle.meaning.specs.Content.{BlockRow, BroadcastKey, BroadcastRow, Content, SameRows, Shows, VersionRow, WaitKey, stored_block}
-use Rattle.meaning.specs.History.{HasValues, Request, assigned_block, carrier_added, carrier_named, carriers, code_holder, code_named, done_to, donor_of, effect, after, meaning, id_among, lrn_named, lrn_owner, made_by, made_version, makes, next_after, next_id, or_else, with_made, windows_named}
-use Rattle.meaning.specs.Machine.{IsHistory, accepted}
-use Rattle.meaning.specs.Reading.{State, record_now, set_now}
+use Rattle.meaning.specs.History.{HasValues, Request, assigned_block, carrier_added, carrier_named, carriers, code_holder, code_named, done_to, donor_of, id_among, lrn_named, lrn_owner, made_version, makes, next_id, or_else, with_made, windows_named}
+use Rattle.meaning.specs.Machine.{accepted, HasHistory}
+use Rattle.meaning.specs.Reading.{State, record_now, set_now, next_of, made_now}
 use Rattle.meaning.specs.Refusals.{Requests, refusal}
-use Rattle.meaning.proofs.Entered.{given_now, judged-now, subject_eq-refl}
+use Rattle.meaning.proofs.Entered.{given_now, entered-record, entered-ids, subject_eq-refl}
 use Rattle.meaning.proofs.Ids.{fresh}
 use Rattle.meaning.proofs.Lists.{everywhere}
 use Rattle.meaning.proofs.Minutes.{changed_at-same}
 use Rattle.meaning.proofs.Settling.{newborn}
-use Rattle.numbers.proofs.Small.{or_first, or_second, or_right}
+use Rattle.numbers.proofs.Small.{or_first, or_second, or_right, at_most}
 use Rattle.settle.specs.Changes.{IsChanged, wait_put, ClockMove}
 use Rattle.settle.specs.Sending.{Begun, begun_version, begun_broadcast, begun_waits, sending_each}
 use Rattle.settle.specs.Settling.{IsSettled}
-use Rattle.settle.proofs.AsideMany.{AreAmong, ArePutsAmong, among_lagging}
+use Rattle.settle.proofs.Aside.{AreAmong, ArePutsAmong, among_lagging}
 use Rattle.settle.proofs.Applied.{Puts, same_shows, sent_in_turn, sent_puts}
 use Rattle.register.specs.Answers.{Stands}
 use Rattle.register.specs.Pooling.{pooling}
@@ -32,7 +32,7 @@ use Rattle.register.specs.Settling.{LeavesOthers, settles}
 use Rattle.register.proofs.OnVersions.FirstCreate.{none_with_id}
 use Rattle.register.proofs.Records.MadeSent.{AreApart, AreBegun, each_shown}
 use Rattle.register.proofs.Records.Sent.{carriers_agree}
-use Rattle.register.proofs.Records.Touched.{RegistryShows, clock-moves, clock-written, touched-leaves, touched-stands}
+use Rattle.register.proofs.Records.Touched.{RegistryShows, clock-moves, clock-written, touched-stands}
 use Rattle.register.proofs.EveryCall.HeldSets.{windows-now}
 
 -- the request makes versions of these subjects, `blank` before they are sent, and nothing else but
@@ -53,10 +53,6 @@ pub record MakesSent (st : State) (caller : ℕ) (request : Request) (news : Lis
   pub is_id : (id : ℕ) → (blank id).id ≡ id
   pub unsent : (id : ℕ) → (blank id).broadcasts ≡ []
   pub quiet_before : (id : ℕ) → in_force (blank id) ≡ false
-
-more : (xs ys : List Subject) → length (xs ++ ys) ≡ length xs + length ys
-more [] ys = omega arith
-more (x ∷ xs) ys = let later : length (xs ++ ys) ≡ length xs + length ys = more xs ys in omega arith
 
 -- each of them is of a subject that is touched
 abbrev AllTouched : (Subject → Bool) → List Begun → Type 0
@@ -83,9 +79,6 @@ all_named bs ss is =
     subst (λ xs. AllTouched (λ t. list_any (subject_eq t) xs) bs) is
     (all_within bs bs (λ t there. there))
 
-at_least : (n k : ℕ) → n ≤ k → nat_le n k ≡ true
-at_least n k above = grind (arith, nat_tests)
-
 puts_joined : {K R : Type 0} (key : K → ℕ) (subject : R → Subject) (mine : ℕ
     → Bool) (touched : Subject → Bool) (ps qs : List (K × R)) →
     ArePutsAmong key subject mine touched ps → ArePutsAmong key subject mine touched qs
@@ -103,13 +96,13 @@ module _ (st : State) (caller : ℕ) (request : Request) (news : List Subject) (
   after_it = accepted st (Requests caller request)
 
   abbrev first : ℕ
-  first = next_id st.windows st.history
+  first = next_of st
 
   -- the record of each subject has its new version in front, if it has one
   abbrev record_after : Subject → Record
   record_after t = record {
     carriers = (record_now st t).carriers;
-    versions = with_made (id_among t (next_id st.windows st.history) news)
+    versions = with_made (id_among t (next_of st) news)
         (λ id. sent (set_now st) Create (record_now st t).carriers st.now (blank id))
         (record_now st t).versions;
   }
@@ -122,46 +115,19 @@ module _ (st : State) (caller : ℕ) (request : Request) (news : List Subject) (
   same_made cs (Some id) vs = ap (λ v. v ∷ vs) (sends.made id cs)
 
   pub made-records : (t : Subject) → record_now after_it t ≡ record_after t
-  unfolding meaning after effect
   made-records t =
-      judged-now (set_now after_it) st.now
-      (effect (set_now st) t (id_among t (next_after (made_by st.windows st.history))
-      (makes request (record_now st))) (donor_of (assigned_block request) st.history)
-      (record { minute = st.now; caller = caller; request = request }) (record_now st t))
-      ∙ ap (λ new. effect (set_now st) t (id_among t (next_after (made_by st.windows st.history))
-      new) (donor_of (assigned_block request) st.history) (record {
-        minute = st.now;
-        caller = caller;
-        request = request;
-      }) (record_now st t)) sends.makes
-      ∙ ap (λ o. record {
-        carriers = carrier_added o (record_now st t).carriers;
-        versions = with_made (id_among t (next_after (made_by st.windows st.history)) news)
-            (λ id. made_version (set_now st) id caller st.now (record_now st t).carriers
-            (donor_of (assigned_block request) st.history) request)
-            (changed_at (set_now st) st.now (done_to (set_now st) t caller st.now
-            (record_now st t).carriers request) (record_now st t).versions);
-      }) sends.carrier
+      entered-record st caller request t news sends.makes sends.carrier
       ∙ ap (λ vs. record {
         carriers = (record_now st t).carriers;
-        versions = with_made (id_among t (next_after (made_by st.windows st.history)) news)
+        versions = with_made (id_among t (next_of st) news)
             (λ id. made_version (set_now st) id caller st.now (record_now st t).carriers
             (donor_of (assigned_block request) st.history) request) vs;
       }) (changed_at-same (set_now st) st.now (done_to (set_now st) t caller st.now
       (record_now st t).carriers request) (record_now st t).versions
       (everywhere (sends.does t (record_now st t).carriers) (record_now st t).versions))
       ∙ ap (λ vs. record { carriers = (record_now st t).carriers; versions = vs })
-      (same_made (record_now st t).carriers (id_among t (next_after (made_by st.windows st.history))
+      (same_made (record_now st t).carriers (id_among t (next_of st)
       news) (record_now st t).versions)
-
-  -- as many ids are given as versions are made
-  pub made-ids : next_id st.windows after_it.history ≡ next_id st.windows st.history + length news
-  unfolding meaning after
-  made-ids =
-      ap (λ new. 1 + length (made_by st.windows st.history ++ new)) sends.makes
-      ∙ (let all : length (made_by st.windows st.history ++ news)
-      ≡ length (made_by st.windows st.history) + length news =
-      more (made_by st.windows st.history) news in omega arith)
 
   unmade : (t : Subject) (k : ℕ) (ss : List Subject) → list_any (subject_eq t) ss ≡ false
       → id_among t k ss ≡ None
@@ -183,10 +149,10 @@ module _ (st : State) (caller : ℕ) (request : Request) (news : List Subject) (
       }) (unmade t first news none)
 
   -- the new ids are free
-  pub above_free : IsHistory st.windows st.history st.now → (t : Subject) (k : ℕ)
-      → next_id st.windows st.history ≤ k → version_with k (record_now st t) ≡ None
+  pub above_free : HasHistory st → (t : Subject) (k : ℕ)
+      → next_of st ≤ k → version_with k (record_now st t) ≡ None
   above_free history t k above =
-      none_with_id k (record_now st t).versions (fresh (made_by st.windows st.history) t
+      none_with_id k (record_now st t).versions (fresh (made_now st) t
       (record_now st t).versions k (given_now st history t) above)
 
   -- ---- rows
@@ -252,17 +218,17 @@ module _ (st : State) (caller : ℕ) (request : Request) (news : List Subject) (
     is_new t = list_any (subject_eq t) news
 
     abbrev mine : ℕ → Bool
-    mine k = nat_le (next_id st.windows st.history) k
+    mine k = nat_le (next_of st) k
 
     puts_among : {K R : Type 0} (key : K → ℕ) (subject : R → Subject) (row : Begun → K × R)
         → ((b : Begun) → key (row b).0 ≡ b.id) → ((b : Begun) → subject (row b).1 ≡ b.subject) →
         (bs : List Begun) (touched : Subject → Bool) → AllTouched touched bs → (from : ℕ)
-        → next_id st.windows st.history ≤ from →
+        → next_of st ≤ from →
         AreBegun (set_now st) st.now everyone blank sends.is_id sends.unsent sends.quiet_before from
         bs → ArePutsAmong key subject mine touched (map row bs)
     puts_among key subject row its_key its_subject [] touched all from above are_begun = tt
     puts_among key subject row its_key its_subject (b ∷ bs) touched all from above are_begun = (
-      ap mine (its_key b ∙ are_begun.0) ∙ at_least (next_id st.windows st.history) from above,
+      ap mine (its_key b ∙ are_begun.0) ∙ at_most (next_of st) from above,
       ap touched (its_subject b) ∙ all.0,
       puts_among key subject row its_key its_subject bs touched all.1 (suc from) (omega arith)
           are_begun.2,
@@ -276,7 +242,7 @@ module _ (st : State) (caller : ℕ) (request : Request) (news : List Subject) (
     waits_one b touched is its (c ∷ cs) = (its, is, waits_one b touched is its cs)
 
     waits_among : (bs : List Begun) (touched : Subject → Bool) → AllTouched touched bs → (from : ℕ)
-        → next_id st.windows st.history ≤ from →
+        → next_of st ≤ from →
         AreBegun (set_now st) st.now everyone blank sends.is_id sends.unsent sends.quiet_before from
         bs →
         ArePutsAmong (λ (k : WaitKey). k.id) (λ (t : Subject). t) mine touched
@@ -285,7 +251,7 @@ module _ (st : State) (caller : ℕ) (request : Request) (news : List Subject) (
     waits_among (b ∷ bs) touched all from above are_begun =
         puts_joined (λ (k : WaitKey). k.id) (λ (t : Subject). t) mine touched
         (begun_waits st.now everyone b) (flat_map (begun_waits st.now everyone) bs)
-        (waits_one b touched all.0 (ap mine are_begun.0 ∙ at_least (next_id st.windows st.history)
+        (waits_one b touched all.0 (ap mine are_begun.0 ∙ at_most (next_of st)
         from above) everyone)
         (waits_among bs touched all.1 (suc from) (omega arith) are_begun.2)
 
@@ -304,8 +270,8 @@ module _ (st : State) (caller : ℕ) (request : Request) (news : List Subject) (
           taken_waits = tt;
         }
 
-    not_below : (k : ℕ) → nat_le (next_id st.windows st.history) k ≡ true
-        → next_id st.windows st.history ≤ k
+    not_below : (k : ℕ) → nat_le (next_of st) k ≡ true
+        → next_of st ≤ k
     not_below k is = grind (arith, nat_tests)
 
     elsewhere : (t : Subject) → is_new t ≡ false → (record_now after_it t ≡ record_now st t)
@@ -325,13 +291,13 @@ module _ (st : State) (caller : ℕ) (request : Request) (news : List Subject) (
         → get new.blocks k ≡ stored_block after_it k)
         (next_is : clock ≡ record {
           minute = st.now;
-          next_id = next_id st.windows st.history + length news;
+          next_id = next_of st + length news;
         }) where
       registry : RegistryShows new after_it
       registry = record {
         clock = clock-moves st caller request sends.unset old new stands clock changed.clock
             (next_is ∙ ap (λ k. let m : ClockMove = record { minute = st.now; next_id = k } in m)
-            (sym made-ids));
+            (sym (entered-ids st caller request news sends.makes)));
         written = ap is_some changed.clock ∙ clock-written (Some clock) None old.clock
             stands.written;
         carriers = λ k. ap is_some (changed.carriers k) ∙ stands.represents.carriers k
@@ -343,11 +309,12 @@ module _ (st : State) (caller : ℕ) (request : Request) (news : List Subject) (
         blocks = blocks;
       }
 
-      pub pooled-stands : Stands new after_it
-      pooled-stands = touched-stands st old new caller request is_new stands none sends.lines
-          sends.unset changed.sets registry elsewhere (λ t is. pooled-settled t (due t is))
-
-      pub pooled-leaves : ((t : Subject) → settles st (Requests caller request) t ≡ false
-          → is_new t ≡ false) → LeavesOthers old new st (Requests caller request)
-      pooled-leaves within = touched-leaves st old new caller request is_new stands none sends.lines
-          sends.unset changed.sets registry elsewhere (λ t is. pooled-settled t (due t is)) within
+      -- the new content stands, and the rows of others stay
+      pub pooled-stands : ((t : Subject) → settles st (Requests caller request) t ≡ false
+          → is_new t ≡ false)
+          → Stands new after_it × LeavesOthers old new st (Requests caller request)
+      pooled-stands within = (
+        touched-stands st old new caller request is_new stands none sends.lines sends.unset
+            changed.sets registry elsewhere (λ t is. pooled-settled t (due t is)),
+        λ t other. (elsewhere t (within t other)).1,
+      )

@@ -7,16 +7,16 @@ use Rattle.numbers.specs.Subjects.{Subject}
 use Rattle.meaning.specs.Statuses.{Send, Create, Delete, Modify}
 use Rattle.meaning.specs.Windows.{AreWindows, WindowSet}
 use Rattle.meaning.specs.Versions.{Version, Record, in_force, is_among, version_with}
-use Rattle.meaning.specs.Changes.{sent, of_id, changed_at, routing_sent}
+use Rattle.meaning.specs.Changes.{sent, of_id, routing_sent}
 use Rattle.meaning.specs.Judge.{is_over}
-use Rattle.meaning.specs.History.{Request, Entry, carrier_added, done_to, makes, made_by, next_after, id_among, donor_of, assigned_block, effect, after, meaning}
-use Rattle.meaning.specs.Reading.{State, View, record_now, view_of, set_now}
+use Rattle.meaning.specs.History.{Request, done_to}
+use Rattle.meaning.specs.Reading.{State, View, record_now, view_of, set_now, made_now}
 use Rattle.meaning.specs.Refusals.{Requests, refusal}
-use Rattle.meaning.specs.Machine.{Shown, IsHistory, accepted, shown}
+use Rattle.meaning.specs.Machine.{Shown, accepted, shown, HasHistory}
 use Rattle.meaning.specs.Content.{Content, VersionRow, ClockRow, Shows, ClockShows, row_of, of_subject}
 use Rattle.meaning.proofs.Attempts.{counted_kept, none_past}
 use Rattle.meaning.proofs.KeptVersions.{version_now}
-use Rattle.meaning.proofs.Entered.{judged-now, version_with-changed, version_with-other, changed_at-map_where, brings_none, given_now}
+use Rattle.meaning.proofs.Entered.{entered-record, version_with-changed, version_with-other, changed_at-map_where, brings_none, given_now}
 use Rattle.numbers.proofs.Small.{equal_number}
 use Rattle.meaning.proofs.Settling.{newborn}
 use Rattle.meaning.proofs.Shown.{own}
@@ -41,7 +41,7 @@ use Rattle.register.proofs.EveryCall.Settled.{leaves_but}
 -- where a request changes the version of one id, and brings it not into force
 pub stepped-record : (st : State) (caller : ℕ) (request : Request) (s : Subject) (id : ℕ)
     (f : Version → Version) (v : Version) →
-    IsHistory st.windows st.history st.now → LeavesRegistry caller request
+    HasHistory st → LeavesRegistry caller request
     → NamesVersion id s request →
     SameEach (done_to (set_now st) s caller st.now (record_now st s).carriers request) (of_id id f)
     (record_now st s).versions → ((u : Version) → (f u).id ≡ u.id) →
@@ -50,26 +50,13 @@ pub stepped-record : (st : State) (caller : ℕ) (request : Request) (s : Subjec
       carriers = (record_now st s).carriers;
       versions = map (of_id id f) (record_now st s).versions;
     }
-unfolding meaning after effect
 stepped-record st caller request s id f v history leaves names does keeps found forces_none =
-    let entry : Entry = record { minute = st.now; caller = caller; request = request } in
-    judged-now (set_now (accepted st (Requests caller request))) st.now
-    (effect (set_now st) s (id_among s (next_after (made_by st.windows st.history))
-    (makes request (record_now st))) (donor_of (assigned_block request) st.history) entry
-    (record_now st s))
-    ∙ ap (λ new. effect (set_now st) s (id_among s (next_after (made_by st.windows st.history)) new)
-    (donor_of (assigned_block request) st.history) entry (record_now st s))
-    (names.unmade (record_now st))
-    ∙ ap (λ o. record {
-      carriers = carrier_added o (record_now st s).carriers;
-      versions = changed_at (set_now st) st.now (done_to (set_now st) s caller st.now
-          (record_now st s).carriers request) (record_now st s).versions;
-    }) leaves.carrier
+    entered-record st caller request s [] (names.unmade (record_now st)) leaves.carrier
     ∙ ap (λ vs. record { carriers = (record_now st s).carriers; versions = vs })
     (changed_at-each (set_now st) st.now (done_to (set_now st) s caller st.now
     (record_now st s).carriers request) (of_id id f) (record_now st s).versions does
     ∙ changed_at-map_where id f keeps (set_now st) st.now (record_now st s).versions
-    (brings_none id f keeps (made_by st.windows st.history) s (record_now st s).versions v
+    (brings_none id f keeps (made_now st) s (record_now st s).versions v
     (given_now st history s) found forces_none))
 
 -- ---- rows
@@ -226,7 +213,7 @@ module _ (st : State) (old new : Content) (caller : ℕ) (request : Request) (s 
       record_after
       steps.leaves stands none the_one clock_after (stepping-are id (set_now st) st.now a s (f v)
       everyone) changed record_is own_shows
-      (changed-quiet (set_now st) st.now (made_by st.windows st.history) s id f
+      (changed-quiet (set_now st) st.now (made_now st) s id f
       (record_now st s).versions v (given_now st stands.represents.history s) found
       (stepped-quiet (set_now st) (windows-now old st stands.represents) st.now
       (record_now st s).carriers v (f v) a steps.stepped

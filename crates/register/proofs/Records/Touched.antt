@@ -7,15 +7,13 @@ use Rattle.numbers.specs.Subjects.{Subject}
 use Rattle.meaning.specs.Content.{Content, Lags, ClockShows, SameRows, stored_block, ClockRow, stored_set}
 use Rattle.meaning.specs.History.{Request, HasValues, carriers, lrn_owner, code_holder, next_id, windows_named, set_added}
 use Rattle.meaning.specs.Machine.{IsHistory, accepted}
-use Rattle.meaning.specs.Reading.{State, record_now, set_now}
+use Rattle.meaning.specs.Reading.{State, record_now, set_now, next_of}
 use Rattle.meaning.specs.Refusals.{Requests, refusal}
-use Rattle.meaning.specs.Versions.{is_among, version_with}
+use Rattle.meaning.specs.Versions.{is_among}
 use Rattle.meaning.proofs.Represented.{same_rows_lag}
-use Rattle.settle.specs.Changes.{Changes, ClockMove, IsChanged, clock_after}
+use Rattle.settle.specs.Changes.{ClockMove, clock_after}
 use Rattle.settle.specs.Settling.{IsSettled}
-use Rattle.settle.proofs.AsideMany.{AreAmong, among_lagging}
 use Rattle.register.specs.Answers.{Stands}
-use Rattle.register.specs.Settling.{LeavesOthers, settles}
 use Rattle.register.proofs.EveryCall.Settled.{due_lags}
 use Rattle.meaning.proofs.SettingWindows.{sets-same}
 use Rattle.meaning.specs.Windows.{WindowSet}
@@ -73,7 +71,7 @@ clock-moves st caller request unset old new stands m moved is =
 -- and where it stays and no id is given
 pub clock-stays : (st : State) (caller : ℕ) (request : Request) → windows_named request ≡ None →
     next_id st.windows (accepted st (Requests caller request)).history
-    ≡ next_id st.windows st.history →
+    ≡ next_of st →
     (old new : Content) → Stands old st → new.clock ≡ old.clock →
     ClockShows new.clock (accepted st (Requests caller request))
 clock-stays st caller request unset ids old new stands same =
@@ -160,41 +158,3 @@ module _ (st : State) (old new : Content) (caller : ℕ) (request : Request) (to
     };
     written = registry.written;
   }
-
-  -- where it settles what it touches
-  pub touched-leaves : ((t : Subject) → settles st (Requests caller request) t ≡ false
-      → touched t ≡ false) → LeavesOthers old new st (Requests caller request)
-  touched-leaves within t other = (elsewhere t (within t other)).1
-
--- ---- many versions in one commit
-
--- the changes are of the versions with these ids, which are of the subjects that are touched
-module _ (st : State) (old new : Content) (caller : ℕ) (request : Request) (mine : ℕ
-    → Bool) (touched : Subject → Bool) (changes : Changes)
-    (stands : Stands old st) (are : AreAmong mine touched changes) (changed : IsChanged changes old
-    new)
-    (same : (t : Subject) → touched t ≡ false → record_now (accepted st (Requests caller request)) t
-    ≡ record_now st t)
-    (free : (t : Subject) → touched t ≡ false → (k : ℕ) → mine k ≡ true
-    → version_with k (record_now st t) ≡ None) where
-  many_aside : (t : Subject) → touched t ≡ false
-      → (record_now (accepted st (Requests caller request)) t ≡ record_now st t)
-      × SameRows t old new
-  many_aside t apart = (
-    same t apart,
-    among_lagging st old new changes mine touched are changed t (stands.represents.subjects t) apart
-        (free t apart),
-  )
-
-  pub many-stand : refusal st (Requests caller request) ≡ None → HasValues request
-      → windows_named request ≡ None → ((k : ℕ) → get new.sets k ≡ get old.sets k)
-      → RegistryShows new (accepted st (Requests caller request)) →
-      ((t : Subject) → touched t ≡ true → IsSettled new (accepted st (Requests caller request)) t)
-      → Stands new (accepted st (Requests caller request))
-  many-stand none lines unset same_sets registry here =
-      touched-stands st old new caller request touched stands none lines unset same_sets registry
-      many_aside here
-
-  pub many-leave : ((t : Subject) → settles st (Requests caller request) t ≡ false
-      → touched t ≡ false) → LeavesOthers old new st (Requests caller request)
-  many-leave within t other = (many_aside t (within t other)).1

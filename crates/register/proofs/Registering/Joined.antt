@@ -23,6 +23,8 @@ use Rattle.meaning.proofs.Shown.{own, some_is}
 use Rattle.settle.specs.Changes.{IsChanged}
 use Rattle.register.specs.Joining.{joining}
 use Rattle.register.proofs.Registering.JoinedWaits.{joined_at, joined-put}
+use Rattle.meaning.proofs.Attempts.{joined_same}
+use Rattle.numbers.proofs.Small.{no_takeover}
 
 -- ---- the record of a subject
 
@@ -34,10 +36,6 @@ joined-map w c minute (v ∷ vs) =
     (no_takeover (in_force v))
     ∙ ap (λ us. joined_by c v ∷ us) (retired-never w minute (changed_at w minute (joined_by c) vs)
     ∙ joined-map w c minute vs)
-  where
-    no_takeover : (b : Bool) → (not b && b) ≡ false
-    no_takeover true = refl
-    no_takeover false = refl
 
 abbrev pub joined_record : ℕ → Record → Record
 joined_record c r = record {
@@ -79,21 +77,13 @@ joined_version c id (v ∷ vs) = go (joined_version c id vs) (v.id == id)
     go later true = refl
     go later false = later
 
-same_attempt : (c : ℕ) (b : Broadcast) → (joined_broadcast c b).attempt ≡ b.attempt
-same_attempt c b = go (is_open_broadcast b)
-  where
-    go : (t : Bool) → (if t then record b { recipients = with_number c b.recipients }
-        else b).attempt ≡ b.attempt
-    go true = refl
-    go false = refl
-
 joined_found : (c attempt : ℕ) (bs : List Broadcast)
     → find (λ b. b.attempt == attempt) (map (joined_broadcast c) bs)
     ≡ option_map (joined_broadcast c) (find (λ b. b.attempt == attempt) bs)
 joined_found c attempt [] = refl
 joined_found c attempt (b ∷ bs) =
     ap (λ n. cond (n == attempt) (Some (joined_broadcast c b)) (find (λ x. x.attempt == attempt)
-    (map (joined_broadcast c) bs))) (same_attempt c b)
+    (map (joined_broadcast c) bs))) (joined_same c b)
     ∙ go (joined_found c attempt bs) (b.attempt == attempt)
   where
     go : find (λ x. x.attempt == attempt) (map (joined_broadcast c) bs)

@@ -24,6 +24,7 @@ use Rattle.register.proofs.EveryCall.Composed.{answers_accepted}
 use Rattle.register.proofs.Registering.Joined.{joined_record, registered-record, joined-quiet, joined-shows}
 use Rattle.register.proofs.Records.Touched.{RegistryShows, touched-stands}
 use Rattle.settle.proofs.Among.{among_keys}
+use Rattle.numbers.proofs.Small.{or_second}
 
 -- ---- carriers
 
@@ -109,11 +110,7 @@ module _ (old new : Content) (caller spid : ℕ)
 
   newcomer : is_among spid (carriers st.history) ≡ false
   newcomer = sym (stands.represents.carriers spid)
-      ∙ second (spid == npac) (is_some (get old.carriers spid)) free
-    where
-      second : (a b : Bool) → (a || b) ≡ false → b ≡ false
-      second true b e = cc
-      second false b e = e
+      ∙ or_second (spid == npac) (is_some (get old.carriers spid)) free
 
   not_yet : (s : Subject) (id attempt : ℕ) (b : Broadcast)
       → broadcast_with id attempt (record_now st s) ≡ Some b → is_among spid b.acknowledged ≡ false

@@ -6,8 +6,8 @@ use Rattle.numbers.specs.Subjects.{Subject, subject_key}
 use Rattle.numbers.specs.Routings.{Routing}
 use Rattle.numbers.specs.Views.{subject_of, routing_of}
 use Rattle.meaning.specs.Versions.{Version, in_force, version_with, version_in_force}
-use Rattle.meaning.specs.History.{made_by, subject_of_id}
-use Rattle.meaning.specs.Reading.{State, InForce, record_now, all_in_force, set_now}
+use Rattle.meaning.specs.History.{subject_of_id}
+use Rattle.meaning.specs.Reading.{State, InForce, record_now, all_in_force, set_now, made_now}
 use Rattle.meaning.specs.Content.{Content, VersionRow, row_of, subject_if}
 use Rattle.meaning.proofs.Lists.{Among}
 use Rattle.meaning.proofs.Ascending.{same_rising, sorted-rise, mapped-rise}
@@ -77,11 +77,11 @@ module _ (st : State) (c : Content) (stands : Stands c st) (settled : (s : Subje
       found_passes in_force (record_now st s).versions held.0 held.1 in
       let routed : held.0.routing ≡ Some routing = ap (λ (x : VersionRow). x.routing) (sym held.3)
       ∙ is.4 in
-      let given : subject_of_id is.0 1 (made_by st.windows st.history) ≡ Some s =
-      found_given (made_by st.windows st.history) s is.0 (record_now st s).versions held.0
+      let given : subject_of_id is.0 1 (made_now st) ≡ Some s =
+      found_given (made_now st) s is.0 (record_now st s).versions held.0
       (given_now st stands.represents.history s) held.2 in
       subst (λ o. Among (record { subject = s; routing = o }) (all_in_force st)) routed
-      (row-listed (record_now st) 1 (made_by st.windows st.history) (record {
+      (row-listed (record_now st) 1 (made_now st) (record {
         subject = s;
         version =
             held.0;
@@ -91,7 +91,7 @@ module _ (st : State) (c : Content) (stands : Stands c st) (settled : (s : Subje
   listed-routed : (r : InForce) → Among r (all_in_force st) → (routing : Routing)
       × (r ≡ record { subject = r.subject; routing = Some routing }) × IsRouted c r.subject routing
   listed-routed r is =
-      let row = listed-row (record_now st) 1 (made_by st.windows st.history) r is in
+      let row = listed-row (record_now st) 1 (made_now st) r is in
       let its : row.e.subject ≡ r.subject = ap (λ (x : InForce). x.subject) (sym row.row) in
       let found : version_with row.id (record_now st row.e.subject) ≡ Some row.e.version =
       row.is.found in
@@ -107,7 +107,7 @@ module _ (st : State) (c : Content) (stands : Stands c st) (settled : (s : Subje
       there (Some routing) e = (routing, refl)
       there None e = let never : false ≡ true = e in cc
 
-      go : (row : IsRow (record_now st) 1 (made_by st.windows st.history) r)
+      go : (row : IsRow (record_now st) 1 (made_now st) r)
           → row.e.subject ≡ r.subject → version_with row.id (record_now st row.e.subject)
           ≡ Some row.e.version →
           (routing : Routing) × (row.e.version.routing ≡ Some routing) → (routing : Routing)
@@ -158,4 +158,4 @@ module _ (st : State) (c : Content) (stands : Stands c st) (settled : (s : Subje
         same_rising key (map in_force_of rows) (all_in_force st) (mapped-rise key in_force_of rows
         (sorted-rise (λ (r : RoutedRow). subject_key (subject_of r.subject)) rows
         (are.rises holds_once)))
-        (listed-rise (record_now st) 1 (made_by st.windows st.history) alone) forth back
+        (listed-rise (record_now st) 1 (made_now st) alone) forth back

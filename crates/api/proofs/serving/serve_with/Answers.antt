@@ -1,4 +1,4 @@
-use Rattle.std.proofs.Common.{◌≡◌, ◌∙◌, inl, sym, subst, refl, List, ℕ, arith, string_bytes}
+use Rattle.std.proofs.Common.{◌≡◌, ◌∙◌, inl, sym, subst, refl, ℕ, arith}
 use Rattle.std.proofs.Math.Nat.{le_refl, le_trans}
 use Rattle.std.specs.Io.KnownBytes.{Appends}
 use Rattle.messages.specs.Held.{input_left}
@@ -6,9 +6,9 @@ use Rattle.messages.specs.Sending.{AppendsFront}
 use Rattle.std.specs.Prelude.{IfSome}
 use Rattle.meaning.specs.Reading.{State}
 use Rattle.register.specs.Answers.{Stands}
-use Rattle.api.specs.Serving.{FailsAt, Responds}
+use Rattle.api.specs.Serving.{FailsAt}
 use Rattle.api.specs.declared.serving.Fault.TheVariants.{Memory}
-use Rattle.api.proofs.Going.{started, ended, failed_read, no_memory, full, state_then, went_on, finished, partly}
+use Rattle.api.proofs.Going.{started, ended, failed_read, no_memory, full, responds_on, state_then, went_on, finished, partly}
 use Rattle.api.proofs.Withheld.{already, further, further_partly, still, stopped, stopped_partly, stops}
 use Rattle.api.proofs.serving.serve_with.Goals as goal
 
@@ -95,15 +95,9 @@ returns-in-Err-clause-serves g c = λ usable.
     (g.R.Read.remaining c.next_of.new.reader) c.in-Ok-Some.ensures.size _ _ _ _ c.in-Ok-Some.next
     (rw c.in-Ok-Some.field-0-is at (c.in-Ok-Some.ensures.cut at.0 at.1))
     (rw c.in-Ok-Some.field-0-is at (c.in-Ok-Some.ensures.read at.0 at.1))
-    (subst (λ (b : List ℕ). Responds c.args.options.now.clock_route
-    (g.T.Ticks.told c.loop-count.ticks) (g.T.Ticks.told c.respond-end.new.ticks)
-    (g.S.Store.failed c.loop-count.register.store)
-    (g.S.Store.failed c.respond-end.new.register.store) c.in-Ok-Some.next b
-    (string_bytes c.respond-end.new.room.text) (g.S.Store.content c.loop-count.register.store)
-    (g.S.Store.content c.respond-end.new.register.store)) c.deref.ensures.value
+    (responds_on _ _ _ _ _ c.in-Ok-Some.next _ _ _ _ _ c.deref.ensures.value
     (c.respond-end.ensures.responds usable))
-    (subst (AppendsFront (g.W.Write.contents c.loop-count.writer)
-    (g.W.Write.contents c.send_all.new.writer)) c.as_bytes.ensures.value c.in-Err.ensures.err)
+    (subst (AppendsFront _ _) c.as_bytes.ensures.value c.in-Err.ensures.err)
 
 pub returns-in-Err-clause-state : goal.returns-in-Err-clause-state
 returns-in-Err-clause-state g c = λ usable.
@@ -121,15 +115,9 @@ returns-in-Some-clause-serves g c = λ usable.
     (sym c.respond-end.ensures.end ∙ c.in-Some.is)
     (rw c.in-Ok-Some.field-0-is at (c.in-Ok-Some.ensures.cut at.0 at.1))
     (rw c.in-Ok-Some.field-0-is at (c.in-Ok-Some.ensures.read at.0 at.1))
-    (subst (λ (b : List ℕ). Responds c.args.options.now.clock_route
-    (g.T.Ticks.told c.loop-count.ticks) (g.T.Ticks.told c.respond-end.new.ticks)
-    (g.S.Store.failed c.loop-count.register.store)
-    (g.S.Store.failed c.respond-end.new.register.store) c.in-Ok-Some.next b
-    (string_bytes c.respond-end.new.room.text) (g.S.Store.content c.loop-count.register.store)
-    (g.S.Store.content c.respond-end.new.register.store)) c.deref.ensures.value
+    (responds_on _ _ _ _ _ c.in-Ok-Some.next _ _ _ _ _ c.deref.ensures.value
     (c.respond-end.ensures.responds usable))
-    (subst (Appends (g.W.Write.contents c.loop-count.writer)
-    (g.W.Write.contents c.send_all.new.writer)) c.as_bytes.ensures.value c.in-Ok.ensures.ok)
+    (subst (Appends _ _) c.as_bytes.ensures.value c.in-Ok.ensures.ok)
 
 pub returns-in-Some-clause-state : goal.returns-in-Some-clause-state
 returns-in-Some-clause-state g c = λ usable.
@@ -164,17 +152,9 @@ loop-count-preserved g c = (
             c.in-Ok-Some.next
             (sym c.respond-end.ensures.end ∙ c.in_default.is)
             (rw c.in-Ok-Some.field-0-is at (c.in-Ok-Some.ensures.cut at.0 at.1))
-            (subst (λ (b : List ℕ). Responds c.args.options.now.clock_route
-            (g.T.Ticks.told c.loop-count.ticks) (g.T.Ticks.told c.respond-end.new.ticks)
-            (g.S.Store.failed c.loop-count.register.store)
-            (g.S.Store.failed c.respond-end.new.register.store) c.in-Ok-Some.next b
-            (string_bytes c.respond-end.new.room.text)
-            (g.S.Store.content c.loop-count.register.store)
-            (g.S.Store.content c.respond-end.new.register.store)) c.deref.ensures.value
+            (responds_on _ _ _ _ _ c.in-Ok-Some.next _ _ _ _ _ c.deref.ensures.value
             (c.respond-end.ensures.responds usable))
-            (subst (Appends (g.W.Write.contents c.loop-count.writer)
-            (g.W.Write.contents c.send_all.new.writer)) c.as_bytes.ensures.value
-            c.in-Ok.ensures.ok),
+            (subst (Appends _ _) c.as_bytes.ensures.value c.in-Ok.ensures.ok),
       ),
 )
 

@@ -1,121 +1,31 @@
-use Rattle.std.proofs.Common.{refl, rules}
-use Rattle.std.specs.Prelude.{codes}
-use Rattle.matchit.proofs.OnLiterals.{matchit_on_literals}
-use Rattle.messages.proofs.PathLemmas.{only_memory}
+use Rattle.std.proofs.Common.{◌≡◌, ◌∙◌, ap, sym, rules, Some, Err, drop}
+use Rattle.std.proofs.lemmas.List.{drop_all}
+use Rattle.messages.specs.Table.{all_placed, texts_of}
+use Rattle.messages.proofs.PathLemmas.{placed_next}
+use Rattle.numbers.proofs.Small.{some_is}
 use Rattle.messages.proofs.paths.insert_paths.Goals as goal
 
-pub returns-clause-paths : goal.returns-clause-paths
-unfolding matchit_on_literals
-returns-clause-paths c = rw (
-  c.in_ok-insert-9.ensures.1,
-  c.in_ok-insert-8.ensures.1,
-  c.in_ok-insert-7.ensures.1,
-  c.in_ok-insert-6.ensures.1,
-  c.in_ok-insert-5.ensures.1,
-  c.in_ok-insert-4.ensures.1,
-  c.in_ok-insert-3.ensures.1,
-  c.in_ok-insert-2.ensures.1,
-  c.in_ok-insert.ensures.1,
-  c.requires,
-) refl
+pub loop-path-init : goal.loop-path-init
+loop-path-init c = λ rows all. all
+
+pub loop-path-preserved : goal.loop-path-preserved
+loop-path-preserved c = λ rows all.
+    let placed = placed_next c.args.paths.now c.loop-path.path-index _ c.loop-path.router
+    c.insert.new.self rows c.insert.result c.loop-path-test.true c.insert.ensures
+    (c.loop-path.invariant rows all) in
+    rw c.in_ok-insert.was at placed.0
 
 pub returns-in_err-insert-clause-memory : goal.returns-in_err-insert-clause-memory
-unfolding matchit_on_literals
-returns-in_err-insert-clause-memory c =
-    only_memory (codes "/carriers") c.args.router.now c.in_err-insert.field-0.0 _ (search rules)
-    c.in_err-insert.ensures.1 (rw (c.requires) refl)
+returns-in_err-insert-clause-memory c = λ rows all.
+    let placed = placed_next c.args.paths.now c.loop-path.path-index _ c.loop-path.router
+    c.insert.new.self rows c.insert.result c.loop-path-test.true c.insert.ensures
+    (c.loop-path.invariant rows all) in
+    let is : c.from_residual.result ≡ Err c.in_err-insert.field-0.0 = search rules in
+    rw is (rw c.in_err-insert.was at placed.1)
 
-pub returns-in_err-insert-2-clause-memory : goal.returns-in_err-insert-2-clause-memory
-unfolding matchit_on_literals
-returns-in_err-insert-2-clause-memory c =
-    only_memory (codes "/clock") c.insert.new.self c.in_err-insert-2.field-0.0 _ (search rules)
-    c.in_err-insert-2.ensures.1 (rw (c.in_ok-insert.ensures.1, c.requires) refl)
-
-pub returns-in_err-insert-3-clause-memory : goal.returns-in_err-insert-3-clause-memory
-unfolding matchit_on_literals
-returns-in_err-insert-3-clause-memory c =
-    only_memory (codes "/lrns") c.insert-2.new.self c.in_err-insert-3.field-0.0 _ (search rules)
-    c.in_err-insert-3.ensures.1
-    (rw (c.in_ok-insert-2.ensures.1, c.in_ok-insert.ensures.1, c.requires) refl)
-
-pub returns-in_err-insert-4-clause-memory : goal.returns-in_err-insert-4-clause-memory
-unfolding matchit_on_literals
-returns-in_err-insert-4-clause-memory c =
-    only_memory (codes "/codes") c.insert-3.new.self c.in_err-insert-4.field-0.0 _ (search rules)
-    c.in_err-insert-4.ensures.1 (rw (
-      c.in_ok-insert-3.ensures.1,
-      c.in_ok-insert-2.ensures.1,
-      c.in_ok-insert.ensures.1,
-      c.requires,
-    ) refl)
-
-pub returns-in_err-insert-5-clause-memory : goal.returns-in_err-insert-5-clause-memory
-unfolding matchit_on_literals
-returns-in_err-insert-5-clause-memory c =
-    only_memory (codes "/subscriptionVersionOldSP-Create") c.insert-4.new.self
-    c.in_err-insert-5.field-0.0 _ (search rules) c.in_err-insert-5.ensures.1 (rw (
-      c.in_ok-insert-4.ensures.1,
-      c.in_ok-insert-3.ensures.1,
-      c.in_ok-insert-2.ensures.1,
-      c.in_ok-insert.ensures.1,
-      c.requires,
-    ) refl)
-
-pub returns-in_err-insert-6-clause-memory : goal.returns-in_err-insert-6-clause-memory
-unfolding matchit_on_literals
-returns-in_err-insert-6-clause-memory c =
-    only_memory (codes "/subscriptionVersionNewSP-Create") c.insert-5.new.self
-    c.in_err-insert-6.field-0.0 _ (search rules) c.in_err-insert-6.ensures.1 (rw (
-      c.in_ok-insert-5.ensures.1,
-      c.in_ok-insert-4.ensures.1,
-      c.in_ok-insert-3.ensures.1,
-      c.in_ok-insert-2.ensures.1,
-      c.in_ok-insert.ensures.1,
-      c.requires,
-    ) refl)
-
-pub returns-in_err-insert-7-clause-memory : goal.returns-in_err-insert-7-clause-memory
-unfolding matchit_on_literals
-returns-in_err-insert-7-clause-memory c =
-    only_memory (codes "/downloads/acknowledge") c.insert-6.new.self c.in_err-insert-7.field-0.0 _
-    (search rules) c.in_err-insert-7.ensures.1 (rw (
-      c.in_ok-insert-6.ensures.1,
-      c.in_ok-insert-5.ensures.1,
-      c.in_ok-insert-4.ensures.1,
-      c.in_ok-insert-3.ensures.1,
-      c.in_ok-insert-2.ensures.1,
-      c.in_ok-insert.ensures.1,
-      c.requires,
-    ) refl)
-
-pub returns-in_err-insert-8-clause-memory : goal.returns-in_err-insert-8-clause-memory
-unfolding matchit_on_literals
-returns-in_err-insert-8-clause-memory c =
-    only_memory (codes "/query") c.insert-7.new.self c.in_err-insert-8.field-0.0 _ (search rules)
-    c.in_err-insert-8.ensures.1 (rw (
-      c.in_ok-insert-7.ensures.1,
-      c.in_ok-insert-6.ensures.1,
-      c.in_ok-insert-5.ensures.1,
-      c.in_ok-insert-4.ensures.1,
-      c.in_ok-insert-3.ensures.1,
-      c.in_ok-insert-2.ensures.1,
-      c.in_ok-insert.ensures.1,
-      c.requires,
-    ) refl)
-
-pub returns-in_err-insert-9-clause-memory : goal.returns-in_err-insert-9-clause-memory
-unfolding matchit_on_literals
-returns-in_err-insert-9-clause-memory c =
-    only_memory (codes "/windows") c.insert-8.new.self c.in_err-insert-9.field-0.0 _ (search rules)
-    c.in_err-insert-9.ensures.1
-    (rw (
-      c.in_ok-insert-8.ensures.1,
-      c.in_ok-insert-7.ensures.1,
-      c.in_ok-insert-6.ensures.1,
-      c.in_ok-insert-5.ensures.1,
-      c.in_ok-insert-4.ensures.1,
-      c.in_ok-insert-3.ensures.1,
-      c.in_ok-insert-2.ensures.1,
-      c.in_ok-insert.ensures.1,
-      c.requires,
-    ) refl)
+pub returns-clause-paths : goal.returns-clause-paths
+returns-clause-paths c = λ rows all.
+    some_is c.loop-path.router rows
+    (ap (λ ps. all_placed (texts_of ps) c.loop-path.router)
+    (sym (drop_all c.loop-path.path-index c.args.paths.now c.loop-path-test.false))
+    ∙ c.loop-path.invariant rows all)

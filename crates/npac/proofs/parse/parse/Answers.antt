@@ -29,18 +29,23 @@ both : {Z : Type 0} (x : Option (Box SubCommand Z)) (n : Text) (rs : List Row)
 both None n rs a b = cc
 both (Some x) n rs a b = cc
 
+-- so what the words name is what was found
+named : {Z : Type 0} (words : List Text) (x : Option (Box SubCommand Z)) (n : Text) (rs : List Row)
+    → subcommand_rows x ≡ subcommand_of npacd_app words
+    → Some n ≡ option_map (λ b. (out-SubCommand (box_value b)).name.now) x
+    → Some rs ≡ option_map (λ (p : Pair). p.1) (subcommand_rows x)
+    → subcommand_of npacd_app words ≡ Some (n, rs)
+named words x n rs found a b = sym found ∙ both x n rs a b
+
 pub returns-in-Ok-line_of-clause-line : goal.returns-in-Ok-line_of-clause-line
 returns-in-Ok-line_of-clause-line g c =
     let e = c.in-Ok.ensures in
     let words = map g.S.AsStr.text c.args.words.now in
-    let found = (c.in-Ok-try_get_matches_from.ensures.matches (ap is_simple e ∙ simple)).1
-    ∙ ap (λ (a : App). subcommand_of a words) e in
-    let rows = both (out-ArgMatches c.in-Ok-try_get_matches_from.matches).subcommand
-    c.in-Some.name.now (rows_of (found_of c.in-Some.found.now)) c.in-Some.ensures.name
-    c.in-Some.ensures.rows in
     let second = c.if-is_second.ensures refl in
-    let shown : subcommand_of npacd_app words
-    ≡ Some (c.in-Some.name.now, rows_of (found_of c.in-Some.found.now)) = sym found ∙ rows in
+    let shown = named words (out-ArgMatches c.in-Ok-try_get_matches_from.matches).subcommand
+    c.in-Some.name.now (rows_of (found_of c.in-Some.found.now))
+    ((c.in-Ok-try_get_matches_from.ensures.matches (ap is_simple e ∙ simple)).1
+    ∙ ap (λ (a : App). subcommand_of a words) e) c.in-Some.ensures.name c.in-Some.ensures.rows in
     let P : List Text → Type 0 =
     λ ws. subcommand_of npacd_app ws
     ≡ Some (c.in-Some.name.now, rows_of (found_of c.in-Some.found.now)) in
@@ -61,14 +66,11 @@ pub returns-in-Some-clause-refused : goal.returns-in-Some-clause-refused
 returns-in-Some-clause-refused g c =
     let e = c.in-Ok.ensures in
     let words = map g.S.AsStr.text c.args.words.now in
-    let found = (c.in-Ok-try_get_matches_from.ensures.matches (ap is_simple e ∙ simple)).1
-    ∙ ap (λ (a : App). subcommand_of a words) e in
-    let rows = both (out-ArgMatches c.in-Ok-try_get_matches_from.matches).subcommand
-    c.in-Some.name.now (rows_of (found_of c.in-Some.found.now)) c.in-Some.ensures.name
-    c.in-Some.ensures.rows in
     let second = c.if-is_second.ensures refl in
-    let shown : subcommand_of npacd_app words
-    ≡ Some (c.in-Some.name.now, rows_of (found_of c.in-Some.found.now)) = sym found ∙ rows in
+    let shown = named words (out-ArgMatches c.in-Ok-try_get_matches_from.matches).subcommand
+    c.in-Some.name.now (rows_of (found_of c.in-Some.found.now))
+    ((c.in-Ok-try_get_matches_from.ensures.matches (ap is_simple e ∙ simple)).1
+    ∙ ap (λ (a : App). subcommand_of a words) e) c.in-Some.ensures.name c.in-Some.ensures.rows in
     let P : List Text → Type 0 =
     λ ws. subcommand_of npacd_app ws
     ≡ Some (c.in-Some.name.now, rows_of (found_of c.in-Some.found.now)) in

@@ -56,7 +56,7 @@ returns-in_err-version-clause-decides g c = λ usable.
 pub returns-in_err-version-clause-reads : goal.returns-in_err-version-clause-reads
 returns-in_err-version-clause-reads g c =
     reads_refused (reads_on (reads_on c.in_ok-is_known.ensures.reads tt c.in_ok-found.ensures.reads
-    tt) tt c.in_ok-is_lrn_good.ensures.reads tt)
+    tt) tt c.in_ok-is_lrn_good.ensures.reads tt) tt
     (λ says. assignment_never c.args.caller.number c.facts-facts.result c.in_err-version.field-0.0
     c.in_err-version.ensures.refusal
     (same_refusal c.in_err-version.field-0.0 c.from_residual-in_err-version.result

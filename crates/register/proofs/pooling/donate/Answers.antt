@@ -113,7 +113,7 @@ returns-in_err-is_lrn_good-clause-reads g c =
 pub returns-in_err-plan-clause-reads : goal.returns-in_err-plan-clause-reads
 returns-in_err-plan-clause-reads g c =
     reads_refused (reads_on (reads_on c.in_ok-is_known.ensures.reads tt c.in_ok-found.ensures.reads
-    tt) tt c.in_ok-is_lrn_good.ensures.reads tt)
+    tt) tt c.in_ok-is_lrn_good.ensures.reads tt) tt
     (λ says. donation_never c.args.caller.number c.args.donation.now c.facts-facts.result
     c.in_err-plan.field-0.0 c.in_err-plan.ensures.refused
     (same_refusal c.in_err-plan.field-0.0 c.from_residual-in_err-plan.result

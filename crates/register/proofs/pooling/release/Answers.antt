@@ -48,7 +48,7 @@ returns-in_err-step-clause-decides g c = λ usable.
 
 pub returns-in_err-step-clause-reads : goal.returns-in_err-step-clause-reads
 returns-in_err-step-clause-reads g c =
-    reads_refused (reads_on c.in_ok-is_known.ensures.reads tt c.in_ok-found.ensures.reads tt)
+    reads_refused (reads_on c.in_ok-is_known.ensures.reads tt c.in_ok-found.ensures.reads tt) tt
     (λ says. release_never c.args.caller.number c.facts-facts.result c.in_err-step.field-0.0
     c.in_err-step.ensures.refusal
     (same_refusal c.in_err-step.field-0.0 c.from_residual-in_err-step.result

@@ -1,9 +1,7 @@
-use Rattle.std.proofs.Common.{arith, rules, ◌≡◌, inl, inr, true, false, ◌∙◌, ap, sym, subst, Some}
+use Rattle.std.proofs.Common.{arith, rules, ◌≡◌, inl, inr, ◌∙◌, ap, sym, subst, Some}
 use Rattle.std.proofs.lemmas.Result.{on_ok_weaker}
-use Rattle.numbers.specs.Subjects.{Subject}
-use Rattle.meaning.specs.Content.{Content, Represents, SameRows}
-use Rattle.settle.specs.Reads.{AreInBlock}
-use Rattle.settle.specs.Settling.{IsSettled, Under, is_one_of, those_with_block}
+use Rattle.meaning.specs.Content.{Content, Represents}
+use Rattle.settle.specs.Settling.{those_with_block}
 use Rattle.settle.specs.Views.{clock_row_of}
 use Rattle.settle.proofs.Risen.{risen-since}
 use Rattle.settle.proofs.Settled.{keeps-read}
@@ -12,54 +10,26 @@ use Rattle.settle.proofs.settling.settle_within.Goals as goal
 
 pub returns-clause-elsewhere : goal.returns-clause-elsewhere
 returns-clause-elsewhere g c = λ usable.
-    let at_numbers =
-    c.in_ok-numbers.ensures.reads.same (c.fire_subjects.ensures.owes.usable usable) in
-    let at_clock = c.in_ok-clock.ensures.reads.same at_numbers.0 in
-    let clock = clock_row_of c.in-Some.clock in
-    let old = g.S.Store.content c.args.store.now in
-    let new = g.S.Store.content c.fire_subjects.new.store in
-    let clock_is : old.clock ≡ Some clock =
-    rw c.in-Some.is at c.in_ok-clock.ensures.value at_numbers.0 in
-    let numbers = c.in_ok-numbers.numbers.items in
-    let listed : c.deref-2.result.now ≡ those_with_block numbers c.args.block =
-    c.deref-2.ensures.value ∙ c.in_ok-subjects.ensures
-    ∙ ap (λ xs. those_with_block xs c.args.block) c.deref.ensures.value in
-    within_elsewhere clock old new c.args.block numbers clock_is
-    (subst (λ m. AreInBlock m c.args.block.number numbers) at_clock.1
-    (c.in_ok-numbers.ensures.value (c.fire_subjects.ensures.owes.usable usable)))
-    (subst (λ xs. (s : Subject) → is_one_of xs s ≡ false
-    → Under clock old (λ st. SameRows s old new)) listed
-    (subst (λ m. (s : Subject) → is_one_of c.deref-2.result.now s ≡ false
-    → Under clock m (λ st. SameRows s m new)) (at_numbers.1 ∙ at_clock.1)
-    (c.fire_subjects.ensures.elsewhere usable)))
+    let read = c.fire_subjects.ensures.owes.usable usable in
+    let at_numbers = c.in_ok-numbers.ensures.reads.same read in
+    within_elsewhere _ _ _ _ _ c.args.block c.in_ok-numbers.numbers.items c.deref-2.result.now
+    (rw c.in-Some.is at c.in_ok-clock.ensures.value at_numbers.0)
+    (c.in_ok-clock.ensures.reads.same at_numbers.0).1 at_numbers.1
+    (c.deref-2.ensures.value ∙ c.in_ok-subjects.ensures
+    ∙ ap (λ xs. those_with_block xs c.args.block) c.deref.ensures.value)
+    (c.in_ok-numbers.ensures.value read) (c.fire_subjects.ensures.elsewhere usable)
 
 pub returns-clause-settled : goal.returns-clause-settled
 returns-clause-settled g c = on_ok_weaker c.fire_subjects.result (λ settled usable.
-    let at_numbers =
-    c.in_ok-numbers.ensures.reads.same (c.fire_subjects.ensures.owes.usable usable) in
-    let at_clock = c.in_ok-clock.ensures.reads.same at_numbers.0 in
-    let clock = clock_row_of c.in-Some.clock in
-    let old = g.S.Store.content c.args.store.now in
-    let new = g.S.Store.content c.fire_subjects.new.store in
-    let clock_is : old.clock ≡ Some clock =
-    rw c.in-Some.is at c.in_ok-clock.ensures.value at_numbers.0 in
-    let numbers = c.in_ok-numbers.numbers.items in
-    let listed : c.deref-2.result.now ≡ those_with_block numbers c.args.block =
-    c.deref-2.ensures.value ∙ c.in_ok-subjects.ensures
-    ∙ ap (λ xs. those_with_block xs c.args.block) c.deref.ensures.value in
-    within_settled clock old new c.args.block numbers clock_is
-    (subst (λ m. AreInBlock m c.args.block.number numbers) at_clock.1
-    (c.in_ok-numbers.ensures.value (c.fire_subjects.ensures.owes.usable usable)))
-    (subst (λ xs. (s : Subject) → is_one_of xs s ≡ false
-    → Under clock old (λ st. SameRows s old new)) listed
-    (subst (λ m. (s : Subject) → is_one_of c.deref-2.result.now s ≡ false
-    → Under clock m (λ st. SameRows s m new)) (at_numbers.1 ∙ at_clock.1)
-    (c.fire_subjects.ensures.elsewhere usable)))
-    (subst (λ xs. (s : Subject) → is_one_of xs s ≡ true
-    → Under clock old (λ st. IsSettled new st s)) listed
-    (subst (λ m. (s : Subject) → is_one_of c.deref-2.result.now s ≡ true
-    → Under clock m (λ st. IsSettled new st s)) (at_numbers.1 ∙ at_clock.1) (settled usable))))
-    c.fire_subjects.ensures.settled
+    let read = c.fire_subjects.ensures.owes.usable usable in
+    let at_numbers = c.in_ok-numbers.ensures.reads.same read in
+    within_settled _ _ _ _ _ c.args.block c.in_ok-numbers.numbers.items c.deref-2.result.now
+    (rw c.in-Some.is at c.in_ok-clock.ensures.value at_numbers.0)
+    (c.in_ok-clock.ensures.reads.same at_numbers.0).1 at_numbers.1
+    (c.deref-2.ensures.value ∙ c.in_ok-subjects.ensures
+    ∙ ap (λ xs. those_with_block xs c.args.block) c.deref.ensures.value)
+    (c.in_ok-numbers.ensures.value read) (c.fire_subjects.ensures.elsewhere usable)
+    (settled usable)) c.fire_subjects.ensures.settled
 
 pub returns-clause-left : goal.returns-clause-left
 returns-clause-left g c = λ honest m may.

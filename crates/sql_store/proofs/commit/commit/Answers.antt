@@ -1,14 +1,28 @@
-use Rattle.std.proofs.Common.{rules, ◌≡◌, false, is_ok, sym, subst}
+use Rattle.std.proofs.Common.{rules, ◌≡◌, true, false, IsTrue, Option, is_ok, sym, subst}
 use Rattle.std.specs.Prelude.{option_map}
 use Rattle.sqlite.specs.Effect.{Database}
 use Rattle.sqlite.specs.Held.{state}
+use Rattle.sqlite.specs.State.{State}
+use Rattle.meaning.specs.Content.{Content}
 use Rattle.settle.specs.Changes.{changes_of, IsChanged}
 use Rattle.settle.specs.Views.{clock_row_of}
+use Rattle.settle.specs.declared.changes.Changes.{Changes}
+use Rattle.settle.specs.declared.rows.ClockRow.{ClockRow}
 use Rattle.sql_rows.specs.Content.{content_in}
-use Rattle.sql_store.specs.Store.{Turned}
+use Rattle.sql_store.specs.Store.{Looked, Turned, content_at}
 use Rattle.sql_store.specs.Changes.{IsChangedOver}
 use Rattle.sql_store.proofs.CallLemmas.{looked_ours, looked_turned, looked_unturned, read_leaves, unread_leaves}
 use Rattle.sql_store.proofs.commit.commit.Goals as goal
+
+-- the clock's row that was read is the one before the changes
+by_clock_read : (old mid : State) (changes : Changes) (row : Option ClockRow)
+    → Looked old mid true
+    → (IsTrue mid.is_open → option_map clock_row_of row ≡ (content_at old).clock)
+    → IsTrue mid.is_open → (after : Content) → IsChangedOver changes row (content_at mid) after
+    → IsChanged (changes_of changes) (content_at mid) after
+by_clock_read old mid changes row looked is up after turns = turns
+    (λ moves. subst (λ (d : Database). option_map clock_row_of row ≡ (content_in d.trees).clock)
+    (sym (looked.same up).now) (is up))
 
 pub returns-in_err-row-clause-turned : goal.returns-in_err-row-clause-turned
 returns-in_err-row-clause-turned g c =
@@ -36,10 +50,8 @@ returns-clause-turned g c =
     let new = state g.S.Store c.commit_over.new.conn in
     looked_turned old mid new (IsChangedOver c.args.changes.now c.in_ok-row.row)
     (IsChanged (changes_of c.args.changes.now)) c.in_ok-row.ensures.looked
-    (λ up after turns. turns
-    (λ moves. subst (λ (d : Database). option_map clock_row_of c.in_ok-row.row
-    ≡ (content_in d.trees).clock) (sym (c.in_ok-row.ensures.looked.same up).now)
-    (c.in_ok-row.ensures.value up)))
+    (by_clock_read old mid c.args.changes.now c.in_ok-row.row c.in_ok-row.ensures.looked
+    c.in_ok-row.ensures.value)
     (is_ok c.commit_over.result) c.commit_over.ensures.turned
 
 pub returns-clause-left : goal.returns-clause-left
@@ -49,8 +61,6 @@ returns-clause-left g c =
     let new = state g.S.Store c.commit_over.new.conn in
     read_leaves old mid new (IsChangedOver c.args.changes.now c.in_ok-row.row)
     (IsChanged (changes_of c.args.changes.now)) c.in_ok-row.ensures.looked
-    (λ up after turns. turns
-    (λ moves. subst (λ (d : Database). option_map clock_row_of c.in_ok-row.row
-    ≡ (content_in d.trees).clock) (sym (c.in_ok-row.ensures.looked.same up).now)
-    (c.in_ok-row.ensures.value up)))
+    (by_clock_read old mid c.args.changes.now c.in_ok-row.row c.in_ok-row.ensures.looked
+    c.in_ok-row.ensures.value)
     (is_ok c.commit_over.result) c.commit_over.ensures.turned

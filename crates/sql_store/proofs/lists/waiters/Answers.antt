@@ -14,24 +14,17 @@ use Rattle.sql_store.proofs.WaiterLemmas.{key_at, no_great_wait, no_waiters, wai
 use Rattle.sql_store.proofs.CallLemmas.{looked_ours}
 use Rattle.sql_store.proofs.lists.waiters.Goals as goal
 use Rattle.sql_store.proofs.lists.waiters.Goals.{then-key-ge9223372036854775808-via-then-key-ge9223372036854775808, then-key-ge9223372036854775808-via-else-key-ge9223372036854775808+then-key-ge9223372036854775808-2}
-
-one_great : (a b : Bool) → a ≡ false → (a && b) ≡ false
-one_great false b h = refl
-one_great true b h = absurd (let no : true ≡ false = h in cc)
-
-other_great : (a b : Bool) → b ≡ false → (a && b) ≡ false
-other_great true b h = h
-other_great false b h = refl
+use Rattle.numbers.proofs.Small.{false_second, false_first}
 
 pub returns-then-key-ge9223372036854775808-clause-value : goal.returns-then-key-ge9223372036854775808-clause-value
 returns-then-key-ge9223372036854775808-clause-value g c up =
     let great : (nat_lt c.args.key.id 9223372036854775808 && nat_lt c.args.key.attempt
     9223372036854775808) ≡ false = elim c.then-key-ge9223372036854775808.branch [
-      | then-key-ge9223372036854775808-via-then-key-ge9223372036854775808 w ↦ one_great
+      | then-key-ge9223372036854775808-via-then-key-ge9223372036854775808 w ↦ false_first
           (nat_lt c.args.key.id 9223372036854775808) (nat_lt c.args.key.attempt 9223372036854775808)
           (grind (arith, w.if-key-ge9223372036854775808))
       | then-key-ge9223372036854775808-via-else-key-ge9223372036854775808+then-key-ge9223372036854775808-2
-          w ↦ other_great (nat_lt c.args.key.id 9223372036854775808)
+          w ↦ false_second (nat_lt c.args.key.id 9223372036854775808)
           (nat_lt c.args.key.attempt 9223372036854775808)
           (grind (arith, w.if-key-ge9223372036854775808-2))
     ] in

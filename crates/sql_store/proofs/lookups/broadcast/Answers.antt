@@ -5,14 +5,7 @@ use Rattle.sql_rows.proofs.FoundLemmas.{no_great_broadcast}
 use Rattle.sql_store.proofs.LookupLemmas.{broadcast_is}
 use Rattle.sql_store.proofs.lookups.broadcast.Goals as goal
 use Rattle.sql_store.proofs.lookups.broadcast.Goals.{then-key-ge9223372036854775808-via-then-key-ge9223372036854775808, then-key-ge9223372036854775808-via-else-key-ge9223372036854775808+then-key-ge9223372036854775808-2}
-
-one_great : (a b : Bool) → a ≡ false → (a && b) ≡ false
-one_great false b h = refl
-one_great true b h = absurd (let no : true ≡ false = h in cc)
-
-other_great : (a b : Bool) → b ≡ false → (a && b) ≡ false
-other_great true b h = h
-other_great false b h = refl
+use Rattle.numbers.proofs.Small.{false_second, false_first}
 
 pub returns-in-Some-clause-value : goal.returns-in-Some-clause-value
 returns-in-Some-clause-value g c up =
@@ -31,11 +24,11 @@ pub returns-then-key-ge9223372036854775808-clause-value :
 returns-then-key-ge9223372036854775808-clause-value g c up =
     let great : (nat_lt c.args.key.id 9223372036854775808 && nat_lt c.args.key.attempt
     9223372036854775808) ≡ false = elim c.then-key-ge9223372036854775808.branch [
-      | then-key-ge9223372036854775808-via-then-key-ge9223372036854775808 w ↦ one_great
+      | then-key-ge9223372036854775808-via-then-key-ge9223372036854775808 w ↦ false_first
           (nat_lt c.args.key.id 9223372036854775808) (nat_lt c.args.key.attempt 9223372036854775808)
           (grind (arith, w.if-key-ge9223372036854775808))
       | then-key-ge9223372036854775808-via-else-key-ge9223372036854775808+then-key-ge9223372036854775808-2
-          w ↦ other_great (nat_lt c.args.key.id 9223372036854775808)
+          w ↦ false_second (nat_lt c.args.key.id 9223372036854775808)
           (nat_lt c.args.key.attempt 9223372036854775808)
           (grind (arith, w.if-key-ge9223372036854775808-2))
     ] in

@@ -1,8 +1,6 @@
-use Rattle.std.proofs.Common.{◌≡◌, ◌⊎◌, rules, arith, false, is_ok, [], Err, IfErr, IfOk, IsTrue, OnErr, sym, subst}
-use Rattle.sqlite.specs.Given.{HasBegun}
+use Rattle.std.proofs.Common.{◌≡◌, rules, false, is_ok, [], Err, IfErr, IfOk, IsTrue, sym, subst}
 use Rattle.sqlite.specs.Held.{state}
-use Rattle.sqlite.specs.State.{CommitsShowing, FailsToQuery, HasCleanDisk, IsRolledBack, IsUnchanged, Survives}
-use Rattle.sqlite.proofs.StateLemmas.{survives_then}
+use Rattle.sqlite.specs.State.{CommitsShowing, FailsToQuery, HasCleanDisk, Survives}
 use Rattle.sql_rows.specs.Statements.{all_text}
 use Rattle.sql_rows.specs.Versions.{old_version_in}
 use Rattle.sql_rows.specs.declared.statement.Query.TheVariants.{All}
@@ -11,8 +9,7 @@ use Rattle.sql_rows.proofs.StatementLemmas.{query_selects}
 use Rattle.sql_rows.specs.declared.fault.Fault.TheVariants.{Device}
 use Rattle.sql_store.specs.Moving.{AreIdsOf, HasIds}
 use Rattle.sql_store.specs.Store.{Looked, clean_if_open}
-use Rattle.sql_store.specs.Through.{HasReadAll}
-use Rattle.sql_store.proofs.CallLemmas.{fails_as, query_commits_nothing}
+use Rattle.sql_store.proofs.CallLemmas.{both_survive, fails_as, query_commits_nothing}
 use Rattle.sql_store.proofs.MovingLemmas.{settled_as}
 use Rattle.sql_store.proofs.ThroughLemmas.{err_from, ids_read, old_plain, read_from, table_looked}
 use Rattle.sql_store.proofs.moving.ids_of.Goals as goal
@@ -40,30 +37,17 @@ returns-in_err-rows-clause-looked g c =
 
 pub returns-clause-value : goal.returns-clause-value
 returns-clause-value g c =
-    let first = c.args.conn.now in
-    let here = c.in_ok-rows.rows.conn.now in
-    let last = c.ids_among.new.rows.conn.now in
-    let old = state g.S.Store first in
-    let mid = state g.S.Store here in
-    let new = state g.S.Store last in
-    let text = all_text OldVersion in
-    let plain = old_plain old_version_in OldVersion old old c.args.form tt c.requires.old in
-    let begun : HasCleanDisk mid → HasBegun g.S.Store text [] first here =
-    subst (λ t. HasCleanDisk mid → HasBegun g.S.Store t [] first here) c.text.ensures
-    c.in_ok-rows.ensures.begun in
-    let all : HasCleanDisk new
-    → IfOk c.ids_among.result (λ ids. HasReadAll old_version_in text old new (AreIdsOf ids.items)) =
-    λ clean.
-    read_from g.S.Store text first here last plain
-    (begun (omega (arith, clean, c.ids_among.ensures.survives.clean))) old_version_in
-    (λ ids. AreIdsOf ids.items) c.ids_among.result (c.ids_among.ensures.all clean)
-    in
-    let clean_of : IsTrue new.is_open → HasCleanDisk new =
-    clean_if_open new.is_clean new.is_open (g.met.S.Store.shut_if_dirty _) in
+    let old = state g.S.Store c.args.conn.now in
+    let new = state g.S.Store c.ids_among.new.rows.conn.now in
+    let all = read_from g.S.Store (all_text OldVersion) c.text.ensures c.args.conn.now
+    c.in_ok-rows.rows.conn.now c.ids_among.new.rows.conn.now
+    (old_plain old_version_in OldVersion old old c.args.form tt c.requires.old)
+    c.in_ok-rows.ensures.begun c.ids_among.ensures.survives old_version_in
+    (λ ids. AreIdsOf ids.items) c.ids_among.result c.ids_among.ensures.all in
     let told : IsTrue new.is_open
     → IfOk c.ids_among.result (λ ids. HasIds ids.items old.now.trees) =
     λ up. ids_read c.args.form old new c.requires.old (λ ids. ids.items) c.ids_among.result
-    (all (clean_of up)) in
+    (all (clean_if_open new.is_clean new.is_open (g.met.S.Store.shut_if_dirty _) up)) in
     search rules
 
 pub returns-clause-looked : goal.returns-clause-looked
@@ -76,30 +60,18 @@ returns-clause-looked g c =
     let new = state g.S.Store last in
     let text = all_text OldVersion in
     let plain = old_plain old_version_in OldVersion old old c.args.form tt c.requires.old in
-    let begun : HasCleanDisk mid → HasBegun g.S.Store text [] first here =
-    subst (λ t. HasCleanDisk mid → HasBegun g.S.Store t [] first here) c.text.ensures
-    c.in_ok-rows.ensures.begun in
-    let all : HasCleanDisk new
-    → IfOk c.ids_among.result (λ ids. HasReadAll old_version_in text old new (AreIdsOf ids.items)) =
-    λ clean.
-    read_from g.S.Store text first here last plain
-    (begun (omega (arith, clean, c.ids_among.ensures.survives.clean))) old_version_in
-    (λ ids. AreIdsOf ids.items) c.ids_among.result (c.ids_among.ensures.all clean)
-    in
-    let err : HasCleanDisk new → OnErr c.ids_among.result (IsUnchanged old new
-    ⊎ IsRolledBack old new) = λ clean.
-    err_from g.S.Store text first here last plain
-    (begun (omega (arith, clean, c.ids_among.ensures.survives.clean))) c.ids_among.result
-    (c.ids_among.ensures.err clean)
-    in
+    let all = read_from g.S.Store text c.text.ensures first here last plain
+    c.in_ok-rows.ensures.begun c.ids_among.ensures.survives old_version_in
+    (λ ids. AreIdsOf ids.items) c.ids_among.result c.ids_among.ensures.all in
+    let err = err_from g.S.Store text c.text.ensures first here last plain
+    c.in_ok-rows.ensures.begun c.ids_among.ensures.survives c.ids_among.result
+    c.ids_among.ensures.err in
     let asked = query_commits_nothing text [] old mid (query_selects (All OldVersion))
     (subst (λ t. Survives old mid (CommitsShowing t [] old)) c.text.ensures
     c.in_ok-rows.ensures.survives) in
-    let survives : Survives old new (λ _. ⊥) =
-    survives_then old mid new _ _ _ (λ _ db none. none) (λ _ db none. none) asked
-    c.ids_among.ensures.survives in
     let looked : Looked old new (is_ok c.ids_among.result) =
     table_looked old_version_in (λ ids. AreIdsOf ids.items) text old new c.ids_among.result plain
     (λ was. settled_as c.args.form old (c.requires.old was))
-    (clean_if_open new.is_clean new.is_open (g.met.S.Store.shut_if_dirty _)) all err survives in
+    (clean_if_open new.is_clean new.is_open (g.met.S.Store.shut_if_dirty _)) all err
+    (both_survive old mid new asked c.ids_among.ensures.survives) in
     search rules

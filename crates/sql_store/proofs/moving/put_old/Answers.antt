@@ -1,11 +1,11 @@
-use Rattle.std.proofs.Common.{rules, ◌≡◌, ◌⊎◌, pos, refl, false, is_ok, IsTrue, IfOk, IfErr, Some, sym, subst, subst₂}
+use Rattle.std.proofs.Common.{rules, ◌≡◌, pos, refl, false, is_ok, Some, sym, subst, subst₂}
 use Rattle.sqlite.specs.declared.types.Value.TheVariants.{Int}
 use Rattle.sqlite.specs.Held.{state}
-use Rattle.sqlite.specs.State.{FailsToQuery, HasCleanDisk, IsTooLate, Shown}
+use Rattle.sqlite.specs.State.{HasCleanDisk, Shown}
 use Rattle.sql_rows.specs.Found.{IsSole}
 use Rattle.sql_rows.specs.Versions.{old_version_in}
 use Rattle.sql_store.specs.Moving.{IsOldPut}
-use Rattle.sql_store.specs.Store.{Kept, Writes}
+use Rattle.sql_store.specs.Store.{Writes}
 use Rattle.sql_store.proofs.CallLemmas.{clean_if_open}
 use Rattle.sql_store.proofs.LookupLemmas.{one_bound}
 use Rattle.sql_store.proofs.MovingLemmas.{asked_kept, read_put, read_unput, unput}
@@ -15,15 +15,10 @@ pub returns-in_err-rows-clause-writes : goal.returns-in_err-rows-clause-writes
 returns-in_err-rows-clause-writes g c =
     let a = state g.S.Store c.args.tx.now.conn.now in
     let b = state g.S.Store c.query_all.new.self.conn.now in
-    let text = c.text.ensures in
     let key = one_bound c.number.result (Int (pos c.args.id)) refl c.number.ensures in
-    let kept : IsTrue b.is_open → Kept a b =
-    asked_kept a b c.args.id (λ found. found.items) c.query_all.result
-    (clean_if_open b.is_clean b.is_open (g.met.S.Store.shut_if_dirty _))
-    (subst₂ (λ t k. HasCleanDisk b → IfOk c.query_all.result (λ rows. Shown t k a b rows.items))
-    text key c.query_all.ensures.ok)
-    (subst₂ (λ t k. HasCleanDisk b → IfErr c.query_all.result (λ e. FailsToQuery t k a b e
-    ⊎ IsTooLate t k a b e)) text key c.query_all.ensures.err) in
+    let kept = asked_kept a b c.args.id c.text.ensures key (λ found. found.items)
+    c.query_all.result (clean_if_open b.is_clean b.is_open (g.met.S.Store.shut_if_dirty _))
+    c.query_all.ensures.ok c.query_all.ensures.err in
     let fails : is_ok c.from_residual.result ≡ false = search rules in
     subst (λ d. Writes a b d (IsOldPut c.args.id)) (sym fails)
     (unput a b c.args.id kept c.query_all.ensures.survives)
@@ -32,15 +27,10 @@ pub returns-in_err-found-clause-writes : goal.returns-in_err-found-clause-writes
 returns-in_err-found-clause-writes g c =
     let a = state g.S.Store c.args.tx.now.conn.now in
     let b = state g.S.Store c.query_all.new.self.conn.now in
-    let text = c.text.ensures in
     let key = one_bound c.number.result (Int (pos c.args.id)) refl c.number.ensures in
-    let kept : IsTrue b.is_open → Kept a b =
-    asked_kept a b c.args.id (λ found. found.items) c.query_all.result
-    (clean_if_open b.is_clean b.is_open (g.met.S.Store.shut_if_dirty _))
-    (subst₂ (λ t k. HasCleanDisk b → IfOk c.query_all.result (λ rows. Shown t k a b rows.items))
-    text key c.query_all.ensures.ok)
-    (subst₂ (λ t k. HasCleanDisk b → IfErr c.query_all.result (λ e. FailsToQuery t k a b e
-    ⊎ IsTooLate t k a b e)) text key c.query_all.ensures.err) in
+    let kept = asked_kept a b c.args.id c.text.ensures key (λ found. found.items)
+    c.query_all.result (clean_if_open b.is_clean b.is_open (g.met.S.Store.shut_if_dirty _))
+    c.query_all.ensures.ok c.query_all.ensures.err in
     let fails : is_ok c.from_residual-in_err-found.result ≡ false = search rules in
     subst (λ d. Writes a b d (IsOldPut c.args.id)) (sym fails)
     (unput a b c.args.id kept c.query_all.ensures.survives)
@@ -49,30 +39,20 @@ pub returns-in_default-clause-writes : goal.returns-in_default-clause-writes
 returns-in_default-clause-writes g c =
     let a = state g.S.Store c.args.tx.now.conn.now in
     let b = state g.S.Store c.query_all.new.self.conn.now in
-    let text = c.text.ensures in
     let key = one_bound c.number.result (Int (pos c.args.id)) refl c.number.ensures in
-    let kept : IsTrue b.is_open → Kept a b =
-    asked_kept a b c.args.id (λ found. found.items) c.query_all.result
-    (clean_if_open b.is_clean b.is_open (g.met.S.Store.shut_if_dirty _))
-    (subst₂ (λ t k. HasCleanDisk b → IfOk c.query_all.result (λ rows. Shown t k a b rows.items))
-    text key c.query_all.ensures.ok)
-    (subst₂ (λ t k. HasCleanDisk b → IfErr c.query_all.result (λ e. FailsToQuery t k a b e
-    ⊎ IsTooLate t k a b e)) text key c.query_all.ensures.err) in
+    let kept = asked_kept a b c.args.id c.text.ensures key (λ found. found.items)
+    c.query_all.result (clean_if_open b.is_clean b.is_open (g.met.S.Store.shut_if_dirty _))
+    c.query_all.ensures.ok c.query_all.ensures.err in
     unput a b c.args.id kept c.query_all.ensures.survives
 
 pub returns-in_err-put_bare-clause-writes : goal.returns-in_err-put_bare-clause-writes
 returns-in_err-put_bare-clause-writes g c =
     let a = state g.S.Store c.args.tx.now.conn.now in
     let b = state g.S.Store c.query_all.new.self.conn.now in
-    let text = c.text.ensures in
     let key = one_bound c.number.result (Int (pos c.args.id)) refl c.number.ensures in
-    let kept : IsTrue b.is_open → Kept a b =
-    asked_kept a b c.args.id (λ found. found.items) c.query_all.result
-    (clean_if_open b.is_clean b.is_open (g.met.S.Store.shut_if_dirty _))
-    (subst₂ (λ t k. HasCleanDisk b → IfOk c.query_all.result (λ rows. Shown t k a b rows.items))
-    text key c.query_all.ensures.ok)
-    (subst₂ (λ t k. HasCleanDisk b → IfErr c.query_all.result (λ e. FailsToQuery t k a b e
-    ⊎ IsTooLate t k a b e)) text key c.query_all.ensures.err) in
+    let kept = asked_kept a b c.args.id c.text.ensures key (λ found. found.items)
+    c.query_all.result (clean_if_open b.is_clean b.is_open (g.met.S.Store.shut_if_dirty _))
+    c.query_all.ensures.ok c.query_all.ensures.err in
     let d = state g.S.Store c.put_bare.new.tx.conn.now in
     let fails : is_ok c.from_residual-in_err-put_bare.result ≡ false = search rules in
     subst (λ x. Writes a d x (IsOldPut c.args.id)) (sym fails)
@@ -83,15 +63,10 @@ pub returns-clause-writes : goal.returns-clause-writes
 returns-clause-writes g c =
     let a = state g.S.Store c.args.tx.now.conn.now in
     let b = state g.S.Store c.query_all.new.self.conn.now in
-    let text = c.text.ensures in
     let key = one_bound c.number.result (Int (pos c.args.id)) refl c.number.ensures in
-    let kept : IsTrue b.is_open → Kept a b =
-    asked_kept a b c.args.id (λ found. found.items) c.query_all.result
-    (clean_if_open b.is_clean b.is_open (g.met.S.Store.shut_if_dirty _))
-    (subst₂ (λ t k. HasCleanDisk b → IfOk c.query_all.result (λ rows. Shown t k a b rows.items))
-    text key c.query_all.ensures.ok)
-    (subst₂ (λ t k. HasCleanDisk b → IfErr c.query_all.result (λ e. FailsToQuery t k a b e
-    ⊎ IsTooLate t k a b e)) text key c.query_all.ensures.err) in
+    let kept = asked_kept a b c.args.id c.text.ensures key (λ found. found.items)
+    c.query_all.result (clean_if_open b.is_clean b.is_open (g.met.S.Store.shut_if_dirty _))
+    c.query_all.ensures.ok c.query_all.ensures.err in
     let d = state g.S.Store c.put_bare.new.tx.conn.now in
     let sole : IsSole old_version_in c.in_ok-rows.rows.items
     (Some (c.in-Some.found.version.id, c.in-Some.found.version.row)) =
@@ -99,6 +74,6 @@ returns-clause-writes g c =
     (Some (c.in-Some.found.version.id, c.in-Some.found.version.row))) c.as_slice.ensures.value
     (rw c.in-Some.is at c.in_ok-found.ensures) in
     read_put a b d c.args.id c.in_ok-rows.rows.items kept c.query_all.ensures.survives
-    (subst₂ (λ t k. HasCleanDisk b → Shown t k a b c.in_ok-rows.rows.items) text key
+    (subst₂ (λ t k. HasCleanDisk b → Shown t k a b c.in_ok-rows.rows.items) c.text.ensures key
     c.in_ok-rows.ensures.ok) c.in-Some.found.version.row c.in-Some.found.version.id sole
     c.in_ok-put_bare.ensures.writes

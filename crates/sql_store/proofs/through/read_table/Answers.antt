@@ -1,12 +1,11 @@
-use Rattle.std.proofs.Common.{◌⊎◌, rules, arith, [], IfErr, IfOk, OnErr, subst}
-use Rattle.sqlite.specs.Given.{HasBegun}
+use Rattle.std.proofs.Common.{rules, [], IfErr, subst}
 use Rattle.sqlite.specs.Held.{state}
-use Rattle.sqlite.specs.State.{CommitsShowing, FailsToQuery, HasCleanDisk, IsRolledBack, IsUnchanged, Survives}
+use Rattle.sqlite.specs.State.{CommitsShowing, FailsToQuery, HasCleanDisk, Survives}
 use Rattle.sqlite.proofs.StateLemmas.{survives_then}
 use Rattle.sql_rows.specs.Statements.{all_text}
 use Rattle.sql_rows.specs.declared.statement.Query.TheVariants.{All}
 use Rattle.sql_rows.proofs.StatementLemmas.{query_selects}
-use Rattle.sql_store.specs.Through.{HasReadAll, TellsNone}
+use Rattle.sql_store.specs.Through.{TellsNone}
 use Rattle.sql_store.proofs.CallLemmas.{fails_as, query_commits_nothing}
 use Rattle.sql_store.proofs.ThroughLemmas.{err_from, read_from}
 use Rattle.sql_store.proofs.through.read_table.Goals as goal
@@ -33,38 +32,18 @@ returns-in_err-rows-clause-survives g c =
 
 pub returns-clause-all : goal.returns-clause-all
 returns-clause-all g c =
-    let old = c.args.conn.now in
-    let here = c.in_ok-rows.rows.conn.now in
-    let new = c.read_rows.new.rows.conn.now in
-    let text = all_text c.args.table in
-    let begun : HasCleanDisk (state g.S.Store here) → HasBegun g.S.Store text [] old here =
-    subst (λ t. HasCleanDisk (state g.S.Store here) → HasBegun g.S.Store t [] old here)
-    c.text.ensures c.in_ok-rows.ensures.begun in
-    let told : HasCleanDisk (state g.S.Store new)
-    → IfOk c.read_rows.result (λ blank. HasReadAll g.T.Stored.seen_in text (state g.S.Store old)
-    (state g.S.Store new) (TellsNone blank)) = λ clean.
-    read_from g.S.Store text old here new c.requires.plain
-    (begun (omega (arith, clean, c.read_rows.ensures.survives.clean))) g.T.Stored.seen_in TellsNone
-    c.read_rows.result (c.read_rows.ensures.all clean)
-    in
+    let told = read_from g.S.Store (all_text c.args.table) c.text.ensures c.args.conn.now
+    c.in_ok-rows.rows.conn.now c.read_rows.new.rows.conn.now c.requires.plain
+    c.in_ok-rows.ensures.begun c.read_rows.ensures.survives g.T.Stored.seen_in TellsNone
+    c.read_rows.result c.read_rows.ensures.all in
     search rules
 
 pub returns-clause-err : goal.returns-clause-err
 returns-clause-err g c =
-    let old = c.args.conn.now in
-    let here = c.in_ok-rows.rows.conn.now in
-    let new = c.read_rows.new.rows.conn.now in
-    let text = all_text c.args.table in
-    let begun : HasCleanDisk (state g.S.Store here) → HasBegun g.S.Store text [] old here =
-    subst (λ t. HasCleanDisk (state g.S.Store here) → HasBegun g.S.Store t [] old here)
-    c.text.ensures c.in_ok-rows.ensures.begun in
-    let left : HasCleanDisk (state g.S.Store new)
-    → OnErr c.read_rows.result (IsUnchanged (state g.S.Store old) (state g.S.Store new)
-    ⊎ IsRolledBack (state g.S.Store old) (state g.S.Store new)) = λ clean.
-    err_from g.S.Store text old here new c.requires.plain
-    (begun (omega (arith, clean, c.read_rows.ensures.survives.clean))) c.read_rows.result
-    (c.read_rows.ensures.err clean)
-    in
+    let left = err_from g.S.Store (all_text c.args.table) c.text.ensures c.args.conn.now
+    c.in_ok-rows.rows.conn.now c.read_rows.new.rows.conn.now c.requires.plain
+    c.in_ok-rows.ensures.begun c.read_rows.ensures.survives c.read_rows.result
+    c.read_rows.ensures.err in
     search rules
 
 pub returns-clause-survives : goal.returns-clause-survives

@@ -1,9 +1,10 @@
-use Rattle.std.proofs.Common.{rules, ◌≡◌, [], refl, sym, subst, ◌∙◌}
+use Rattle.std.proofs.Common.{rules, ◌≡◌, [], refl, ap, sym, subst, ◌∙◌}
+use Rattle.std.specs.FinMap.{get}
 use Rattle.settle.specs.Changes.{IsChanged}
 use Rattle.store.specs.Steps.{ArePut}
-use Rattle.store.specs.Tables.{content_of, from_waits}
+use Rattle.store.specs.Tables.{content_of, from_waits, IsKept, IsKeptBelow}
 use Rattle.store.proofs.Spare.{needed-after, spares-same}
-use Rattle.store.proofs.Steps.{can-undo-last, undo-last, forget-last, none-left, none-spare}
+use Rattle.store.proofs.Steps.{can-take-last, last-taken, none-left}
 use Rattle.store.proofs.Undone.{indexed-kept}
 use Rattle.store.proofs.commit.commit_logged.Goals as goal
 
@@ -12,15 +13,30 @@ forget-init c =
     let put = c.in-Ok.ensures.logged c.args.tables.now
     (subst (λ l. ArePut l c.args.tables.now c.args.tables.now) (sym c.requires.empty) refl) in
     record {
-      left = (put.0, put.1, λ k spare. put.2 k (c.finish.ensures.spares k spare));
+      left = (
+        put.0,
+        put.1,
+        record {
+          spares = λ k spare. put.2 k (c.finish.ensures.spares k spare);
+          rows = λ id small. c.finish.ensures.changed.versions id ∙ ap (λ m. get m id) put.3;
+        },
+      );
       indexed = c.finish.ensures.indexed;
       same = refl;
     }
 
+pub forget-requires-clause-last : goal.forget-requires-clause-last
+forget-requires-clause-last c =
+    can-take-last (λ mid. IsKeptBelow c.forget.least mid c.forget.tables) c.forget.log.items
+    c.pop.new.self.items c.in-Some.step c.args.tables.now c.in-Some.ensures.items
+    c.forget.invariant.left
+
 pub forget-preserved : goal.forget-preserved
 forget-preserved c = record {
-  left = forget-last c.forget.log.items c.pop.new.self.items c.in-Some.step c.args.tables.now
-      c.forget.tables c.forget-in-Some.new.tables c.in-Some.ensures.items c.forget.invariant.left
+  left = last-taken (λ mid. IsKeptBelow c.forget.least mid c.forget.tables) c.forget.log.items
+      c.pop.new.self.items c.in-Some.step c.args.tables.now c.in-Some.ensures.items
+      c.forget.invariant.left
+      (λ mid. IsKeptBelow c.forget-in-Some.new.least mid c.forget-in-Some.new.tables)
       c.forget-in-Some.ensures.forgotten;
   indexed = c.forget-in-Some.ensures.indexed;
   same = c.forget-in-Some.ensures.same ∙ c.forget.invariant.same;
@@ -35,8 +51,9 @@ returns-in_default-clause-done c =
 pub returns-in_default-clause-needed : goal.returns-in_default-clause-needed
 returns-in_default-clause-needed c =
     let end : c.forget.log.items ≡ [] = search rules in
-    needed-after c.args.tables.now c.forget.tables (none-spare c.forget.log.items c.args.tables.now
-    c.forget.tables end c.forget.invariant.left)
+    let kept = none-left (λ mid. IsKeptBelow c.forget.least mid c.forget.tables) c.forget.log.items
+    c.args.tables.now end c.forget.invariant.left in
+    needed-after c.args.tables.now c.forget.tables kept.spares
 
 pub undo-init : goal.undo-init
 undo-init c =
@@ -44,24 +61,27 @@ undo-init c =
     (subst (λ l. ArePut l c.args.tables.now c.args.tables.now) (sym c.requires.empty) refl)
 
 pub undo-requires : goal.undo-requires
-undo-requires c = can-undo-last c.undo.log.items c.pop-in-undo.new.self.items c.in-Some-pop.step
-    c.args.tables.now c.undo.tables c.in-Some-pop.ensures.items c.undo.invariant
+undo-requires c =
+    can-take-last (λ mid. IsKept mid c.undo.tables) c.undo.log.items c.pop-in-undo.new.self.items
+    c.in-Some-pop.step c.args.tables.now c.in-Some-pop.ensures.items c.undo.invariant
 
 pub undo-preserved : goal.undo-preserved
 undo-preserved c =
-    undo-last c.undo.log.items c.pop-in-undo.new.self.items c.in-Some-pop.step c.args.tables.now
-    c.undo.tables c.undo-in-Some-pop.new.tables c.in-Some-pop.ensures.items c.undo.invariant
-    c.undo-in-Some-pop.ensures
+    last-taken (λ mid. IsKept mid c.undo.tables) c.undo.log.items c.pop-in-undo.new.self.items
+    c.in-Some-pop.step c.args.tables.now c.in-Some-pop.ensures.items c.undo.invariant
+    (λ mid. IsKept mid c.undo-in-Some-pop.new.tables) c.undo-in-Some-pop.ensures
 
 pub returns-in_default-pop-clause-indexed : goal.returns-in_default-pop-clause-indexed
 returns-in_default-pop-clause-indexed c =
     let end : c.undo.log.items ≡ [] = search rules in
-    let kept = none-left c.undo.log.items c.args.tables.now c.undo.tables end c.undo.invariant in
+    let kept = none-left (λ mid. IsKept mid c.undo.tables) c.undo.log.items c.args.tables.now end
+    c.undo.invariant in
     indexed-kept c.args.tables.now c.undo.tables kept.content kept.keeps c.requires.indexed
 
 pub returns-in_default-pop-clause-needed : goal.returns-in_default-pop-clause-needed
 returns-in_default-pop-clause-needed c =
     let end : c.undo.log.items ≡ [] = search rules in
-    let kept = none-left c.undo.log.items c.args.tables.now c.undo.tables end c.undo.invariant in
+    let kept = none-left (λ mid. IsKept mid c.undo.tables) c.undo.log.items c.args.tables.now end
+    c.undo.invariant in
     needed-after c.args.tables.now c.undo.tables (spares-same c.args.tables.now c.undo.tables
     kept.content kept.adds)

@@ -1,6 +1,7 @@
 use Rattle.std.proofs.Common.{rules, refl}
-use Rattle.store.proofs.Places.{beside_taken}
 use Rattle.store.proofs.Sets.{sets-there}
+use Rattle.store.proofs.Spare.{spares-beside}
+use Rattle.store.proofs.Undone.{all-kept}
 use Rattle.store.proofs.commit.finish.Goals as goal
 
 pub returns-clause-changed : goal.returns-clause-changed
@@ -18,5 +19,8 @@ returns-clause-changed c = record {
 
 pub returns-clause-spares : goal.returns-clause-spares
 returns-clause-spares c =
-    beside_taken c.args.tables.now c.moved-tables.result c.take_broadcasts.new.map
-    c.take_waits.new.waits
+    spares-beside c.args.tables.now (record c.args.tables.now {
+      clock = c.moved-tables.result;
+      broadcasts = c.take_broadcasts.new.map;
+      waits = c.take_waits.new.waits;
+    }) refl (all-kept c.args.tables.now)

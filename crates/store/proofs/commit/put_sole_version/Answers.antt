@@ -1,55 +1,27 @@
-use Rattle.std.proofs.Common.{rules, ◌<◌, ap, sym, ◌∙◌, Some}
-use Rattle.std.specs.Prelude.{is_some}
-use Rattle.std.specs.FinMap.{get}
-use Rattle.meaning.specs.Content.{Content}
-use Rattle.store.specs.Tables.{content_of, with_version}
-use Rattle.store.proofs.Sole.{sole-indexed, sole-spares, keys-there, some-there, of-stood, sole-forgotten, sole-new}
+use Rattle.std.proofs.Common.{rules, ◌<◌, ap, sym, ◌∙◌}
+use Rattle.store.specs.Tables.{AddNoSpare, AreIndexed, content_of}
+use Rattle.store.proofs.Forgotten.{left-by, none-unneeded}
+use Rattle.store.proofs.Sole.{sole-content, sole-indexed, sole-new, sole-taken, not-there}
 use Rattle.store.proofs.Undone.{all-kept, versions-undone}
 use Rattle.store.proofs.commit.put_sole_version.Goals as goal
 
-pub take_standing_keys-requires-clause-indexed : goal.take_standing_keys-requires-clause-indexed
-take_standing_keys-requires-clause-indexed c =
-    let small : c.args.id < 18446744073709551616 = search rules in
+-- what the commit leaves, once the keys that nothing needs are taken
+taken : (c : goal.After-take_version_keys) → AreIndexed c.take_version_keys.new.tables
+    × AddNoSpare c.args.tables.now c.take_version_keys.new.tables
+taken c =
     let put = c.put_row_keys.ensures in
-    sole-indexed c.args.tables.now c.put_row_keys.new.tables c.args.id c.args.row.now
-    c.version_keys-keys.result c.write.new.self small put.same put.keeps c.in-Ok.ensures.ok
-    c.version_keys-keys.ensures c.in_ok-new.ensures.there c.requires
-
-pub take_standing_keys-requires-clause-own : goal.take_standing_keys-requires-clause-own
-take_standing_keys-requires-clause-own c =
-    keys-there (content_of c.put_row_keys.new.tables).versions c.write.new.self c.args.id
-    c.args.row.now c.version_keys-keys.result c.in-Ok.ensures.ok c.version_keys-keys.ensures
-
-pub take_standing_keys-requires-clause-without : goal.take_standing_keys-requires-clause-without
-take_standing_keys-requires-clause-without c =
-    some-there (content_of c.put_row_keys.new.tables).versions c.write.new.self c.args.id
-    c.args.row.now c.in-Ok.ensures.ok
+    sole-taken c.args.tables.now c.put_row_keys.new.tables c.take_version_keys.new.tables
+    c.write.new.self c.note.new.self c.args.id c.args.row.now c.needed_keys-standing.result
+    c.version_keys-keys.result c.unneeded_keys.result (search rules)
+    c.needed_keys-standing.ensures.own c.needed_keys-standing.ensures.without
+    c.version_keys-keys.ensures c.unneeded_keys.ensures put.same put.keeps put.adds_keys
+    c.in-Ok.ensures.ok c.in_ok-new.ensures.there c.requires c.take_version_keys.ensures
 
 pub returns-then-stood-clause-indexed : goal.returns-then-stood-clause-indexed
-returns-then-stood-clause-indexed c =
-    let stood =
-    sym (c.in-Ok.ensures.stood ∙ ap (λ (x : Content). is_some (get x.versions c.args.id))
-    c.put_row_keys.ensures.same) ∙ c.if-stood.true in
-    of-stood (get (content_of c.args.tables.now).versions c.args.id) stood
-    (λ r at. c.take_standing_keys.ensures.indexed r (c.needed_keys-standing.ensures.own r at))
+returns-then-stood-clause-indexed c = (taken c).0
 
 pub returns-then-stood-clause-spares : goal.returns-then-stood-clause-spares
-returns-then-stood-clause-spares c =
-    let put = c.put_row_keys.ensures in
-    let stood =
-    sym (c.in-Ok.ensures.stood ∙ ap (λ (x : Content). is_some (get x.versions c.args.id)) put.same)
-    ∙ c.if-stood.true in
-    let mid = record c.put_row_keys.new.tables {
-      versions = c.write.new.self;
-      guesses = c.note.new.self;
-    } in
-    let content = ap (λ m. record (content_of c.put_row_keys.new.tables) { versions = m })
-    c.in-Ok.ensures.ok ∙ ap (λ x. with_version x c.args.id (Some c.args.row.now)) put.same in
-    sole-forgotten c.args.id (get (content_of c.args.tables.now).versions c.args.id)
-    c.args.tables.now mid c.take_standing_keys.new.tables stood
-    (λ r at. c.take_standing_keys.ensures.none r (c.needed_keys-standing.ensures.own r at))
-    (sole-spares c.args.tables.now mid c.args.id c.args.row.now c.version_keys-keys.result
-    c.version_keys-keys.ensures put.adds_keys content) c.take_standing_keys.ensures.spares
+returns-then-stood-clause-spares c = (taken c).1
 
 pub returns-else-stood-clause-indexed : goal.returns-else-stood-clause-indexed
 returns-else-stood-clause-indexed c =
@@ -61,33 +33,37 @@ returns-else-stood-clause-indexed c =
 
 pub returns-else-stood-clause-spares : goal.returns-else-stood-clause-spares
 returns-else-stood-clause-spares c =
+    let old = c.args.tables.now in
     let put = c.put_row_keys.ensures in
-    let none = sym (c.in-Ok.ensures.stood ∙ ap (λ (x : Content). is_some (get x.versions c.args.id))
-    put.same) ∙ c.if-stood.false in
     let new = record c.put_row_keys.new.tables {
       versions = c.write.new.self;
       guesses = c.note.new.self;
     } in
-    let content = ap (λ m. record (content_of c.put_row_keys.new.tables) { versions = m })
-    c.in-Ok.ensures.ok ∙ ap (λ x. with_version x c.args.id (Some c.args.row.now)) put.same in
-    sole-new c.args.id (get (content_of c.args.tables.now).versions c.args.id) c.args.tables.now new
-    none
-    (sole-spares c.args.tables.now new c.args.id c.args.row.now c.version_keys-keys.result
-    c.version_keys-keys.ensures put.adds_keys content)
+    let standing = c.needed_keys-standing.ensures in
+    let none = standing.without (not-there old c.put_row_keys.new.tables c.args.id put.same
+    (sym c.in-Ok.ensures.stood ∙ c.if-stood.false)) in
+    sole-new c.args.id c.needed_keys-standing.result old new none
+    (left-by old new c.args.id c.args.row.now c.needed_keys-standing.result
+    c.version_keys-keys.result c.needed_keys-standing.result standing.own standing.without
+    c.version_keys-keys.ensures
+    (none-unneeded c.needed_keys-standing.result c.version_keys-keys.result none) put.adds_keys
+    (sole-content old c.put_row_keys.new.tables c.args.id c.args.row.now c.write.new.self put.same
+    c.in-Ok.ensures.ok))
 
 pub returns-in-Err-clause-refused : goal.returns-in-Err-clause-refused
 returns-in-Err-clause-refused c =
     let put = c.put_row_keys.ensures in
     record {
-      content = c.take_version_keys.ensures.content
+      content = c.take_version_keys-in-Err.ensures.content
           ∙ ap (λ m. record (content_of c.put_row_keys.new.tables) { versions = m })
           c.in-Err.ensures.err ∙ put.same;
       keeps = versions-undone c.in_ok-new.new c.args.tables.now c.put_row_keys.new.tables
-          c.put_row_keys.new.tables c.take_version_keys.new.tables c.in_ok-new.ensures.are_new
+          c.put_row_keys.new.tables c.take_version_keys-in-Err.new.tables
+          c.in_ok-new.ensures.are_new
           put.keeps
-          (all-kept c.put_row_keys.new.tables) c.take_version_keys.ensures.keeps;
-      adds = versions-undone c.in_ok-new.new c.take_version_keys.new.tables
+          (all-kept c.put_row_keys.new.tables) c.take_version_keys-in-Err.ensures.keeps;
+      adds = versions-undone c.in_ok-new.new c.take_version_keys-in-Err.new.tables
           c.put_row_keys.new.tables c.put_row_keys.new.tables c.args.tables.now
-          c.take_version_keys.ensures.gone c.take_version_keys.ensures.adds
+          c.take_version_keys-in-Err.ensures.gone c.take_version_keys-in-Err.ensures.adds
           (all-kept c.put_row_keys.new.tables) c.in_ok-new.ensures.adds_new;
     }

@@ -4,18 +4,14 @@ use Rattle.numbers.specs.Views.{subject_of, key_of}
 use Rattle.numbers.proofs.SubjectKeys.{subject_key-exact}
 use Rattle.settle.specs.Views.{spid_of}
 use Rattle.store.specs.WaitRows.{IsAdded}
-use Rattle.numbers.proofs.Small.{equal_number}
+use Rattle.numbers.proofs.Small.{equal_number, denied}
 use Rattle.store.proofs.OneRow.{added}
 use Rattle.store.proofs.waiting.Waiting.add.Goals as goal
-
-untrue : (b : Bool) → not b ≡ false → b ≡ true
-untrue true e = refl
-untrue false e = let no : true ≡ false = e in cc
 
 pub returns-in_ok-push-clause-added : goal.returns-in_ok-push-clause-added
 returns-in_ok-push-clause-added c =
     let keys : (key_of c.args.self.now.subject == key_of c.args.subject) ≡ true =
-    untrue _ (sym c.ne.ensures ∙ c.if-ne.false) in
+    denied _ (sym c.ne.ensures ∙ c.if-ne.false) in
     let same : subject_of c.args.self.now.subject ≡ subject_of c.args.subject =
     subject_key-exact (subject_of c.args.self.now.subject) (subject_of c.args.subject)
     (equal_number (key_of c.args.self.now.subject) (key_of c.args.subject) keys) in

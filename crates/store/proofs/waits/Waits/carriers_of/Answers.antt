@@ -4,9 +4,9 @@ use Rattle.std.specs.List.{list_any}
 use Rattle.std.specs.FinMap.{get}
 use Rattle.numbers.specs.declared.spid.Spid.{Spid}
 use Rattle.settle.specs.Views.{wait_key_of}
-use Rattle.store.specs.WaitRows.{row_in, download_of, wait_for}
+use Rattle.store.specs.WaitRows.{download_of, wait_for}
 use Rattle.store.proofs.OneRow.{any-seen}
-use Rattle.store.proofs.WaitsKept.{hash-at, wait-at}
+use Rattle.store.proofs.WaitsKept.{wait-at}
 use Rattle.store.proofs.waits.Waits.carriers_of.Goals as goal
 
 is_there : {X : Type 0} (b : Bool) (x : X) → is_some (cond b (Some x) None) ≡ b
@@ -15,22 +15,19 @@ is_there false x = refl
 
 pub returns-in-None : goal.returns-in-None
 returns-in-None c = λ carrier.
-    let none : row_in c.self.inside.rows.entries c.broadcast_of.result ≡ None =
-    sym (hash-at c.self.inside.rows.entries c.broadcast_of.result) ∙ search rules in
     ap (λ m. is_some (get m (wait_for (download_of (wait_key_of c.args.key)) carrier)))
     (sym c.self.view_is)
     ∙ ap is_some (wait-at c.self.inside.rows.entries c.broadcast_of.result
-    (wait_for (download_of (wait_key_of c.args.key)) carrier) None c.broadcast_of.ensures none)
+    (wait_for (download_of (wait_key_of c.args.key)) carrier) None c.broadcast_of.ensures
+    (search rules))
 
 pub returns-in-Some : goal.returns-in-Some
 returns-in-Some c = λ carrier.
-    let there : row_in c.self.inside.rows.entries c.broadcast_of.result ≡ Some c.in-Some.row.now =
-    sym (hash-at c.self.inside.rows.entries c.broadcast_of.result) ∙ search rules in
     ap (λ m. is_some (get m (wait_for (download_of (wait_key_of c.args.key)) carrier)))
     (sym c.self.view_is)
     ∙ ap is_some (wait-at c.self.inside.rows.entries c.broadcast_of.result
     (wait_for (download_of (wait_key_of c.args.key)) carrier) (Some c.in-Some.row.now)
-    c.broadcast_of.ensures there)
+    c.broadcast_of.ensures (search rules))
     ∙ is_there _ _
     ∙ any-seen carrier c.in-Some.row.now.carriers.items
     ∙ sym (ap (list_any (λ (k : Spid). carrier == k.number)) c.as_slice.ensures.value)

@@ -5,83 +5,68 @@ use Rattle.numbers.specs.Views.{subject_of}
 use Rattle.meaning.specs.Content.{wait_cmp}
 use Rattle.settle.specs.Views.{wait_key_of}
 use Rattle.store.specs.Maps.{set, seen_entries}
-use Rattle.store.specs.WaitRows.{row_in, row_key_of, download_of, waiting_of, rows_of, about_of, key_about, subject_download_of, IsDownload}
-use Rattle.store.proofs.RowsChanged.{IsRow, Agrees, agrees-kept, agrees-new, agrees-back, row-same}
-use Rattle.store.proofs.WaitsKept.{IsPut, hash-at, row-at, wait-at, row-written, key-written, if-ok-then, on-ok-from, on-err-then, subject-stays, added-waits, first-waits}
+use Rattle.store.specs.WaitRows.{row_key_of, download_of, waiting_of, rows_of, about_of, key_about, subject_download_of, IsDownload}
+use Rattle.store.proofs.RowsChanged.{Agrees, agrees-kept, agrees-new, agrees-back, row-same}
+use Rattle.store.proofs.WaitsKept.{IsPut, row-at, wait-at, row-written, key-written, if-ok-then, on-ok-from, subject-stays, added-waits, first-waits}
+use Rattle.store.proofs.Steps.{err-then}
 use Rattle.store.proofs.waits.Waits.put.Goals as goal
 
 -- ---- a row that is there
 
 pub invariant_of-self : goal.invariant_of-self
 invariant_of-self c =
-    let there : row_in c.self.inside.rows.entries c.broadcast_of-broadcast.result
-    ≡ Some c.in-Some.row.now =
-    sym (hash-at c.self.inside.rows.entries c.broadcast_of-broadcast.result) ∙ search rules in
-    let row : IsRow (rows_of c.self.inside.rows.entries)
-    (rows_of (c.get_mut.follows.lender c.add.new.self).entries)
-    (download_of (wait_key_of c.args.key)) (Some (waiting_of c.add.new.self)) =
-    row-written c.self.inside.rows.entries (c.get_mut.follows.lender c.add.new.self).entries
-    c.broadcast_of-broadcast.result (wait_key_of c.args.key) (Some c.add.new.self)
-    c.broadcast_of-broadcast.ensures (search rules) in
+    let row = row-written c.self.inside.rows.entries
+    (c.get_mut.follows.lender c.add.new.self).entries c.broadcast_of-broadcast.result
+    (wait_key_of c.args.key) (Some c.add.new.self) c.broadcast_of-broadcast.ensures
+    (search rules) in
     agrees-kept (rows_of c.self.inside.rows.entries)
     (rows_of (c.get_mut.follows.lender c.add.new.self).entries) (about_of c.self.inside.about)
     (download_of (wait_key_of c.args.key)) (waiting_of c.in-Some.row.now)
     (waiting_of c.add.new.self) row
     (row-at c.self.inside.rows.entries c.broadcast_of-broadcast.result (wait_key_of c.args.key)
-    (Some c.in-Some.row.now) c.broadcast_of-broadcast.ensures there)
+    (Some c.in-Some.row.now) c.broadcast_of-broadcast.ensures (search rules))
     (subject-stays c.add.result c.args.key.carrier.number (subject_of c.args.subject)
     (waiting_of c.in-Some.row.now) (waiting_of c.add.new.self) c.add.ensures.added
     c.add.ensures.refused) c.self.invariant
 
 pub returns-in-Some-clause-before : goal.returns-in-Some-clause-before
 returns-in-Some-clause-before c =
-    let there : row_in c.self.inside.rows.entries c.broadcast_of-broadcast.result
-    ≡ Some c.in-Some.row.now =
-    sym (hash-at c.self.inside.rows.entries c.broadcast_of-broadcast.result) ∙ search rules in
     if-ok-then c.add.result (λ before is.
     is ∙ sym (wait-at c.self.inside.rows.entries c.broadcast_of-broadcast.result
-    (wait_key_of c.args.key) (Some c.in-Some.row.now) c.broadcast_of-broadcast.ensures there)
+    (wait_key_of c.args.key) (Some c.in-Some.row.now) c.broadcast_of-broadcast.ensures
+    (search rules))
     ∙ ap (λ m. get m (wait_key_of c.args.key)) c.self.view_is)
     c.add.ensures.before
 
 pub returns-in-Some-clause-ok : goal.returns-in-Some-clause-ok
 returns-in-Some-clause-ok c =
-    let there : row_in c.self.inside.rows.entries c.broadcast_of-broadcast.result
-    ≡ Some c.in-Some.row.now =
-    sym (hash-at c.self.inside.rows.entries c.broadcast_of-broadcast.result) ∙ search rules in
-    let row : IsRow (rows_of c.self.inside.rows.entries)
-    (rows_of (c.get_mut.follows.lender c.add.new.self).entries)
-    (download_of (wait_key_of c.args.key)) (Some (waiting_of c.add.new.self)) =
-    row-written c.self.inside.rows.entries (c.get_mut.follows.lender c.add.new.self).entries
-    c.broadcast_of-broadcast.result (wait_key_of c.args.key) (Some c.add.new.self)
-    c.broadcast_of-broadcast.ensures (search rules) in
+    let row = row-written c.self.inside.rows.entries
+    (c.get_mut.follows.lender c.add.new.self).entries c.broadcast_of-broadcast.result
+    (wait_key_of c.args.key) (Some c.add.new.self) c.broadcast_of-broadcast.ensures
+    (search rules) in
     on-ok-from c.add.result (λ before added.
     added-waits (rows_of c.self.inside.rows.entries)
     (rows_of (c.get_mut.follows.lender c.add.new.self).entries) (wait_key_of c.args.key)
     (subject_of c.args.subject) (waiting_of c.in-Some.row.now) (waiting_of c.add.new.self)
     (row-at c.self.inside.rows.entries c.broadcast_of-broadcast.result (wait_key_of c.args.key)
-    (Some c.in-Some.row.now) c.broadcast_of-broadcast.ensures there) row added
+    (Some c.in-Some.row.now) c.broadcast_of-broadcast.ensures (search rules)) row added
     ∙ ap (λ (m : FinMap wait_cmp Subject). set m (wait_key_of c.args.key)
     (Some (subject_of c.args.subject))) c.self.view_is)
     c.add.ensures.added
 
 pub returns-in-Some-clause-err : goal.returns-in-Some-clause-err
 returns-in-Some-clause-err c =
-    let there : row_in c.self.inside.rows.entries c.broadcast_of-broadcast.result
-    ≡ Some c.in-Some.row.now =
-    sym (hash-at c.self.inside.rows.entries c.broadcast_of-broadcast.result) ∙ search rules in
-    let row : IsRow (rows_of c.self.inside.rows.entries)
-    (rows_of (c.get_mut.follows.lender c.add.new.self).entries)
-    (download_of (wait_key_of c.args.key)) (Some (waiting_of c.add.new.self)) =
-    row-written c.self.inside.rows.entries (c.get_mut.follows.lender c.add.new.self).entries
-    c.broadcast_of-broadcast.result (wait_key_of c.args.key) (Some c.add.new.self)
-    c.broadcast_of-broadcast.ensures (search rules) in
-    on-err-then c.add.result (λ same.
+    let row = row-written c.self.inside.rows.entries
+    (c.get_mut.follows.lender c.add.new.self).entries c.broadcast_of-broadcast.result
+    (wait_key_of c.args.key) (Some c.add.new.self) c.broadcast_of-broadcast.ensures
+    (search rules) in
+    err-then c.add.result (λ same.
     row-same (rows_of c.self.inside.rows.entries)
     (rows_of (c.get_mut.follows.lender c.add.new.self).entries)
     (download_of (wait_key_of c.args.key)) (Some (waiting_of c.add.new.self)) row
     (ap (λ w. Some w) same ∙ sym (row-at c.self.inside.rows.entries c.broadcast_of-broadcast.result
-    (wait_key_of c.args.key) (Some c.in-Some.row.now) c.broadcast_of-broadcast.ensures there))
+    (wait_key_of c.args.key) (Some c.in-Some.row.now) c.broadcast_of-broadcast.ensures
+    (search rules)))
     ∙ c.self.view_is)
     c.add.ensures.refused
 
@@ -90,11 +75,7 @@ returns-in-Some-clause-err c =
 pub invariant_of-self-in-Ok : goal.invariant_of-self-in-Ok
 invariant_of-self-in-Ok c =
     let small : IsDownload (download_of (wait_key_of c.args.key)) = search rules in
-    let none : row_in c.self.inside.rows.entries c.broadcast_of-broadcast.result ≡ None =
-    sym (hash-at c.self.inside.rows.entries c.broadcast_of-broadcast.result) ∙ search rules in
-    let row : IsRow (rows_of c.self.inside.rows.entries) (rows_of c.insert-2.new.self.entries)
-    (download_of (wait_key_of c.args.key)) (Some (waiting_of c.in_ok-row.row)) =
-    row-written c.self.inside.rows.entries c.insert-2.new.self.entries
+    let row = row-written c.self.inside.rows.entries c.insert-2.new.self.entries
     c.broadcast_of-broadcast.result (wait_key_of c.args.key) (Some c.in_ok-row.row)
     c.broadcast_of-broadcast.ensures
     (subst (λ m. IsPut m.entries c.insert-2.new.self.entries c.broadcast_of-broadcast.result
@@ -107,26 +88,20 @@ invariant_of-self-in-Ok c =
     (about_of c.self.inside.about) (about_of c.insert.new.self)
     (download_of (wait_key_of c.args.key)) (waiting_of c.in_ok-row.row) row
     (row-at c.self.inside.rows.entries c.broadcast_of-broadcast.result (wait_key_of c.args.key) None
-    c.broadcast_of-broadcast.ensures none) small
+    c.broadcast_of-broadcast.ensures (search rules)) small
     (key-written c.self.inside.about c.insert.new.self c.about.result
     (key_about (waiting_of c.in_ok-row.row).0 (download_of (wait_key_of c.args.key))) (Some tt) own
     (search rules)) c.self.invariant
 
 pub returns-in-Ok-clause-before : goal.returns-in-Ok-clause-before
 returns-in-Ok-clause-before c =
-    let none : row_in c.self.inside.rows.entries c.broadcast_of-broadcast.result ≡ None =
-    sym (hash-at c.self.inside.rows.entries c.broadcast_of-broadcast.result) ∙ search rules in
     sym (wait-at c.self.inside.rows.entries c.broadcast_of-broadcast.result (wait_key_of c.args.key)
-    None c.broadcast_of-broadcast.ensures none) ∙ ap (λ m. get m (wait_key_of c.args.key))
+    None c.broadcast_of-broadcast.ensures (search rules)) ∙ ap (λ m. get m (wait_key_of c.args.key))
     c.self.view_is
 
 pub returns-in-Ok-clause-ok : goal.returns-in-Ok-clause-ok
 returns-in-Ok-clause-ok c =
-    let none : row_in c.self.inside.rows.entries c.broadcast_of-broadcast.result ≡ None =
-    sym (hash-at c.self.inside.rows.entries c.broadcast_of-broadcast.result) ∙ search rules in
-    let row : IsRow (rows_of c.self.inside.rows.entries) (rows_of c.insert-2.new.self.entries)
-    (download_of (wait_key_of c.args.key)) (Some (waiting_of c.in_ok-row.row)) =
-    row-written c.self.inside.rows.entries c.insert-2.new.self.entries
+    let row = row-written c.self.inside.rows.entries c.insert-2.new.self.entries
     c.broadcast_of-broadcast.result (wait_key_of c.args.key) (Some c.in_ok-row.row)
     c.broadcast_of-broadcast.ensures
     (subst (λ m. IsPut m.entries c.insert-2.new.self.entries c.broadcast_of-broadcast.result
@@ -134,14 +109,12 @@ returns-in-Ok-clause-ok c =
     first-waits (rows_of c.self.inside.rows.entries) (rows_of c.insert-2.new.self.entries)
     (wait_key_of c.args.key) (subject_of c.args.subject) (waiting_of c.in_ok-row.row)
     (row-at c.self.inside.rows.entries c.broadcast_of-broadcast.result (wait_key_of c.args.key) None
-    c.broadcast_of-broadcast.ensures none) row c.in_ok-row.ensures
+    c.broadcast_of-broadcast.ensures (search rules)) row c.in_ok-row.ensures
     ∙ ap (λ (m : FinMap wait_cmp Subject). set m (wait_key_of c.args.key)
     (Some (subject_of c.args.subject))) c.self.view_is
 
 pub invariant_of-self-in-Err : goal.invariant_of-self-in-Err
 invariant_of-self-in-Err c =
-    let none : row_in c.self.inside.rows.entries c.broadcast_of-broadcast.result ≡ None =
-    sym (hash-at c.self.inside.rows.entries c.broadcast_of-broadcast.result) ∙ search rules in
     let same : c.insert-2.new.self.entries ≡ c.self.inside.rows.entries = search rules in
     let own : subject_download_of c.about.result ≡ key_about (subject_of c.args.subject)
     (download_of (wait_key_of c.args.key)) = c.about.ensures in
@@ -153,7 +126,7 @@ invariant_of-self-in-Err c =
     (about_of c.insert.new.self) (about_of c.remove.new.self) (download_of (wait_key_of c.args.key))
     (subject_of c.args.subject)
     (row-at c.self.inside.rows.entries c.broadcast_of-broadcast.result (wait_key_of c.args.key) None
-    c.broadcast_of-broadcast.ensures none)
+    c.broadcast_of-broadcast.ensures (search rules))
     (key-written c.self.inside.about c.insert.new.self c.about.result
     (key_about (subject_of c.args.subject) (download_of (wait_key_of c.args.key))) (Some tt) own
     (search rules))

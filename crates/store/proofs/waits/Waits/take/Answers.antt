@@ -4,50 +4,34 @@ use Rattle.numbers.specs.Subjects.{Subject}
 use Rattle.meaning.specs.Content.{wait_cmp}
 use Rattle.settle.specs.Views.{spid_of, wait_key_of}
 use Rattle.store.specs.Maps.{set}
-use Rattle.store.specs.WaitRows.{row_in, download_of, waiting_of, rows_of, about_of, key_about, subject_download_of, waits_of}
-use Rattle.store.proofs.RowsChanged.{IsRow, Agrees, agrees-kept, agrees-gone}
-use Rattle.store.proofs.WaitsKept.{hash-at, row-at, wait-at, row-written, key-written, row-gone, without-waits, gone-waits, not-there, none-left}
+use Rattle.store.specs.WaitRows.{download_of, waiting_of, rows_of, about_of, key_about, subject_download_of, waits_of}
+use Rattle.store.proofs.RowsChanged.{Agrees, agrees-kept, agrees-gone}
+use Rattle.store.proofs.WaitsKept.{row-at, wait-at, row-written, key-written, row-taken, without-waits, gone-waits, not-there}
+use Rattle.numbers.proofs.Small.{no_members}
 use Rattle.store.proofs.waits.Waits.take.Goals as goal
 
 pub returns-in_default-clause-before : goal.returns-in_default-clause-before
 returns-in_default-clause-before c =
-    let none : row_in c.self.inside.rows.entries c.broadcast_of-broadcast.result ≡ None =
-    sym (hash-at c.self.inside.rows.entries c.broadcast_of-broadcast.result) ∙ search rules in
     sym (wait-at c.self.inside.rows.entries c.broadcast_of-broadcast.result (wait_key_of c.args.key)
-    None c.broadcast_of-broadcast.ensures none) ∙ ap (λ m. get m (wait_key_of c.args.key))
+    None c.broadcast_of-broadcast.ensures (search rules)) ∙ ap (λ m. get m (wait_key_of c.args.key))
     c.self.view_is
 
 pub returns-in_default-clause-taken : goal.returns-in_default-clause-taken
 returns-in_default-clause-taken c =
-    let none : row_in c.self.inside.rows.entries c.broadcast_of-broadcast.result ≡ None =
-    sym (hash-at c.self.inside.rows.entries c.broadcast_of-broadcast.result) ∙ search rules in
     ap (λ m. waits_of (rows_of m.entries)) c.get_mut.follows.holds-at-none ∙ c.self.view_is
     ∙ not-there c.args.self.now (wait_key_of c.args.key)
     (ap (λ m. get m (wait_key_of c.args.key)) (sym c.self.view_is)
     ∙ wait-at c.self.inside.rows.entries c.broadcast_of-broadcast.result (wait_key_of c.args.key)
-    None c.broadcast_of-broadcast.ensures none)
+    None c.broadcast_of-broadcast.ensures (search rules))
 
 -- ---- the last carrier of its row
 
 pub invariant_of-self-then-is_empty : goal.invariant_of-self-then-is_empty
 invariant_of-self-then-is_empty c =
-    let there : row_in c.self.inside.rows.entries c.broadcast_of-broadcast.result
-    ≡ Some c.in-Some.row.now =
-    sym (hash-at c.self.inside.rows.entries c.broadcast_of-broadcast.result) ∙ search rules in
-    let row : IsRow (rows_of c.self.inside.rows.entries)
-    (rows_of (c.get_mut.follows.lender c.take.new.self).entries)
-    (download_of (wait_key_of c.args.key)) (Some (waiting_of c.take.new.self)) =
-    row-written c.self.inside.rows.entries (c.get_mut.follows.lender c.take.new.self).entries
-    c.broadcast_of-broadcast.result (wait_key_of c.args.key) (Some c.take.new.self)
-    c.broadcast_of-broadcast.ensures (search rules) in
-    let gone : IsRow (rows_of c.self.inside.rows.entries) (rows_of c.remove.new.self.entries)
-    (download_of (wait_key_of c.args.key)) None =
-    row-gone (rows_of c.self.inside.rows.entries)
-    (rows_of (c.get_mut.follows.lender c.take.new.self).entries) (rows_of c.remove.new.self.entries)
-    (download_of (wait_key_of c.args.key)) (Some (waiting_of c.take.new.self)) row
-    (row-written (c.get_mut.follows.lender c.take.new.self).entries c.remove.new.self.entries
-    c.broadcast_of-broadcast.result (wait_key_of c.args.key) None c.broadcast_of-broadcast.ensures
-    c.remove.ensures.updates.0) in
+    let gone = row-taken c.self.inside.rows.entries
+    (c.get_mut.follows.lender c.take.new.self).entries c.remove.new.self.entries
+    c.broadcast_of-broadcast.result (wait_key_of c.args.key) c.take.new.self
+    c.broadcast_of-broadcast.ensures (search rules) c.remove.ensures.updates.0 in
     let own : subject_download_of c.about.result ≡ key_about (waiting_of c.in-Some.row.now).0
     (download_of (wait_key_of c.args.key)) =
     c.about.ensures ∙ ap (λ s. key_about s (download_of (wait_key_of c.args.key)))
@@ -56,46 +40,31 @@ invariant_of-self-then-is_empty c =
     (about_of c.self.inside.about) (about_of c.remove-then-is_empty.new.self)
     (download_of (wait_key_of c.args.key)) (waiting_of c.in-Some.row.now) gone
     (row-at c.self.inside.rows.entries c.broadcast_of-broadcast.result (wait_key_of c.args.key)
-    (Some c.in-Some.row.now) c.broadcast_of-broadcast.ensures there)
+    (Some c.in-Some.row.now) c.broadcast_of-broadcast.ensures (search rules))
     (key-written c.self.inside.about c.remove-then-is_empty.new.self c.about.result
     (key_about (waiting_of c.in-Some.row.now).0 (download_of (wait_key_of c.args.key))) None own
     c.remove-then-is_empty.ensures.updates.0) c.self.invariant
 
 pub returns-then-is_empty-clause-before : goal.returns-then-is_empty-clause-before
 returns-then-is_empty-clause-before c =
-    let there : row_in c.self.inside.rows.entries c.broadcast_of-broadcast.result
-    ≡ Some c.in-Some.row.now =
-    sym (hash-at c.self.inside.rows.entries c.broadcast_of-broadcast.result) ∙ search rules in
     c.subject_for-before.ensures
     ∙ sym (wait-at c.self.inside.rows.entries c.broadcast_of-broadcast.result
-    (wait_key_of c.args.key) (Some c.in-Some.row.now) c.broadcast_of-broadcast.ensures there)
+    (wait_key_of c.args.key) (Some c.in-Some.row.now) c.broadcast_of-broadcast.ensures
+    (search rules))
     ∙ ap (λ m. get m (wait_key_of c.args.key)) c.self.view_is
 
 pub returns-then-is_empty-clause-taken : goal.returns-then-is_empty-clause-taken
 returns-then-is_empty-clause-taken c =
-    let there : row_in c.self.inside.rows.entries c.broadcast_of-broadcast.result
-    ≡ Some c.in-Some.row.now =
-    sym (hash-at c.self.inside.rows.entries c.broadcast_of-broadcast.result) ∙ search rules in
-    let row : IsRow (rows_of c.self.inside.rows.entries)
-    (rows_of (c.get_mut.follows.lender c.take.new.self).entries)
-    (download_of (wait_key_of c.args.key)) (Some (waiting_of c.take.new.self)) =
-    row-written c.self.inside.rows.entries (c.get_mut.follows.lender c.take.new.self).entries
-    c.broadcast_of-broadcast.result (wait_key_of c.args.key) (Some c.take.new.self)
-    c.broadcast_of-broadcast.ensures (search rules) in
-    let gone : IsRow (rows_of c.self.inside.rows.entries) (rows_of c.remove.new.self.entries)
-    (download_of (wait_key_of c.args.key)) None =
-    row-gone (rows_of c.self.inside.rows.entries)
-    (rows_of (c.get_mut.follows.lender c.take.new.self).entries) (rows_of c.remove.new.self.entries)
-    (download_of (wait_key_of c.args.key)) (Some (waiting_of c.take.new.self)) row
-    (row-written (c.get_mut.follows.lender c.take.new.self).entries c.remove.new.self.entries
-    c.broadcast_of-broadcast.result (wait_key_of c.args.key) None c.broadcast_of-broadcast.ensures
-    c.remove.ensures.updates.0) in
+    let gone = row-taken c.self.inside.rows.entries
+    (c.get_mut.follows.lender c.take.new.self).entries c.remove.new.self.entries
+    c.broadcast_of-broadcast.result (wait_key_of c.args.key) c.take.new.self
+    c.broadcast_of-broadcast.ensures (search rules) c.remove.ensures.updates.0 in
     let nobody : c.take.new.self.carriers.items ≡ [] =
-    none-left c.take.new.self.carriers.items (search rules) in
+    no_members c.take.new.self.carriers.items (search rules) in
     gone-waits (rows_of c.self.inside.rows.entries) (rows_of c.remove.new.self.entries)
     (wait_key_of c.args.key) (waiting_of c.in-Some.row.now) (waiting_of c.take.new.self)
     (row-at c.self.inside.rows.entries c.broadcast_of-broadcast.result (wait_key_of c.args.key)
-    (Some c.in-Some.row.now) c.broadcast_of-broadcast.ensures there) gone c.take.ensures
+    (Some c.in-Some.row.now) c.broadcast_of-broadcast.ensures (search rules)) gone c.take.ensures
     (ap (map spid_of) nobody)
     ∙ ap (λ (m : FinMap wait_cmp Subject). set m (wait_key_of c.args.key) None) c.self.view_is
 
@@ -103,49 +72,37 @@ returns-then-is_empty-clause-taken c =
 
 pub invariant_of-self-else-is_empty : goal.invariant_of-self-else-is_empty
 invariant_of-self-else-is_empty c =
-    let there : row_in c.self.inside.rows.entries c.broadcast_of-broadcast.result
-    ≡ Some c.in-Some.row.now =
-    sym (hash-at c.self.inside.rows.entries c.broadcast_of-broadcast.result) ∙ search rules in
-    let row : IsRow (rows_of c.self.inside.rows.entries)
-    (rows_of (c.get_mut.follows.lender c.take.new.self).entries)
-    (download_of (wait_key_of c.args.key)) (Some (waiting_of c.take.new.self)) =
-    row-written c.self.inside.rows.entries (c.get_mut.follows.lender c.take.new.self).entries
-    c.broadcast_of-broadcast.result (wait_key_of c.args.key) (Some c.take.new.self)
-    c.broadcast_of-broadcast.ensures (search rules) in
+    let row = row-written c.self.inside.rows.entries
+    (c.get_mut.follows.lender c.take.new.self).entries c.broadcast_of-broadcast.result
+    (wait_key_of c.args.key) (Some c.take.new.self) c.broadcast_of-broadcast.ensures
+    (search rules) in
     agrees-kept (rows_of c.self.inside.rows.entries)
     (rows_of (c.get_mut.follows.lender c.take.new.self).entries) (about_of c.self.inside.about)
     (download_of (wait_key_of c.args.key)) (waiting_of c.in-Some.row.now)
     (waiting_of c.take.new.self) row
     (row-at c.self.inside.rows.entries c.broadcast_of-broadcast.result (wait_key_of c.args.key)
-    (Some c.in-Some.row.now) c.broadcast_of-broadcast.ensures there) c.take.ensures.same
+    (Some c.in-Some.row.now) c.broadcast_of-broadcast.ensures (search rules)) c.take.ensures.same
     c.self.invariant
 
 pub returns-else-is_empty-clause-before : goal.returns-else-is_empty-clause-before
 returns-else-is_empty-clause-before c =
-    let there : row_in c.self.inside.rows.entries c.broadcast_of-broadcast.result
-    ≡ Some c.in-Some.row.now =
-    sym (hash-at c.self.inside.rows.entries c.broadcast_of-broadcast.result) ∙ search rules in
     c.subject_for-before.ensures
     ∙ sym (wait-at c.self.inside.rows.entries c.broadcast_of-broadcast.result
-    (wait_key_of c.args.key) (Some c.in-Some.row.now) c.broadcast_of-broadcast.ensures there)
+    (wait_key_of c.args.key) (Some c.in-Some.row.now) c.broadcast_of-broadcast.ensures
+    (search rules))
     ∙ ap (λ m. get m (wait_key_of c.args.key)) c.self.view_is
 
 pub returns-else-is_empty-clause-taken : goal.returns-else-is_empty-clause-taken
 returns-else-is_empty-clause-taken c =
-    let there : row_in c.self.inside.rows.entries c.broadcast_of-broadcast.result
-    ≡ Some c.in-Some.row.now =
-    sym (hash-at c.self.inside.rows.entries c.broadcast_of-broadcast.result) ∙ search rules in
-    let row : IsRow (rows_of c.self.inside.rows.entries)
-    (rows_of (c.get_mut.follows.lender c.take.new.self).entries)
-    (download_of (wait_key_of c.args.key)) (Some (waiting_of c.take.new.self)) =
-    row-written c.self.inside.rows.entries (c.get_mut.follows.lender c.take.new.self).entries
-    c.broadcast_of-broadcast.result (wait_key_of c.args.key) (Some c.take.new.self)
-    c.broadcast_of-broadcast.ensures (search rules) in
+    let row = row-written c.self.inside.rows.entries
+    (c.get_mut.follows.lender c.take.new.self).entries c.broadcast_of-broadcast.result
+    (wait_key_of c.args.key) (Some c.take.new.self) c.broadcast_of-broadcast.ensures
+    (search rules) in
     without-waits (rows_of c.self.inside.rows.entries)
     (rows_of (c.get_mut.follows.lender c.take.new.self).entries) (wait_key_of c.args.key)
     (waiting_of c.in-Some.row.now) (waiting_of c.take.new.self)
     (row-at c.self.inside.rows.entries c.broadcast_of-broadcast.result (wait_key_of c.args.key)
-    (Some c.in-Some.row.now) c.broadcast_of-broadcast.ensures there) row c.take.ensures
+    (Some c.in-Some.row.now) c.broadcast_of-broadcast.ensures (search rules)) row c.take.ensures
     ∙ ap (λ (m : FinMap wait_cmp Subject). set m (wait_key_of c.args.key) None) c.self.view_is
 
 -- ---- nothing is there
