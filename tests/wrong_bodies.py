@@ -5,11 +5,11 @@ into one copy of the crate, which is checked once. One of them is refused where 
 proved; that it calls another function that is not proved says nothing. What was not refused so stays for the next check, alone among
 those that were not, until a check refuses none of them: what is left then is proved, and the crate's contracts are too weak.
 
-What became of an edit as it has to is written into the file tests/refused, with a checksum of all that it stands on: the edit, the
-sources, definitions and proofs of its crate and of those below. With --changed only those are tried that stand there with no such
-checksum, so that the gate pays for what changed alone. The file tests/untried names those that were refused when they were last tried,
-and wait to be tried over the sources as they are: with --changed they are passed over and counted. One that does as it has to is taken
-out of that file.
+The file tests/refused records the edits that did as they have to, each with a checksum of all that it stands on: the edit, and the
+sources, definitions and proofs of its crate and of those below. The checksum is over tokens, so that neither a comment nor the layout
+of code sends an edit back to be tried. With --changed only edits without such a record are tried, so that the gate pays only for what
+changed. The file tests/untried names those that were refused when they were last tried, and wait to be tried over the sources as they
+are: with --changed they are skipped and counted. One that does as it has to is taken out of that file.
 
 An edit is a file crates/NAME/wrong-bodies/*.edit, of the form of must-fail edits: a line 'file: src/lib.rt', then pairs of lines
 'old: TEXT' and 'new: TEXT', each TEXT once in that file, all in one function. An edit whose name begins with 'harmless' changes no
@@ -33,6 +33,8 @@ LANES = 2
 RECORD = "tests/refused"
 WAITING = "tests/untried"
 NOTING = threading.Lock()
+# a text, a word, or a sign
+TOKEN = re.compile(r'"(?:\\.|[^"\\])*"|\w+|[^\w\s]')
 
 
 @dataclass
@@ -124,25 +126,40 @@ def together(edits):
 
 # ---- the record
 
+def significant(path, text):
+    """Returns what the prover reads of a file: without comments and empty lines, and of code, whose layout means nothing, the tokens alone.
+
+    A comment takes whole lines, in code and in definitions alike.
+    """
+    is_code = path.endswith(".rt")
+    comment = "//" if is_code else "--"
+    lines = [line.rstrip() for line in text.split("\n") if line.strip() and not line.lstrip().startswith(comment)]
+    return " ".join(TOKEN.findall("\n".join(lines))) if is_code else "\n".join(lines)
+
+
+def sum_of(path):
+    with open(path, encoding="utf-8") as file:
+        return hashlib.sha256(significant(path, file.read()).encode()).digest()
+
+
 def sum_of_sources(crate, below):
-    """A checksum of the sources, definitions and proofs of the crate and of those below."""
-    said = hashlib.sha256()
+    """Returns a checksum of the sources, definitions and proofs of the crate and of the crates below it. Comments do not count."""
+    total = hashlib.sha256()
     for name in [*below, crate]:
         for part in SOURCES:
             for folder, folders, files in os.walk(f"crates/{name}/{part}"):
                 folders.sort()
                 for file in sorted(files):
-                    with open(f"{folder}/{file}", "rb") as it:
-                        said.update(f"{folder}/{file}\n".encode() + hashlib.sha256(it.read()).digest())
-    return said.digest()
+                    total.update(f"{folder}/{file}\n".encode() + sum_of(f"{folder}/{file}"))
+    return total.digest()
 
 
 def sums_of(crate, below, edits):
-    """For each edit the checksum under which it is noted."""
+    """Returns for each edit the checksum under which it is recorded: of the sources, and of the tokens that the edit replaces and inserts."""
     sources, found = sum_of_sources(crate, below), {}
     for edit in edits:
-        with open(f"crates/{crate}/wrong-bodies/{edit.name}.edit", "rb") as file:
-            found[edit.name] = hashlib.sha256(sources + file.read()).hexdigest()[:16]
+        change = [TOKEN.findall(text) for pair in edit.pairs for text in pair]
+        found[edit.name] = hashlib.sha256(sources + repr((edit.path, change)).encode()).hexdigest()[:16]
     return found
 
 
