@@ -1,6 +1,6 @@
 """That each allocation of files of commands, exports and audits, refused in turn, is answered so and leaves what was.
 
-    bench/run refused-files      (needs gcc, and the built tests of trials: cd crates/trials && rt test)
+    bench/run refused-files      (needs gcc, and the built tests of trials: cd crates/memory_tests && rt test)
 
 The tests are those of `files::refused`: a run of a file of commands, an export and an audit that meet the refusal have
 to be told so, to have written no more than whole lines, and to be whole at the next time.
@@ -12,7 +12,7 @@ import sys
 from lib.measure import counts, folder
 from lib.refusing import Refusing
 
-TESTS = "crates/trials/out/trials_tests"
+TESTS = "crates/memory_tests/out/memory_tests_tests"
 SILENT = {"stdout": subprocess.DEVNULL, "stderr": subprocess.DEVNULL}
 
 

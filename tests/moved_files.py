@@ -1,7 +1,7 @@
 #!/usr/bin/env python3
 """What the built program makes of files that the program before it wrote, read with stock SQLite.
 
-The statements of these files stand in crates/sql_trials/src/earlier.rt alone, where a test moves them in memory. Here the module of
+The statements of these files stand in crates/sql_tests/src/earlier.rt alone, where a test moves them in memory. Here the module of
 Python writes each of them into a file, the program moves it, and the module reads it again. Then the program is asked the rest of the
 worked story in whose middle the file was made: each answer has to be that of the story, to the byte.
 
@@ -21,7 +21,7 @@ import stories
 
 TOP = Path(__file__).resolve().parent.parent
 PROGRAM = TOP / "crates" / "npacd" / "out" / "npacd"
-STATEMENTS = TOP / "crates" / "sql_trials" / "src" / "earlier.rt"
+STATEMENTS = TOP / "crates" / "sql_tests" / "src" / "earlier.rt"
 # the statements of every file, before its own
 BEGUN = ("SCHEMA", "REGISTRY")
 

@@ -5,21 +5,21 @@ use Rattle.std.specs.Io.KnownBytes.{Appends, IsAtEnd, prepend_known}
 use Rattle.std.proofs.KnownBytes.{Appends-nil, Appends-trans}
 use Rattle.std.proofs.lemmas.Grind.{flat_map-append, common_steps}
 use Rattle.std.proofs.lemmas.List.{map-append}
-use Rattle.meaning.specs.Content.{Content}
-use Rattle.meaning.specs.Reading.{State}
-use Rattle.register.specs.Answers.{Stands}
-use Rattle.messages.specs.Cuts.{Comes, Cuts, Done, Whole}
-use Rattle.messages.specs.Held.{held_bytes, input_left}
-use Rattle.messages.specs.Reading.{HasNoWhole, IsRead, IsReadAhead, IsReadTo}
-use Rattle.messages.specs.Sending.{AppendsFront}
-use Rattle.messages.specs.declared.fault.MessageFault.{MessageFault}
-use Rattle.messages.specs.declared.held.Held.{Held}
-use Rattle.messages.specs.declared.message.Next.{Next}
-use Rattle.messages.specs.declared.message.Request.{Request}
-use Rattle.api.specs.Run.{Exchange, Run, answers, ticks_of}
-use Rattle.api.specs.Serving.{AfterWhole, AfterClose, AfterRefusal, AfterPart, EndsAt, FailsAt, Follows, Responds, Told, end_of, refusal}
+use Rattle.model.specs.Content.{Content}
+use Rattle.model.specs.State.{State}
+use Rattle.register.specs.Refinement.{Refines}
+use Rattle.http_messages.specs.Parsing.{IsNextMessage, ParsesAs, EndOfInput, WholeMessage}
+use Rattle.http_messages.specs.ReadBuffer.{buffered_bytes, remaining_input}
+use Rattle.http_messages.specs.Reading.{HasNoWholeMessage, IsRead, IsReadAhead, IsReadTo}
+use Rattle.http_messages.specs.Sending.{AppendsFront}
+use Rattle.http_messages.specs.declared.fault.MessageFault.{MessageFault}
+use Rattle.http_messages.specs.declared.read_buffer.ReadBuffer.{ReadBuffer}
+use Rattle.http_messages.specs.declared.message.NextMessage.{NextMessage}
+use Rattle.http_messages.specs.declared.message.Request.{Request}
+use Rattle.api.specs.Run.{Exchange, Run, responses, ticks_of}
+use Rattle.api.specs.Serving.{AfterExchanges, AfterClose, AfterRefusal, AfterPartialResponse, EndsAt, FailsAt, RefinesReachable, Responds, IoTrace, end_of, refusal}
 use Rattle.api.specs.Step.{Step}
-use Rattle.api.specs.Ticks.{later_ticks, HandsIn, HandsInAll}
+use Rattle.api.specs.Ticks.{later_ticks, ConsumesTick, ConsumesTicks}
 use Rattle.api.specs.declared.serving.End.{End}
 use Rattle.api.specs.declared.serving.End.TheVariants.{Input, Closed, Refused}
 use Rattle.api.specs.declared.serving.Fault.TheVariants as fault
@@ -33,17 +33,18 @@ pub record Going (offered : Bool) (from to : ℕ) (st : State) (new : Content) (
   pub end : State
   pub rest : List ℕ
   pub run : Run offered from to st input exchanges end rest
-  pub stands : Stands new end
+  pub refines : Refines new end
   pub count : length exchanges ≡ k
-  pub handed : HandsInAll before (ticks_of exchanges) behind
-  pub written : Appends had has (answers exchanges)
+  pub handed : ConsumesTicks before (ticks_of exchanges) behind
+  pub written : Appends had has (responses exchanges)
   pub left_is : left ≡ Some rest
 
 -- from each state that the content stood for
 abbrev pub Progress : (offered : Bool) → (from to : ℕ) → Content → Content
     → (all left had has : Option (List ℕ)) → (before behind : Option (List (Option ℕ))) → ℕ → Type 0
-Progress offered from to old new all left had has before behind k = (st : State) → Stands old st
-    → Follows st new × IfSome all (λ input. Going offered from to st new input left had has before
+Progress offered from to old new all left had has before behind k = (st : State) → Refines old st
+    → RefinesReachable st new
+    × IfSome all (λ input. Going offered from to st new input left had has before
     behind k)
 
 pub known : (all : Option (List ℕ)) (P Q : List ℕ → Type 0) → ((input : List ℕ) → P input → Q input)
@@ -56,53 +57,59 @@ pub at_rest : (left : Option (List ℕ)) (rest : List ℕ) (P : List ℕ → Typ
 at_rest left rest P e p = subst (λ l. IfSome l P) e p
 
 -- what is held is no more than the buffer has room for
-pub held_ahead : (held : Held) (unread : Option (List ℕ)) (rest : List ℕ)
-    → vec_len held.bytes ≡ 8192 → input_left held unread ≡ Some rest → IsReadAhead rest unread
+pub held_ahead : (held : ReadBuffer) (unread : Option (List ℕ)) (rest : List ℕ)
+    → vec_len held.bytes ≡ 8192 → remaining_input held unread ≡ Some rest → IsReadAhead rest unread
 held_ahead held unread rest size e =
-    let short : length (held_bytes held) ≤ length held.bytes.items = grind (arith, common_steps) in
-    record { read = held_bytes held; short = omega (arith, short, held.bytes.ok.0, size); all = e }
+    let short : length (buffered_bytes held) ≤ length held.bytes.items =
+    grind (arith, common_steps) in
+    record {
+      read = buffered_bytes held;
+      short = omega (arith, short, held.bytes.ok.0, size);
+      all = e;
+    }
 
 -- ---- the minutes handed in
 
 hands_in_more : (before mid behind : Option (List (Option ℕ))) (ticks : List (Option ℕ))
-    (tick : Option ℕ) → HandsInAll before ticks mid → HandsIn mid tick behind
-    → HandsInAll before (ticks ++ tick ∷ []) behind
+    (tick : Option ℕ) → ConsumesTicks before ticks mid → ConsumesTick mid tick behind
+    → ConsumesTicks before (ticks ++ tick ∷ []) behind
 hands_in_more None mid behind ticks tick x y = tt
 hands_in_more (Some told) mid behind [] tick x y =
-    subst (λ (m : Option (List (Option ℕ))). HandsIn m tick behind) x y
+    subst (λ (m : Option (List (Option ℕ))). ConsumesTick m tick behind) x y
 hands_in_more (Some told) mid behind (t ∷ ticks) tick x y = (
   x.0,
   hands_in_more (Some (later_ticks told)) mid behind ticks tick x.1 y,
 )
 
 handed_then : (before mid behind : Option (List (Option ℕ))) (xs : List Exchange) (x : Exchange)
-    → HandsInAll before (ticks_of xs) mid → HandsIn mid x.tick behind
-    → HandsInAll before (ticks_of (xs ++ x ∷ [])) behind
+    → ConsumesTicks before (ticks_of xs) mid → ConsumesTick mid x.tick behind
+    → ConsumesTicks before (ticks_of (xs ++ x ∷ [])) behind
 handed_then before mid behind xs x handed hands =
-    subst (λ (ts : List (Option ℕ)). HandsInAll before ts behind)
+    subst (λ (ts : List (Option ℕ)). ConsumesTicks before ts behind)
     (sym (map-append (λ (y : Exchange). y.tick) xs (x ∷ []))) (hands_in_more before mid behind
     (ticks_of xs) x.tick handed hands)
 
-handed_none : (before : Option (List (Option ℕ))) → HandsInAll before [] before
+handed_none : (before : Option (List (Option ℕ))) → ConsumesTicks before [] before
 handed_none None = tt
 handed_none (Some told) = refl
 
 -- ---- one exchange more
 
-answers-then : (xs : List Exchange) (x : Exchange) → answers (xs ++ x ∷ []) ≡ answers xs ++ x.answer
-answers-then xs x = flat_map-append (λ (y : Exchange). y.answer) xs (x ∷ [])
-    ∙ ap (λ (t : List ℕ). answers xs ++ t) (append-nil x.answer)
+responses-then : (xs : List Exchange) (x : Exchange)
+    → responses (xs ++ x ∷ []) ≡ responses xs ++ x.answer
+responses-then xs x = flat_map-append (λ (y : Exchange). y.answer) xs (x ∷ [])
+    ∙ ap (λ (t : List ℕ). responses xs ++ t) (append-nil x.answer)
 
 Run-then : (offered : Bool) (from between to : ℕ) (st mid end : State) (input rest left : List ℕ)
     (xs : List Exchange) (x : Exchange) → Run offered from between st input xs mid rest
-    → Cuts rest (Whole x.request x.body left) → x.request.closes ≡ false
+    → ParsesAs rest (WholeMessage x.request x.body left) → x.request.closes ≡ false
     → Step offered x.tick between to mid x.request x.body x.answer end
     → Run offered from to st input (xs ++ x ∷ []) end left
 Run-then offered from between to st mid end input rest left [] x run cuts stays step = (
   to,
   end,
   left,
-  subst (λ (i : List ℕ). Cuts i (Whole x.request x.body left)) run.2 cuts,
+  subst (λ (i : List ℕ). ParsesAs i (WholeMessage x.request x.body left)) run.2 cuts,
   stays,
   subst (λ (n : ℕ). Step offered x.tick n to st x.request x.body x.answer end) run.0
       (subst (λ (s : State). Step offered x.tick between to s x.request x.body x.answer end) run.1
@@ -122,7 +129,7 @@ Run-then offered from between to st mid end input rest left (y ∷ ys) x run cut
 -- ---- the start
 
 start_of : (offered : Bool) (n : ℕ) (c : Content) (all had : Option (List ℕ))
-    (before : Option (List (Option ℕ))) (st : State) → Stands c st
+    (before : Option (List (Option ℕ))) (st : State) → Refines c st
     → IfSome all (λ input. Going offered n n st c input (prepend_known [] all) had had before before
     0)
 start_of offered n c None had before st s = tt
@@ -132,7 +139,7 @@ start_of offered n c (Some input) had before st s =
       end = st;
       rest = input;
       run = (refl, refl, refl);
-      stands = s;
+      refines = s;
       count = refl;
       handed = handed_none before;
       written = Appends-nil had;
@@ -155,10 +162,11 @@ open_of false e = refl
 no_end : (end : End) → Some end ≡ None → ⊥
 no_end end e = cc
 
-open_next : (next : Next) → end_of next ≡ None → (request : Request) × (next ≡ Next.Message request)
+open_next : (next : NextMessage) → end_of next ≡ None → (request : Request)
+    × (next ≡ NextMessage.Message request)
     × (request.closes ≡ false)
-open_next (Next.Message request) e = (request, refl, open_of request.closes e)
-open_next (Next.Refused fault) e = absurd (no_end (Refused fault) e)
+open_next (NextMessage.Message request) e = (request, refl, open_of request.closes e)
+open_next (NextMessage.Refused fault) e = absurd (no_end (Refused fault) e)
 
 closed_of : (b : Bool) (end : End) → cond b (Some Closed) None ≡ Some end
     → (b ≡ true) × (Closed ≡ end)
@@ -170,7 +178,7 @@ some_inj a b e = cc
 
 -- with the bytes of the body read another way
 pub responds_on : (offered : Bool) (before behind : Option (List (Option ℕ))) (from to : ℕ)
-    (next : Next) (body body' text : List ℕ) (old new : Content) → body ≡ body'
+    (next : NextMessage) (body body' text : List ℕ) (old new : Content) → body ≡ body'
     → Responds offered before behind from to next body text old new
     → Responds offered before behind from to next body' text old new
 responds_on offered before behind from to next body body' text old new same responds =
@@ -180,54 +188,54 @@ module _ (offered : Bool) (from between : ℕ) (old mid : Content)
     (all left had has : Option (List ℕ)) (before untold : Option (List (Option ℕ))) (k : ℕ)
     (progress : Progress offered from between old mid all left had has before untold k) where
   -- what is told where no more was answered
-  abbrev told : List ℕ → Option (List ℕ) → Told
+  abbrev told : List ℕ → Option (List ℕ) → IoTrace
   told input unread = record {
     input = input;
     unread = unread;
-    before = before;
-    behind = untold;
-    had = had;
-    has = has;
+    ticks_before = before;
+    ticks_after = untold;
+    written_before = had;
+    written_after = has;
   }
 
   abbrev whole_of : (st : State) (input : List ℕ) (unread : Option (List ℕ))
       → Going offered from between st mid input left had has before untold k
-      → AfterWhole offered from between st mid (told input unread) k
+      → AfterExchanges offered from between st mid (told input unread) k
   whole_of st input unread g = record {
     exchanges = g.exchanges;
     end = g.end;
     rest = g.rest;
     run = g.run;
-    stands = g.stands;
+    refines = g.refines;
     count = g.count;
     handed = g.handed;
     written = g.written;
   }
 
   -- the input ended, or nothing more could be told of it
-  pub ended : (unread : Option (List ℕ)) → IfSome left (λ rest. Cuts rest Done)
-      → IfSome left (λ rest. IsAtEnd unread) → (st : State) → Stands old st
+  pub ended : (unread : Option (List ℕ)) → IfSome left (λ rest. ParsesAs rest EndOfInput)
+      → IfSome left (λ rest. IsAtEnd unread) → (st : State) → Refines old st
       → IfSome all (λ input. EndsAt Input offered from between st mid (told input unread) k)
   ended unread done end st s =
       known all _ (λ input. EndsAt Input offered from between st mid (told input unread) k)
       (λ input g. (
         whole_of st input unread g,
-        at_rest left g.rest (λ rest. Cuts rest Done) g.left_is done,
+        at_rest left g.rest (λ rest. ParsesAs rest EndOfInput) g.left_is done,
         at_rest left g.rest (λ rest. IsAtEnd unread) g.left_is end,
       )) (progress st s).1
 
-  pub failed_read : (unread : Option (List ℕ)) → IfSome left (λ rest. HasNoWhole rest unread)
-      → (st : State) → Stands old st
+  pub failed_read : (unread : Option (List ℕ)) → IfSome left (λ rest. HasNoWholeMessage rest unread)
+      → (st : State) → Refines old st
       → IfSome all (λ input. FailsAt (fault.Read k) offered from between st mid (told input unread))
   failed_read unread none st s =
       known all _ (λ input. FailsAt (fault.Read k) offered from between st mid (told input unread))
       (λ input g. (
         whole_of st input unread g,
-        at_rest left g.rest (λ rest. HasNoWhole rest unread) g.left_is none,
+        at_rest left g.rest (λ rest. HasNoWholeMessage rest unread) g.left_is none,
       )) (progress st s).1
 
   pub no_memory : (unread : Option (List ℕ)) → IfSome left (λ rest. IsReadAhead rest unread)
-      → (st : State) → Stands old st
+      → (st : State) → Refines old st
       → IfSome all (λ input. FailsAt (fault.Memory k) offered from between st mid
       (told input unread))
   no_memory unread ahead st s =
@@ -238,7 +246,7 @@ module _ (offered : Bool) (from between : ℕ) (old mid : Content)
       )) (progress st s).1
 
   -- there are more messages than can be counted
-  pub full : (unread : Option (List ℕ)) → k ≡ 18446744073709551615 → (st : State) → Stands old st
+  pub full : (unread : Option (List ℕ)) → k ≡ 18446744073709551615 → (st : State) → Refines old st
       → IfSome all (λ input. FailsAt (fault.Memory k) offered from between st mid
       (told input unread))
   full unread most st s =
@@ -247,50 +255,52 @@ module _ (offered : Bool) (from between : ℕ) (old mid : Content)
 
   -- something came, and was answered by the text: so much is left of the input, and what the buffer
   -- holds of that was read
-  module _ (to : ℕ) (new : Content) (held : Held) (unread : Option (List ℕ))
+  module _ (to : ℕ) (new : Content) (held : ReadBuffer) (unread : Option (List ℕ))
       (size : vec_len held.bytes ≡ 8192) (behind : Option (List (Option ℕ)))
       (body text : List ℕ) where
     abbrev left' : Option (List ℕ)
-    left' = input_left held unread
+    left' = remaining_input held unread
 
-    abbrev Came : Next → Type 0
-    Came next = IfSome left (λ rest. Comes rest next body left')
+    abbrev Came : NextMessage → Type 0
+    Came next = IfSome left (λ rest. IsNextMessage rest next body left')
 
-    abbrev Answered : Next → Type 0
+    abbrev Answered : NextMessage → Type 0
     Answered next = Responds offered untold behind between to next body text mid new
 
-    pub state_then : (next : Next) → Answered next → (st : State) → Stands old st → Follows st new
-    state_then (Next.Message request) responds st s =
+    pub state_then : (next : NextMessage) → Answered next → (st : State) → Refines old st
+        → RefinesReachable st new
+    state_then (NextMessage.Message request) responds st s =
         follows_on offered responds.0 between to st mid new request body text (progress st s).0
         responds.2
-    state_then (Next.Refused fault) responds st s =
-        subst (λ (c : Content). Follows st c) (sym responds.1) (progress st s).0
+    state_then (NextMessage.Refused fault) responds st s =
+        subst (λ (c : Content). RefinesReachable st c) (sym responds.1) (progress st s).0
 
     module _ (has' : Option (List ℕ)) where
       -- what is told then
-      abbrev told' : List ℕ → Told
+      abbrev told' : List ℕ → IoTrace
       told' input = record {
         input = input;
         unread = unread;
-        before = before;
-        behind = behind;
-        had = had;
-        has = has';
+        ticks_before = before;
+        ticks_after = behind;
+        written_before = had;
+        written_after = has';
       }
 
       -- the message, as it came and was answered
-      abbrev exchange : (request : Request) → Answered (Next.Message request) → Exchange
+      abbrev exchange : (request : Request) → Answered (NextMessage.Message request) → Exchange
       exchange request responds =
           record { tick = responds.0; request = request; body = body; answer = text }
 
-      going_then : (request : Request) → request.closes ≡ false → Came (Next.Message request)
-          → Answered (Next.Message request) → Appends has has' text
+      going_then : (request : Request) → request.closes ≡ false → Came (NextMessage.Message request)
+          → Answered (NextMessage.Message request) → Appends has has' text
           → (st : State) (input : List ℕ) → Going offered from between st mid input left had has
           before untold k → Going offered from to st new input left' had has' before behind (k + 1)
       going_then request stays comes responds sent st input g =
-          let c = at_rest left g.rest (λ i. Comes i (Next.Message request) body left') g.left_is
+          let c = at_rest left g.rest (λ i. IsNextMessage i (NextMessage.Message request) body
+          left') g.left_is
           comes in
-          let r = responds.2 g.end g.stands in
+          let r = responds.2 g.end g.refines in
           let x = exchange request responds in
           record {
             exchanges = g.exchanges ++ x ∷ [];
@@ -298,38 +308,39 @@ module _ (offered : Bool) (from between : ℕ) (old mid : Content)
             rest = c.0;
             run = Run-then offered from between to st g.end r.0 input g.rest c.0 g.exchanges x g.run
                 c.2 stays r.1;
-            stands = r.2;
+            refines = r.2;
             count = length-append g.exchanges (x ∷ []) ∙ ap (λ (n : ℕ). n + 1) g.count;
             handed = handed_then before untold behind g.exchanges x g.handed responds.1;
-            written = subst (Appends had has') (sym (answers-then g.exchanges x))
-                (Appends-trans had has has' (answers g.exchanges) text g.written sent);
+            written = subst (Appends had has') (sym (responses-then g.exchanges x))
+                (Appends-trans had has has' (responses g.exchanges) text g.written sent);
             left_is = c.1;
           }
 
-      on_message : (request : Request) → request.closes ≡ false → Came (Next.Message request)
-          → Answered (Next.Message request) → Appends has has' text
+      on_message : (request : Request) → request.closes ≡ false → Came (NextMessage.Message request)
+          → Answered (NextMessage.Message request) → Appends has has' text
           → Progress offered from to old new all left' had has' before behind (k + 1)
       on_message request stays comes responds sent = λ st s. (
-        state_then (Next.Message request) responds st s,
+        state_then (NextMessage.Message request) responds st s,
         known all _ (λ input. Going offered from to st new input left' had has' before behind
             (k + 1)) (going_then request stays comes responds sent st) (progress st s).1,
       )
 
-      pub went_on : (next : Next) → end_of next ≡ None → Came next → Answered next
+      pub went_on : (next : NextMessage) → end_of next ≡ None → Came next → Answered next
           → Appends has has' text → Progress offered from to old new all left' had has' before
           behind (k + 1)
       went_on next goes comes responds sent =
           let o = open_next next goes in
           on_message o.0 o.2 (subst Came o.1 comes) (subst Answered o.1 responds) sent
 
-      close_of : (request : Request) → request.closes ≡ true → Came (Next.Message request)
-          → Answered (Next.Message request) → Appends has has' text
+      close_of : (request : Request) → request.closes ≡ true → Came (NextMessage.Message request)
+          → Answered (NextMessage.Message request) → Appends has has' text
           → (st : State) (input : List ℕ) → Going offered from between st mid input left had has
           before untold k → AfterClose offered from to st new (told' input) (k + 1)
       close_of request closes comes responds sent st input g =
-          let c = at_rest left g.rest (λ i. Comes i (Next.Message request) body left') g.left_is
+          let c = at_rest left g.rest (λ i. IsNextMessage i (NextMessage.Message request) body
+          left') g.left_is
           comes in
-          let r = responds.2 g.end g.stands in
+          let r = responds.2 g.end g.refines in
           let x = exchange request responds in
           record {
             exchanges = g.exchanges;
@@ -343,15 +354,15 @@ module _ (offered : Bool) (from between : ℕ) (old mid : Content)
             closes = closes;
             end = r.0;
             step = r.1;
-            stands = r.2;
+            refines = r.2;
             count = ap (λ (n : ℕ). n + 1) g.count;
             handed = handed_then before untold behind g.exchanges x g.handed responds.1;
             read = held_ahead held unread c.0 size c.1;
-            written = Appends-trans had has has' (answers g.exchanges) text g.written sent;
+            written = Appends-trans had has has' (responses g.exchanges) text g.written sent;
           }
 
-      refusal_of : (fault : MessageFault) → Came (Next.Refused fault)
-          → IfSome left (λ rest. IsReadTo fault rest unread) → Answered (Next.Refused fault)
+      refusal_of : (fault : MessageFault) → Came (NextMessage.Refused fault)
+          → IfSome left (λ rest. IsReadTo fault rest unread) → Answered (NextMessage.Refused fault)
           → Appends has has' text
           → (st : State) (input : List ℕ) → Going offered from between st mid input left had has
           before untold k → AfterRefusal fault offered from to st new (told' input) (k + 1)
@@ -361,42 +372,44 @@ module _ (offered : Bool) (from between : ℕ) (old mid : Content)
         rest = g.rest;
         run = subst (λ (n : ℕ). Run offered from n st input g.exchanges g.end g.rest)
             (sym responds.2) g.run;
-        refused = at_rest left g.rest (λ i. Comes i (Next.Refused fault) body left') g.left_is
+        refused = at_rest left g.rest (λ i. IsNextMessage i (NextMessage.Refused fault) body left')
+            g.left_is
             comes;
-        stands = subst (λ (c : Content). Stands c g.end) (sym responds.1) g.stands;
+        refines = subst (λ (c : Content). Refines c g.end) (sym responds.1) g.refines;
         count = ap (λ (n : ℕ). n + 1) g.count;
-        handed = subst (HandsInAll before (ticks_of g.exchanges)) (sym responds.3) g.handed;
+        handed = subst (ConsumesTicks before (ticks_of g.exchanges)) (sym responds.3) g.handed;
         read = at_rest left g.rest (λ i. IsReadTo fault i unread) g.left_is reads;
-        written = Appends-trans had has has' (answers g.exchanges) (refusal fault) g.written
+        written = Appends-trans had has has' (responses g.exchanges) (refusal fault) g.written
             (subst (Appends has has') responds.0 sent);
       }
 
-      pub finished : (next : Next) (end : End) → end_of next ≡ Some end → Came next
+      pub finished : (next : NextMessage) (end : End) → end_of next ≡ Some end → Came next
           → IfSome left (λ rest. IsRead (Ok (Some next)) rest unread) → Answered next
           → Appends has has' text
-          → (st : State) → Stands old st
+          → (st : State) → Refines old st
           → IfSome all (λ input. EndsAt end offered from to st new (told' input) (k + 1))
-      finished (Next.Message request) end ends comes reads responds sent st s =
+      finished (NextMessage.Message request) end ends comes reads responds sent st s =
           let is = closed_of request.closes end ends in
           subst (λ (e : End). IfSome all (λ input. EndsAt e offered from to st new (told' input)
           (k + 1))) is.1
           (known all _ (λ input. AfterClose offered from to st new (told' input) (k + 1))
           (close_of request is.0 comes responds sent st) (progress st s).1)
-      finished (Next.Refused fault) end ends comes reads responds sent st s =
+      finished (NextMessage.Refused fault) end ends comes reads responds sent st s =
           subst (λ (e : End). IfSome all (λ input. EndsAt e offered from to st new (told' input)
           (k + 1))) (some_inj (Refused fault) end ends)
           (known all _ (λ input. AfterRefusal fault offered from to st new (told' input) (k + 1))
           (refusal_of fault comes reads responds sent st) (progress st s).1)
 
-      part_of : (next : Next) → Came next
+      part_of : (next : NextMessage) → Came next
           → IfSome left (λ rest. IsRead (Ok (Some next)) rest unread) → Answered next
           → AppendsFront has has' text
           → (st : State) (input : List ℕ) → Going offered from between st mid input left had has
-          before untold k → AfterPart offered from to st new (told' input) k
-      part_of (Next.Message request) comes reads responds sent st input g =
-          let c = at_rest left g.rest (λ i. Comes i (Next.Message request) body left') g.left_is
+          before untold k → AfterPartialResponse offered from to st new (told' input) k
+      part_of (NextMessage.Message request) comes reads responds sent st input g =
+          let c = at_rest left g.rest (λ i. IsNextMessage i (NextMessage.Message request) body
+          left') g.left_is
           comes in
-          let r = responds.2 g.end g.stands in
+          let r = responds.2 g.end g.refines in
           let x = exchange request responds in
           record {
             exchanges = g.exchanges;
@@ -409,13 +422,14 @@ module _ (offered : Bool) (from between : ℕ) (old mid : Content)
             answer = text;
             end = r.0;
             next = inl (x, c.0, c.2, held_ahead held unread c.0 size c.1, responds.1, r.1, refl);
-            stands = r.2;
+            refines = r.2;
             count = g.count;
             part = sent.0;
-            written = Appends-trans had has has' (answers g.exchanges) (take sent.0 text) g.written
+            written = Appends-trans had has has' (responses g.exchanges) (take sent.0 text)
+                g.written
                 sent.2;
           }
-      part_of (Next.Refused fault) comes reads responds sent st input g = record {
+      part_of (NextMessage.Refused fault) comes reads responds sent st input g = record {
         exchanges = g.exchanges;
         between = between;
         mid = g.end;
@@ -427,39 +441,40 @@ module _ (offered : Bool) (from between : ℕ) (old mid : Content)
         end = g.end;
         next = inr (
           fault,
-          at_rest left g.rest (λ i. Comes i (Next.Refused fault) body left') g.left_is comes,
+          at_rest left g.rest (λ i. IsNextMessage i (NextMessage.Refused fault) body left')
+              g.left_is comes,
           at_rest left g.rest (λ i. IsReadTo fault i unread) g.left_is reads,
           responds.3,
           responds.0,
           refl,
           responds.2,
         );
-        stands = subst (λ (c : Content). Stands c g.end) (sym responds.1) g.stands;
+        refines = subst (λ (c : Content). Refines c g.end) (sym responds.1) g.refines;
         count = g.count;
         part = sent.0;
-        written = Appends-trans had has has' (answers g.exchanges) (take sent.0 text) g.written
+        written = Appends-trans had has has' (responses g.exchanges) (take sent.0 text) g.written
             sent.2;
       }
 
-      pub partly : (next : Next) → Came next
+      pub partly : (next : NextMessage) → Came next
           → IfSome left (λ rest. IsRead (Ok (Some next)) rest unread) → Answered next
           → AppendsFront has has' text
-          → (st : State) → Stands old st
+          → (st : State) → Refines old st
           → IfSome all (λ input. FailsAt (fault.Write k) offered from to st new (told' input))
       partly next comes reads responds sent st s =
-          known all _ (λ input. AfterPart offered from to st new (told' input) k)
+          known all _ (λ input. AfterPartialResponse offered from to st new (told' input) k)
           (part_of next comes reads responds sent st) (progress st s).1
 
 -- no buffer was had, and nothing was read
 pub not_begun : (offered : Bool) (n : ℕ) (c : Content) (all had : Option (List ℕ))
-    (before : Option (List (Option ℕ))) (st : State) → Stands c st
+    (before : Option (List (Option ℕ))) (st : State) → Refines c st
     → IfSome all (λ input. FailsAt (fault.Memory 0) offered n n st c (record {
       input = input;
       unread = all;
-      before = before;
-      behind = before;
-      had = had;
-      has = had;
+      ticks_before = before;
+      ticks_after = before;
+      written_before = had;
+      written_after = had;
     }))
 not_begun offered n c None had before st s = tt
 not_begun offered n c (Some input) had before st s = (
@@ -468,7 +483,7 @@ not_begun offered n c (Some input) had before st s = (
     end = st;
     rest = input;
     run = (refl, refl, refl);
-    stands = s;
+    refines = s;
     count = refl;
     handed = handed_none before;
     written = Appends-nil had;

@@ -2,33 +2,34 @@
 use Rattle.std.proofs.Common.{◌≡◌, ◌⊎◌, ℕ, List, Bool, true, false, Option, Some, None, IsSomeAnd, inl, inr, ap, subst, sym, ◌∙◌}
 use Rattle.numbers.specs.declared.spid.Spid.{Spid}
 use Rattle.serde_json.specs.Data.{Data}
-use Rattle.meaning.specs.Reading.{State}
-use Rattle.meaning.specs.Refusals.{Input, Asks, Knows, Fetch, ShowVersion, Query, Ids}
-use Rattle.meaning.specs.Machine.{Reply, Refused, Known, out}
+use Rattle.model.specs.State.{State}
+use Rattle.model.specs.Refusals.{Input, QuestionFrom, Knows, Fetch, ShowVersion, Query, Ids}
+use Rattle.model.specs.Machine.{Reply, Refused, Known, out}
 use Rattle.telnp.specs.declared.fault.TelFault.{TelFault}
-use Rattle.bodies.specs.declared.fault.Failure.TheVariants.{Uri}
-use Rattle.messages.specs.declared.fault.MessageFault.{MessageFault}
-use Rattle.messages.specs.declared.message.Request.{Request}
-use Rattle.messages.specs.declared.paths.Method.{Method}
-use Rattle.messages.specs.declared.paths.Route.{Route}
-use Rattle.messages.specs.declared.paths.Route.TheVariants.{Carriers, Clock, RoutingNumbers, Codes, OldProviderCreate, NewProviderCreate, OnVersion, OnBlock, Acknowledge, Query as QueryPath, Windows as WindowsPath, Version, Number, Downloads}
-use Rattle.messages.specs.Table.{takes, among_offered}
-use Rattle.calls.specs.Calls.{Wonders, input_of}
-use Rattle.bodies.specs.Forms.{Asked, Calling, Seeking, HasForm, json_of}
-use Rattle.bodies.specs.Failures.{failure_text}
-use Rattle.bodies.specs.RefusalTexts.{refusal_text}
-use Rattle.api.specs.Step.{Step, Meets, MeetsPath, Calls, PathAsks, Answers, AnswersAdmitted, turned_away, AnswersQuery, AnswersUri, Refuses, Withholds, WithholdsTick, IsOnce, IsWithheld, ticked, routed_text}
+use Rattle.json_api.specs.declared.fault.Failure.TheVariants.{Uri}
+use Rattle.http_messages.specs.declared.fault.MessageFault.{MessageFault}
+use Rattle.http_messages.specs.declared.message.Request.{Request}
+use Rattle.http_messages.specs.declared.paths.Method.{Method}
+use Rattle.http_messages.specs.declared.paths.Route.{Route}
+use Rattle.http_messages.specs.declared.paths.Route.TheVariants.{Carriers, Clock, RoutingNumbers, Codes, OldProviderCreate, NewProviderCreate, OnVersion, OnBlock, Acknowledge, Query as QueryPath, Windows as WindowsPath, Version, Number, Downloads}
+use Rattle.http_messages.specs.Table.{allows_method, offered_route}
+use Rattle.requests.specs.Calls.{QuestionCall, input_of}
+use Rattle.json_api.specs.Forms.{ApiCall, RegisterCall, UriQuery, HasForm, json_of}
+use Rattle.json_api.specs.Failures.{failure_text}
+use Rattle.json_api.specs.RefusalTexts.{refusal_text}
+use Rattle.api.specs.Step.{Step, Dispatches, DispatchesPath, DispatchesCall, PathAsks, RespondsTo, RespondsToAdmitted, caller_refusal, RespondsToQuery, RespondsToUri, RespondsRefusal, IsUnavailable, IsTickUnavailable, IsOnce, IsUnavailableText, ticked, routed_text}
 use Rattle.telnp.specs.Answer.{Uri as TelUri}
-use Rattle.bodies.proofs.ClearLemmas.{same_form}
+use Rattle.json_api.proofs.ClearLemmas.{same_form}
 use Rattle.api.proofs.UriLemmas.{faultless, not_asked, same_fault, same_uri, same_number as same_asked_number}
 use Rattle.numbers.proofs.Small.{some_is}
 
 refuses_once : (st : State) (fault : MessageFault) (text said : List ℕ) (after later : State)
-    → Refuses st fault text after → Refuses st fault said later → IsOnce text said after later
+    → RespondsRefusal st fault text after → RespondsRefusal st fault said later
+    → IsOnce text said after later
 refuses_once st fault text said after later x y = inr (inr (x.0 ∙ sym y.0, x.1 ∙ sym y.1))
 
 withheld : (from to : ℕ) (st : State) (text : List ℕ) (after : State)
-    → Withholds from to st text after → IsWithheld text
+    → IsUnavailable from to st text after → IsUnavailableText text
 withheld from to st text after (inl x, e) = inl x.0
 withheld from to st text after (inr x, e) = inr x
 
@@ -39,26 +40,27 @@ same_number : (reply : Reply) (j k : ℕ) → reply ≡ Refused j → reply ≡ 
 same_number reply j k e f = cc
 
 uri_once : (st : State) (caller : ℕ) (uri : TelUri) (text said : List ℕ)
-    → AnswersUri st caller uri text → AnswersUri st caller uri said → text ≡ said
+    → RespondsToUri st caller uri text → RespondsToUri st caller uri said → text ≡ said
 uri_once st caller uri text said (inl x) (inl y) = x.1 ∙ sym y.1
 uri_once st caller uri text said (inl x) (inr y) = absurd (not_asked uri y.0 x.0 y.1)
 uri_once st caller uri text said (inr x) (inl y) = absurd (not_asked uri x.0 y.0 x.1)
 uri_once st caller uri text said (inr x) (inr y) =
-    x.2 ∙ ap (λ (tn : ℕ). routed_text uri (out st (Asks caller (Query tn))))
+    x.2 ∙ ap (λ (tn : ℕ). routed_text uri (out st (QuestionFrom caller (Query tn))))
     (same_asked_number uri x.0 y.0 x.1 y.1) ∙ sym y.2
 
-query_once : (st : State) (caller : ℕ) (uri text said : List ℕ) → AnswersQuery st caller uri text
-    → AnswersQuery st caller uri said → text ≡ said
+query_once : (st : State) (caller : ℕ) (uri text said : List ℕ) → RespondsToQuery st caller uri text
+    → RespondsToQuery st caller uri said → text ≡ said
 query_once st caller uri text said (inl x) (inl y) =
-    x.2 ∙ ap refusal_text (same_number (out st (Asks caller Knows)) x.0 y.0 x.1 y.1) ∙ sym y.2
+    x.2 ∙ ap refusal_text (same_number (out st (QuestionFrom caller Knows)) x.0 y.0 x.1 y.1)
+    ∙ sym y.2
 query_once st caller uri text said (inl x) (inr (inl y)) =
-    absurd (not_both (out st (Asks caller Knows)) x.0 x.1 y.0)
+    absurd (not_both (out st (QuestionFrom caller Knows)) x.0 x.1 y.0)
 query_once st caller uri text said (inl x) (inr (inr y)) =
-    absurd (not_both (out st (Asks caller Knows)) x.0 x.1 y.0)
+    absurd (not_both (out st (QuestionFrom caller Knows)) x.0 x.1 y.0)
 query_once st caller uri text said (inr (inl x)) (inl y) =
-    absurd (not_both (out st (Asks caller Knows)) y.0 y.1 x.0)
+    absurd (not_both (out st (QuestionFrom caller Knows)) y.0 y.1 x.0)
 query_once st caller uri text said (inr (inr x)) (inl y) =
-    absurd (not_both (out st (Asks caller Knows)) y.0 y.1 x.0)
+    absurd (not_both (out st (QuestionFrom caller Knows)) y.0 y.1 x.0)
 query_once st caller uri text said (inr (inl x)) (inr (inl y)) =
     x.1.2 ∙ ap (λ (fault : TelFault). failure_text (Uri fault)) (same_fault uri x.1.0 y.1.0 x.1.1
     y.1.1) ∙ sym y.1.2
@@ -68,51 +70,54 @@ query_once st caller uri text said (inr (inr x)) (inr (inl y)) =
     absurd (faultless uri x.1.0 y.1.0 x.1.1 y.1.1)
 query_once st caller uri text said (inr (inr x)) (inr (inr y)) =
     let e : x.1.0 ≡ y.1.0 = same_uri uri x.1.0 y.1.0 x.1.1 y.1.1 in
-    let moved : AnswersUri st caller y.1.0 text =
-    subst (λ (u : TelUri). AnswersUri st caller u text) e x.1.2 in
+    let moved : RespondsToUri st caller y.1.0 text =
+    subst (λ (u : TelUri). RespondsToUri st caller u text) e x.1.2 in
     uri_once st caller y.1.0 text said moved y.1.2
 
 -- a call is refused for its caller in one way, or taken in one way
 admitted_once : (st : State) (away : Option ℕ) (input : Input) (text said : List ℕ)
-    (after later : State) → AnswersAdmitted st away input text after
-    → AnswersAdmitted st away input said later → (text ≡ said) × (after ≡ later)
+    (after later : State) → RespondsToAdmitted st away input text after
+    → RespondsToAdmitted st away input said later → (text ≡ said) × (after ≡ later)
 admitted_once st (Some number) input text said after later x y = (x.0 ∙ sym y.0, x.1 ∙ sym y.1)
 admitted_once st None input text said after later x y = (x.0 ∙ sym y.0, x.1 ∙ sym y.1)
 
-answers_once : (from to from' to' : ℕ) (st : State) (caller : ℕ) (asked : Asked)
-    (text said : List ℕ) (after later : State) → Answers from to st caller asked text after
-    → Answers from' to' st caller asked said later → IsOnce text said after later
-answers_once from to from' to' st caller (Calling called) text said after later (inl x) y =
+answers_once : (from to from' to' : ℕ) (st : State) (caller : ℕ) (asked : ApiCall)
+    (text said : List ℕ) (after later : State) → RespondsTo from to st caller asked text after
+    → RespondsTo from' to' st caller asked said later → IsOnce text said after later
+answers_once from to from' to' st caller (RegisterCall called) text said after later (inl x) y =
     inl (withheld from to st text after x)
-answers_once from to from' to' st caller (Calling called) text said after later (inr x) (inl y) =
+answers_once from to from' to' st caller (RegisterCall called) text said after later (inr x)
+    (inl y) =
     inr (inl (withheld from' to' st said later y))
-answers_once from to from' to' st caller (Calling called) text said after later (inr x) (inr y) =
-    inr (inr (admitted_once st (turned_away st caller called) (input_of caller called) text said
+answers_once from to from' to' st caller (RegisterCall called) text said after later (inr x)
+    (inr y) =
+    inr (inr (admitted_once st (caller_refusal st caller called) (input_of caller called) text said
     after later x y))
-answers_once from to from' to' st caller (Seeking uri) text said after later (inl x) y =
+answers_once from to from' to' st caller (UriQuery uri) text said after later (inl x) y =
     inl (withheld from to st text after x)
-answers_once from to from' to' st caller (Seeking uri) text said after later (inr x) (inl y) =
+answers_once from to from' to' st caller (UriQuery uri) text said after later (inr x) (inl y) =
     inr (inl (withheld from' to' st said later y))
-answers_once from to from' to' st caller (Seeking uri) text said after later (inr x) (inr y) =
+answers_once from to from' to' st caller (UriQuery uri) text said after later (inr x) (inr y) =
     inr (inr (query_once st caller uri text said x.0 y.0, x.1 ∙ sym y.1))
 
-same_asked : (route : Route) (read : Option Data) (a b : Asked)
+same_asked : (route : Route) (read : Option Data) (a b : ApiCall)
     → IsSomeAnd read (λ (d : Data). HasForm route d a)
     → IsSomeAnd read (λ (d : Data). HasForm route d b) → a ≡ b
 same_asked route None a b x y = absurd x
 same_asked route (Some d) a b x y = same_form route d a b x y
 
 -- a message on a path asks one thing at most
-asks_once : (route : Route) (body : List ℕ) (a b : Asked) → PathAsks route body a
+asks_once : (route : Route) (body : List ℕ) (a b : ApiCall) → PathAsks route body a
     → PathAsks route body b → a ≡ b
 asks_once (Version number) body a b x y =
-    x.3 ∙ ap (λ (id : ℕ). Calling (Wonders (ShowVersion id))) (some_is x.0 y.0 (sym x.1 ∙ y.1))
+    x.3 ∙ ap (λ (id : ℕ). RegisterCall (QuestionCall (ShowVersion id)))
+    (some_is x.0 y.0 (sym x.1 ∙ y.1))
     ∙ sym y.3
 asks_once (Number number) body a b x y =
-    x.4 ∙ ap (λ (tn : ℕ). Calling (Wonders (Ids tn))) (some_is x.0 y.0 (sym x.1 ∙ y.1))
+    x.4 ∙ ap (λ (tn : ℕ). RegisterCall (QuestionCall (Ids tn))) (some_is x.0 y.0 (sym x.1 ∙ y.1))
     ∙ sym y.4
 asks_once (Downloads count) body a b x y =
-    x.5 ∙ ap (λ (n : ℕ). Calling (Wonders (Fetch n))) (some_is x.0 y.0 (sym x.1 ∙ y.1))
+    x.5 ∙ ap (λ (n : ℕ). RegisterCall (QuestionCall (Fetch n))) (some_is x.0 y.0 (sym x.1 ∙ y.1))
     ∙ sym y.5
 asks_once Carriers body a b x y = same_asked Carriers (json_of body) a b x y
 asks_once Clock body a b x y = same_asked Clock (json_of body) a b x y
@@ -126,9 +131,10 @@ asks_once Acknowledge body a b x y = same_asked Acknowledge (json_of body) a b x
 asks_once QueryPath body a b x y = same_asked QueryPath (json_of body) a b x y
 asks_once WindowsPath body a b x y = same_asked WindowsPath (json_of body) a b x y
 
-calls_once : (from to from' to' : ℕ) (st : State) (IsAsked : Asked → Type 0) (caller : ℕ)
-    (text said : List ℕ) (after later : State) → ((a b : Asked) → IsAsked a → IsAsked b → a ≡ b) →
-    Calls from to st IsAsked caller text after → Calls from' to' st IsAsked caller said later
+calls_once : (from to from' to' : ℕ) (st : State) (IsAsked : ApiCall → Type 0) (caller : ℕ)
+    (text said : List ℕ) (after later : State) → ((a b : ApiCall) → IsAsked a → IsAsked b → a ≡ b) →
+    DispatchesCall from to st IsAsked caller text after
+    → DispatchesCall from' to' st IsAsked caller said later
     → IsOnce text said after later
 calls_once from to from' to' st IsAsked caller text said after later one (inl x) y =
     inl (withheld from to st text after x)
@@ -145,14 +151,15 @@ calls_once from to from' to' st IsAsked caller text said after later one (inr (i
 calls_once from to from' to' st IsAsked caller text said after later one (inr (inr x))
     (inr (inr y)) =
     let e : x.0 ≡ y.0 = one x.0 y.0 x.1 y.1 in
-    let moved : Answers from to st caller y.0 text after =
-    subst (λ (a : Asked). Answers from to st caller a text after) e x.2 in
+    let moved : RespondsTo from to st caller y.0 text after =
+    subst (λ (a : ApiCall). RespondsTo from to st caller a text after) e x.2 in
     answers_once from to from' to' st caller y.0 text said after later moved y.2
 
 path_once : (from to from' to' : ℕ) (st : State) (route : Route) (has_method : Bool)
     (caller : Option Spid) (body text said : List ℕ) (after later : State) →
-    MeetsPath from to st route has_method caller body text after
-    → MeetsPath from' to' st route has_method caller body said later → IsOnce text said after later
+    DispatchesPath from to st route has_method caller body text after
+    → DispatchesPath from' to' st route has_method caller body said later
+    → IsOnce text said after later
 path_once from to from' to' st route false caller body text said after later x y =
     refuses_once st _ text said after later x y
 path_once from to from' to' st route true None body text said after later x y =
@@ -163,24 +170,27 @@ path_once from to from' to' st route true (Some caller) body text said after lat
 
 met_once : (from to from' to' : ℕ) (st : State) (route : Option Route) (method : Method)
     (caller : Option Spid) (body text said : List ℕ) (after later : State) →
-    Meets from to st route method caller body text after
-    → Meets from' to' st route method caller body said later → IsOnce text said after later
+    Dispatches from to st route method caller body text after
+    → Dispatches from' to' st route method caller body said later → IsOnce text said after later
 met_once from to from' to' st None method caller body text said after later x y =
     refuses_once st _ text said after later x y
 met_once from to from' to' st (Some route) method caller body text said after later x y =
-    path_once from to from' to' st route (takes route method) caller body text said after later x y
+    path_once from to from' to' st route (allows_method route method) caller body text said after
+    later x y
 
 tick_withheld : (from to : ℕ) (st : State) (tick : Option ℕ) (text : List ℕ) (after : State)
-    → WithholdsTick from to st tick text after → IsWithheld text
+    → IsTickUnavailable from to st tick text after → IsUnavailableText text
 tick_withheld from to st None text after x = absurd x
 tick_withheld from to st (Some minute) text after x = withheld from to st text after x
 
 -- a message may meet its end at the minute that is handed in, or after it
 step_once : (tick : Option ℕ) (from to from' to' : ℕ) (st : State) (route : Option Route)
     (method : Method) (caller : Option Spid) (body text said : List ℕ) (after later : State) →
-    WithholdsTick from to st tick text after ⊎ Meets from to (ticked st tick) route method caller
+    IsTickUnavailable from to st tick text after ⊎ Dispatches from to (ticked st tick) route method
+    caller
     body text after →
-    WithholdsTick from' to' st tick said later ⊎ Meets from' to' (ticked st tick) route method
+    IsTickUnavailable from' to' st tick said later ⊎ Dispatches from' to' (ticked st tick) route
+    method
     caller body said later → IsOnce text said after later
 step_once tick from to from' to' st route method caller body text said after later (inl x) y =
     inl (tick_withheld from to st tick text after x)
@@ -194,5 +204,5 @@ pub steps_once : (offered : Bool) (tick : Option ℕ) (from to from' to' : ℕ) 
     Step offered tick from to st request body text after
     → Step offered tick from' to' st request body said later → IsOnce text said after later
 steps_once offered tick from to from' to' st request body text said after later x y =
-    step_once tick from to from' to' st (among_offered offered request.route) request.method
+    step_once tick from to from' to' st (offered_route offered request.route) request.method
     request.caller body text said after later x.met y.met

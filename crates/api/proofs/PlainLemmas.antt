@@ -8,7 +8,7 @@ use Rattle.std.proofs.lemmas.Bool.{and_parts, false≢true}
 use Rattle.std.proofs.lemmas.Bool.Decides.{nat_tests}
 use Rattle.numbers.specs.Texts.{digits_of, lrn_text, cic_text}
 use Rattle.numbers.specs.Routings.{Routing}
-use Rattle.meaning.specs.Machine.{Closed, Opened}
+use Rattle.model.specs.Machine.{Closed, Opened}
 use Rattle.telnp.specs.Bytes.{is_digit, is_hex, is_separator, is_name_byte, is_value_byte}
 use Rattle.telnp.specs.Grammar.{cut, has_name, is_global, is_name, is_parameter, is_value, is_value_rest, is_valued, lower, parameter_from, same_name, wanted_after}
 use Rattle.telnp.specs.Answer.{Uri, added, added_carrier, added_routing, all_placed, answer_parameters, answer_text, goes_before, is_kept, kept, placed}
@@ -118,8 +118,9 @@ plain_rest wanted (b ∷ bs) h =
     at_next : (o : Option ℕ) → wanted_after wanted b ≡ o
         → option_map_or (λ next. is_value_rest next bs) o false ≡ true
         → ((next : ℕ) → is_value_rest next bs ≡ true → IsPlain bs) → IsPlain (b ∷ bs)
-    at_next None e k go = absurd (false≢true k)
-    at_next (Some next) e k go = true_both _ _ (plain_wanted wanted b next e) (go next k)
+    at_next None e k by_cases = absurd (false≢true k)
+    at_next (Some next) e k by_cases =
+        true_both _ _ (plain_wanted wanted b next e) (by_cases next k)
 
 -- ---- parameters
 
@@ -171,11 +172,11 @@ plain_kept (p ∷ parts) h = at_test (is_kept p) (plain_kept parts)
   where
     at_test : (t : Bool) → (AllPlain parts → AllPlain (kept parts))
         → AllPlain (cond t (p ∷ kept parts) (kept parts))
-    at_test true go = let (here, more) =
+    at_test true by_cases = let (here, more) =
         and_parts (list_all is_plain p) (list_all (list_all is_plain) parts) h in
-        true_both _ _ here (go more)
-    at_test false go = let (here, more) =
-        and_parts (list_all is_plain p) (list_all (list_all is_plain) parts) h in go more
+        true_both _ _ here (by_cases more)
+    at_test false by_cases = let (here, more) =
+        and_parts (list_all is_plain p) (list_all (list_all is_plain) parts) h in by_cases more
 
 plain_lists : (xs ys : List (List ℕ)) → AllPlain xs → AllPlain ys → AllPlain (xs ++ ys)
 plain_lists [] ys h k = k
@@ -208,10 +209,10 @@ plain_placed p (q ∷ more) h k = at_test (goes_before p q) (plain_placed p more
   where
     at_test : (t : Bool) → (AllPlain more → AllPlain (placed p more))
         → AllPlain (cond t (p ∷ q ∷ more) (q ∷ placed p more))
-    at_test true go = true_both _ _ h k
-    at_test false go = let (here, rest) =
+    at_test true by_cases = true_both _ _ h k
+    at_test false by_cases = let (here, rest) =
         and_parts (list_all is_plain q) (list_all (list_all is_plain) more) k in
-        true_both _ _ here (go rest)
+        true_both _ _ here (by_cases rest)
 
 plain_all_placed : (done parts : List (List ℕ)) → AllPlain done → AllPlain parts
     → AllPlain (all_placed done parts)

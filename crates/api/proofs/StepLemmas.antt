@@ -2,77 +2,80 @@
 use Rattle.std.proofs.Common.{◌≡◌, ◌≢◌, ◌⊎◌, ℕ, ◌<◌, ◌≤◌, List, [], length, take, min, Bool, Option, Some, None, Result, Ok, Err, OnOk, OnErr, IfErr, IsSomeAnd, true, false, ◌∷◌, inl, inr, refl, ap, sym, subst, ◌∙◌, arith}
 use Rattle.std.proofs.lemmas.List.{length-take}
 use Rattle.std.specs.Prelude.{◌==◌, nat_lt, if◌then◌else◌}
-use Rattle.meaning.specs.declared.refusal.Refusal.{Refusal}
-use Rattle.meaning.specs.declared.refusal.Refusal.TheVariants.{UnknownCarrier, NotAdmin, UnknownCode, CarrierTaken, CodeTaken, LrnTaken, BadLrn, InPool, WrongOld, NotFound, NotYours, Busy, WrongStatus, DuePast, DueMismatch, NotConcurred, BeforeDue, ConflictSpent, TooLate, TooEarly, Protected, Contaminated, OpenPorts, BlockTaken, NotQueued, OutOfOrder, ClockBack, Full, Storage, NoMemory}
-use Rattle.meaning.specs.RefusalNumbers.{number_of}
-use Rattle.meaning.specs.Commands.{Command, RegisterCarrier, RegisterRoutingNumber, OpenCode, OldProviderCreate, NewProviderCreate, OnVersion, Donate, Assign, Release, SetWindows}
-use Rattle.meaning.specs.Content.{Content}
-use Rattle.meaning.specs.History.{Commands, Acknowledges}
-use Rattle.meaning.specs.Reading.{State, InForce, Download, all_in_force, queue}
-use Rattle.meaning.specs.Refusals.{Input, Moment, Asks, Knows, Fetch, ShowVersion, Query, AllInForce, Waiting, Ids, refusal, tests}
-use Rattle.meaning.specs.Machine.{Reply, Refused as MachineRefused, Moved, Registered, LrnAdded, CodeOpened, Shown, Donated, Known, Fetched, Answered, Rows, Awaited, Found, WindowsSet, Answer, out, next, refused_or, reply_of, answer_of, accepted}
-use Rattle.meaning.proofs.DonatedIds.{donated_few}
-use Rattle.settle.specs.Owing.{Owes, SaysStorage}
-use Rattle.settle.specs.Reads.{HasRisen}
-use Rattle.register.specs.Answers.{Stands, AnswersAs}
-use Rattle.calls.specs.Calls.{Called, Wants, Wonders, Moves, input_of, refused_with, replied}
-use Rattle.api.specs.declared.reply.Counted.{Counted}
-use Rattle.api.specs.Counting.{IsCounted}
-use Rattle.bodies.specs.declared.fault.Failure.{Failure}
-use Rattle.bodies.specs.declared.fault.Failure.TheVariants.{Refused, Uri, Message}
-use Rattle.messages.specs.declared.fault.MessageFault.{MessageFault}
-use Rattle.messages.specs.declared.fault.MessageFault.TheVariants.{BadRequest}
+use Rattle.model.specs.declared.refusal.Refusal.{Refusal}
+use Rattle.model.specs.declared.refusal.Refusal.TheVariants.{UnknownCarrier, NotAdmin, UnknownCode, CarrierTaken, CodeTaken, LrnTaken, BadLrn, InPool, WrongOld, NotFound, NotYours, Busy, WrongStatus, DuePast, DueMismatch, NotConcurred, BeforeDue, ConflictSpent, TooLate, TooEarly, Protected, Contaminated, OpenPorts, BlockTaken, NotQueued, OutOfOrder, ClockBack, Full, Storage, NoMemory}
+use Rattle.model.specs.RefusalNumbers.{number_of}
+use Rattle.model.specs.Commands.{Command, RegisterCarrier, RegisterRoutingNumber, OpenCode, OldProviderCreate, NewProviderCreate, OnVersion, Donate, Assign, Release, SetWindows}
+use Rattle.model.specs.Content.{Content}
+use Rattle.model.specs.History.{CommandRequest, AcknowledgementRequest}
+use Rattle.model.specs.State.{State, InForce, Download, all_in_force, queue}
+use Rattle.model.specs.Refusals.{Input, ClockMoment, QuestionFrom, Knows, Fetch, ShowVersion, Query, AllInForce, Waiting, Ids, refusal, tests}
+use Rattle.model.specs.Machine.{Reply, Refused as MachineRefused, Moved, Registered, LrnAdded, CodeOpened, Shown, Donated, Known, Fetched, Answered, Rows, Awaited, Found, WindowsSet, Answer, out, next, refused_or, reply_of, answer_of, accepted}
+use Rattle.model.proofs.DonatedIds.{donated_few}
+use Rattle.settle.specs.StoreContract.{PreservesStore, ReportsStorage}
+use Rattle.settle.specs.Reads.{HasDeviceFailed}
+use Rattle.register.specs.Refinement.{Refines, SimulatesStep}
+use Rattle.requests.specs.Calls.{ModelCall, RequestCall, QuestionCall, MomentCall, input_of, refused_with, replied}
+use Rattle.api.specs.declared.reply.ReplyBounds.{ReplyBounds}
+use Rattle.api.specs.ReplyBounds.{AreReplyBounds}
+use Rattle.json_api.specs.declared.fault.Failure.{Failure}
+use Rattle.json_api.specs.declared.fault.Failure.TheVariants.{Refused, Uri, Message}
+use Rattle.http_messages.specs.declared.fault.MessageFault.{MessageFault}
+use Rattle.http_messages.specs.declared.fault.MessageFault.TheVariants.{BadRequest}
 use Rattle.telnp.specs.declared.fault.TelFault.{TelFault}
 use Rattle.telnp.specs.Answer.{Uri as TelUri}
 use Rattle.telnp.specs.Faults.{fault_of}
-use Rattle.bodies.specs.Failures.{failure_text}
-use Rattle.bodies.specs.Forms.{Asked, Calling, Seeking, HasForm, json_of}
-use Rattle.bodies.specs.RefusalTexts.{refusal_text}
-use Rattle.api.specs.Step.{Step, Meets, MeetsPath, Calls, Answers, AnswersAdmitted, AnswersCall, Admits, TurnsAway, WithholdsTick, ticked, BodyAsks, PathAsks, IsShort, Outgrows, Withholds, IsUri, AsksFor, ComesBack, AnswersQuery, Carried, Carries, success, told, reply_text, routed_text}
-use Rattle.bodies.specs.Texts.{looked_up, uri_text}
+use Rattle.json_api.specs.Failures.{failure_text}
+use Rattle.json_api.specs.Forms.{ApiCall, RegisterCall, UriQuery, HasForm, json_of}
+use Rattle.json_api.specs.RefusalTexts.{refusal_text}
+use Rattle.api.specs.Step.{Step, Dispatches, DispatchesPath, DispatchesCall, RespondsTo, RespondsToAdmitted, RespondsToCall, IsCallerAdmitted, IsCallerRefused, IsTickUnavailable, ticked, BodyAsks, PathAsks, IsShort, Outgrows, IsUnavailable, IsUri, AsksFor, IsReturnedAsIs, RespondsToQuery, IsPerformed, Performs, success, response_text, reply_text, routed_text}
+use Rattle.json_api.specs.Texts.{looked_up, uri_text}
 use Rattle.numbers.specs.declared.spid.Spid.{Spid}
 use Rattle.serde_json.specs.Data.{Data}
-use Rattle.messages.specs.declared.message.Request.{Request}
-use Rattle.messages.specs.declared.paths.Method.{Method}
-use Rattle.messages.specs.declared.paths.Route.{Route}
-use Rattle.messages.specs.declared.paths.Route.TheVariants.{Carriers, Clock, RoutingNumbers, Codes, OldProviderCreate as OldProviderPath, NewProviderCreate as NewProviderPath, OnVersion as VersionPaths, OnBlock as BlockPaths, Acknowledge, Query as QueryPath, Windows as WindowsPath, Version, Number, Downloads}
-use Rattle.messages.specs.Table.{takes, among_offered}
+use Rattle.http_messages.specs.declared.message.Request.{Request}
+use Rattle.http_messages.specs.declared.paths.Method.{Method}
+use Rattle.http_messages.specs.declared.paths.Route.{Route}
+use Rattle.http_messages.specs.declared.paths.Route.TheVariants.{Carriers, Clock, RoutingNumbers, Codes, OldProviderCreate as OldProviderPath, NewProviderCreate as NewProviderPath, OnVersion as VersionPaths, OnBlock as BlockPaths, Acknowledge, Query as QueryPath, Windows as WindowsPath, Version, Number, Downloads}
+use Rattle.http_messages.specs.Table.{allows_method, offered_route}
 use Rattle.register.proofs.Asking.Unmoved.{stays, rows_of}
-use Rattle.bodies.proofs.RefusalLemmas.{text_by_number}
+use Rattle.json_api.proofs.RefusalLemmas.{text_by_number}
 use Rattle.std.proofs.Math.Nat.{le_trans}
 use Rattle.settle.proofs.Risen.{risen-since}
 
 -- ---- the rows in force
 
 pub rows_counted : (old new : Content) (rows : List InForce)
-    → AnswersAs old new (Asks 0 AllInForce) (Some (Rows rows)) → (st : State) → Stands old st
+    → SimulatesStep old new (QuestionFrom 0 AllInForce) (Some (Rows rows)) → (st : State)
+    → Refines old st
     → length (all_in_force st) ≡ length rows
 rows_counted old new rows h st s = ap length (sym (rows_of st rows (h st s).0))
 
-pub never_refused : (st : State) (k : ℕ) → ¬ (MachineRefused k ≡ out st (Asks 0 AllInForce))
+pub never_refused : (st : State) (k : ℕ) → ¬ (MachineRefused k ≡ out st (QuestionFrom 0 AllInForce))
 unfolding out tests
 never_refused st k e = cc
 
 -- a call answers that the device fails only where the count of its failures rose
 abbrev pub BlamesRightly : (from to : ℕ) → (old : Content) → Refusal → Type 0
-BlamesRightly from to old r = (st : State) → Stands old st → r ≡ Storage → HasRisen from to
+BlamesRightly from to old r = (st : State) → Refines old st → r ≡ Storage → HasDeviceFailed from to
 
-pub blamed : {S Answers Says : Type 0} {IsUsable IsHonest : S → Type 0} {failed : S
+pub blamed : {S RespondsTo Says : Type 0} {IsUsable HasHonestDevice : S → Type 0} {failed : S
     → ℕ} {before after : S} {old : Content}
-    → Owes IsUsable IsHonest failed before after Answers (SaysStorage (IsUsable after) old Says)
+    → PreservesStore IsUsable HasHonestDevice failed before after RespondsTo
+    (ReportsStorage (IsUsable after) old Says)
     → IsUsable after
-    → (st : State) → Stands old st → Says → HasRisen (failed before) (failed after)
-blamed owed usable st stands says =
+    → (st : State) → Refines old st → Says → HasDeviceFailed (failed before) (failed after)
+blamed owed usable st refines says =
     owed.storage (record {
       usable = usable;
       st = st;
-      represents = stands.represents;
-      written = stands.written;
+      represents = refines.represents;
+      written = refines.written;
       says = says;
     })
 
 pub blames_since : (from between to : ℕ) (old mid : Content) (r : Refusal) → from ≤ between
-    → between ≤ to → ((st : State) → Stands old st → Stands mid st) → BlamesRightly between to mid r
+    → between ≤ to → ((st : State) → Refines old st → Refines mid st)
+    → BlamesRightly between to mid r
     → BlamesRightly from to old r
 blames_since from between to old mid r before behind same blames =
     λ st s e. risen-since from between to before behind (blames st (same st s) e)
@@ -114,32 +117,33 @@ kind NoMemory = inr (inl refl)
 
 -- the device or memory failed and nothing happened, or the machine refuses too
 abbrev Judged : (from to : ℕ) → Refusal → State → Input → Content → Type 0
-Judged from to r st input new = (IsShort from to r × Stands new st)
-    ⊎ ((out st input ≡ MachineRefused (number_of r)) × Stands new (next st input))
+Judged from to r st input new = (IsShort from to r × Refines new st)
+    ⊎ ((out st input ≡ MachineRefused (number_of r)) × Refines new (next st input))
 
 abbrev OfMachine : (old new : Content) → Input → ℕ → Bool → Type 0
-OfMachine old new input k b = AnswersAs old new input (if b then Some (MachineRefused k) else None)
+OfMachine old new input k b = SimulatesStep old new input (if b then Some (MachineRefused k)
+    else None)
 
 judged : (r : Refusal) (from to : ℕ) (old new : Content) (input : Input)
-    → AnswersAs old new input (refused_with (number_of r)) → BlamesRightly from to old r
-    → (st : State) → Stands old st → Judged from to r st input new
-judged r from to old new input h blames st s = go (kind r)
+    → SimulatesStep old new input (refused_with (number_of r)) → BlamesRightly from to old r
+    → (st : State) → Refines old st → Judged from to r st input new
+judged r from to old new input h blames st s = by_cases (kind r)
   where
-    go : (r ≡ Storage) ⊎ ((r ≡ NoMemory) ⊎ (nat_lt (number_of r) 29 ≡ true))
+    by_cases : (r ≡ Storage) ⊎ ((r ≡ NoMemory) ⊎ (nat_lt (number_of r) 29 ≡ true))
         → Judged from to r st input new
-    go (inl e) = inl (
+    by_cases (inl e) = inl (
       inl (e, blames st s e),
-      subst (λ (t : Refusal). AnswersAs old new input (refused_with (number_of t))) e h st s,
+      subst (λ (t : Refusal). SimulatesStep old new input (refused_with (number_of t))) e h st s,
     )
-    go (inr (inl e)) = inl (
+    by_cases (inr (inl e)) = inl (
       inr e,
-      subst (λ (t : Refusal). AnswersAs old new input (refused_with (number_of t))) e h st s,
+      subst (λ (t : Refusal). SimulatesStep old new input (refused_with (number_of t))) e h st s,
     )
-    go (inr (inr less)) = let x = subst (OfMachine old new input (number_of r)) less h st s in
+    by_cases (inr (inr less)) = let x = subst (OfMachine old new input (number_of r)) less h st s in
         inr (sym x.0, x.1)
 
 pub short_text : (r : Refusal) (from to : ℕ) → IsShort from to r
-    → ((failure_text (Refused r) ≡ refusal_text 29) × HasRisen from to)
+    → ((failure_text (Refused r) ≡ refusal_text 29) × HasDeviceFailed from to)
     ⊎ (failure_text (Refused r) ≡ refusal_text 30)
 short_text r from to (inl x) = inl (
   ap (λ (t : Refusal). failure_text (Refused t)) x.0 ∙ text_by_number Storage,
@@ -151,10 +155,10 @@ short_text r from to (inr e) =
 -- the same of the text that tells it
 abbrev Outcome : (from to : ℕ) → Refusal → State → Input → Content → Type 0
 Outcome from to r st input new =
-    ((((failure_text (Refused r) ≡ refusal_text 29) × HasRisen from to)
-    ⊎ (failure_text (Refused r) ≡ refusal_text 30)) × Stands new st)
+    ((((failure_text (Refused r) ≡ refusal_text 29) × HasDeviceFailed from to)
+    ⊎ (failure_text (Refused r) ≡ refusal_text 30)) × Refines new st)
     ⊎ ((k : ℕ) × (out st input ≡ MachineRefused k) × (failure_text (Refused r) ≡ refusal_text k)
-    × Stands new (next st input))
+    × Refines new (next st input))
 
 told_by : (r : Refusal) (from to : ℕ) (st : State) (input : Input) (new : Content)
     → Judged from to r st input new → Outcome from to r st input new
@@ -162,23 +166,23 @@ told_by r from to st input new (inl x) = inl (short_text r from to x.0, x.1)
 told_by r from to st input new (inr x) = inr (number_of r, x.0, text_by_number r, x.1)
 
 outcome : (r : Refusal) (from to : ℕ) (old new : Content) (input : Input)
-    → AnswersAs old new input (refused_with (number_of r)) → BlamesRightly from to old r
-    → (st : State) → Stands old st → Outcome from to r st input new
+    → SimulatesStep old new input (refused_with (number_of r)) → BlamesRightly from to old r
+    → (st : State) → Refines old st → Outcome from to r st input new
 outcome r from to old new input h blames st s =
     told_by r from to st input new (judged r from to old new input h blames st s)
 
 -- ---- the rows in force
 
 rows_fail : (r : Refusal) (from to : ℕ) (st : State) (new : Content)
-    → Judged from to r st (Asks 0 AllInForce) new → IsShort from to r
+    → Judged from to r st (QuestionFrom 0 AllInForce) new → IsShort from to r
 rows_fail r from to st new (inl x) = x.0
 rows_fail r from to st new (inr x) = absurd (never_refused st (number_of r) (sym x.0))
 
 pub rows_short : (r : Refusal) (from to : ℕ) (old new : Content)
-    → AnswersAs old new (Asks 0 AllInForce) (refused_with (number_of r))
-    → BlamesRightly from to old r → (st : State) → Stands old st → IsShort from to r
+    → SimulatesStep old new (QuestionFrom 0 AllInForce) (refused_with (number_of r))
+    → BlamesRightly from to old r → (st : State) → Refines old st → IsShort from to r
 rows_short r from to old new h blames st s =
-    rows_fail r from to st new (judged r from to old new (Asks 0 AllInForce) h blames st s)
+    rows_fail r from to st new (judged r from to old new (QuestionFrom 0 AllInForce) h blames st s)
 
 -- ---- a registration
 
@@ -205,30 +209,33 @@ same_registration st None new caller (Assign block holder lrn cic) provider rows
     cc in absurd x
 same_registration st None new caller (Release block) provider rows e = let x : ⊥ = cc in absurd x
 
-abbrev IsRegistration : State → Called → (spid : ℕ) → List InForce → Type 0
-IsRegistration st called spid rows = (called ≡ Wants (Commands (RegisterCarrier spid)))
+abbrev IsRegistration : State → ModelCall → (spid : ℕ) → List InForce → Type 0
+IsRegistration st called spid rows = (called ≡ RequestCall (CommandRequest (RegisterCarrier spid)))
     × (rows ≡ all_in_force st)
 
-registered_by : (st : State) (r : Option ℕ) (new : State) (caller : ℕ) (called : Called) (spid : ℕ)
+registered_by : (st : State) (r : Option ℕ) (new : State) (caller : ℕ) (called : ModelCall)
+    (spid : ℕ)
     (rows : List InForce)
     → Registered spid rows ≡ refused_or r (answer_of st new (input_of caller called))
     → IsRegistration st called spid rows
 registered_by st (Some k) new caller called spid rows e = let x : ⊥ = cc in absurd x
-registered_by st None new caller (Wants (Commands c)) spid rows e =
+registered_by st None new caller (RequestCall (CommandRequest c)) spid rows e =
     let found = same_registration st None new caller c spid rows e in
-    (ap (λ (command : Command). Wants (Commands command)) found.0, found.1)
-registered_by st None new caller (Wants (Acknowledges id attempt)) spid rows e = let x : ⊥ = cc in
+    (ap (λ (command : Command). RequestCall (CommandRequest command)) found.0, found.1)
+registered_by st None new caller (RequestCall (AcknowledgementRequest id attempt)) spid rows e =
+    let x : ⊥ = cc in
     absurd x
-registered_by st None new caller (Wonders Knows) spid rows e = let x : ⊥ = cc in absurd x
-registered_by st None new caller (Wonders (Fetch n)) spid rows e = let x : ⊥ = cc in absurd x
-registered_by st None new caller (Wonders (ShowVersion id)) spid rows e = let x : ⊥ = cc in absurd x
-registered_by st None new caller (Wonders (Query tn)) spid rows e = let x : ⊥ = cc in absurd x
-registered_by st None new caller (Wonders AllInForce) spid rows e = let x : ⊥ = cc in absurd x
-registered_by st None new caller (Wonders Waiting) spid rows e = let x : ⊥ = cc in absurd x
-registered_by st None new caller (Wonders (Ids tn)) spid rows e = let x : ⊥ = cc in absurd x
-registered_by st None new caller (Moves minute) spid rows e = let x : ⊥ = cc in absurd x
+registered_by st None new caller (QuestionCall Knows) spid rows e = let x : ⊥ = cc in absurd x
+registered_by st None new caller (QuestionCall (Fetch n)) spid rows e = let x : ⊥ = cc in absurd x
+registered_by st None new caller (QuestionCall (ShowVersion id)) spid rows e = let x : ⊥ = cc in
+    absurd x
+registered_by st None new caller (QuestionCall (Query tn)) spid rows e = let x : ⊥ = cc in absurd x
+registered_by st None new caller (QuestionCall AllInForce) spid rows e = let x : ⊥ = cc in absurd x
+registered_by st None new caller (QuestionCall Waiting) spid rows e = let x : ⊥ = cc in absurd x
+registered_by st None new caller (QuestionCall (Ids tn)) spid rows e = let x : ⊥ = cc in absurd x
+registered_by st None new caller (MomentCall minute) spid rows e = let x : ⊥ = cc in absurd x
 
-registered_of : (st : State) (caller : ℕ) (called : Called) (spid : ℕ) (rows : List InForce)
+registered_of : (st : State) (caller : ℕ) (called : ModelCall) (spid : ℕ) (rows : List InForce)
     → Registered spid rows ≡ out st (input_of caller called) → IsRegistration st called spid rows
 unfolding out
 registered_of st caller called spid rows e =
@@ -254,8 +261,8 @@ no_download st None new caller (Assign block holder lrn cic) downloads e = cc
 no_download st None new caller (Release block) downloads e = cc
 
 -- so many at most were asked for
-abbrev IsFetch : Called → List Download → Type 0
-IsFetch called downloads = (n : ℕ) × (called ≡ Wonders (Fetch n)) × (length downloads ≤ n)
+abbrev IsFetch : ModelCall → List Download → Type 0
+IsFetch called downloads = (n : ℕ) × (called ≡ QuestionCall (Fetch n)) × (length downloads ≤ n)
 
 taken_at_most : (n : ℕ) (queued downloads : List Download)
     → Fetched downloads ≡ Fetched (take n queued) → length downloads ≤ n
@@ -264,26 +271,28 @@ taken_at_most n queued downloads e =
     let long : length downloads ≡ min n (length queued) = ap length same ∙ length-take n queued in
     omega (arith, long)
 
-fetched_by : (st : State) (r : Option ℕ) (new : State) (caller : ℕ) (called : Called)
+fetched_by : (st : State) (r : Option ℕ) (new : State) (caller : ℕ) (called : ModelCall)
     (downloads : List Download)
     → Fetched downloads ≡ refused_or r (answer_of st new (input_of caller called))
     → IsFetch called downloads
 fetched_by st (Some k) new caller called downloads e = let x : ⊥ = cc in absurd x
-fetched_by st None new caller (Wants (Commands c)) downloads e =
+fetched_by st None new caller (RequestCall (CommandRequest c)) downloads e =
     absurd (no_download st None new caller c downloads e)
-fetched_by st None new caller (Wants (Acknowledges id attempt)) downloads e = let x : ⊥ = cc in
+fetched_by st None new caller (RequestCall (AcknowledgementRequest id attempt)) downloads e =
+    let x : ⊥ = cc in
     absurd x
-fetched_by st None new caller (Wonders Knows) downloads e = let x : ⊥ = cc in absurd x
-fetched_by st None new caller (Wonders (Fetch n)) downloads e =
+fetched_by st None new caller (QuestionCall Knows) downloads e = let x : ⊥ = cc in absurd x
+fetched_by st None new caller (QuestionCall (Fetch n)) downloads e =
     (n, refl, taken_at_most n (queue st caller) downloads e)
-fetched_by st None new caller (Wonders (ShowVersion id)) downloads e = let x : ⊥ = cc in absurd x
-fetched_by st None new caller (Wonders (Query tn)) downloads e = let x : ⊥ = cc in absurd x
-fetched_by st None new caller (Wonders AllInForce) downloads e = let x : ⊥ = cc in absurd x
-fetched_by st None new caller (Wonders Waiting) downloads e = let x : ⊥ = cc in absurd x
-fetched_by st None new caller (Wonders (Ids tn)) downloads e = let x : ⊥ = cc in absurd x
-fetched_by st None new caller (Moves minute) downloads e = let x : ⊥ = cc in absurd x
+fetched_by st None new caller (QuestionCall (ShowVersion id)) downloads e = let x : ⊥ = cc in
+    absurd x
+fetched_by st None new caller (QuestionCall (Query tn)) downloads e = let x : ⊥ = cc in absurd x
+fetched_by st None new caller (QuestionCall AllInForce) downloads e = let x : ⊥ = cc in absurd x
+fetched_by st None new caller (QuestionCall Waiting) downloads e = let x : ⊥ = cc in absurd x
+fetched_by st None new caller (QuestionCall (Ids tn)) downloads e = let x : ⊥ = cc in absurd x
+fetched_by st None new caller (MomentCall minute) downloads e = let x : ⊥ = cc in absurd x
 
-fetched_of : (st : State) (caller : ℕ) (called : Called) (downloads : List Download)
+fetched_of : (st : State) (caller : ℕ) (called : ModelCall) (downloads : List Download)
     → Fetched downloads ≡ out st (input_of caller called) → IsFetch called downloads
 unfolding out
 fetched_of st caller called downloads e =
@@ -293,13 +302,13 @@ fetched_of st caller called downloads e =
 -- ---- a donation
 
 -- a donation was asked for
-abbrev IsDonation : Called → Type 0
+abbrev IsDonation : ModelCall → Type 0
 IsDonation called = (block : ℕ) × (used : List ℕ) × (lrn : ℕ) × (cic : Option ℕ)
-    × (called ≡ Wants (Commands (Donate block used lrn cic)))
+    × (called ≡ RequestCall (CommandRequest (Donate block used lrn cic)))
 
 same_donation : (st : State) (r : Option ℕ) (new : State) (caller : ℕ) (c : Command) (b : ℕ)
     (ids : List ℕ) → Donated b ids ≡ refused_or r (reply_of st new caller c)
-    → IsDonation (Wants (Commands c))
+    → IsDonation (RequestCall (CommandRequest c))
 same_donation st (Some k) new caller c b ids e = let x : ⊥ = cc in absurd x
 same_donation st None new caller (RegisterCarrier spid) b ids e = let x : ⊥ = cc in absurd x
 same_donation st None new caller (RegisterRoutingNumber lrn) b ids e = let x : ⊥ = cc in absurd x
@@ -314,23 +323,24 @@ same_donation st None new caller (Donate block used lrn cic) b ids e = (block, u
 same_donation st None new caller (Assign block holder lrn cic) b ids e = let x : ⊥ = cc in absurd x
 same_donation st None new caller (Release block) b ids e = let x : ⊥ = cc in absurd x
 
-donated_by : (st : State) (r : Option ℕ) (new : State) (caller : ℕ) (called : Called) (b : ℕ)
+donated_by : (st : State) (r : Option ℕ) (new : State) (caller : ℕ) (called : ModelCall) (b : ℕ)
     (ids : List ℕ) → Donated b ids ≡ refused_or r (answer_of st new (input_of caller called))
     → IsDonation called
 donated_by st (Some k) new caller called b ids e = let x : ⊥ = cc in absurd x
-donated_by st None new caller (Wants (Commands c)) b ids e =
+donated_by st None new caller (RequestCall (CommandRequest c)) b ids e =
     same_donation st None new caller c b ids e
-donated_by st None new caller (Wants (Acknowledges id attempt)) b ids e = let x : ⊥ = cc in absurd x
-donated_by st None new caller (Wonders Knows) b ids e = let x : ⊥ = cc in absurd x
-donated_by st None new caller (Wonders (Fetch n)) b ids e = let x : ⊥ = cc in absurd x
-donated_by st None new caller (Wonders (ShowVersion id)) b ids e = let x : ⊥ = cc in absurd x
-donated_by st None new caller (Wonders (Query tn)) b ids e = let x : ⊥ = cc in absurd x
-donated_by st None new caller (Wonders AllInForce) b ids e = let x : ⊥ = cc in absurd x
-donated_by st None new caller (Wonders Waiting) b ids e = let x : ⊥ = cc in absurd x
-donated_by st None new caller (Wonders (Ids tn)) b ids e = let x : ⊥ = cc in absurd x
-donated_by st None new caller (Moves minute) b ids e = let x : ⊥ = cc in absurd x
+donated_by st None new caller (RequestCall (AcknowledgementRequest id attempt)) b ids e =
+    let x : ⊥ = cc in absurd x
+donated_by st None new caller (QuestionCall Knows) b ids e = let x : ⊥ = cc in absurd x
+donated_by st None new caller (QuestionCall (Fetch n)) b ids e = let x : ⊥ = cc in absurd x
+donated_by st None new caller (QuestionCall (ShowVersion id)) b ids e = let x : ⊥ = cc in absurd x
+donated_by st None new caller (QuestionCall (Query tn)) b ids e = let x : ⊥ = cc in absurd x
+donated_by st None new caller (QuestionCall AllInForce) b ids e = let x : ⊥ = cc in absurd x
+donated_by st None new caller (QuestionCall Waiting) b ids e = let x : ⊥ = cc in absurd x
+donated_by st None new caller (QuestionCall (Ids tn)) b ids e = let x : ⊥ = cc in absurd x
+donated_by st None new caller (MomentCall minute) b ids e = let x : ⊥ = cc in absurd x
 
-donated_of : (st : State) (caller : ℕ) (called : Called) (b : ℕ) (ids : List ℕ)
+donated_of : (st : State) (caller : ℕ) (called : ModelCall) (b : ℕ) (ids : List ℕ)
     → Donated b ids ≡ out st (input_of caller called) → IsDonation called
 unfolding out
 donated_of st caller called b ids e =
@@ -338,16 +348,16 @@ donated_of st caller called b ids e =
     caller called b ids e
 
 -- it has so many ids at most
-few_donated : (st : State) (caller : ℕ) (called : Called) (b : ℕ) (ids : List ℕ)
+few_donated : (st : State) (caller : ℕ) (called : ModelCall) (b : ℕ) (ids : List ℕ)
     → Donated b ids ≡ out st (input_of caller called) → IsDonation called → length ids ≤ 100
 few_donated st caller called b ids e is =
     donated_few st caller is.0 is.1 is.2 is.3 b ids
-    (e ∙ ap (λ (k : Called). out st (input_of caller k)) is.4)
+    (e ∙ ap (λ (k : ModelCall). out st (input_of caller k)) is.4)
 
 -- ---- what was counted
 
-not_outgrown : (st : State) (caller : ℕ) (c : Called) (reply : Reply) (counted : Counted)
-    → reply ≡ out st (input_of caller c) → IsCounted st c counted → ¬ (Outgrows counted reply)
+not_outgrown : (st : State) (caller : ℕ) (c : ModelCall) (reply : Reply) (counted : ReplyBounds)
+    → reply ≡ out st (input_of caller c) → AreReplyBounds st c counted → ¬ (Outgrows counted reply)
 not_outgrown st caller c (Registered spid rows) counted e is x =
     let found = registered_of st caller c spid rows e in
     let long : length rows ≡ length (all_in_force st) = ap length found.1 in
@@ -382,41 +392,42 @@ not_outgrown st caller c (WindowsSet now number) counted e is x = x
 
 -- a caller that may not make the call
 pub away_carried : (r : Refusal) (from to : ℕ) (new : Content) (st : State) (caller : ℕ)
-    (called : Called) → Stands new st → TurnsAway from to st caller called r →
-    Carried from to new st caller (Calling called) (failure_text (Refused r))
+    (called : ModelCall) → Refines new st → IsCallerRefused from to st caller called r →
+    IsPerformed from to new st caller (RegisterCall called) (failure_text (Refused r))
 away_carried r from to new st caller called s (inl short) =
     (st, inl (short_text r from to short, refl), s)
 away_carried r from to new st caller called s (inr e) = (
   st,
-  inr (subst (λ (o : Option ℕ). AnswersAdmitted st o (input_of caller called)
+  inr (subst (λ (o : Option ℕ). RespondsToAdmitted st o (input_of caller called)
       (failure_text (Refused r)) st) (sym e) (text_by_number r, refl)),
   s,
 )
 
 -- what is told of a refusal
 pub refused_as : {A : Type 0} (from to : ℕ) (new : Content) (st : State) (caller : ℕ)
-    (asked : Asked) (result : Result A Failure) (body : List ℕ) (r : Refusal)
+    (asked : ApiCall) (result : Result A Failure) (body : List ℕ) (r : Refusal)
     → result ≡ Err (Refused r) →
-    Carried from to new st caller asked (failure_text (Refused r))
-    → Carried from to new st caller asked (told result body)
+    IsPerformed from to new st caller asked (failure_text (Refused r))
+    → IsPerformed from to new st caller asked (response_text result body)
 refused_as from to new st caller asked result body r e x =
-    subst (λ (o : Result _ Failure). Carried from to new st caller asked (told o body)) (sym e) x
+    subst (λ (o : Result _ Failure). IsPerformed from to new st caller asked (response_text o body))
+    (sym e) x
 
-module _ (from to : ℕ) (new : Content) (st : State) (caller : ℕ) (called : Called) where
+module _ (from to : ℕ) (new : Content) (st : State) (caller : ℕ) (called : ModelCall) where
   -- no room for what it answers
-  pub short_carried : (r : Refusal) → Stands new st → IsShort from to r
-      → Carried from to new st caller (Calling called) (failure_text (Refused r))
+  pub short_carried : (r : Refusal) → Refines new st → IsShort from to r
+      → IsPerformed from to new st caller (RegisterCall called) (failure_text (Refused r))
   short_carried r s short = (st, inl (short_text r from to short, refl), s)
 
-  module _ (admits : Admits st caller called) where
+  module _ (admits : IsCallerAdmitted st caller called) where
     taken : (text : List ℕ) → text ≡ reply_text (out st (input_of caller called))
-        → AnswersCall st caller called text (next st (input_of caller called))
+        → RespondsToCall st caller called text (next st (input_of caller called))
     taken text e =
-        subst (λ (o : Option ℕ). AnswersAdmitted st o (input_of caller called) text
+        subst (λ (o : Option ℕ). RespondsToAdmitted st o (input_of caller called) text
         (next st (input_of caller called))) (sym admits) (e, refl)
 
     refused_by : (r : Refusal) → Outcome from to r st (input_of caller called) new
-        → Carried from to new st caller (Calling called) (failure_text (Refused r))
+        → IsPerformed from to new st caller (RegisterCall called) (failure_text (Refused r))
     refused_by r (inl x) = (st, inl (x.0, refl), x.1)
     refused_by r (inr x) = (
       next st (input_of caller called),
@@ -426,18 +437,19 @@ module _ (from to : ℕ) (new : Content) (st : State) (caller : ℕ) (called : C
 
     -- what the register refuses
     pub refused_carried : (r : Refusal) (mid : Content)
-        → AnswersAs mid new (input_of caller called) (refused_with (number_of r))
-        → BlamesRightly from to mid r → Stands mid st →
-        Carried from to new st caller (Calling called) (failure_text (Refused r))
+        → SimulatesStep mid new (input_of caller called) (refused_with (number_of r))
+        → BlamesRightly from to mid r → Refines mid st →
+        IsPerformed from to new st caller (RegisterCall called) (failure_text (Refused r))
     refused_carried r mid h blames s =
         refused_by r (outcome r from to mid new (input_of caller called) h blames st s)
 
     -- and what it answers
-    pub reply_carried : {A : Type 0} (mid : Content) (reply : Reply) (counted : Counted)
-        (result : Result A Failure) (body : List ℕ) → Stands mid st → IsCounted st called counted →
-        AnswersAs mid new (input_of caller called) (Some reply)
+    pub reply_carried : {A : Type 0} (mid : Content) (reply : Reply) (counted : ReplyBounds)
+        (result : Result A Failure) (body : List ℕ) → Refines mid st
+        → AreReplyBounds st called counted →
+        SimulatesStep mid new (input_of caller called) (Some reply)
         → OnOk result (success body ≡ reply_text reply) → OnErr result (Outgrows counted reply) →
-        Carried from to new st caller (Calling called) (told result body)
+        IsPerformed from to new st caller (RegisterCall called) (response_text result body)
     reply_carried mid reply counted (Ok done) body s is h text more = (
       next st (input_of caller called),
       inr (taken (success body) (text ∙ ap reply_text (h st s).0)),
@@ -456,41 +468,46 @@ refused_for : (o : Option ℕ) (k : ℕ) → refused_or o Known ≡ MachineRefus
 refused_for None k e = let x : ⊥ = cc in absurd x
 refused_for (Some n) k e = cc
 
-pub known_admitted : (st : State) (caller : ℕ) → Known ≡ out st (Asks caller Knows)
-    → refusal st (Asks caller Knows) ≡ None
+pub known_admitted : (st : State) (caller : ℕ) → Known ≡ out st (QuestionFrom caller Knows)
+    → refusal st (QuestionFrom caller Knows) ≡ None
 unfolding out
-known_admitted st caller e = known_by (refusal st (Asks caller Knows)) e
+known_admitted st caller e = known_by (refusal st (QuestionFrom caller Knows)) e
 
-unknown_refused : (st : State) (caller k : ℕ) → out st (Asks caller Knows) ≡ MachineRefused k
-    → refusal st (Asks caller Knows) ≡ Some k
+unknown_refused : (st : State) (caller k : ℕ) → out st (QuestionFrom caller Knows) ≡ MachineRefused
+    k
+    → refusal st (QuestionFrom caller Knows) ≡ Some k
 unfolding out
-unknown_refused st caller k e = refused_for (refusal st (Asks caller Knows)) k e
+unknown_refused st caller k e = refused_for (refusal st (QuestionFrom caller Knows)) k e
 
 unknown_by : (r : Refusal) (from to : ℕ) (st : State) (caller tn : ℕ) (new : Content)
-    → Judged from to r st (Asks caller Knows) new → TurnsAway from to st caller (Wonders (Ids tn)) r
+    → Judged from to r st (QuestionFrom caller Knows) new
+    → IsCallerRefused from to st caller (QuestionCall (Ids tn)) r
 unknown_by r from to st caller tn new (inl x) = inl x.0
 unknown_by r from to st caller tn new (inr x) = inr (unknown_refused st caller (number_of r) x.0)
 
 pub unknown_turned_away : (r : Refusal) (from to : ℕ) (old new : Content) (caller tn : ℕ)
-    → AnswersAs old new (Asks caller Knows) (refused_with (number_of r))
+    → SimulatesStep old new (QuestionFrom caller Knows) (refused_with (number_of r))
     → BlamesRightly from to old r →
-    (st : State) → Stands old st → TurnsAway from to st caller (Wonders (Ids tn)) r
+    (st : State) → Refines old st → IsCallerRefused from to st caller (QuestionCall (Ids tn)) r
 unknown_turned_away r from to old new caller tn h blames st s =
-    unknown_by r from to st caller tn new (judged r from to old new (Asks caller Knows) h blames st
+    unknown_by r from to st caller tn new (judged r from to old new (QuestionFrom caller Knows) h
+    blames st
     s)
 
 -- by what the register answers
 pub known_or_not : (U : Type 0) (result : Result Unit Refusal) (old new : Content) (caller tn : ℕ)
-    → (U → AnswersAs old new (Asks caller Knows) (replied (λ done. Known) result)) →
-    OnOk result (U → (st : State) → Stands old st → Admits st caller (Wonders (Ids tn)))
+    → (U → SimulatesStep old new (QuestionFrom caller Knows) (replied (λ done. Known) result)) →
+    OnOk result (U → (st : State) → Refines old st
+    → IsCallerAdmitted st caller (QuestionCall (Ids tn)))
 known_or_not U (Ok done) old new caller tn h = λ u st s. known_admitted st caller (h u st s).0
 known_or_not U (Err r) old new caller tn h = tt
 
 pub away_or_not : (U : Type 0) (result : Result Unit Refusal) (from to : ℕ) (old new : Content)
-    (caller tn : ℕ) → (U → AnswersAs old new (Asks caller Knows) (replied (λ done. Known) result)) →
-    (U → (st : State) → Stands old st → result ≡ Err Storage → HasRisen from to)
-    → IfErr result (λ r. U → (st : State) → Stands old st
-    → TurnsAway from to st caller (Wonders (Ids tn)) r)
+    (caller tn : ℕ)
+    → (U → SimulatesStep old new (QuestionFrom caller Knows) (replied (λ done. Known) result)) →
+    (U → (st : State) → Refines old st → result ≡ Err Storage → HasDeviceFailed from to)
+    → IfErr result (λ r. U → (st : State) → Refines old st
+    → IsCallerRefused from to st caller (QuestionCall (Ids tn)) r)
 away_or_not U (Ok done) from to old new caller tn h blames = tt
 away_or_not U (Err r) from to old new caller tn h blames =
     λ u st s. unknown_turned_away r from to old new caller tn (h u)
@@ -504,24 +521,26 @@ only_if b = if b then None else Some 2
 -- ---- queries
 
 query_known : (r : Refusal) (from to : ℕ) (st : State) (caller : ℕ) (uri : List ℕ) (new : Content)
-    → Outcome from to r st (Asks caller Knows) new →
-    (after : State) × (Withholds from to st (failure_text (Refused r)) after
-    ⊎ (AnswersQuery st caller uri (failure_text (Refused r)) × (after ≡ st))) × Stands new after
+    → Outcome from to r st (QuestionFrom caller Knows) new →
+    (after : State) × (IsUnavailable from to st (failure_text (Refused r)) after
+    ⊎ (RespondsToQuery st caller uri (failure_text (Refused r)) × (after ≡ st))) × Refines new after
 query_known r from to st caller uri new (inl x) = (st, inl (x.0, refl), x.1)
 query_known r from to st caller uri new (inr x) =
     (st, inr (inl (x.0, x.1, x.2), refl), stays new st caller Knows x.3)
 
 pub unknown_carried : (r : Refusal) (from to : ℕ) (old new : Content) (caller : ℕ) (uri : List ℕ)
-    → AnswersAs old new (Asks caller Knows) (refused_with (number_of r))
+    → SimulatesStep old new (QuestionFrom caller Knows) (refused_with (number_of r))
     → BlamesRightly from to old r
-    → Carries from to old new caller (Seeking uri) (failure_text (Refused r))
+    → Performs from to old new caller (UriQuery uri) (failure_text (Refused r))
 unknown_carried r from to old new caller uri h blames =
-    λ st s. query_known r from to st caller uri new (outcome r from to old new (Asks caller Knows) h
+    λ st s. query_known r from to st caller uri new
+    (outcome r from to old new (QuestionFrom caller Knows) h
     blames st s)
 
 pub faulty_carried : (fault : TelFault) (from to : ℕ) (old new : Content) (caller : ℕ)
-    (uri : List ℕ) → AnswersAs old new (Asks caller Knows) (Some Known) → fault_of uri ≡ Some fault
-    → Carries from to old new caller (Seeking uri) (failure_text (Uri fault))
+    (uri : List ℕ) → SimulatesStep old new (QuestionFrom caller Knows) (Some Known)
+    → fault_of uri ≡ Some fault
+    → Performs from to old new caller (UriQuery uri) (failure_text (Uri fault))
 faulty_carried fault from to old new caller uri h e = λ st s. (
   st,
   inr (inr (inl (sym (h st s).0, (fault, e, refl))), refl),
@@ -529,10 +548,11 @@ faulty_carried fault from to old new caller uri h e = λ st s. (
 )
 
 query_asked : (r : Refusal) (from to : ℕ) (st : State) (caller : ℕ) (uri : List ℕ) (read : TelUri)
-    (tn : ℕ) (new : Content) → IsUri uri read → AsksFor read tn → out st (Asks caller Knows) ≡ Known
-    → Outcome from to r st (Asks caller (Query tn)) new →
-    (after : State) × (Withholds from to st (failure_text (Refused r)) after
-    ⊎ (AnswersQuery st caller uri (failure_text (Refused r)) × (after ≡ st))) × Stands new after
+    (tn : ℕ) (new : Content) → IsUri uri read → AsksFor read tn
+    → out st (QuestionFrom caller Knows) ≡ Known
+    → Outcome from to r st (QuestionFrom caller (Query tn)) new →
+    (after : State) × (IsUnavailable from to st (failure_text (Refused r)) after
+    ⊎ (RespondsToQuery st caller uri (failure_text (Refused r)) × (after ≡ st))) × Refines new after
 query_asked r from to st caller uri read tn new parts asks known (inl x) =
     (st, inl (x.0, refl), x.1)
 query_asked r from to st caller uri read tn new parts asks known (inr x) = (
@@ -546,42 +566,45 @@ query_asked r from to st caller uri read tn new parts asks known (inr x) = (
 
 pub refused_query_carried : (r : Refusal) (from between to : ℕ) (old mid new : Content) (caller : ℕ)
     (uri : List ℕ) (read : TelUri) (tn : ℕ) → from ≤ between → between ≤ to → IsUri uri read
-    → AsksFor read tn → AnswersAs old mid (Asks caller Knows) (Some Known) →
-    AnswersAs mid new (Asks caller (Query tn)) (refused_with (number_of r))
+    → AsksFor read tn → SimulatesStep old mid (QuestionFrom caller Knows) (Some Known) →
+    SimulatesStep mid new (QuestionFrom caller (Query tn)) (refused_with (number_of r))
     → BlamesRightly between to mid r
-    → Carries from to old new caller (Seeking uri) (failure_text (Refused r))
+    → Performs from to old new caller (UriQuery uri) (failure_text (Refused r))
 refused_query_carried r from between to old mid new caller uri read tn before behind parts asks h k
     blames = λ st s.
     query_asked r from to st caller uri read tn new parts asks (sym (h st s).0)
-    (outcome r from to mid new (Asks caller (Query tn)) k (blames_since from between to mid mid r
+    (outcome r from to mid new (QuestionFrom caller (Query tn)) k (blames_since from between to mid
+    mid r
     before behind (λ x y. y) blames) st (stays mid st caller Knows (h st s).1))
 
 -- the body was written, or memory was wanting
 told_or_short : {A : Type 0} (result : Result A Failure) (body wanted : List ℕ)
     → OnOk result (body ≡ wanted) → IfErr result (λ failure. failure ≡ Refused NoMemory)
-    → (told result body ≡ success wanted) ⊎ (told result body ≡ refusal_text 30)
+    → (response_text result body ≡ success wanted) ⊎ (response_text result body ≡ refusal_text 30)
 told_or_short (Ok done) body wanted same short = inl (ap success same)
 told_or_short (Err failure) body wanted same short =
     inr (ap failure_text short ∙ text_by_number NoMemory)
 
 answered_or_short : (from to : ℕ) (st : State) (caller : ℕ) (uri text said : List ℕ) (new : Content)
-    → AnswersQuery st caller uri said → Stands new st → (text ≡ said) ⊎ (text ≡ refusal_text 30) →
-    (after : State) × (Withholds from to st text after ⊎ (AnswersQuery st caller uri text
-    × (after ≡ st))) × Stands new after
+    → RespondsToQuery st caller uri said → Refines new st → (text ≡ said) ⊎ (text ≡ refusal_text 30)
+    →
+    (after : State) × (IsUnavailable from to st text after ⊎ (RespondsToQuery st caller uri text
+    × (after ≡ st))) × Refines new after
 answered_or_short from to st caller uri text said new h s (inl e) = (
   st,
-  inr (subst (λ (t : List ℕ). AnswersQuery st caller uri t) (sym e) h, refl),
+  inr (subst (λ (t : List ℕ). RespondsToQuery st caller uri t) (sym e) h, refl),
   s,
 )
 answered_or_short from to st caller uri text said new h s (inr e) = (st, inl (inr e, refl), s)
 
 pub unasked_carried : {A : Type 0} (from to : ℕ) (old new : Content) (caller : ℕ) (uri : List ℕ)
-    (read : TelUri) (result : Result A Failure) (body : List ℕ) → IsUri uri read → ComesBack read
-    → AnswersAs old new (Asks caller Knows) (Some Known) →
+    (read : TelUri) (result : Result A Failure) (body : List ℕ) → IsUri uri read
+    → IsReturnedAsIs read
+    → SimulatesStep old new (QuestionFrom caller Knows) (Some Known) →
     OnOk result (body ≡ uri_text uri) → IfErr result (λ failure. failure ≡ Refused NoMemory)
-    → Carries from to old new caller (Seeking uri) (told result body)
+    → Performs from to old new caller (UriQuery uri) (response_text result body)
 unasked_carried from to old new caller uri read result body parts back h same short = λ st s.
-    answered_or_short from to st caller uri (told result body) (success (uri_text uri)) new
+    answered_or_short from to st caller uri (response_text result body) (success (uri_text uri)) new
     (inr (inr (
       sym (h st s).0,
       (read, parts, inl (back, ap (λ (t : List ℕ). success (uri_text t)) (sym parts.same))),
@@ -591,16 +614,16 @@ unasked_carried from to old new caller uri read result body parts back h same sh
 pub query_carried : {A : Type 0} (from to : ℕ) (old mid new : Content) (caller : ℕ) (uri : List ℕ)
     (read : TelUri) (tn : ℕ) (a : Answer) (result : Result A Failure) (body : List ℕ)
     → IsUri uri read → AsksFor read tn →
-    AnswersAs old mid (Asks caller Knows) (Some Known)
-    → AnswersAs mid new (Asks caller (Query tn)) (Some (Answered a)) →
+    SimulatesStep old mid (QuestionFrom caller Knows) (Some Known)
+    → SimulatesStep mid new (QuestionFrom caller (Query tn)) (Some (Answered a)) →
     OnOk result (body ≡ uri_text (looked_up read a))
     → IfErr result (λ failure. failure ≡ Refused NoMemory)
-    → Carries from to old new caller (Seeking uri) (told result body)
+    → Performs from to old new caller (UriQuery uri) (response_text result body)
 query_carried from to old mid new caller uri read tn a result body parts asks h k same short =
     λ st s.
-    let s1 : Stands mid st = stays mid st caller Knows (h st s).1 in
+    let s1 : Refines mid st = stays mid st caller Knows (h st s).1 in
     let k1 = k st s1 in
-    answered_or_short from to st caller uri (told result body)
+    answered_or_short from to st caller uri (response_text result body)
     (success (uri_text (looked_up read a))) new
     (inr (inr (sym (h st s).0, (read, parts, inr (tn, asks, ap (routed_text read) k1.0)))))
     (stays new st caller (Query tn) k1.1) (told_or_short result body (uri_text (looked_up read a))
@@ -609,32 +632,32 @@ query_carried from to old mid new caller uri read tn a result body parts asks h 
 -- ---- messages
 
 pub calls_carried : (from to : ℕ) (new : Content) (st : State) (route : Route) (caller : ℕ)
-    (body : List ℕ) (d : Data) (asked : Asked) (text : List ℕ) → Some d ≡ json_of body
+    (body : List ℕ) (d : Data) (asked : ApiCall) (text : List ℕ) → Some d ≡ json_of body
     → HasForm route d asked →
-    Carried from to new st caller asked text → (after : State)
-    × Calls from to st (BodyAsks route body) caller text after × Stands new after
+    IsPerformed from to new st caller asked text → (after : State)
+    × DispatchesCall from to st (BodyAsks route body) caller text after × Refines new after
 calls_carried from to new st route caller body d asked text e form x =
     let asks : BodyAsks route body asked =
     subst (λ (o : Option Data). IsSomeAnd o (λ (given : Data). HasForm route given asked)) e form in
     (x.0, inr (inr (asked, asks, x.1)), x.2)
 
 -- what the path asks is carried
-pub asked_carried : (from to : ℕ) (new : Content) (st : State) (IsAsked : Asked
-    → Type 0) (asked : Asked) (caller : ℕ) (text : List ℕ) → IsAsked asked
-    → Carried from to new st caller asked text →
-    (after : State) × Calls from to st IsAsked caller text after × Stands new after
+pub asked_carried : (from to : ℕ) (new : Content) (st : State) (IsAsked : ApiCall
+    → Type 0) (asked : ApiCall) (caller : ℕ) (text : List ℕ) → IsAsked asked
+    → IsPerformed from to new st caller asked text →
+    (after : State) × DispatchesCall from to st IsAsked caller text after × Refines new after
 asked_carried from to new st IsAsked asked caller text asks x =
     (x.0, inr (inr (asked, asks, x.1)), x.2)
 
 -- or it asks nothing
-pub unasked_refused : {A : Type 0} (from to : ℕ) (new : Content) (st : State) (IsAsked : Asked
+pub unasked_refused : {A : Type 0} (from to : ℕ) (new : Content) (st : State) (IsAsked : ApiCall
     → Type 0) (caller : ℕ) (result : Result A Failure) (body : List ℕ) (fault : MessageFault)
     → result ≡ Err (Message fault) → fault ≡ BadRequest →
-    ((asked : Asked) → ¬ (IsAsked asked)) → Stands new st → (after : State)
-    × Calls from to st IsAsked caller (told result body) after × Stands new after
+    ((asked : ApiCall) → ¬ (IsAsked asked)) → Refines new st → (after : State)
+    × DispatchesCall from to st IsAsked caller (response_text result body) after × Refines new after
 unasked_refused from to new st IsAsked caller result body fault e bad none s =
-    let text : told result body ≡ failure_text (Message BadRequest) =
-    ap (λ (o : Result _ Failure). told o body) e
+    let text : response_text result body ≡ failure_text (Message BadRequest) =
+    ap (λ (o : Result _ Failure). response_text o body) e
     ∙ ap (λ (f : MessageFault). failure_text (Message f)) bad in
     (st, inr (inl (none, (text, refl))), s)
 
@@ -643,8 +666,10 @@ pub path_carried : (from to : ℕ) (new : Content) (st : State) (route : Route) 
     (body text : List ℕ) → ((number : Option ℕ) → route ≢ Version number)
     → ((number : Option ℕ) → route ≢ Number number) → ((count : Option ℕ) → route ≢ Downloads count)
     →
-    (after : State) × Calls from to st (BodyAsks route body) caller text after × Stands new after
-    → (after : State) × Calls from to st (PathAsks route body) caller text after × Stands new after
+    (after : State) × DispatchesCall from to st (BodyAsks route body) caller text after
+    × Refines new after
+    → (after : State) × DispatchesCall from to st (PathAsks route body) caller text after
+    × Refines new after
 path_carried from to new st Carriers caller body text other another third x = x
 path_carried from to new st Clock caller body text other another third x = x
 path_carried from to new st RoutingNumbers caller body text other another third x = x
@@ -665,18 +690,18 @@ path_carried from to new st (Downloads count) caller body text other another thi
 
 pub calls_met : (offered : Bool) (from to : ℕ) (new : Content) (st : State) (request : Request)
     (route : Route) (caller : Spid) (body text : List ℕ) → from ≤ to
-    → among_offered offered request.route ≡ Some route → takes route request.method ≡ true
+    → offered_route offered request.route ≡ Some route → allows_method route request.method ≡ true
     → request.caller ≡ Some caller →
-    (after : State) × Calls from to st (PathAsks route body) caller.number text after
-    × Stands new after → (after : State) × Step offered None from to st request body text after
-    × Stands new after
+    (after : State) × DispatchesCall from to st (PathAsks route body) caller.number text after
+    × Refines new after → (after : State) × Step offered None from to st request body text after
+    × Refines new after
 calls_met offered from to new st request route caller body text rises e f g x =
     (x.0, record { rises = rises; met = inr (rw (e, f, g) x.1) }, x.2)
 
 pub step_told : (offered : Bool) (from to : ℕ) (new : Content) (st : State) (request : Request)
     (body text said : List ℕ) → said ≡ text →
-    (after : State) × Step offered None from to st request body text after × Stands new after
-    → (after : State) × Step offered None from to st request body said after × Stands new after
+    (after : State) × Step offered None from to st request body text after × Refines new after
+    → (after : State) × Step offered None from to st request body said after × Refines new after
 step_told offered from to new st request body text said e x = (
   x.0,
   subst (λ (t : List ℕ). Step offered None from to st request body t x.0) (sym e) x.1,
@@ -687,38 +712,42 @@ step_told offered from to new st request body text said e x = (
 
 -- what is withheld since the message began, and not since the clock moved
 withheld_since : (from between to : ℕ) (st : State) (text : List ℕ) (after : State) → from ≤ between
-    → between ≤ to → Withholds between to st text after → Withholds from to st text after
+    → between ≤ to → IsUnavailable between to st text after → IsUnavailable from to st text after
 withheld_since from between to st text after before behind (inl x, e) =
     (inl (x.0, risen-since from between to before behind x.1), e)
 withheld_since from between to st text after before behind (inr x, e) = (inr x, e)
 
 or_since : {P : Type 0} (from between to : ℕ) (st : State) (text : List ℕ) (after : State)
-    → from ≤ between → between ≤ to → Withholds between to st text after ⊎ P
-    → Withholds from to st text after ⊎ P
+    → from ≤ between → between ≤ to → IsUnavailable between to st text after ⊎ P
+    → IsUnavailable from to st text after ⊎ P
 or_since from between to st text after before behind (inl x) =
     inl (withheld_since from between to st text after before behind x)
 or_since from between to st text after before behind (inr x) = inr x
 
-answers_since : (from between to : ℕ) (st : State) (caller : ℕ) (asked : Asked) (text : List ℕ)
-    (after : State) → from ≤ between → between ≤ to → Answers between to st caller asked text after
-    → Answers from to st caller asked text after
-answers_since from between to st caller (Calling called) text after before behind x =
+answers_since : (from between to : ℕ) (st : State) (caller : ℕ) (asked : ApiCall) (text : List ℕ)
+    (after : State) → from ≤ between → between ≤ to
+    → RespondsTo between to st caller asked text after
+    → RespondsTo from to st caller asked text after
+answers_since from between to st caller (RegisterCall called) text after before behind x =
     or_since from between to st text after before behind x
-answers_since from between to st caller (Seeking uri) text after before behind x =
+answers_since from between to st caller (UriQuery uri) text after before behind x =
     or_since from between to st text after before behind x
 
-pub carried_since : (from between to : ℕ) (new : Content) (st : State) (caller : ℕ) (asked : Asked)
-    (text : List ℕ) → from ≤ between → between ≤ to → Carried between to new st caller asked text
-    → Carried from to new st caller asked text
+pub carried_since : (from between to : ℕ) (new : Content) (st : State) (caller : ℕ)
+    (asked : ApiCall)
+    (text : List ℕ) → from ≤ between → between ≤ to
+    → IsPerformed between to new st caller asked text
+    → IsPerformed from to new st caller asked text
 carried_since from between to new st caller asked text before behind x = (
   x.0,
   answers_since from between to st caller asked text x.0 before behind x.1,
   x.2,
 )
 
-calls_since : (from between to : ℕ) (st : State) (IsAsked : Asked → Type 0) (caller : ℕ)
+calls_since : (from between to : ℕ) (st : State) (IsAsked : ApiCall → Type 0) (caller : ℕ)
     (text : List ℕ) (after : State) → from ≤ between → between ≤ to
-    → Calls between to st IsAsked caller text after → Calls from to st IsAsked caller text after
+    → DispatchesCall between to st IsAsked caller text after
+    → DispatchesCall from to st IsAsked caller text after
 calls_since from between to st IsAsked caller text after before behind (inl x) =
     inl (withheld_since from between to st text after before behind x)
 calls_since from between to st IsAsked caller text after before behind (inr (inl x)) = inr (inl x)
@@ -730,8 +759,8 @@ calls_since from between to st IsAsked caller text after before behind (inr (inr
 
 path_since : (from between to : ℕ) (st : State) (route : Route) (has_method : Bool)
     (caller : Option Spid) (body text : List ℕ) (after : State) → from ≤ between → between ≤ to →
-    MeetsPath between to st route has_method caller body text after
-    → MeetsPath from to st route has_method caller body text after
+    DispatchesPath between to st route has_method caller body text after
+    → DispatchesPath from to st route has_method caller body text after
 path_since from between to st route false caller body text after before behind x = x
 path_since from between to st route true None body text after before behind x = x
 path_since from between to st route true (Some caller) body text after before behind x =
@@ -739,17 +768,19 @@ path_since from between to st route true (Some caller) body text after before be
 
 meets_since : (from between to : ℕ) (st : State) (route : Option Route) (method : Method)
     (caller : Option Spid) (body text : List ℕ) (after : State) → from ≤ between → between ≤ to →
-    Meets between to st route method caller body text after
-    → Meets from to st route method caller body text after
+    Dispatches between to st route method caller body text after
+    → Dispatches from to st route method caller body text after
 meets_since from between to st None method caller body text after before behind x = x
 meets_since from between to st (Some route) method caller body text after before behind x =
-    path_since from between to st route (takes route method) caller body text after before behind x
+    path_since from between to st route (allows_method route method) caller body text after before
+    behind x
 
 met_since : (from between to : ℕ) (st : State) (tick : Option ℕ) (route : Option Route)
     (method : Method) (caller : Option Spid) (body text : List ℕ) (after : State) → from ≤ between
     → between ≤ to →
-    ⊥ ⊎ Meets between to (ticked st tick) route method caller body text after
-    → WithholdsTick from to st tick text after ⊎ Meets from to (ticked st tick) route method caller
+    ⊥ ⊎ Dispatches between to (ticked st tick) route method caller body text after
+    → IsTickUnavailable from to st tick text after ⊎ Dispatches from to (ticked st tick) route
+    method caller
     body text after
 met_since from between to st tick route method caller body text after before behind (inl x) =
     absurd x
@@ -760,17 +791,17 @@ met_since from between to st tick route method caller body text after before beh
 -- the clock moved, and then the message was carried out
 pub tick_then : (offered : Bool) (tick : Option ℕ) (from between to : ℕ) (old mid new : Content)
     (request : Request) (body text : List ℕ) → from ≤ between →
-    ((st : State) → Stands old st → Stands mid (ticked st tick)) →
-    ((st : State) → Stands mid st → (after : State) × Step offered None between to st request body
-    text after × Stands new after) →
-    (st : State) → Stands old st → (after : State) × Step offered tick from to st request body text
-    after × Stands new after
+    ((st : State) → Refines old st → Refines mid (ticked st tick)) →
+    ((st : State) → Refines mid st → (after : State) × Step offered None between to st request body
+    text after × Refines new after) →
+    (st : State) → Refines old st → (after : State) × Step offered tick from to st request body text
+    after × Refines new after
 tick_then offered tick from between to old mid new request body text before moved stepped st s =
     let x = stepped (ticked st tick) (moved st s) in (
       x.0,
       record {
         rises = le_trans before x.1.rises;
-        met = met_since from between to st tick (among_offered offered request.route) request.method
+        met = met_since from between to st tick (offered_route offered request.route) request.method
             request.caller body text x.0 before x.1.rises x.1.met;
       },
       x.2,
@@ -779,15 +810,15 @@ tick_then offered tick from between to old mid new request body text before move
 -- the clock's move was withheld
 pub tick_withheld : (offered : Bool) (tick : Option ℕ) (from to : ℕ) (old new : Content)
     (request : Request) (body text said : List ℕ) → from ≤ to → said ≡ text →
-    ((st : State) → Stands old st → WithholdsTick from to st tick text st × Stands new st) →
-    (st : State) → Stands old st → (after : State) × Step offered tick from to st request body said
-    after × Stands new after
+    ((st : State) → Refines old st → IsTickUnavailable from to st tick text st × Refines new st) →
+    (st : State) → Refines old st → (after : State) × Step offered tick from to st request body said
+    after × Refines new after
 tick_withheld offered tick from to old new request body text said rises e short st s =
     let x = short st s in (
       st,
       record {
         rises = rises;
-        met = inl (subst (λ (t : List ℕ). WithholdsTick from to st tick t st) (sym e) x.0);
+        met = inl (subst (λ (t : List ℕ). IsTickUnavailable from to st tick t st) (sym e) x.0);
       },
       x.1,
     )
@@ -799,17 +830,19 @@ only_back : (back : Bool) (m k : ℕ) → MachineRefused k ≡ refused_or (if ba
 only_back true m k e = cc
 only_back false m k e = let x : ⊥ = cc in absurd x
 
-move_refused : (st : State) (m k : ℕ) → MachineRefused k ≡ out st (Moment m) → k ≡ 27
+move_refused : (st : State) (m k : ℕ) → MachineRefused k ≡ out st (ClockMoment m) → k ≡ 27
 unfolding out tests
 move_refused st m k e = only_back (nat_lt m st.now) m k e
 
 -- the device or memory failed, and nothing has happened
 abbrev WithholdsMove : (from to : ℕ) → Refusal → State → Content → Type 0
-WithholdsMove from to r st new = Withholds from to st (failure_text (Refused r)) st × Stands new st
+WithholdsMove from to r st new = IsUnavailable from to st (failure_text (Refused r)) st
+    × Refines new st
 
 pub move_withheld : (r : Refusal) (from to : ℕ) (old new : Content) (minute : ℕ) → r ≢ ClockBack
-    → AnswersAs old new (Moment minute) (refused_with (number_of r)) → BlamesRightly from to old r
-    → (st : State) → Stands old st → WithholdsMove from to r st new
+    → SimulatesStep old new (ClockMoment minute) (refused_with (number_of r))
+    → BlamesRightly from to old r
+    → (st : State) → Refines old st → WithholdsMove from to r st new
 move_withheld UnknownCarrier from to old new minute other h blames st s = let e : 1 ≡ 27 =
     move_refused st minute 1 (h st s).0 in absurd (omega (arith, e))
 move_withheld NotAdmin from to old new minute other h blames st s = let e : 2 ≡ 27 =

@@ -5,27 +5,27 @@ use Rattle.std.specs.Prelude.{◌==◌, ◌&&◌, ◌||◌, if◌then◌else◌,
 use Rattle.itoa.proofs.Decimal.{decimal_two, pair}
 use Rattle.numbers.proofs.Small.{and_first, and_second, equal_number, some_is}
 use Rattle.numbers.specs.declared.spid.Spid.{Spid}
-use Rattle.settle.specs.Reads.{HasRisen}
-use Rattle.meaning.specs.Commands.{VersionCommand, Activate, Command, RegisterCarrier, RegisterRoutingNumber, OpenCode, OldProviderCreate, NewProviderCreate, OnVersion, Donate, Assign, Release, SetWindows}
-use Rattle.meaning.specs.History.{Commands, Acknowledges}
-use Rattle.meaning.specs.Machine.{Reply, Refused, Moved, Registered, LrnAdded, CodeOpened, Shown, Donated, Known, Fetched, Answered, Rows, Awaited, Found, WindowsSet, out, accepted, refused_or, reply_of, answer_of}
-use Rattle.meaning.specs.Reading.{State}
-use Rattle.meaning.specs.Refusals.{Input, Moment, Requests, Asks, Question, Knows, Fetch, ShowVersion, Query, AllInForce, Waiting, Ids, npac, refusal, tests, own_tests, first_that_holds}
-use Rattle.bodies.specs.Answer.{answer, refusal_body, phrase}
-use Rattle.bodies.specs.Failures.{failure_text}
-use Rattle.calls.specs.Calls.{Called, Wants, Wonders, Moves, input_of}
-use Rattle.bodies.specs.Forms.{Asked, Calling, Seeking}
-use Rattle.bodies.specs.RefusalTexts.{refusal_text}
-use Rattle.api.specs.Step.{Step, Meets, MeetsPath, Calls, Answers, AnswersAdmitted, turned_away, AnswersQuery, AnswersUri, Withholds, WithholdsTick, Takes, ticked, success, reply_text, routed_text}
-use Rattle.bodies.specs.Texts.{registered_text, donated_text, routing_number_text, opened_code_text, ids_text, now_text, windows_set_text, view_text, looked_up, uri_text, downloads_text}
-use Rattle.bodies.specs.declared.fault.Failure.TheVariants.{Uri, Message}
-use Rattle.messages.specs.declared.fault.MessageFault.TheVariants.{BadRequest, NoPath, BadMethod}
+use Rattle.settle.specs.Reads.{HasDeviceFailed}
+use Rattle.model.specs.Commands.{VersionCommand, Activate, Command, RegisterCarrier, RegisterRoutingNumber, OpenCode, OldProviderCreate, NewProviderCreate, OnVersion, Donate, Assign, Release, SetWindows}
+use Rattle.model.specs.History.{CommandRequest, AcknowledgementRequest}
+use Rattle.model.specs.Machine.{Reply, Refused, Moved, Registered, LrnAdded, CodeOpened, Shown, Donated, Known, Fetched, Answered, Rows, Awaited, Found, WindowsSet, out, accepted, refused_or, reply_of, answer_of}
+use Rattle.model.specs.State.{State}
+use Rattle.model.specs.Refusals.{Input, ClockMoment, RequestFrom, QuestionFrom, Question, Knows, Fetch, ShowVersion, Query, AllInForce, Waiting, Ids, npac, refusal, tests, own_tests, first_refusal}
+use Rattle.json_api.specs.Response.{response, refusal_body, phrase}
+use Rattle.json_api.specs.Failures.{failure_text}
+use Rattle.requests.specs.Calls.{ModelCall, RequestCall, QuestionCall, MomentCall, input_of}
+use Rattle.json_api.specs.Forms.{ApiCall, RegisterCall, UriQuery}
+use Rattle.json_api.specs.RefusalTexts.{refusal_text}
+use Rattle.api.specs.Step.{Step, Dispatches, DispatchesPath, DispatchesCall, RespondsTo, RespondsToAdmitted, caller_refusal, RespondsToQuery, RespondsToUri, IsUnavailable, IsTickUnavailable, RespondsAsMachine, ticked, success, reply_text, routed_text}
+use Rattle.json_api.specs.Texts.{registered_text, donated_text, routing_number_text, opened_code_text, ids_text, now_text, windows_set_text, view_text, looked_up, uri_text, downloads_text}
+use Rattle.json_api.specs.declared.fault.Failure.TheVariants.{Uri, Message}
+use Rattle.http_messages.specs.declared.fault.MessageFault.TheVariants.{BadRequest, NoPath, BadMethod}
 use Rattle.telnp.specs.declared.fault.TelFault.{TelFault}
 use Rattle.telnp.specs.Answer.{Uri as TelUri}
-use Rattle.messages.specs.declared.message.Request.{Request}
-use Rattle.messages.specs.declared.paths.Method.{Method}
-use Rattle.messages.specs.declared.paths.Route.{Route}
-use Rattle.messages.specs.Table.{takes, among_offered}
+use Rattle.http_messages.specs.declared.message.Request.{Request}
+use Rattle.http_messages.specs.declared.paths.Method.{Method}
+use Rattle.http_messages.specs.declared.paths.Route.{Route}
+use Rattle.http_messages.specs.Table.{allows_method, offered_route}
 
 -- the text is not that of storage
 abbrev Differs : List ℕ → Type 0
@@ -83,7 +83,7 @@ body_is : (name : List ℕ) (n : ℕ) → 10 ≤ n → n < 100
 body_is name n low high = ap (with_digits name) (decimal_two n low high)
 
 digit_is : (body : List ℕ) (n : ℕ) → length body ≡ n → 10 ≤ n → n < 100
-    → digit_of (answer 503 body) ≡ get_or (pair n) 1 0
+    → digit_of (response 503 body) ≡ get_or (pair n) 1 0
 unfolding phrase
 digit_is body n is low high =
     ap (λ (digits : List ℕ). get_or ((digits ++ codes "\r\n\r\n") ++ body) 1 0) (ap decimal is
@@ -91,7 +91,7 @@ digit_is body n is low high =
 
 digit_told : (name : List ℕ) (number n : ℕ) → 10 ≤ number → number < 100
     → length (with_digits name (pair number)) ≡ n → 10 ≤ n → n < 100
-    → digit_of (answer 503 (refusal_body name number)) ≡ get_or (pair n) 1 0
+    → digit_of (response 503 (refusal_body name number)) ≡ get_or (pair n) 1 0
 digit_told name number n low high is from to =
     digit_is (refusal_body name number) n (ap length (body_is name number low high) ∙ is) from to
 
@@ -138,11 +138,11 @@ pick n k true rest differs later e =
     subst (λ (m : ℕ). Differs (refusal_text m)) (some_is n k e) differs
 pick n k false rest differs later e = later e
 
-first_differs : (ts : List (ℕ × Bool)) → AllDiffer ts → (k : ℕ) → first_that_holds ts ≡ Some k
+first_differs : (ts : List (ℕ × Bool)) → AllDiffer ts → (k : ℕ) → first_refusal ts ≡ Some k
     → Differs (refusal_text k)
 first_differs [] all k e = absurd (none_is k e)
 first_differs (t ∷ ts) all k e =
-    pick t.0 k t.1 (first_that_holds ts) all.0 (first_differs ts all.1 k) e
+    pick t.0 k t.1 (first_refusal ts) all.0 (first_differs ts all.1 k) e
 
 by_number : (k : ℕ) → class_of (refusal_text k) ≡ 52 → Differs (refusal_text k)
 by_number k is = by_class (refusal_text k) 52 is (omega arith)
@@ -230,12 +230,13 @@ numbers_differ = (
 differs_among : (ns : List ℕ) → EachDiffers ns → (k : ℕ) → list_any (λ n. n == k) ns ≡ true
     → Differs (refusal_text k)
 differs_among [] each k is = cc
-differs_among (n ∷ ns) each k is = go (differs_among ns each.1 k) (n == k) refl is
+differs_among (n ∷ ns) each k is = by_cases (differs_among ns each.1 k) (n == k) refl is
   where
-    go : (list_any (λ m. m == k) ns ≡ true → Differs (refusal_text k)) → (b : Bool)
+    by_cases : (list_any (λ m. m == k) ns ≡ true → Differs (refusal_text k)) → (b : Bool)
         → (n == k) ≡ b → (b || list_any (λ m. m == k) ns) ≡ true → Differs (refusal_text k)
-    go later true e f = subst (λ (m : ℕ). Differs (refusal_text m)) (equal_number n k e) each.0
-    go later false e f = later f
+    by_cases later true e f =
+        subst (λ (m : ℕ). Differs (refusal_text m)) (equal_number n k e) each.0
+    by_cases later false e f = later f
 
 -- the tests have such numbers
 abbrev have_numbers : List (ℕ × Bool) → Bool
@@ -262,18 +263,19 @@ commands_differ st caller (OnVersion id c) = changes_differ st caller id c
 commands_differ st caller c = each_test_differs (own_tests st caller c) refl
 
 acknowledgements_differ : (st : State) (caller id attempt : ℕ)
-    → AllDiffer (tests st (Requests caller (Acknowledges id attempt)))
+    → AllDiffer (tests st (RequestFrom caller (AcknowledgementRequest id attempt)))
 unfolding tests refusal_text failure_text
 acknowledgements_differ st caller id attempt = (
   by_number 1 refl,
   (by_number 10 refl, (by_number 25 refl, (by_number 26 refl, tt))),
 )
 
-moments_differ : (st : State) (minute : ℕ) → AllDiffer (tests st (Moment minute))
+moments_differ : (st : State) (minute : ℕ) → AllDiffer (tests st (ClockMoment minute))
 unfolding tests refusal_text failure_text
 moments_differ st minute = (by_number 27 refl, tt)
 
-questions_differ : (st : State) (caller : ℕ) (q : Question) → AllDiffer (tests st (Asks caller q))
+questions_differ : (st : State) (caller : ℕ) (q : Question)
+    → AllDiffer (tests st (QuestionFrom caller q))
 unfolding tests refusal_text failure_text
 questions_differ st caller Knows = (by_number 1 refl, tt)
 questions_differ st caller (Fetch n) = (by_number 1 refl, tt)
@@ -284,7 +286,7 @@ questions_differ st caller Waiting = (by_number 1 refl, tt)
 questions_differ st caller (Ids tn) = tt
 
 all_differ : (st : State) (caller : ℕ) (c : Command)
-    → AllDiffer (tests st (Requests caller (Commands c)))
+    → AllDiffer (tests st (RequestFrom caller (CommandRequest c)))
 unfolding tests
 all_differ st caller c = commands_differ st caller c
 
@@ -355,11 +357,11 @@ routed_differs uri (Found in_force opened) machine = nothing
 routed_differs uri (WindowsSet now number) machine = nothing
 
 takes_differs : (st : State) (input : Input) (after : State) → ((k : ℕ) → out st input ≡ Refused k
-    → Differs (refusal_text k)) → ¬ (Takes st input (refusal_text 29) after)
+    → Differs (refusal_text k)) → ¬ (RespondsAsMachine st input (refusal_text 29) after)
 takes_differs st input after machine x = reply_differs (out st input) machine (sym x.0)
 
 question_accepts : (st new : State) (caller : ℕ) (q : Question)
-    → Accepts (answer_of st new (Asks caller q))
+    → Accepts (answer_of st new (QuestionFrom caller q))
 question_accepts st new caller Knows k e = cc
 question_accepts st new caller (Fetch n) k e = cc
 question_accepts st new caller (ShowVersion id) k e = cc
@@ -368,22 +370,22 @@ question_accepts st new caller AllInForce k e = cc
 question_accepts st new caller Waiting k e = cc
 question_accepts st new caller (Ids tn) k e = cc
 
-call_accepts : (st new : State) (caller : ℕ) (called : Called)
+call_accepts : (st new : State) (caller : ℕ) (called : ModelCall)
     → Accepts (answer_of st new (input_of caller called))
-call_accepts st new caller (Wants (Commands c)) k e = reply_accepts st new caller c k e
-call_accepts st new caller (Wants (Acknowledges id attempt)) k e = cc
-call_accepts st new caller (Wonders q) k e = question_accepts st new caller q k e
-call_accepts st new caller (Moves minute) k e = cc
+call_accepts st new caller (RequestCall (CommandRequest c)) k e = reply_accepts st new caller c k e
+call_accepts st new caller (RequestCall (AcknowledgementRequest id attempt)) k e = cc
+call_accepts st new caller (QuestionCall q) k e = question_accepts st new caller q k e
+call_accepts st new caller (MomentCall minute) k e = cc
 
-calls_differ : (st : State) (caller : ℕ) (called : Called)
+calls_differ : (st : State) (caller : ℕ) (called : ModelCall)
     → AllDiffer (tests st (input_of caller called))
-calls_differ st caller (Wants (Commands c)) = all_differ st caller c
-calls_differ st caller (Wants (Acknowledges id attempt)) =
+calls_differ st caller (RequestCall (CommandRequest c)) = all_differ st caller c
+calls_differ st caller (RequestCall (AcknowledgementRequest id attempt)) =
     acknowledgements_differ st caller id attempt
-calls_differ st caller (Wonders q) = questions_differ st caller q
-calls_differ st caller (Moves minute) = moments_differ st minute
+calls_differ st caller (QuestionCall q) = questions_differ st caller q
+calls_differ st caller (MomentCall minute) = moments_differ st minute
 
-call_differs : (st : State) (caller : ℕ) (called : Called) (k : ℕ)
+call_differs : (st : State) (caller : ℕ) (called : ModelCall) (k : ℕ)
     → out st (input_of caller called) ≡ Refused k → Differs (refusal_text k)
 call_differs st caller called k =
     machine_differs st (input_of caller called) k
@@ -400,36 +402,36 @@ stranger_differs true k e = absurd (none_is k e)
 stranger_differs false k e =
     subst (λ (m : ℕ). Differs (refusal_text m)) (some_is 2 k e) not_admin
 
-away_differs : (st : State) (caller : ℕ) (called : Called) (k : ℕ)
-    → turned_away st caller called ≡ Some k → Differs (refusal_text k)
-away_differs st caller (Moves minute) k e = stranger_differs (caller == npac) k e
-away_differs st caller (Wonders (Ids tn)) k e =
-    first_differs (tests st (Asks caller Knows)) (questions_differ st caller Knows) k e
-away_differs st caller (Wonders Knows) k e = absurd (none_is k e)
-away_differs st caller (Wonders (Fetch n)) k e = absurd (none_is k e)
-away_differs st caller (Wonders (ShowVersion id)) k e = absurd (none_is k e)
-away_differs st caller (Wonders (Query tn)) k e = absurd (none_is k e)
-away_differs st caller (Wonders AllInForce) k e = absurd (none_is k e)
-away_differs st caller (Wonders Waiting) k e = absurd (none_is k e)
-away_differs st caller (Wants request) k e = absurd (none_is k e)
+away_differs : (st : State) (caller : ℕ) (called : ModelCall) (k : ℕ)
+    → caller_refusal st caller called ≡ Some k → Differs (refusal_text k)
+away_differs st caller (MomentCall minute) k e = stranger_differs (caller == npac) k e
+away_differs st caller (QuestionCall (Ids tn)) k e =
+    first_differs (tests st (QuestionFrom caller Knows)) (questions_differ st caller Knows) k e
+away_differs st caller (QuestionCall Knows) k e = absurd (none_is k e)
+away_differs st caller (QuestionCall (Fetch n)) k e = absurd (none_is k e)
+away_differs st caller (QuestionCall (ShowVersion id)) k e = absurd (none_is k e)
+away_differs st caller (QuestionCall (Query tn)) k e = absurd (none_is k e)
+away_differs st caller (QuestionCall AllInForce) k e = absurd (none_is k e)
+away_differs st caller (QuestionCall Waiting) k e = absurd (none_is k e)
+away_differs st caller (RequestCall request) k e = absurd (none_is k e)
 
 admitted_differs : (st : State) (away : Option ℕ) (input : Input) (after : State)
     → ((k : ℕ) → away ≡ Some k → Differs (refusal_text k)) → ((k : ℕ) → out st input ≡ Refused k
     → Differs (refusal_text k)) →
-    ¬ (AnswersAdmitted st away input (refusal_text 29) after)
+    ¬ (RespondsToAdmitted st away input (refusal_text 29) after)
 admitted_differs st (Some number) input after turned machine x = turned number refl (sym x.0)
 admitted_differs st None input after turned machine x = takes_differs st input after machine x
 
 uri_differs : (st : State) (caller : ℕ) (uri : TelUri)
-    → ¬ (AnswersUri st caller uri (refusal_text 29))
+    → ¬ (RespondsToUri st caller uri (refusal_text 29))
 uri_differs st caller uri (inl x) = succeeds (uri_text uri.text) (sym x.1)
 uri_differs st caller uri (inr x) =
-    routed_differs uri (out st (Asks caller (Query x.0)))
-    (λ k. call_differs st caller (Wonders (Query x.0)) k) (sym x.2)
+    routed_differs uri (out st (QuestionFrom caller (Query x.0)))
+    (λ k. call_differs st caller (QuestionCall (Query x.0)) k) (sym x.2)
 
 query_differs : (st : State) (caller : ℕ) (uri : List ℕ)
-    → ¬ (AnswersQuery st caller uri (refusal_text 29))
-query_differs st caller uri (inl x) = call_differs st caller (Wonders Knows) x.0 x.1 (sym x.2)
+    → ¬ (RespondsToQuery st caller uri (refusal_text 29))
+query_differs st caller uri (inl x) = call_differs st caller (QuestionCall Knows) x.0 x.1 (sym x.2)
 query_differs st caller uri (inr (inl x)) = bad_uri x.1.0 (sym x.1.2)
 query_differs st caller uri (inr (inr x)) = uri_differs st caller x.1.0 x.1.2
 
@@ -437,25 +439,26 @@ query_differs st caller uri (inr (inr x)) = uri_differs st caller x.1.0 x.1.2
 
 -- the device failed, and nothing has happened
 abbrev Tells : (from to : ℕ) → (st after : State) → Type 0
-Tells from to st after = HasRisen from to × (after ≡ st)
+Tells from to st after = HasDeviceFailed from to × (after ≡ st)
 
-withheld_tells : (from to : ℕ) (st after : State) → Withholds from to st (refusal_text 29) after
+withheld_tells : (from to : ℕ) (st after : State) → IsUnavailable from to st (refusal_text 29) after
     → Tells from to st after
 withheld_tells from to st after (inl x, e) = (x.1, e)
 withheld_tells from to st after (inr x, e) = absurd (memory (sym x))
 
-answers_tell : (from to : ℕ) (st : State) (caller : ℕ) (asked : Asked) (after : State)
-    → Answers from to st caller asked (refusal_text 29) after → Tells from to st after
-answers_tell from to st caller (Calling called) after (inl x) = withheld_tells from to st after x
-answers_tell from to st caller (Calling called) after (inr x) =
-    absurd (admitted_differs st (turned_away st caller called) (input_of caller called) after
+answers_tell : (from to : ℕ) (st : State) (caller : ℕ) (asked : ApiCall) (after : State)
+    → RespondsTo from to st caller asked (refusal_text 29) after → Tells from to st after
+answers_tell from to st caller (RegisterCall called) after (inl x) =
+    withheld_tells from to st after x
+answers_tell from to st caller (RegisterCall called) after (inr x) =
+    absurd (admitted_differs st (caller_refusal st caller called) (input_of caller called) after
     (away_differs st caller called) (call_differs st caller called) x)
-answers_tell from to st caller (Seeking uri) after (inl x) = withheld_tells from to st after x
-answers_tell from to st caller (Seeking uri) after (inr x) =
+answers_tell from to st caller (UriQuery uri) after (inl x) = withheld_tells from to st after x
+answers_tell from to st caller (UriQuery uri) after (inr x) =
     absurd (query_differs st caller uri x.0)
 
-calls_tell : (from to : ℕ) (st : State) (IsAsked : Asked → Type 0) (caller : ℕ) (after : State)
-    → Calls from to st IsAsked caller (refusal_text 29) after → Tells from to st after
+calls_tell : (from to : ℕ) (st : State) (IsAsked : ApiCall → Type 0) (caller : ℕ) (after : State)
+    → DispatchesCall from to st IsAsked caller (refusal_text 29) after → Tells from to st after
 calls_tell from to st IsAsked caller after (inl x) = withheld_tells from to st after x
 calls_tell from to st IsAsked caller after (inr (inl x)) = absurd (bad_request (sym x.1.0))
 calls_tell from to st IsAsked caller after (inr (inr x)) =
@@ -463,7 +466,7 @@ calls_tell from to st IsAsked caller after (inr (inr x)) =
 
 path_tells : (from to : ℕ) (st : State) (route : Route) (has_method : Bool) (caller : Option Spid)
     (body : List ℕ) (after : State) →
-    MeetsPath from to st route has_method caller body (refusal_text 29) after
+    DispatchesPath from to st route has_method caller body (refusal_text 29) after
     → Tells from to st after
 path_tells from to st route false caller body after x = absurd (bad_method (sym x.0))
 path_tells from to st route true None body after x = absurd (bad_request (sym x.0))
@@ -472,17 +475,17 @@ path_tells from to st route true (Some caller) body after x =
 
 meets_tell : (from to : ℕ) (st : State) (route : Option Route) (method : Method)
     (caller : Option Spid) (body : List ℕ) (after : State) →
-    Meets from to st route method caller body (refusal_text 29) after → Tells from to st after
+    Dispatches from to st route method caller body (refusal_text 29) after → Tells from to st after
 meets_tell from to st None method caller body after x = absurd (no_path (sym x.0))
 meets_tell from to st (Some route) method caller body after x =
-    path_tells from to st route (takes route method) caller body after x
+    path_tells from to st route (allows_method route method) caller body after x
 
 -- at the minute that is handed in, or after it
 step_tells : (tick : Option ℕ) (from to : ℕ) (st : State) (route : Option Route) (method : Method)
     (caller : Option Spid) (body : List ℕ) (after : State) →
-    WithholdsTick from to st tick (refusal_text 29) after
-    ⊎ Meets from to (ticked st tick) route method caller body (refusal_text 29) after
-    → HasRisen from to × ((after ≡ st) ⊎ (after ≡ ticked st tick))
+    IsTickUnavailable from to st tick (refusal_text 29) after
+    ⊎ Dispatches from to (ticked st tick) route method caller body (refusal_text 29) after
+    → HasDeviceFailed from to × ((after ≡ st) ⊎ (after ≡ ticked st tick))
 step_tells None from to st route method caller body after (inl x) = absurd x
 step_tells (Some minute) from to st route method caller body after (inl x) = let told =
     withheld_tells from to st after x in (told.0, inl told.1)
@@ -491,8 +494,8 @@ step_tells tick from to st route method caller body after (inr x) = let told =
 
 pub storage_tells : (offered : Bool) (tick : Option ℕ) (from to : ℕ) (st : State)
     (request : Request) (body : List ℕ) (after : State) →
-    Step offered tick from to st request body (refusal_text 29) after → HasRisen from to
+    Step offered tick from to st request body (refusal_text 29) after → HasDeviceFailed from to
     × ((after ≡ st) ⊎ (after ≡ ticked st tick))
 storage_tells offered tick from to st request body after x =
-    step_tells tick from to st (among_offered offered request.route) request.method request.caller
+    step_tells tick from to st (offered_route offered request.route) request.method request.caller
     body after x.met

@@ -3,9 +3,9 @@ use Rattle.std.proofs.Common.{◌≡◌, ◌≢◌, ◌≤◌, ℕ, Bool, List, 
 use Rattle.std.proofs.Math.Nat.{le_trans}
 use Rattle.std.proofs.lemmas.List.Elements.{All-nil, All-cons}
 use Rattle.std.specs.Prelude.{All}
-use Rattle.settle.specs.Reads.{HasRisen}
-use Rattle.meaning.specs.Reading.{State}
-use Rattle.bodies.specs.RefusalTexts.{refusal_text}
+use Rattle.settle.specs.Reads.{HasDeviceFailed}
+use Rattle.model.specs.State.{State}
+use Rattle.json_api.specs.RefusalTexts.{refusal_text}
 use Rattle.api.specs.Run.{Exchange, Run}
 use Rattle.api.specs.Step.{Step}
 use Rattle.api.proofs.Risen.{risen_until}
@@ -24,7 +24,7 @@ abbrev IsClear : Exchange → Type 0
 IsClear x = x.answer ≢ refusal_text 29
 
 pub stays_clear : (offered : Bool) (from to : ℕ) (st end : State) (input rest : List ℕ)
-    (xs : List Exchange) → Run offered from to st input xs end rest → ¬ (HasRisen from to)
+    (xs : List Exchange) → Run offered from to st input xs end rest → ¬ (HasDeviceFailed from to)
     → All IsClear xs
 stays_clear offered from to st end input rest [] run calm = All-nil IsClear
 stays_clear offered from to st end input rest (x ∷ xs) run calm =

@@ -6,8 +6,8 @@ use Rattle.telnp.specs.declared.fault.TelFault.{TelFault}
 use Rattle.telnp.specs.Answer.{Uri}
 use Rattle.telnp.specs.Faults.{IsRead, fault_of, number_of, parameter_parts, rest_of}
 use Rattle.telnp.proofs.Only.{read_from_uri}
-use Rattle.api.specs.Step.{AsksFor, ComesBack, IsUri}
-use Rattle.bodies.proofs.ClearLemmas.{same_said}
+use Rattle.api.specs.Step.{AsksFor, IsReturnedAsIs, IsUri}
+use Rattle.json_api.proofs.ClearLemmas.{same_said}
 
 is_read : (text : List ℕ) (uri : Uri) → IsUri text uri → IsRead text uri.number uri.parameters
 is_read text uri h = read_from_uri text uri.number uri.parameters h.parts
@@ -44,6 +44,6 @@ same_number uri m n h k =
     behind_one : (xs ys : List ℕ) → 49 ∷ xs ≡ 49 ∷ ys → xs ≡ ys
     behind_one xs ys e = cc
 
-pub not_asked : (uri : Uri) (tn : ℕ) → ComesBack uri → ¬ (AsksFor uri tn)
+pub not_asked : (uri : Uri) (tn : ℕ) → IsReturnedAsIs uri → ¬ (AsksFor uri tn)
 not_asked uri tn (inl looked_up) asks = let e : true ≡ false = sym looked_up ∙ asks.new in cc
 not_asked uri tn (inr other) asks = other tn asks.valid asks.said

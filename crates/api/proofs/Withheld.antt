@@ -4,35 +4,36 @@ use Rattle.std.specs.Prelude.{⊤, IfSome}
 use Rattle.std.specs.Io.KnownBytes.{Appends}
 use Rattle.std.proofs.KnownBytes.{Appends-trans}
 use Rattle.std.proofs.lemmas.Bool.Decides.{Decides-eqb}
-use Rattle.meaning.specs.Content.{Content}
-use Rattle.meaning.specs.Reading.{State}
-use Rattle.meaning.specs.RefusalNumbers.{number_of}
-use Rattle.meaning.specs.declared.refusal.Refusal.{Refusal}
-use Rattle.meaning.specs.declared.refusal.Refusal.TheVariants.{Storage, NoMemory}
-use Rattle.register.specs.Answers.{Stands}
-use Rattle.messages.specs.Cuts.{Comes}
-use Rattle.messages.specs.Sending.{AppendsFront}
-use Rattle.messages.specs.declared.message.Next.{Next}
-use Rattle.bodies.specs.Failures.{failure_text}
-use Rattle.bodies.specs.RefusalTexts.{refusal_text}
-use Rattle.bodies.specs.declared.fault.Failure.{Failure}
-use Rattle.bodies.specs.declared.fault.Failure.TheVariants.{Refused, Uri, Message}
-use Rattle.bodies.proofs.RefusalLemmas.{text_by_number}
-use Rattle.api.specs.Run.{answers}
-use Rattle.api.specs.Serving.{IsWithheldFrom, UntilWithheld, WritesUntil}
-use Rattle.api.specs.Step.{IsReplied, IsWithheld}
+use Rattle.model.specs.Content.{Content}
+use Rattle.model.specs.State.{State}
+use Rattle.model.specs.RefusalNumbers.{number_of}
+use Rattle.model.specs.declared.refusal.Refusal.{Refusal}
+use Rattle.model.specs.declared.refusal.Refusal.TheVariants.{Storage, NoMemory}
+use Rattle.register.specs.Refinement.{Refines}
+use Rattle.http_messages.specs.Parsing.{IsNextMessage}
+use Rattle.http_messages.specs.Sending.{AppendsFront}
+use Rattle.http_messages.specs.declared.message.NextMessage.{NextMessage}
+use Rattle.json_api.specs.Failures.{failure_text}
+use Rattle.json_api.specs.RefusalTexts.{refusal_text}
+use Rattle.json_api.specs.declared.fault.Failure.{Failure}
+use Rattle.json_api.specs.declared.fault.Failure.TheVariants.{Refused, Uri, Message}
+use Rattle.json_api.proofs.RefusalLemmas.{text_by_number}
+use Rattle.api.specs.Run.{responses}
+use Rattle.api.specs.Serving.{IsUnavailableResponse, RunUntilUnavailable, WritesUntil}
+use Rattle.api.specs.Step.{IsReplyAvailable, IsUnavailableText}
 use Rattle.api.proofs.Going.{Going, Progress, at_rest, known}
 
 module _ (offered : Bool) (from : ℕ) (old : Content) (all had : Option (List ℕ))
     (before : Option (List (Option ℕ))) where
   -- the answer of the message was written whole
   abbrev pub Past : (has : Option (List ℕ)) → Type 0
-  Past has = (st : State) → Stands old st
-      → IfSome all (λ input. (until : UntilWithheld offered from st input before) × (more : List ℕ)
-      × Appends had has ((answers until.exchanges ++ until.answer) ++ more))
+  Past has = (st : State) → Refines old st
+      → IfSome all (λ input. (until : RunUntilUnavailable offered from st input before)
+      × (more : List ℕ)
+      × Appends had has ((responses until.exchanges ++ until.answer) ++ more))
 
   abbrev pub Stops : (has : Option (List ℕ)) → Type 0
-  Stops has = (st : State) → Stands old st
+  Stops has = (st : State) → Refines old st
       → IfSome all (λ input. WritesUntil offered from st input before had has)
 
   pub stops : (has : Option (List ℕ)) → Past has → Stops has
@@ -42,13 +43,14 @@ module _ (offered : Bool) (from : ℕ) (old : Content) (all had : Option (List �
   pub further : (has has' : Option (List ℕ)) (text : List ℕ) → Appends has has' text → Past has
       → Past has'
   further has has' text sent past st s =
-      known all _ (λ input. (until : UntilWithheld offered from st input before) × (more : List ℕ)
-      × Appends had has' ((answers until.exchanges ++ until.answer) ++ more))
+      known all _ (λ input. (until : RunUntilUnavailable offered from st input before)
+      × (more : List ℕ)
+      × Appends had has' ((responses until.exchanges ++ until.answer) ++ more))
       (λ input p. (
         p.0,
         p.1 ++ text,
-        subst (Appends had has') (append_assoc (answers p.0.exchanges ++ p.0.answer) p.1 text)
-            (Appends-trans had has has' ((answers p.0.exchanges ++ p.0.answer) ++ p.1) text p.2
+        subst (Appends had has') (append_assoc (responses p.0.exchanges ++ p.0.answer) p.1 text)
+            (Appends-trans had has has' ((responses p.0.exchanges ++ p.0.answer) ++ p.1) text p.2
             sent),
       )) (past st s)
 
@@ -62,12 +64,13 @@ module _ (offered : Bool) (from : ℕ) (old : Content) (all had : Option (List �
       (untold : Option (List (Option ℕ))) (k : ℕ) (progress : Progress offered from between old mid
       all left had has before untold k)
       (left' : Option (List ℕ)) (body text : List ℕ) where
-    until_of : (next : Next) → IfSome left (λ rest. Comes rest next body left')
-        → IsWithheldFrom next text
+    until_of : (next : NextMessage) → IfSome left (λ rest. IsNextMessage rest next body left')
+        → IsUnavailableResponse next text
         → (st : State) (input : List ℕ) → Going offered from between st mid input left had has
-        before untold k → UntilWithheld offered from st input before
-    until_of (Next.Message request) comes withheld st input g =
-        let c = at_rest left g.rest (λ i. Comes i (Next.Message request) body left') g.left_is
+        before untold k → RunUntilUnavailable offered from st input before
+    until_of (NextMessage.Message request) comes withheld st input g =
+        let c = at_rest left g.rest (λ i. IsNextMessage i (NextMessage.Message request) body left')
+        g.left_is
         comes in
         record {
           exchanges = g.exchanges;
@@ -84,52 +87,53 @@ module _ (offered : Bool) (from : ℕ) (old : Content) (all had : Option (List �
           answer = text;
           withheld = withheld;
         }
-    until_of (Next.Refused fault) comes withheld st input g = absurd withheld
+    until_of (NextMessage.Refused fault) comes withheld st input g = absurd withheld
 
-    pub stopped : (has' : Option (List ℕ)) (next : Next)
-        → IfSome left (λ rest. Comes rest next body left') → Appends has has' text
-        → IsWithheldFrom next text → Past has'
+    pub stopped : (has' : Option (List ℕ)) (next : NextMessage)
+        → IfSome left (λ rest. IsNextMessage rest next body left') → Appends has has' text
+        → IsUnavailableResponse next text → Past has'
     unfolding until_of
     stopped has' next comes sent withheld st s =
-        known all _ (λ input. (until : UntilWithheld offered from st input before) × (more : List ℕ)
-        × Appends had has' ((answers until.exchanges ++ until.answer) ++ more))
+        known all _ (λ input. (until : RunUntilUnavailable offered from st input before)
+        × (more : List ℕ)
+        × Appends had has' ((responses until.exchanges ++ until.answer) ++ more))
         (more_of has' next comes sent withheld st) (progress st s).1
       where
-        more_of : (has' : Option (List ℕ)) (next : Next)
-            → IfSome left (λ rest. Comes rest next body left') → Appends has has' text
-            → IsWithheldFrom next text → (st : State) (input : List ℕ)
+        more_of : (has' : Option (List ℕ)) (next : NextMessage)
+            → IfSome left (λ rest. IsNextMessage rest next body left') → Appends has has' text
+            → IsUnavailableResponse next text → (st : State) (input : List ℕ)
             → Going offered from between st mid input left had has before untold k
-            → (until : UntilWithheld offered from st input before) × (more : List ℕ)
-            × Appends had has' ((answers until.exchanges ++ until.answer) ++ more)
-        more_of has' (Next.Message request) comes sent withheld st input g = (
-          until_of (Next.Message request) comes withheld st input g,
+            → (until : RunUntilUnavailable offered from st input before) × (more : List ℕ)
+            × Appends had has' ((responses until.exchanges ++ until.answer) ++ more)
+        more_of has' (NextMessage.Message request) comes sent withheld st input g = (
+          until_of (NextMessage.Message request) comes withheld st input g,
           [],
-          subst (Appends had has') (sym (append-nil (answers g.exchanges ++ text)))
-              (Appends-trans had has has' (answers g.exchanges) text g.written sent),
+          subst (Appends had has') (sym (append-nil (responses g.exchanges ++ text)))
+              (Appends-trans had has has' (responses g.exchanges) text g.written sent),
         )
-        more_of has' (Next.Refused fault) comes sent withheld st input g = absurd withheld
+        more_of has' (NextMessage.Refused fault) comes sent withheld st input g = absurd withheld
 
-    pub stopped_partly : (has' : Option (List ℕ)) (next : Next)
-        → IfSome left (λ rest. Comes rest next body left') → AppendsFront has has' text
-        → IsWithheldFrom next text → Stops has'
+    pub stopped_partly : (has' : Option (List ℕ)) (next : NextMessage)
+        → IfSome left (λ rest. IsNextMessage rest next body left') → AppendsFront has has' text
+        → IsUnavailableResponse next text → Stops has'
     unfolding until_of
     stopped_partly has' next comes sent withheld st s =
         known all _ (λ input. WritesUntil offered from st input before had has')
         (part_of has' next comes sent withheld st) (progress st s).1
       where
-        part_of : (has' : Option (List ℕ)) (next : Next)
-            → IfSome left (λ rest. Comes rest next body left') → AppendsFront has has' text
-            → IsWithheldFrom next text → (st : State) (input : List ℕ)
+        part_of : (has' : Option (List ℕ)) (next : NextMessage)
+            → IfSome left (λ rest. IsNextMessage rest next body left') → AppendsFront has has' text
+            → IsUnavailableResponse next text → (st : State) (input : List ℕ)
             → Going offered from between st mid input left had has before untold k
             → WritesUntil offered from st input before had has'
-        part_of has' (Next.Message request) comes sent withheld st input g = (
-          until_of (Next.Message request) comes withheld st input g,
+        part_of has' (NextMessage.Message request) comes sent withheld st input g = (
+          until_of (NextMessage.Message request) comes withheld st input g,
           inl (
             sent.0,
-            Appends-trans had has has' (answers g.exchanges) (take sent.0 text) g.written sent.2,
+            Appends-trans had has has' (responses g.exchanges) (take sent.0 text) g.written sent.2,
           ),
         )
-        part_of has' (Next.Refused fault) comes sent withheld st input g = absurd withheld
+        part_of has' (NextMessage.Refused fault) comes sent withheld st input g = absurd withheld
 
 -- a store that was usable is so still, or what is said of one that is not holds already, or from
 -- this message on
@@ -150,7 +154,7 @@ already (inr then) goes = inr (goes then)
 
 by_number : {Is : Type 0} (r : Refusal) (storage memory : Bool) → (number_of r == 29) ≡ storage
     → (number_of r == 30) ≡ memory → ((r ≢ Storage) × (r ≢ NoMemory) → Is)
-    → IsWithheld (failure_text (Refused r)) ⊎ Is
+    → IsUnavailableText (failure_text (Refused r)) ⊎ Is
 by_number r true memory x y stays =
     inl (inl (text_by_number r ∙ ap refusal_text ((Decides-eqb (number_of r) 29).0 x)))
 by_number r false true x y stays =
@@ -163,12 +167,12 @@ by_number r false false x y stays = inr (stays (
 ))
 
 pub refused_or : {Is : Type 0} (r : Refusal) → ((r ≢ Storage) × (r ≢ NoMemory) → Is)
-    → IsWithheld (failure_text (Refused r)) ⊎ Is
+    → IsUnavailableText (failure_text (Refused r)) ⊎ Is
 refused_or r stays = by_number r (number_of r == 29) (number_of r == 30) refl refl stays
 
 -- a message that got no reply was answered that storage or memory fails
-pub failed_or : {Is : Type 0} (failure : Failure) → (IsReplied {A = ⊤} (Err failure) → Is)
-    → IsWithheld (failure_text failure) ⊎ Is
+pub failed_or : {Is : Type 0} (failure : Failure) → (IsReplyAvailable {A = ⊤} (Err failure) → Is)
+    → IsUnavailableText (failure_text failure) ⊎ Is
 failed_or (Refused r) stays = refused_or r stays
 failed_or (Uri fault) stays = inr (stays tt)
 failed_or (Message fault) stays = inr (stays tt)

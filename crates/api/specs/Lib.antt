@@ -1,4 +1,4 @@
-pub mod Counting
+pub mod ReplyBounds
 pub mod Plain
 pub mod Run
 pub mod Serving

@@ -1,10 +1,10 @@
 -- Texts that stand between the quotes of a JSON text as they are.
 use Rattle.std.specs.Prelude.{◌≡◌, ℕ, Bool, true, not, ◌==◌, ◌&&◌, nat_le, List}
 use Rattle.std.specs.List.{list_all}
-use Rattle.meaning.specs.Machine.{Answer}
+use Rattle.model.specs.Machine.{Answer}
 use Rattle.telnp.specs.Answer.{Uri}
 use Rattle.api.specs.Step.{IsUri}
-use Rattle.bodies.specs.Texts.{looked_up}
+use Rattle.json_api.specs.Texts.{looked_up}
 
 -- printable ASCII, and neither a quote (34) nor a backslash (92)
 abbrev pub is_plain : ℕ → Bool

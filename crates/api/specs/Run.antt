@@ -1,12 +1,12 @@
 -- A run over the messages of an input.
 use Rattle.std.specs.Prelude.{◌≡◌, ◌≢◌, ℕ, List, [], ◌∷◌, Bool, false, Option, All, map}
 use Rattle.std.specs.List.{flat_map}
-use Rattle.meaning.specs.Reading.{State}
-use Rattle.settle.specs.Reads.{HasRisen}
-use Rattle.bodies.specs.RefusalTexts.{refusal_text}
-use Rattle.messages.specs.Cuts.{Cuts, Whole}
+use Rattle.model.specs.State.{State}
+use Rattle.settle.specs.Reads.{HasDeviceFailed}
+use Rattle.json_api.specs.RefusalTexts.{refusal_text}
+use Rattle.http_messages.specs.Parsing.{ParsesAs, WholeMessage}
 use Rattle.api.specs.Step.{Step}
-use Rattle.messages.specs.declared.message.Request.{Request}
+use Rattle.http_messages.specs.declared.message.Request.{Request}
 
 -- a message, the minute handed in beside it, and its answer
 pub record Exchange : Type 0 where
@@ -15,8 +15,8 @@ pub record Exchange : Type 0 where
   pub body : List ℕ
   pub answer : List ℕ
 
-abbrev pub answers : List Exchange → List ℕ
-answers = flat_map (λ x. x.answer)
+abbrev pub responses : List Exchange → List ℕ
+responses = flat_map (λ x. x.answer)
 
 -- the minutes handed in
 abbrev pub ticks_of : List Exchange → List (Option ℕ)
@@ -31,7 +31,8 @@ abbrev pub Run : (offered : Bool) → (from to : ℕ) → State → List ℕ →
     → Type 0
 Run offered from to st input [] end rest = (to ≡ from) × (end ≡ st) × (rest ≡ input)
 Run offered from to st input (x ∷ xs) end rest =
-    (between : ℕ) × (mid : State) × (next : List ℕ) × Cuts input (Whole x.request x.body next)
+    (between : ℕ) × (mid : State) × (next : List ℕ)
+    × ParsesAs input (WholeMessage x.request x.body next)
     × (x.request.closes ≡ false)
     × Step offered x.tick from between st x.request x.body x.answer mid
     × Run offered between to mid next xs end rest
@@ -41,5 +42,5 @@ abbrev pub StaysClear : Type 0
 StaysClear =
     (offered : Bool) (from to : ℕ) (st end : State) (input rest : List ℕ)
     (exchanges : List Exchange) →
-    Run offered from to st input exchanges end rest → ¬ (HasRisen from to)
+    Run offered from to st input exchanges end rest → ¬ (HasDeviceFailed from to)
     → All (λ x. x.answer ≢ refusal_text 29) exchanges

@@ -2,43 +2,43 @@
 use Rattle.std.specs.Prelude.{◌≡◌, ◌≢◌, ◌⊎◌, ⊤, ℕ, ◌==◌, ◌<◌, ◌≤◌, List, [], length, codes, Bool, true, false, if◌then◌else◌, Option, Some, None, IsSomeAnd, Result, Ok, Err}
 use Rattle.numbers.specs.Digits.{IsTn}
 use Rattle.numbers.specs.declared.spid.Spid.{Spid}
-use Rattle.meaning.specs.declared.refusal.Refusal.{Refusal}
-use Rattle.meaning.specs.declared.refusal.Refusal.TheVariants.{Storage, NoMemory}
-use Rattle.meaning.specs.Content.{Content}
-use Rattle.meaning.specs.RefusalNumbers.{number_of}
-use Rattle.meaning.specs.Reading.{State}
-use Rattle.meaning.specs.Refusals.{Input, Moment, Asks, Knows, Fetch, ShowVersion, Query, AllInForce, Waiting, Ids, npac, refusal}
-use Rattle.meaning.specs.Machine.{Reply, Refused, Moved, Registered, LrnAdded, CodeOpened, Shown, Donated, Known, Fetched, Answered, Rows, Awaited, Found, WindowsSet, out, next}
-use Rattle.settle.specs.Reads.{HasRisen}
-use Rattle.register.specs.Answers.{Stands}
-use Rattle.calls.specs.Calls.{Called, Wants, Wonders, Moves, input_of}
+use Rattle.model.specs.declared.refusal.Refusal.{Refusal}
+use Rattle.model.specs.declared.refusal.Refusal.TheVariants.{Storage, NoMemory}
+use Rattle.model.specs.Content.{Content}
+use Rattle.model.specs.RefusalNumbers.{number_of}
+use Rattle.model.specs.State.{State}
+use Rattle.model.specs.Refusals.{Input, ClockMoment, QuestionFrom, Knows, Fetch, ShowVersion, Query, AllInForce, Waiting, Ids, npac, refusal}
+use Rattle.model.specs.Machine.{Reply, Refused, Moved, Registered, LrnAdded, CodeOpened, Shown, Donated, Known, Fetched, Answered, Rows, Awaited, Found, WindowsSet, out, next}
+use Rattle.settle.specs.Reads.{HasDeviceFailed}
+use Rattle.register.specs.Refinement.{Refines}
+use Rattle.requests.specs.Calls.{ModelCall, RequestCall, QuestionCall, MomentCall, input_of}
 use Rattle.telnp.specs.declared.fault.TelFault.{TelFault}
 use Rattle.telnp.specs.Answer.{Uri as TelUri}
 use Rattle.telnp.specs.Faults.{fault_of}
 use Rattle.telnp.specs.Grammar.{has_name}
 use Rattle.telnp.specs.Numbers.{HasTn}
 use Rattle.telnp.specs.Uri.{IsTelUri}
-use Rattle.bodies.specs.declared.fault.Failure.{Failure}
-use Rattle.bodies.specs.declared.fault.Failure.TheVariants.{Refused as Turned, Uri, Message}
-use Rattle.messages.specs.declared.fault.MessageFault.{MessageFault}
-use Rattle.messages.specs.declared.fault.MessageFault.TheVariants.{BadRequest, NoPath, BadMethod}
-use Rattle.messages.specs.declared.message.Request.{Request}
-use Rattle.messages.specs.declared.paths.Method.{Method}
-use Rattle.messages.specs.declared.paths.Route.{Route}
-use Rattle.messages.specs.declared.paths.Route.TheVariants.{Version, Number, Downloads}
-use Rattle.api.specs.declared.reply.Counted.{Counted}
-use Rattle.bodies.specs.Answer.{answer}
-use Rattle.bodies.specs.Failures.{failure_text}
-use Rattle.bodies.specs.RefusalTexts.{refusal_text}
-use Rattle.bodies.specs.Forms.{Asked, Calling, Seeking, HasForm, json_of}
-use Rattle.messages.specs.Table.{takes, among_offered}
-use Rattle.bodies.specs.Texts.{registered_text, donated_text, routing_number_text, opened_code_text, ids_text, now_text, windows_set_text, view_text, downloads_text, looked_up, uri_text}
+use Rattle.json_api.specs.declared.fault.Failure.{Failure}
+use Rattle.json_api.specs.declared.fault.Failure.TheVariants.{Refused as Turned, Uri, Message}
+use Rattle.http_messages.specs.declared.fault.MessageFault.{MessageFault}
+use Rattle.http_messages.specs.declared.fault.MessageFault.TheVariants.{BadRequest, NoPath, BadMethod}
+use Rattle.http_messages.specs.declared.message.Request.{Request}
+use Rattle.http_messages.specs.declared.paths.Method.{Method}
+use Rattle.http_messages.specs.declared.paths.Route.{Route}
+use Rattle.http_messages.specs.declared.paths.Route.TheVariants.{Version, Number, Downloads}
+use Rattle.api.specs.declared.reply.ReplyBounds.{ReplyBounds}
+use Rattle.json_api.specs.Response.{response}
+use Rattle.json_api.specs.Failures.{failure_text}
+use Rattle.json_api.specs.RefusalTexts.{refusal_text}
+use Rattle.json_api.specs.Forms.{ApiCall, RegisterCall, UriQuery, HasForm, json_of}
+use Rattle.http_messages.specs.Table.{allows_method, offered_route}
+use Rattle.json_api.specs.Texts.{registered_text, donated_text, routing_number_text, opened_code_text, ids_text, now_text, windows_set_text, view_text, downloads_text, looked_up, uri_text}
 
 -- ---- the answers to what was asked, byte for byte
 
 -- the whole answer of what was carried out
 unfoldable pub success : List ℕ → List ℕ
-success body = answer 200 body
+success body = response 200 body
 
 -- the machine's reply to a call. The other replies are of inputs that no path asks for, or a
 -- query's
@@ -77,25 +77,25 @@ routed_text uri (Found in_force opened) = []
 routed_text uri (WindowsSet now number) = []
 
 -- what is written for a call: a body for what was carried out, or why it was not
-abbrev pub told : {A : Type 0} → Result A Failure → (body : List ℕ) → List ℕ
-told (Ok done) body = success body
-told (Err failure) body = failure_text failure
+abbrev pub response_text : {A : Type 0} → Result A Failure → (body : List ℕ) → List ℕ
+response_text (Ok done) body = success body
+response_text (Err failure) body = failure_text failure
 
 -- a message got a reply, if only why it was not carried out; that storage or memory fails is none
-abbrev pub IsReplied : {A : Type 0} → Result A Failure → Type 0
-IsReplied (Ok done) = ⊤
-IsReplied (Err (Turned refusal)) = (refusal ≢ Storage) × (refusal ≢ NoMemory)
-IsReplied (Err (Uri fault)) = ⊤
-IsReplied (Err (Message fault)) = ⊤
+abbrev pub IsReplyAvailable : {A : Type 0} → Result A Failure → Type 0
+IsReplyAvailable (Ok done) = ⊤
+IsReplyAvailable (Err (Turned refusal)) = (refusal ≢ Storage) × (refusal ≢ NoMemory)
+IsReplyAvailable (Err (Uri fault)) = ⊤
+IsReplyAvailable (Err (Message fault)) = ⊤
 
 -- a call is refused for want of memory; or for want of the device, where the count of its failures
 -- rose
 abbrev pub IsShort : (from to : ℕ) → Refusal → Type 0
-IsShort from to refusal = ((refusal ≡ Storage) × HasRisen from to) ⊎ (refusal ≡ NoMemory)
+IsShort from to refusal = ((refusal ≡ Storage) × HasDeviceFailed from to) ⊎ (refusal ≡ NoMemory)
 
 -- a registration shows more rows, a carrier's queue more downloads, or a donation more ids, than
 -- were counted
-abbrev pub Outgrows : Counted → Reply → Type 0
+abbrev pub Outgrows : ReplyBounds → Reply → Type 0
 Outgrows counted (Registered spid rows) = counted.rows < length rows
 Outgrows counted (Fetched downloads) = counted.downloads < length downloads
 Outgrows counted (Donated block ids) = counted.ids < length ids
@@ -105,21 +105,21 @@ Outgrows counted _ = ⊥
 -- message and after it
 
 -- the answer of storage (29) or memory (30) that fails
-abbrev pub IsWithheld : List ℕ → Type 0
-IsWithheld text = (text ≡ refusal_text 29) ⊎ (text ≡ refusal_text 30)
+abbrev pub IsUnavailableText : List ℕ → Type 0
+IsUnavailableText text = (text ≡ refusal_text 29) ⊎ (text ≡ refusal_text 30)
 
 -- storage fails, and the device failed meanwhile, or memory fails; and nothing has happened
-abbrev pub Withholds : (from to : ℕ) → State → (text : List ℕ) → (after : State) → Type 0
-Withholds from to st text after =
-    (((text ≡ refusal_text 29) × HasRisen from to) ⊎ (text ≡ refusal_text 30)) × (after ≡ st)
+abbrev pub IsUnavailable : (from to : ℕ) → State → (text : List ℕ) → (after : State) → Type 0
+IsUnavailable from to st text after =
+    (((text ≡ refusal_text 29) × HasDeviceFailed from to) ⊎ (text ≡ refusal_text 30)) × (after ≡ st)
 
 -- the message is refused, and nothing has happened
-abbrev pub Refuses : State → MessageFault → (text : List ℕ) → (after : State) → Type 0
-Refuses st fault text after = (text ≡ failure_text (Message fault)) × (after ≡ st)
+abbrev pub RespondsRefusal : State → MessageFault → (text : List ℕ) → (after : State) → Type 0
+RespondsRefusal st fault text after = (text ≡ failure_text (Message fault)) × (after ≡ st)
 
 -- the machine takes the input
-abbrev pub Takes : State → Input → (text : List ℕ) → (after : State) → Type 0
-Takes st input text after = (text ≡ reply_text (out st input)) × (after ≡ next st input)
+abbrev pub RespondsAsMachine : State → Input → (text : List ℕ) → (after : State) → Type 0
+RespondsAsMachine st input text after = (text ≡ reply_text (out st input)) × (after ≡ next st input)
 
 -- ---- queries
 
@@ -130,8 +130,8 @@ pub record IsUri (text : List ℕ) (uri : TelUri) : Type 0 where
 
 -- the register is not asked: the URI was looked up already, or its digits are not 1 and a telephone
 -- number
-abbrev pub ComesBack : TelUri → Type 0
-ComesBack uri = (has_name (codes "npdi") uri.parameters ≡ true) ⊎ ((tn : ℕ) → IsTn tn
+abbrev pub IsReturnedAsIs : TelUri → Type 0
+IsReturnedAsIs uri = (has_name (codes "npdi") uri.parameters ≡ true) ⊎ ((tn : ℕ) → IsTn tn
     → ¬ (HasTn uri.number tn))
 
 -- the register is asked for this telephone number: the URI was not looked up yet, and its digits
@@ -142,130 +142,137 @@ pub record AsksFor (uri : TelUri) (tn : ℕ) : Type 0 where
   pub said : HasTn uri.number tn
 
 -- a URI without a fault: its text comes back byte for byte, or its number's code is asked for
-abbrev pub AnswersUri : State → (caller : ℕ) → (uri : TelUri) → (text : List ℕ) → Type 0
-AnswersUri st caller uri text =
-    (ComesBack uri × (text ≡ success (uri_text uri.text)))
-    ⊎ ((tn : ℕ) × AsksFor uri tn × (text ≡ routed_text uri (out st (Asks caller (Query tn)))))
+abbrev pub RespondsToUri : State → (caller : ℕ) → (uri : TelUri) → (text : List ℕ) → Type 0
+RespondsToUri st caller uri text =
+    (IsReturnedAsIs uri × (text ≡ success (uri_text uri.text)))
+    ⊎ ((tn : ℕ) × AsksFor uri tn
+    × (text ≡ routed_text uri (out st (QuestionFrom caller (Query tn)))))
 
 -- a query: first its caller, then its URI, then its number's code
-abbrev pub AnswersQuery : State → (caller : ℕ) → (uri : List ℕ) → (text : List ℕ) → Type 0
-AnswersQuery st caller uri text =
-    ((number : ℕ) × (out st (Asks caller Knows) ≡ Refused number) × (text ≡ refusal_text number))
-    ⊎ ((out st (Asks caller Knows) ≡ Known) × ((fault : TelFault) × (fault_of uri ≡ Some fault)
+abbrev pub RespondsToQuery : State → (caller : ℕ) → (uri : List ℕ) → (text : List ℕ) → Type 0
+RespondsToQuery st caller uri text =
+    ((number : ℕ) × (out st (QuestionFrom caller Knows) ≡ Refused number)
+    × (text ≡ refusal_text number))
+    ⊎ ((out st (QuestionFrom caller Knows) ≡ Known)
+    × ((fault : TelFault) × (fault_of uri ≡ Some fault)
     × (text ≡ failure_text (Uri fault))))
-    ⊎ ((out st (Asks caller Knows) ≡ Known) × ((read : TelUri) × IsUri uri read
-    × AnswersUri st caller read text))
+    ⊎ ((out st (QuestionFrom caller Knows) ≡ Known) × ((read : TelUri) × IsUri uri read
+    × RespondsToUri st caller read text))
 
 -- ---- calls
 
 -- what a call is refused with for its caller, where the machine does not judge the caller itself:
 -- the clock is the
 -- administrator's alone, and the ids of a number are told to whom the register knows
-abbrev pub turned_away : State → (caller : ℕ) → Called → Option ℕ
-turned_away st caller (Moves minute) = if caller == npac then None else Some 2
-turned_away st caller (Wonders (Ids tn)) = refusal st (Asks caller Knows)
-turned_away st caller (Wonders Knows) = None
-turned_away st caller (Wonders (Fetch n)) = None
-turned_away st caller (Wonders (ShowVersion id)) = None
-turned_away st caller (Wonders (Query tn)) = None
-turned_away st caller (Wonders AllInForce) = None
-turned_away st caller (Wonders Waiting) = None
-turned_away st caller (Wants request) = None
+abbrev pub caller_refusal : State → (caller : ℕ) → ModelCall → Option ℕ
+caller_refusal st caller (MomentCall minute) = if caller == npac then None else Some 2
+caller_refusal st caller (QuestionCall (Ids tn)) = refusal st (QuestionFrom caller Knows)
+caller_refusal st caller (QuestionCall Knows) = None
+caller_refusal st caller (QuestionCall (Fetch n)) = None
+caller_refusal st caller (QuestionCall (ShowVersion id)) = None
+caller_refusal st caller (QuestionCall (Query tn)) = None
+caller_refusal st caller (QuestionCall AllInForce) = None
+caller_refusal st caller (QuestionCall Waiting) = None
+caller_refusal st caller (RequestCall request) = None
 
 -- the caller may make the call
-abbrev pub Admits : State → (caller : ℕ) → Called → Type 0
-Admits st caller called = turned_away st caller called ≡ None
+abbrev pub IsCallerAdmitted : State → (caller : ℕ) → ModelCall → Type 0
+IsCallerAdmitted st caller called = caller_refusal st caller called ≡ None
 
 -- the caller may not, or that could not be told
-abbrev pub TurnsAway : (from to : ℕ) → State → (caller : ℕ) → Called → Refusal → Type 0
-TurnsAway from to st caller called reason =
-    IsShort from to reason ⊎ (turned_away st caller called ≡ Some (number_of reason))
+abbrev pub IsCallerRefused : (from to : ℕ) → State → (caller : ℕ) → ModelCall → Refusal → Type 0
+IsCallerRefused from to st caller called reason =
+    IsShort from to reason ⊎ (caller_refusal st caller called ≡ Some (number_of reason))
 
 -- a call that is refused for its caller changes nothing; else the machine takes it
-abbrev pub AnswersAdmitted : State → (away : Option ℕ) → Input → (text : List ℕ) → (after : State)
+abbrev pub RespondsToAdmitted : State → (away : Option ℕ) → Input → (text : List ℕ)
+    → (after : State)
     → Type 0
-AnswersAdmitted st (Some number) input text after = (text ≡ refusal_text number) × (after ≡ st)
-AnswersAdmitted st None input text after = Takes st input text after
+RespondsToAdmitted st (Some number) input text after = (text ≡ refusal_text number) × (after ≡ st)
+RespondsToAdmitted st None input text after = RespondsAsMachine st input text after
 
-abbrev pub AnswersCall : State → (caller : ℕ) → Called → (text : List ℕ) → (after : State) → Type 0
-AnswersCall st caller called text after =
-    AnswersAdmitted st (turned_away st caller called) (input_of caller called) text after
+abbrev pub RespondsToCall : State → (caller : ℕ) → ModelCall → (text : List ℕ) → (after : State)
+    → Type 0
+RespondsToCall st caller called text after =
+    RespondsToAdmitted st (caller_refusal st caller called) (input_of caller called) text after
 
 -- ---- what is asked
 
 -- what a caller asks is answered, or withheld
-abbrev pub Answers : (from to : ℕ) → State → (caller : ℕ) → Asked → (text : List ℕ)
+abbrev pub RespondsTo : (from to : ℕ) → State → (caller : ℕ) → ApiCall → (text : List ℕ)
     → (after : State) → Type 0
-Answers from to st caller (Calling called) text after = Withholds from to st text after
-    ⊎ AnswersCall st caller called text after
-Answers from to st caller (Seeking uri) text after = Withholds from to st text after
-    ⊎ (AnswersQuery st caller uri text × (after ≡ st))
+RespondsTo from to st caller (RegisterCall called) text after = IsUnavailable from to st text after
+    ⊎ RespondsToCall st caller called text after
+RespondsTo from to st caller (UriQuery uri) text after = IsUnavailable from to st text after
+    ⊎ (RespondsToQuery st caller uri text × (after ≡ st))
 
 -- ---- messages
 
 -- the body is JSON of the path's form, and asks this
-abbrev pub BodyAsks : Route → (body : List ℕ) → Asked → Type 0
+abbrev pub BodyAsks : Route → (body : List ℕ) → ApiCall → Type 0
 BodyAsks route body asked = IsSomeAnd (json_of body) (λ d. HasForm route d asked)
 
 -- the path ends in an id, no body comes with it, and that version is asked for
-abbrev pub IdAsks : Option ℕ → (body : List ℕ) → Asked → Type 0
+abbrev pub IdAsks : Option ℕ → (body : List ℕ) → ApiCall → Type 0
 IdAsks number body asked = (id : ℕ) × (number ≡ Some id) × (body ≡ [])
-    × (asked ≡ Calling (Wonders (ShowVersion id)))
+    × (asked ≡ RegisterCall (QuestionCall (ShowVersion id)))
 
 -- the path ends in a telephone number, no body comes with it, and the ids of that number are asked
 -- for
-abbrev pub NumberAsks : Option ℕ → (body : List ℕ) → Asked → Type 0
+abbrev pub NumberAsks : Option ℕ → (body : List ℕ) → ApiCall → Type 0
 NumberAsks number body asked = (tn : ℕ) × (number ≡ Some tn) × IsTn tn × (body ≡ [])
-    × (asked ≡ Calling (Wonders (Ids tn)))
+    × (asked ≡ RegisterCall (QuestionCall (Ids tn)))
 
 -- the path ends in a number from 1 to 100, no body comes with it, and so many of the caller's
 -- downloads are asked for
-abbrev pub CountAsks : Option ℕ → (body : List ℕ) → Asked → Type 0
+abbrev pub CountAsks : Option ℕ → (body : List ℕ) → ApiCall → Type 0
 CountAsks count body asked = (n : ℕ) × (count ≡ Some n) × (1 ≤ n) × (n ≤ 100) × (body ≡ [])
-    × (asked ≡ Calling (Wonders (Fetch n)))
+    × (asked ≡ RegisterCall (QuestionCall (Fetch n)))
 
 -- a message on the path asks this
-abbrev pub PathAsks : Route → (body : List ℕ) → Asked → Type 0
+abbrev pub PathAsks : Route → (body : List ℕ) → ApiCall → Type 0
 PathAsks (Version number) body asked = IdAsks number body asked
 PathAsks (Number number) body asked = NumberAsks number body asked
 PathAsks (Downloads count) body asked = CountAsks count body asked
 PathAsks route body asked = BodyAsks route body asked
 
 -- a message that asks nothing is refused; else what it asks is answered
-abbrev pub Calls : (from to : ℕ) → State → (IsAsked : Asked → Type 0) → (caller : ℕ)
+abbrev pub DispatchesCall : (from to : ℕ) → State → (IsAsked : ApiCall → Type 0) → (caller : ℕ)
     → (text : List ℕ) → (after : State) → Type 0
-Calls from to st IsAsked caller text after =
-    Withholds from to st text after
-    ⊎ (((asked : Asked) → ¬ (IsAsked asked)) × Refuses st BadRequest text after)
-    ⊎ ((asked : Asked) × IsAsked asked × Answers from to st caller asked text after)
+DispatchesCall from to st IsAsked caller text after =
+    IsUnavailable from to st text after
+    ⊎ (((asked : ApiCall) → ¬ (IsAsked asked)) × RespondsRefusal st BadRequest text after)
+    ⊎ ((asked : ApiCall) × IsAsked asked × RespondsTo from to st caller asked text after)
 
 -- on a path, first the method is judged, then the caller, then what is asked
-abbrev pub MeetsPath : (from to : ℕ) → State → Route → (has_method : Bool) → (caller : Option Spid)
+abbrev pub DispatchesPath : (from to : ℕ) → State → Route → (has_method : Bool)
+    → (caller : Option Spid)
     → (body text : List ℕ) → (after : State) → Type 0
-MeetsPath from to st route false caller body text after = Refuses st BadMethod text after
-MeetsPath from to st route true None body text after = Refuses st BadRequest text after
-MeetsPath from to st route true (Some caller) body text after =
-    Calls from to st (PathAsks route body) caller.number text after
+DispatchesPath from to st route false caller body text after =
+    RespondsRefusal st BadMethod text after
+DispatchesPath from to st route true None body text after = RespondsRefusal st BadRequest text after
+DispatchesPath from to st route true (Some caller) body text after =
+    DispatchesCall from to st (PathAsks route body) caller.number text after
 
 -- before all that the path is judged
-abbrev pub Meets : (from to : ℕ) → State → Option Route → Method → (caller : Option Spid)
+abbrev pub Dispatches : (from to : ℕ) → State → Option Route → Method → (caller : Option Spid)
     → (body text : List ℕ) → (after : State) → Type 0
-Meets from to st None method caller body text after = Refuses st NoPath text after
-Meets from to st (Some route) method caller body text after =
-    MeetsPath from to st route (takes route method) caller body text after
+Dispatches from to st None method caller body text after = RespondsRefusal st NoPath text after
+Dispatches from to st (Some route) method caller body text after =
+    DispatchesPath from to st route (allows_method route method) caller body text after
 
 -- a minute that is handed in is a moment of the clock; one that is below the present minute changes
 -- nothing
 abbrev pub ticked : State → (tick : Option ℕ) → State
 ticked st None = st
-ticked st (Some minute) = next st (Moment minute)
+ticked st (Some minute) = next st (ClockMoment minute)
 
 -- the clock's move to the minute that is handed in is withheld: the message is not carried out, and
 -- is answered with that
-abbrev pub WithholdsTick : (from to : ℕ) → State → (tick : Option ℕ) → (text : List ℕ)
+abbrev pub IsTickUnavailable : (from to : ℕ) → State → (tick : Option ℕ) → (text : List ℕ)
     → (after : State) → Type 0
-WithholdsTick from to st None text after = ⊥
-WithholdsTick from to st (Some minute) text after = Withholds from to st text after
+IsTickUnavailable from to st None text after = ⊥
+IsTickUnavailable from to st (Some minute) text after = IsUnavailable from to st text after
 
 -- the message, whose head says the request, is answered by the text, and st becomes after: first
 -- the clock moves to the minute
@@ -276,18 +283,19 @@ pub record Step (offered : Bool) (tick : Option ℕ) (from to : ℕ) (st : State
     (body text : List ℕ) (after : State) : Type 0 where
   pub rises : from ≤ to
   pub met :
-      WithholdsTick from to st tick text after
-      ⊎ Meets from to (ticked st tick) (among_offered offered request.route) request.method
+      IsTickUnavailable from to st tick text after
+      ⊎ Dispatches from to (ticked st tick) (offered_route offered request.route) request.method
       request.caller body text after
 
 -- one answer and one state after it, unless either is withheld
 abbrev pub IsOnce : (text said : List ℕ) → (after later : State) → Type 0
-IsOnce text said after later = IsWithheld text ⊎ IsWithheld said ⊎ ((text ≡ said) × (after ≡ later))
+IsOnce text said after later = IsUnavailableText text ⊎ IsUnavailableText said
+    ⊎ ((text ≡ said) × (after ≡ later))
 
 -- but for want of the device or of memory, a message has one answer and one state after it, by the
 -- minute handed in
-abbrev pub StepsOnce : Type 0
-StepsOnce =
+abbrev pub StepIsDeterministic : Type 0
+StepIsDeterministic =
     (offered : Bool) (tick : Option ℕ) (from to from' to' : ℕ) (st : State) (request : Request)
     (body text said : List ℕ) (after later : State) →
     Step offered tick from to st request body text after
@@ -296,29 +304,29 @@ StepsOnce =
 -- the answer that storage fails (29) says that the device failed while its message was served, and
 -- that nothing has happened but
 -- that the clock may have moved to the minute handed in
-abbrev pub StorageTells : Type 0
-StorageTells =
+abbrev pub StorageReportsFailure : Type 0
+StorageReportsFailure =
     (offered : Bool) (tick : Option ℕ) (from to : ℕ) (st : State) (request : Request)
     (body : List ℕ) (after : State) →
-    Step offered tick from to st request body (refusal_text 29) after → HasRisen from to
+    Step offered tick from to st request body (refusal_text 29) after → HasDeviceFailed from to
     × ((after ≡ st) ⊎ (after ≡ ticked st tick))
 
 -- ---- contents that stand for states
 
 -- what a caller asks is answered by the text, and the content stands for the state afterwards
-abbrev pub Carried : (from to : ℕ) → (new : Content) → State → (caller : ℕ) → Asked
+abbrev pub IsPerformed : (from to : ℕ) → (new : Content) → State → (caller : ℕ) → ApiCall
     → (text : List ℕ) → Type 0
-Carried from to new st caller asked text =
-    (after : State) × Answers from to st caller asked text after × Stands new after
+IsPerformed from to new st caller asked text =
+    (after : State) × RespondsTo from to st caller asked text after × Refines new after
 
 -- and so it is whatever state the content stands for
-abbrev pub Carries : (from to : ℕ) → (old new : Content) → (caller : ℕ) → Asked → (text : List ℕ)
+abbrev pub Performs : (from to : ℕ) → (old new : Content) → (caller : ℕ) → ApiCall → (text : List ℕ)
     → Type 0
-Carries from to old new caller asked text = (st : State) → Stands old st
-    → Carried from to new st caller asked text
+Performs from to old new caller asked text = (st : State) → Refines old st
+    → IsPerformed from to new st caller asked text
 
 -- and so is what is asked in such a way: nothing, which is refused, or one thing
-abbrev pub CallsOn : (from to : ℕ) → (old new : Content) → (IsAsked : Asked → Type 0)
+abbrev pub DispatchesCallOn : (from to : ℕ) → (old new : Content) → (IsAsked : ApiCall → Type 0)
     → (caller : ℕ) → (text : List ℕ) → Type 0
-CallsOn from to old new IsAsked caller text = (st : State) → Stands old st
-    → (after : State) × Calls from to st IsAsked caller text after × Stands new after
+DispatchesCallOn from to old new IsAsked caller text = (st : State) → Refines old st
+    → (after : State) × DispatchesCall from to st IsAsked caller text after × Refines new after

@@ -12,15 +12,16 @@ later_ticks [] = []
 later_ticks (tick ∷ ticks) = ticks
 
 -- where they are told, the first is handed in, and the others are told afterwards
-abbrev pub HandsIn : (before : Option (List (Option ℕ))) → (tick : Option ℕ)
+abbrev pub ConsumesTick : (before : Option (List (Option ℕ))) → (tick : Option ℕ)
     → (behind : Option (List (Option ℕ))) → Type 0
-HandsIn None tick behind = ⊤
-HandsIn (Some ticks) tick behind = (tick ≡ first_tick ticks) × (behind ≡ Some (later_ticks ticks))
+ConsumesTick None tick behind = ⊤
+ConsumesTick (Some ticks) tick behind =
+    (tick ≡ first_tick ticks) × (behind ≡ Some (later_ticks ticks))
 
 -- the same of one after another
-abbrev pub HandsInAll : (before : Option (List (Option ℕ))) → (ticks : List (Option ℕ))
+abbrev pub ConsumesTicks : (before : Option (List (Option ℕ))) → (ticks : List (Option ℕ))
     → (behind : Option (List (Option ℕ))) → Type 0
-HandsInAll None ticks behind = ⊤
-HandsInAll (Some told) [] behind = behind ≡ Some told
-HandsInAll (Some told) (tick ∷ ticks) behind =
-    (tick ≡ first_tick told) × HandsInAll (Some (later_ticks told)) ticks behind
+ConsumesTicks None ticks behind = ⊤
+ConsumesTicks (Some told) [] behind = behind ≡ Some told
+ConsumesTicks (Some told) (tick ∷ ticks) behind =
+    (tick ≡ first_tick told) × ConsumesTicks (Some (later_ticks told)) ticks behind

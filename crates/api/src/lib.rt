@@ -8,7 +8,7 @@ mod reply;
 mod serving;
 mod tick;
 
-pub use bodies::body_asks_once;
-pub use laws::{message_steps_once, storage_tells_of_a_failure, uris_need_no_escape};
-pub use messages::{MessageFault, cuts_of_the_input};
+pub use http_messages::{MessageFault, parse_is_unique};
+pub use json_api::body_asks_once;
+pub use laws::{message_step_is_deterministic, storage_reports_failure, uris_need_no_escape};
 pub use serving::{End, Fault, NoTicks, Options, Served, Ticks, serve};

@@ -1,32 +1,32 @@
 //! Queries: where calls to the number of a URI are routed.
 ghost use Rattle.std.specs.Prelude.{◌≡◌, ◌≤◌, string_bytes, IfErr, IfSome, IfNone, OnOk};
-ghost use Rattle.calls.specs.Calls.{answer_of};
-ghost use Rattle.telnp.specs.Views.{uri_of};
-ghost use Rattle.bodies.specs.Forms.{Seeking};
-ghost use Rattle.bodies.specs.Rooms.{HasRoom, IsEmpty, IsWritten};
-ghost use Rattle.bodies.specs.Texts.{looked_up, uri_text};
-ghost use Rattle.settle.specs.Owing.{Owes};
-ghost use Rattle.api.specs.Step.{Carries, AsksFor, ComesBack, told, IsReplied};
+ghost use Rattle.requests.specs.Calls.{answer_of};
+ghost use Rattle.telnp.specs.Abstraction.{uri_of};
+ghost use Rattle.json_api.specs.Forms.{UriQuery};
+ghost use Rattle.json_api.specs.ResponseBuffers.{HasCapacity, IsEmpty, IsWritten};
+ghost use Rattle.json_api.specs.Texts.{looked_up, uri_text};
+ghost use Rattle.settle.specs.StoreContract.{PreservesStore};
+ghost use Rattle.api.specs.Step.{Performs, AsksFor, IsReturnedAsIs, response_text, IsReplyAvailable};
 
-use bodies::{Failure, Room, URI_ROOM, put_looked_up, put_uri};
-use calls::Answer;
-use meaning::Refusal;
+use json_api::{Failure, ResponseBuffer, URI_CAPACITY, put_looked_up, put_uri};
+use model::Refusal;
 use numbers::{Spid, Tn};
 use register::Register;
+use requests::Answer;
 use settle::Store;
 use std::alloc::Global;
 use telnp::TelUri;
 
 // Writes a URI, in room that is taken for it.
-fn put_text(room: &mut Room, uri: &str) -> Result<(), Failure>
+fn put_text(room: &mut ResponseBuffer, uri: &str) -> Result<(), Failure>
     requires empty { IsEmpty room.old }
-    requires room { HasRoom 512 room.old }
+    requires room { HasCapacity 512 room.old }
     ensures ok { OnOk result (IsWritten room.new) }
-    ensures room { HasRoom 512 room.new }
+    ensures room { HasCapacity 512 room.new }
     ensures body { OnOk result (string_bytes room.new.body ≡ uri_text uri.now) }
     ensures short { IfErr result (λ failure. failure ≡ Failure.Refused Refusal.NoMemory) }
 {
-    room.take(uri.len() + URI_ROOM)?;
+    room.take(uri.len() + URI_CAPACITY)?;
     put_uri(&mut room.body, uri);
     Ok(())
 }
@@ -37,13 +37,13 @@ fn put_routed(
     text: &str,
     uri: &TelUri<'_>,
     answer: Answer,
-    room: &mut Room,
+    room: &mut ResponseBuffer,
 ) -> Result<(), Failure>
     requires same { (uri_of uri.now).text ≡ text.now }
     requires empty { IsEmpty room.old }
-    requires room { HasRoom 512 room.old }
+    requires room { HasCapacity 512 room.old }
     ensures ok { OnOk result (IsWritten room.new) }
-    ensures room { HasRoom 512 room.new }
+    ensures room { HasCapacity 512 room.new }
     ensures body { OnOk result (string_bytes room.new.body
         ≡ uri_text (looked_up (uri_of uri.now) (answer_of answer))) }
     ensures short { IfErr result (λ failure. failure ≡ Failure.Refused Refusal.NoMemory) }
@@ -58,7 +58,7 @@ fn put_routed(
 // none.
 fn number_asked_for(uri: &TelUri<'_>) -> Option<Tn>
     ensures some { IfSome result (λ tn. AsksFor (uri_of uri.now) tn.number) }
-    ensures none { IfNone result (ComesBack (uri_of uri.now)) }
+    ensures none { IfNone result (IsReturnedAsIs (uri_of uri.now)) }
 {
     if uri.has_npdi() {
         return None;
@@ -72,18 +72,18 @@ pub fn query<S: Store>(
     register: &mut Register<S>,
     caller: Spid,
     text: &str,
-    room: &mut Room,
+    room: &mut ResponseBuffer,
 ) -> Result<(), Failure>
     requires empty { IsEmpty room.old }
-    requires room { HasRoom 512 room.old }
+    requires room { HasCapacity 512 room.old }
     ensures ok { OnOk result (IsWritten room.new) }
-    ensures room { HasRoom 512 room.new }
-    ensures owes { Owes S.IsUsable S.IsHonest S.failed register.old.store register.new.store
-        (IsReplied result) ⊥ }
-    ensures carries { S.IsUsable register.new.store
-        → Carries (S.failed register.old.store) (S.failed register.new.store)
+    ensures room { HasCapacity 512 room.new }
+    ensures preserves { PreservesStore S.IsUsable S.HasHonestDevice S.failed register.old.store
+        register.new.store (IsReplyAvailable result) ⊥ }
+    ensures performs { S.IsUsable register.new.store
+        → Performs (S.failed register.old.store) (S.failed register.new.store)
         (S.content register.old.store) (S.content register.new.store) caller.number
-        (Seeking text.now) (told result (string_bytes room.new.body)) }
+        (UriQuery text.now) (response_text result (string_bytes room.new.body)) }
 {
     if let Err(refusal) = register.knows(caller) {
         return Err(Failure::Refused(refusal));

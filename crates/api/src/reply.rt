@@ -1,36 +1,36 @@
 //! Writing what a call answered.
 ghost use Rattle.std.specs.Prelude.{◌≡◌, ℕ, ◌+◌, ◌*◌, ◌<◌, ◌≤◌, length, map, string_bytes, IfErr, OnOk, OnErr};
-ghost use Rattle.calls.specs.Calls.{view_of, reply_of, in_force_of, download_of};
-ghost use Rattle.bodies.specs.Failures.{failure_text};
-ghost use Rattle.bodies.specs.Rooms.{HasRoom, IsEmpty, IsWritten};
-ghost use Rattle.bodies.specs.Texts.{registered_text, donated_text, ids_text, now_text, windows_set_text, view_text, downloads_text};
-ghost use Rattle.api.specs.Counting.{HasRoomFor};
+ghost use Rattle.requests.specs.Calls.{view_of, reply_of, in_force_of, download_of};
+ghost use Rattle.json_api.specs.Failures.{failure_text};
+ghost use Rattle.json_api.specs.ResponseBuffers.{HasCapacity, IsEmpty, IsWritten};
+ghost use Rattle.json_api.specs.Texts.{registered_text, donated_text, ids_text, now_text, windows_set_text, view_text, downloads_text};
+ghost use Rattle.api.specs.ReplyBounds.{HasCapacityFor};
 ghost use Rattle.api.specs.Step.{Outgrows, success, reply_text};
 
-use bodies::{
-    DOWNLOAD_ROOM, Failure, ID_ROOM, ROW_ROOM, Room, put_donated, put_downloads, put_failure,
-    put_ids, put_now, put_opened_code, put_registered, put_routing_number, put_version,
-    put_windows_set,
-};
-use calls::{Ids, Reply, VersionView};
 use delivery::{Download, RoutedRow};
-use meaning::Refusal;
+use json_api::{
+    DOWNLOAD_CAPACITY, Failure, ID_CAPACITY, ROW_CAPACITY, ResponseBuffer, put_donated,
+    put_downloads, put_failure, put_ids, put_now, put_opened_code, put_registered,
+    put_routing_number, put_version, put_windows_set,
+};
+use model::Refusal;
 use numbers::{BlockId, Minute, Spid};
+use requests::{Ids, Reply, VersionView};
 
 // The rows, downloads or ids that an answer may show.
 const MOST: usize = 1 << 40;
 
 /// How many rows an answer may show, how many downloads, and how many ids.
 #[derive(Clone, Copy, Debug)]
-pub struct Counted {
+pub struct ReplyBounds {
     pub rows: usize,
     pub downloads: usize,
     pub ids: usize,
 }
 
-impl Counted {
+impl ReplyBounds {
     /// Neither rows nor downloads, and no ids.
-    pub const NONE: Counted = Counted {
+    pub const NONE: ReplyBounds = ReplyBounds {
         rows: 0,
         downloads: 0,
         ids: 0,
@@ -38,34 +38,34 @@ impl Counted {
 }
 
 /// Takes the room for a body of so many rows, of so many downloads, or of so many ids.
-pub fn take_counted(room: &mut Room, counted: Counted) -> Result<(), Refusal>
+pub fn take_counted(room: &mut ResponseBuffer, counted: ReplyBounds) -> Result<(), Refusal>
     requires empty { IsEmpty room.old }
-    ensures ok { OnOk result (HasRoomFor counted room.new) }
+    ensures ok { OnOk result (HasCapacityFor counted room.new) }
     ensures err { IfErr result (λ refusal. refusal ≡ Refusal.NoMemory) }
     ensures empty { IsEmpty room.new }
-    ensures room { (n : ℕ) → HasRoom n room.old → HasRoom n room.new }
+    ensures room { (n : ℕ) → HasCapacity n room.old → HasCapacity n room.new }
 {
     if counted.rows > MOST || counted.downloads > MOST || counted.ids > MOST {
         return Err(Refusal::NoMemory);
     }
-    let listed = counted.rows * ROW_ROOM + counted.downloads * DOWNLOAD_ROOM;
-    room.take(64 + listed + counted.ids * ID_ROOM)?;
+    let listed = counted.rows * ROW_CAPACITY + counted.downloads * DOWNLOAD_CAPACITY;
+    room.take(64 + listed + counted.ids * ID_CAPACITY)?;
     Ok(())
 }
 
 // The rows were counted before, and the room for so many was taken. More than those never come:
 // that refusal is no message's answer.
 fn put_starting_rows(
-    room: &mut Room,
+    room: &mut ResponseBuffer,
     spid: Spid,
     rows: &[RoutedRow],
-    counted: Counted,
+    counted: ReplyBounds,
 ) -> Result<(), Failure>
     requires empty { IsEmpty room.old }
-    requires room { HasRoom 512 room.old }
-    requires counted { HasRoomFor counted room.old }
+    requires room { HasCapacity 512 room.old }
+    requires counted { HasCapacityFor counted room.old }
     ensures ok { OnOk result (IsWritten room.new) }
-    ensures room { HasRoom 512 room.new }
+    ensures room { HasCapacity 512 room.new }
     ensures body { OnOk result
         (string_bytes room.new.body ≡ registered_text spid.number (map in_force_of rows.now)) }
     ensures more { OnErr result (counted.rows < length rows.now) }
@@ -79,12 +79,16 @@ fn put_starting_rows(
 
 // The room for so many was taken before. More than were asked for never come: that refusal is no
 // message's answer.
-fn put_fetched(room: &mut Room, downloads: &[Download], counted: Counted) -> Result<(), Failure>
+fn put_fetched(
+    room: &mut ResponseBuffer,
+    downloads: &[Download],
+    counted: ReplyBounds,
+) -> Result<(), Failure>
     requires empty { IsEmpty room.old }
-    requires room { HasRoom 512 room.old }
-    requires counted { HasRoomFor counted room.old }
+    requires room { HasCapacity 512 room.old }
+    requires counted { HasCapacityFor counted room.old }
     ensures ok { OnOk result (IsWritten room.new) }
-    ensures room { HasRoom 512 room.new }
+    ensures room { HasCapacity 512 room.new }
     ensures body { OnOk result
         (string_bytes room.new.body ≡ downloads_text (map download_of downloads.now)) }
     ensures more { OnErr result (counted.downloads < length downloads.now) }
@@ -98,12 +102,17 @@ fn put_fetched(room: &mut Room, downloads: &[Download], counted: Counted) -> Res
 
 // The room for a hundred was taken before. A donation never makes more: that refusal is no
 // message's answer.
-fn put_made(room: &mut Room, block: BlockId, ids: &[u64], counted: Counted) -> Result<(), Failure>
+fn put_made(
+    room: &mut ResponseBuffer,
+    block: BlockId,
+    ids: &[u64],
+    counted: ReplyBounds,
+) -> Result<(), Failure>
     requires empty { IsEmpty room.old }
-    requires room { HasRoom 512 room.old }
-    requires counted { HasRoomFor counted room.old }
+    requires room { HasCapacity 512 room.old }
+    requires counted { HasCapacityFor counted room.old }
     ensures ok { OnOk result (IsWritten room.new) }
-    ensures room { HasRoom 512 room.new }
+    ensures room { HasCapacity 512 room.new }
     ensures body { OnOk result
         (string_bytes room.new.body ≡ donated_text block.number ids.now) }
     ensures more { OnErr result (counted.ids < length ids.now) }
@@ -115,41 +124,41 @@ fn put_made(room: &mut Room, block: BlockId, ids: &[u64], counted: Counted) -> R
     Ok(())
 }
 
-fn put_shown(room: &mut Room, view: &VersionView)
+fn put_shown(room: &mut ResponseBuffer, view: &VersionView)
     requires empty { IsEmpty room.old }
-    requires room { HasRoom 512 room.old }
+    requires room { HasCapacity 512 room.old }
     ensures written { IsWritten room.new }
-    ensures room { HasRoom 512 room.new }
+    ensures room { HasCapacity 512 room.new }
     ensures body { string_bytes room.new.body ≡ view_text (view_of view.now) }
 {
     put_version(&mut room.body, view);
 }
 
-fn put_found(room: &mut Room, ids: Ids)
+fn put_found(room: &mut ResponseBuffer, ids: Ids)
     requires empty { IsEmpty room.old }
-    requires room { HasRoom 512 room.old }
+    requires room { HasCapacity 512 room.old }
     ensures written { IsWritten room.new }
-    ensures room { HasRoom 512 room.new }
+    ensures room { HasCapacity 512 room.new }
     ensures body { string_bytes room.new.body ≡ ids_text ids.in_force ids.opened }
 {
     put_ids(&mut room.body, ids);
 }
 
-fn put_moved(room: &mut Room, now: Minute)
+fn put_moved(room: &mut ResponseBuffer, now: Minute)
     requires empty { IsEmpty room.old }
-    requires room { HasRoom 512 room.old }
+    requires room { HasCapacity 512 room.old }
     ensures written { IsWritten room.new }
-    ensures room { HasRoom 512 room.new }
+    ensures room { HasCapacity 512 room.new }
     ensures body { string_bytes room.new.body ≡ now_text now.number }
 {
     put_now(&mut room.body, now);
 }
 
-fn put_set(room: &mut Room, now: Minute, number: u16)
+fn put_set(room: &mut ResponseBuffer, now: Minute, number: u16)
     requires empty { IsEmpty room.old }
-    requires room { HasRoom 512 room.old }
+    requires room { HasCapacity 512 room.old }
     ensures written { IsWritten room.new }
-    ensures room { HasRoom 512 room.new }
+    ensures room { HasCapacity 512 room.new }
     ensures body { string_bytes room.new.body ≡ windows_set_text now.number number }
 {
     put_windows_set(&mut room.body, now, number);
@@ -157,12 +166,16 @@ fn put_set(room: &mut Room, now: Minute, number: u16)
 
 /// Writes a reply. It fails alone where a registration shows more rows than were counted, more
 /// downloads are shown than were asked for, or a donation shows more ids than room was taken for.
-pub fn put_reply(room: &mut Room, reply: &Reply, counted: Counted) -> Result<(), Failure>
+pub fn put_reply(
+    room: &mut ResponseBuffer,
+    reply: &Reply,
+    counted: ReplyBounds,
+) -> Result<(), Failure>
     requires empty { IsEmpty room.old }
-    requires room { HasRoom 512 room.old }
-    requires counted { HasRoomFor counted room.old }
+    requires room { HasCapacity 512 room.old }
+    requires counted { HasCapacityFor counted room.old }
     ensures ok { OnOk result (IsWritten room.new) }
-    ensures room { HasRoom 512 room.new }
+    ensures room { HasCapacity 512 room.new }
     ensures text { OnOk result
         (success (string_bytes room.new.body) ≡ reply_text (reply_of reply.now)) }
     ensures more { OnErr result (Outgrows counted (reply_of reply.now)) }
@@ -199,9 +212,9 @@ pub fn put_reply(room: &mut Room, reply: &Reply, counted: Counted) -> Result<(),
 }
 
 /// Writes the answer of a message that was not carried out.
-pub fn put_refused(room: &mut Room, failure: Failure)
-    requires room { HasRoom 512 room.old }
-    ensures room { HasRoom 512 room.new }
+pub fn put_refused(room: &mut ResponseBuffer, failure: Failure)
+    requires room { HasCapacity 512 room.old }
+    ensures room { HasCapacity 512 room.new }
     ensures text { string_bytes room.new.text ≡ failure_text failure }
 {
     room.clear();
@@ -211,10 +224,10 @@ pub fn put_refused(room: &mut Room, failure: Failure)
 
 /// Writes the answer of a message that was carried out.
 #[tactic(auto, unfolding(crate::specs::Step::success))]
-pub fn put_success(room: &mut Room)
+pub fn put_success(room: &mut ResponseBuffer)
     requires written { IsWritten room.old }
-    requires room { HasRoom 512 room.old }
-    ensures room { HasRoom 512 room.new }
+    requires room { HasCapacity 512 room.old }
+    ensures room { HasCapacity 512 room.new }
     ensures text { string_bytes room.new.text ≡ success (string_bytes room.old.body) }
 {
     room.finish(200);

@@ -1,26 +1,27 @@
 //! Serving the messages of a reader to a writer.
 ghost use Rattle.std.specs.Prelude.{◌≡◌, ◌≤◌, ℕ, List, [], length, Option, Some, None, option_map, string_bytes, vec_len, IfOk, IfErr, IfSome, ◌⊎◌};
-ghost use Rattle.numbers.specs.declared.minute.Minute.{Minute as MinuteSeen};
-ghost use Rattle.meaning.specs.Reading.{State};
-ghost use Rattle.register.specs.Answers.{Stands};
-ghost use Rattle.messages.specs.Cuts.{IsNext, IsTaken};
-ghost use Rattle.messages.specs.Held.{held_bytes, input_left};
-ghost use Rattle.bodies.specs.Rooms.{HasRoom};
-ghost use Rattle.messages.specs.Reading.{IsRead};
-ghost use Rattle.api.specs.Serving.{IsWithheldFrom, Follows, Responds, Serves, end_of, WritesUntil};
-ghost use Rattle.messages.specs.Table.{table};
-ghost use Rattle.api.specs.Step.{IsWithheld};
-ghost use Rattle.api.specs.Ticks.{HandsIn};
+ghost use Rattle.numbers.specs.declared.minute.Minute.{Minute as MinuteImpl};
+ghost use Rattle.model.specs.State.{State};
+ghost use Rattle.register.specs.Refinement.{Refines};
+ghost use Rattle.http_messages.specs.Parsing.{IsNextOrEnd, IsTaken};
+ghost use Rattle.http_messages.specs.ReadBuffer.{buffered_bytes, remaining_input};
+ghost use Rattle.json_api.specs.ResponseBuffers.{HasCapacity};
+ghost use Rattle.http_messages.specs.Reading.{IsRead};
+ghost use Rattle.api.specs.Serving.{IsUnavailableResponse, RefinesReachable, Responds, Serves, end_of, WritesUntil};
+ghost use Rattle.http_messages.specs.Table.{table};
+ghost use Rattle.api.specs.Step.{IsUnavailableText};
+ghost use Rattle.api.specs.Ticks.{ConsumesTick};
 
-use crate::call::put_answer;
+use crate::call::write_response;
 use crate::reply::put_refused;
 use crate::tick::take_tick;
-use bodies::{Failure, Room};
-use httparse::spans::{EMPTY_HEADER_SPAN, HeaderSpan};
-use matchit::Router;
-use messages::{
-    Held, MessageFault, Next, NextFault, Request, Route, next_held, next_message, router, send_all,
+use http_messages::{
+    MessageFault, NextFault, NextMessage, ReadBuffer, Request, Route, next_buffered, next_message,
+    router, send_all,
 };
+use httparse::spans::{EMPTY_HEADER_SPAN, HeaderSpan};
+use json_api::{Failure, ResponseBuffer};
+use matchit::Router;
 use numbers::Minute;
 use register::Register;
 use settle::Store;
@@ -33,12 +34,12 @@ const FIELD_LIMIT: usize = 64;
 /// What hands in the machine's minute.
 pub trait Ticks {
     // the minutes that it hands in from here on, one at each call, where they are known
-    ghost told: { Self → Option (List (Option ℕ)) } = { λ _. None };
+    ghost remaining: { Self → Option (List (Option ℕ)) } = { λ _. None };
 
     /// The minute before the next message is carried out, if there is one.
     fn next(&mut self) -> Option<Minute>
-        ensures { HandsIn (told self.old) (option_map (λ (m : MinuteSeen). m.number) result)
-            (told self.new) };
+        ensures { ConsumesTick (remaining self.old) (option_map (λ (m : MinuteImpl). m.number)
+            result) (remaining self.new) };
 }
 
 /// No minute is ever handed in.
@@ -46,7 +47,7 @@ pub trait Ticks {
 pub struct NoTicks;
 
 impl Ticks for NoTicks {
-    ghost told = { λ _. Some [] };
+    ghost remaining = { λ _. Some [] };
 
     fn next(&mut self) -> Option<Minute> {
         None
@@ -94,24 +95,25 @@ fn tick_and_answer<S: Store, T: Ticks>(
     ticks: &mut T,
     request: &Request,
     body: &[u8],
-    room: &mut Room,
+    room: &mut ResponseBuffer,
 )
-    requires { HasRoom 512 room.old }
-    ensures room { HasRoom 512 room.new }
+    requires { HasCapacity 512 room.old }
+    ensures room { HasCapacity 512 room.new }
     ensures usable { S.IsUsable register.new.store → S.IsUsable register.old.store }
     ensures rises { S.failed register.old.store ≤ S.failed register.new.store }
-    ensures honest { S.IsHonest register.new.store → S.IsHonest register.old.store }
-    ensures stays { S.IsUsable register.old.store → S.IsHonest register.new.store
-        → IsWithheld (string_bytes room.new.text) ⊎ S.IsUsable register.new.store }
+    ensures honest { S.HasHonestDevice register.new.store → S.HasHonestDevice register.old.store }
+    ensures stays { S.IsUsable register.old.store → S.HasHonestDevice register.new.store
+        → IsUnavailableText (string_bytes room.new.text) ⊎ S.IsUsable register.new.store }
     ensures responds { S.IsUsable register.new.store
-        → Responds clock (T.told ticks.old) (T.told ticks.new) (S.failed register.old.store)
-        (S.failed register.new.store) (Next.Message request.now) body.now
+        → Responds clock (T.remaining ticks.old) (T.remaining ticks.new)
+        (S.failed register.old.store)
+        (S.failed register.new.store) (NextMessage.Message request.now) body.now
         (string_bytes room.new.text) (S.content register.old.store)
         (S.content register.new.store) }
 {
     let tick = ticks.next();
     match take_tick(register, tick) {
-        Ok(()) => put_answer(alloc, register, clock, request, body, room),
+        Ok(()) => write_response(alloc, register, clock, request, body, room),
         Err(refusal) => put_refused(room, Failure::Refused(refusal)),
     }
 }
@@ -122,25 +124,26 @@ fn respond<S: Store, T: Ticks>(
     register: &mut Register<S>,
     clock: bool,
     ticks: &mut T,
-    next: Next,
+    next: NextMessage,
     body: &[u8],
-    room: &mut Room,
+    room: &mut ResponseBuffer,
 ) -> Option<End>
-    requires { HasRoom 512 room.old }
-    ensures room { HasRoom 512 room.new }
+    requires { HasCapacity 512 room.old }
+    ensures room { HasCapacity 512 room.new }
     ensures end { result ≡ end_of next }
     ensures usable { S.IsUsable register.new.store → S.IsUsable register.old.store }
     ensures rises { S.failed register.old.store ≤ S.failed register.new.store }
-    ensures honest { S.IsHonest register.new.store → S.IsHonest register.old.store }
-    ensures stays { S.IsUsable register.old.store → S.IsHonest register.new.store
-        → IsWithheldFrom next (string_bytes room.new.text) ⊎ S.IsUsable register.new.store }
+    ensures honest { S.HasHonestDevice register.new.store → S.HasHonestDevice register.old.store }
+    ensures stays { S.IsUsable register.old.store → S.HasHonestDevice register.new.store
+        → IsUnavailableResponse next (string_bytes room.new.text) ⊎ S.IsUsable register.new.store }
     ensures responds { S.IsUsable register.new.store
-        → Responds clock (T.told ticks.old) (T.told ticks.new) (S.failed register.old.store)
+        → Responds clock (T.remaining ticks.old) (T.remaining ticks.new)
+        (S.failed register.old.store)
         (S.failed register.new.store) next body.now (string_bytes room.new.text)
         (S.content register.old.store) (S.content register.new.store) }
 {
     match next {
-        Next::Message(request) => {
+        NextMessage::Message(request) => {
             tick_and_answer(alloc, register, clock, ticks, &request, body, room);
             if request.closes {
                 Some(End::Closed)
@@ -148,7 +151,7 @@ fn respond<S: Store, T: Ticks>(
                 None
             }
         }
-        Next::Refused(fault) => {
+        NextMessage::Refused(fault) => {
             put_refused(room, Failure::Message(fault));
             Some(End::Refused(fault))
         }
@@ -158,27 +161,27 @@ fn respond<S: Store, T: Ticks>(
 // The message at hand, or else what the reader brings next.
 fn next_of<R: Read>(
     at_hand: Option<Request>,
-    held: &mut Held,
+    held: &mut ReadBuffer,
     headers: &mut [HeaderSpan],
     router: &Router<Route>,
     reader: &mut R,
     body: &mut Vec<u8>,
-) -> Result<Option<Next>, NextFault>
+) -> Result<Option<NextMessage>, NextFault>
     requires room { length headers.old ≡ 64 }
     requires size { vec_len held.old.bytes ≡ 8192 }
     requires router { router.now ≡ table }
     ensures size { vec_len held.new.bytes ≡ 8192 }
     ensures room { length headers.new ≡ 64 }
     ensures cut { (left : Option (List ℕ))
-        → IsTaken left at_hand body.old.items (input_left held.old (R.remaining reader.old))
-        → IfOk result (λ next. IfSome left (λ input. IsNext input next body.new.items
-        (input_left held.new (R.remaining reader.new)))) }
+        → IsTaken left at_hand body.old.items (remaining_input held.old (R.remaining reader.old))
+        → IfOk result (λ next. IfSome left (λ input. IsNextOrEnd input next body.new.items
+        (remaining_input held.new (R.remaining reader.new)))) }
     ensures read { (left : Option (List ℕ))
-        → IsTaken left at_hand body.old.items (input_left held.old (R.remaining reader.old))
+        → IsTaken left at_hand body.old.items (remaining_input held.old (R.remaining reader.old))
         → IfSome left (λ input. IsRead result input (R.remaining reader.new)) }
 {
     match at_hand {
-        Some(request) => Ok(Some(Next::Message(request))),
+        Some(request) => Ok(Some(NextMessage::Message(request))),
         None => next_message(held, headers, router, reader, body),
     }
 }
@@ -186,8 +189,8 @@ fn next_of<R: Read>(
 /// The buffers of a connection: what was read, an answer, and the router.
 #[derive(Drop)]
 struct Buffers {
-    held: Held,
-    room: Room,
+    held: ReadBuffer,
+    room: ResponseBuffer,
     router: Router<Route>,
 }
 
@@ -195,11 +198,15 @@ impl Buffers {
     // Empty buffers, where there is memory.
     fn new(alloc: Global) -> Option<Buffers>
         ensures size { IfSome result (λ made. vec_len made.held.bytes ≡ 8192) }
-        ensures empty { IfSome result (λ made. held_bytes made.held ≡ []) }
-        ensures room { IfSome result (λ made. HasRoom 512 made.room) }
+        ensures empty { IfSome result (λ made. buffered_bytes made.held ≡ []) }
+        ensures room { IfSome result (λ made. HasCapacity 512 made.room) }
         ensures router { IfSome result (λ made. made.router ≡ table) }
     {
-        match (Held::new(alloc), Room::new(alloc), router(alloc)) {
+        match (
+            ReadBuffer::new(alloc),
+            ResponseBuffer::new(alloc),
+            router(alloc),
+        ) {
             (Ok(held), Ok(room), Ok(router)) => Some(Buffers { held, room, router }),
             _ => None,
         }
@@ -217,34 +224,34 @@ fn serve_with<S: Store, T: Ticks, R: Read, W: Write>(
     buffers: &mut Buffers,
 ) -> Result<Served, Fault>
     requires size { vec_len buffers.old.held.bytes ≡ 8192 }
-    requires empty { held_bytes buffers.old.held ≡ [] }
-    requires room { HasRoom 512 buffers.old.room }
+    requires empty { buffered_bytes buffers.old.held ≡ [] }
+    requires room { HasCapacity 512 buffers.old.room }
     requires router { buffers.old.router ≡ table }
     ensures serves { S.IsUsable register.new.store → (st : State)
-        → Stands (S.content register.old.store) st
+        → Refines (S.content register.old.store) st
         → IfSome (R.remaining reader.old)
         (λ input. Serves result options.now.clock_route (S.failed register.old.store)
         (S.failed register.new.store) st (S.content register.new.store)
         (record {
           input = input;
           unread = R.remaining reader.new;
-          before = T.told ticks.old;
-          behind = T.told ticks.new;
-          had = W.contents writer.old;
-          has = W.contents writer.new;
+          ticks_before = T.remaining ticks.old;
+          ticks_after = T.remaining ticks.new;
+          written_before = W.contents writer.old;
+          written_after = W.contents writer.new;
         })) }
-    ensures until { S.IsUsable register.old.store → S.IsHonest register.new.store
+    ensures until { S.IsUsable register.old.store → S.HasHonestDevice register.new.store
         → S.IsUsable register.new.store
-        ⊎ ((st : State) → Stands (S.content register.old.store) st
+        ⊎ ((st : State) → Refines (S.content register.old.store) st
         → IfSome (R.remaining reader.old)
         (λ input. WritesUntil options.now.clock_route (S.failed register.old.store) st input
-        (T.told ticks.old) (W.contents writer.old) (W.contents writer.new))) }
+        (T.remaining ticks.old) (W.contents writer.old) (W.contents writer.new))) }
     ensures state { S.IsUsable register.new.store → (st : State)
-        → Stands (S.content register.old.store) st
-        → Follows st (S.content register.new.store) }
+        → Refines (S.content register.old.store) st
+        → RefinesReachable st (S.content register.new.store) }
     ensures usable { S.IsUsable register.new.store → S.IsUsable register.old.store }
     ensures rises { S.failed register.old.store ≤ S.failed register.new.store }
-    ensures honest { S.IsHonest register.new.store → S.IsHonest register.old.store }
+    ensures honest { S.HasHonestDevice register.new.store → S.HasHonestDevice register.old.store }
 {
     let Buffers { held, room, router } = buffers;
     let clock = options.clock_route;
@@ -262,7 +269,7 @@ fn serve_with<S: Store, T: Ticks, R: Read, W: Write>(
             Err(NextFault::Memory) => return Err(Fault::Memory(count)),
         };
         let end = respond(alloc, register, clock, ticks, next, &body, room);
-        at_hand = next_held(held, &mut headers, router, &mut body);
+        at_hand = next_buffered(held, &mut headers, router, &mut body);
         // A read may wait for the client, which has to have its answers by then.
         let flushes = end.is_some() || at_hand.is_none();
         match send_all(writer, room.text.as_bytes(), flushes) {
@@ -302,33 +309,33 @@ pub fn serve<S: Store, T: Ticks, R: Read, W: Write>(
     // where the reader tells its bytes: each message, its answer, and what was read, handed in and
     // written as serving ends
     ensures serves { S.IsUsable register.new.store → (st : State)
-        → Stands (S.content register.old.store) st
+        → Refines (S.content register.old.store) st
         → IfSome (R.remaining reader.old)
         (λ input. Serves result options.now.clock_route (S.failed register.old.store)
         (S.failed register.new.store) st (S.content register.new.store)
         (record {
           input = input;
           unread = R.remaining reader.new;
-          before = T.told ticks.old;
-          behind = T.told ticks.new;
-          had = W.contents writer.old;
-          has = W.contents writer.new;
+          ticks_before = T.remaining ticks.old;
+          ticks_after = T.remaining ticks.new;
+          written_before = W.contents writer.old;
+          written_after = W.contents writer.new;
         })) }
     // a store that shut on the way: the answers up to the first that tells of it are those of a run
-    ensures until { S.IsUsable register.old.store → S.IsHonest register.new.store
+    ensures until { S.IsUsable register.old.store → S.HasHonestDevice register.new.store
         → S.IsUsable register.new.store
-        ⊎ ((st : State) → Stands (S.content register.old.store) st
+        ⊎ ((st : State) → Refines (S.content register.old.store) st
         → IfSome (R.remaining reader.old)
         (λ input. WritesUntil options.now.clock_route (S.failed register.old.store) st input
-        (T.told ticks.old) (W.contents writer.old) (W.contents writer.new))) }
+        (T.remaining ticks.old) (W.contents writer.old) (W.contents writer.new))) }
     // where it tells none: what stands is what some run of the machine leads to
     ensures state { S.IsUsable register.new.store → (st : State)
-        → Stands (S.content register.old.store) st
-        → Follows st (S.content register.new.store) }
+        → Refines (S.content register.old.store) st
+        → RefinesReachable st (S.content register.new.store) }
     // no serving mends a store, and no failure is forgotten
     ensures usable { S.IsUsable register.new.store → S.IsUsable register.old.store }
     ensures rises { S.failed register.old.store ≤ S.failed register.new.store }
-    ensures honest { S.IsHonest register.new.store → S.IsHonest register.old.store }
+    ensures honest { S.HasHonestDevice register.new.store → S.HasHonestDevice register.old.store }
 {
     let Some(mut buffers) = Buffers::new(alloc) else {
         return Err(Fault::Memory(0));

@@ -1,12 +1,12 @@
 -- What the register's answers to questions say.
 use Rattle.std.proofs.Common.{◌≡◌, ℕ, Option, Some, None}
-use Rattle.meaning.specs.Content.{Content}
-use Rattle.meaning.specs.Machine.{Found, out, refused_or}
-use Rattle.meaning.specs.Reading.{State}
-use Rattle.meaning.specs.Refusals.{Asks, Ids, refusal}
-use Rattle.register.specs.Answers.{Stands}
+use Rattle.model.specs.Content.{Content}
+use Rattle.model.specs.Machine.{Found, out, refused_or}
+use Rattle.model.specs.State.{State}
+use Rattle.model.specs.Refusals.{QuestionFrom, Ids, refusal}
+use Rattle.register.specs.Refinement.{Refines}
 use Rattle.bulk.specs.Report.{in_force_id, open_id}
-use Rattle.settle.specs.Owing.{Owes, SaysStorage}
+use Rattle.settle.specs.StoreContract.{PreservesStore, ReportsStorage}
 use Rattle.std.proofs.Math.Nat.{le_refl, le_trans}
 use Rattle.settle.proofs.Risen.{risen-since}
 
@@ -16,20 +16,22 @@ same_ids : (r : Option ℕ) (a b c d : Option ℕ) → Found a b ≡ refused_or 
 same_ids None a b c d e = (cc, cc)
 same_ids (Some k) a b c d e = let x : ⊥ = cc in absurd x
 
-pub ids_are : (st : State) (tn : ℕ) (a b : Option ℕ) → Found a b ≡ out st (Asks 0 (Ids tn))
+pub ids_are : (st : State) (tn : ℕ) (a b : Option ℕ) → Found a b ≡ out st (QuestionFrom 0 (Ids tn))
     → (a ≡ in_force_id st tn) × (b ≡ open_id st tn)
 unfolding out
 ids_are st tn a b e =
-    same_ids (refusal st (Asks 0 (Ids tn))) a b (in_force_id st tn) (open_id st tn) e
+    same_ids (refusal st (QuestionFrom 0 (Ids tn))) a b (in_force_id st tn) (open_id st tn) e
 
 -- what two calls owe, one after the other: the content stands for a later state between them
 pub owes_on :
-    {S First Settles Answers Says : Type 0} {IsUsable IsHonest : S → Type 0} {failed : S
+    {S First Settles Answers Says : Type 0} {IsUsable HasHonestDevice : S → Type 0} {failed : S
     → ℕ} {before mid after : S} {old between : Content} →
-    Owes IsUsable IsHonest failed before mid Settles First
-    → Owes IsUsable IsHonest failed mid after Answers (SaysStorage (IsUsable after) between Says)
-    → (IsUsable mid → (st : State) → Stands old st → (later : State) × Stands between later) →
-    Owes IsUsable IsHonest failed before after ⊥ (SaysStorage (IsUsable after) old Says)
+    PreservesStore IsUsable HasHonestDevice failed before mid Settles First
+    → PreservesStore IsUsable HasHonestDevice failed mid after Answers
+    (ReportsStorage (IsUsable after) between Says)
+    → (IsUsable mid → (st : State) → Refines old st → (later : State) × Refines between later) →
+    PreservesStore IsUsable HasHonestDevice failed before after ⊥ (ReportsStorage (IsUsable after)
+    old Says)
 owes_on {failed = failed} {before = before} {mid = mid} {after = after} first second on = record {
   usable = λ u. first.usable (second.usable u);
   honest = λ h. first.honest (second.honest h);
@@ -53,18 +55,20 @@ owes_on {failed = failed} {before = before} {mid = mid} {after = after} first se
 
 -- the same where it stands for the same state
 pub owes_then :
-    {S First Settles Answers Says : Type 0} {IsUsable IsHonest : S → Type 0} {failed : S
+    {S First Settles Answers Says : Type 0} {IsUsable HasHonestDevice : S → Type 0} {failed : S
     → ℕ} {before mid after : S} {old between : Content} →
-    Owes IsUsable IsHonest failed before mid Settles First
-    → Owes IsUsable IsHonest failed mid after Answers (SaysStorage (IsUsable after) between Says)
-    → (IsUsable mid → (st : State) → Stands old st → Stands between st) →
-    Owes IsUsable IsHonest failed before after ⊥ (SaysStorage (IsUsable after) old Says)
+    PreservesStore IsUsable HasHonestDevice failed before mid Settles First
+    → PreservesStore IsUsable HasHonestDevice failed mid after Answers
+    (ReportsStorage (IsUsable after) between Says)
+    → (IsUsable mid → (st : State) → Refines old st → Refines between st) →
+    PreservesStore IsUsable HasHonestDevice failed before after ⊥ (ReportsStorage (IsUsable after)
+    old Says)
 owes_then first second kept = owes_on first second (λ u st s. (st, kept u st s))
 
 -- nothing happened
-pub owes_none : {S : Type 0} (IsUsable IsHonest : S → Type 0) (failed : S → ℕ) (s : S)
-    → Owes IsUsable IsHonest failed s s ⊥ ⊥
-owes_none IsUsable IsHonest failed s = record {
+pub owes_none : {S : Type 0} (IsUsable HasHonestDevice : S → Type 0) (failed : S → ℕ) (s : S)
+    → PreservesStore IsUsable HasHonestDevice failed s s ⊥ ⊥
+owes_none IsUsable HasHonestDevice failed s = record {
   usable = λ u. u;
   honest = λ h. h;
   stays = λ never. absurd never;

@@ -1,26 +1,26 @@
 -- What is told of a command that was carried out.
 use Rattle.std.proofs.Common.{◌≡◌, ℕ, Bool, true, false, Option, Some, None, Result, Ok, Err, IfOk, OnErr, refl, sym, ap, subst, ◌∙◌}
 use Rattle.std.specs.Prelude.{nat_lt, if◌then◌else◌}
-use Rattle.meaning.specs.Commands.{Command, RegisterCarrier, RegisterRoutingNumber, OpenCode, OldProviderCreate, NewProviderCreate, OnVersion, Donate, Assign, Release, SetWindows}
-use Rattle.meaning.specs.Content.{Content}
-use Rattle.meaning.specs.History.{Commands}
-use Rattle.meaning.specs.Machine.{Reply, Refused, out, next, accepted, reply_of, refused_or}
-use Rattle.meaning.specs.Reading.{State}
-use Rattle.meaning.specs.RefusalNumbers.{number_of}
-use Rattle.meaning.specs.Refusals.{Input, Requests, refusal}
-use Rattle.meaning.specs.declared.refusal.Refusal.{Refusal}
-use Rattle.meaning.specs.declared.refusal.Refusal.TheVariants as r
-use Rattle.bodies.specs.RefusalTexts.{refusal_of}
-use Rattle.calls.specs.Calls.{refused_with}
-use Rattle.register.specs.Answers.{Stands, AnswersAs}
-use Rattle.bulk.specs.Making.{IsSaid, Tells, is_of_number}
+use Rattle.model.specs.Commands.{Command, RegisterCarrier, RegisterRoutingNumber, OpenCode, OldProviderCreate, NewProviderCreate, OnVersion, Donate, Assign, Release, SetWindows}
+use Rattle.model.specs.Content.{Content}
+use Rattle.model.specs.History.{CommandRequest}
+use Rattle.model.specs.Machine.{Reply, Refused, out, next, accepted, reply_of, refused_or}
+use Rattle.model.specs.State.{State}
+use Rattle.model.specs.RefusalNumbers.{number_of}
+use Rattle.model.specs.Refusals.{Input, RequestFrom, refusal}
+use Rattle.model.specs.declared.refusal.Refusal.{Refusal}
+use Rattle.model.specs.declared.refusal.Refusal.TheVariants as r
+use Rattle.json_api.specs.RefusalTexts.{refusal_of}
+use Rattle.requests.specs.Calls.{refused_with}
+use Rattle.register.specs.Refinement.{Refines, SimulatesStep}
+use Rattle.bulk.specs.Making.{IsSaid, IsResultOf, is_of_number}
 use Rattle.bulk.specs.Report.{reply_line, command_for, input_for}
-use Rattle.bulk.specs.declared.order.Wish.{Wish}
-use Rattle.bulk.specs.declared.order.Wish.TheVariants as wish
+use Rattle.bulk.specs.declared.request.Operation.{Operation}
+use Rattle.bulk.specs.declared.request.Operation.TheVariants as operation
 use Rattle.version.specs.declared.create.Creator.TheVariants as creator
 use Rattle.bulk.specs.declared.fault.FaultKind.{FaultKind}
-use Rattle.bulk.specs.declared.told.Told.{Told}
-use Rattle.bulk.specs.declared.told.Told.TheVariants as told
+use Rattle.bulk.specs.declared.command_result.CommandResult.{CommandResult}
+use Rattle.bulk.specs.declared.command_result.CommandResult.TheVariants as told
 
 -- the refusal of its number
 found_again : (x : Refusal) → refusal_of (number_of x) ≡ Some x
@@ -73,92 +73,101 @@ replied_of st new caller (Assign block holder lrn cic) e = cc
 replied_of st new caller (Release block) e = cc
 
 pub is_said : (st : State) (caller : ℕ) (c : Command) (reply : Reply) → is_of_number c ≡ true
-    → reply ≡ out st (Requests caller (Commands c)) → IsSaid reply
+    → reply ≡ out st (RequestFrom caller (CommandRequest c)) → IsSaid reply
 unfolding out
 is_said st caller c reply e same =
-    subst IsSaid (sym same) (said_or (refusal st (Requests caller (Commands c)))
-    (reply_of st (accepted st (Requests caller (Commands c))) caller c)
-    (replied_of st (accepted st (Requests caller (Commands c))) caller c e))
+    subst IsSaid (sym same) (said_or (refusal st (RequestFrom caller (CommandRequest c)))
+    (reply_of st (accepted st (RequestFrom caller (CommandRequest c))) caller c)
+    (replied_of st (accepted st (RequestFrom caller (CommandRequest c))) caller c e))
 
 -- what the machine answered, and what it did not
 pub by_machine : (old new : Content) (input : Input) (k : ℕ) → nat_lt k 29 ≡ true
-    → AnswersAs old new input (refused_with k) → AnswersAs old new input (Some (Refused k))
+    → SimulatesStep old new input (refused_with k) → SimulatesStep old new input (Some (Refused k))
 by_machine old new input k e h = let P : Bool → Type 0 =
-    λ b. AnswersAs old new input (if b then Some (Refused k) else None) in subst P e h
+    λ b. SimulatesStep old new input (if b then Some (Refused k) else None) in subst P e h
 
 pub by_none : (old new : Content) (input : Input) (k : ℕ) → nat_lt k 29 ≡ false
-    → AnswersAs old new input (refused_with k) → AnswersAs old new input None
+    → SimulatesStep old new input (refused_with k) → SimulatesStep old new input None
 by_none old new input k e h = let P : Bool → Type 0 =
-    λ b. AnswersAs old new input (if b then Some (Refused k) else None) in subst P e h
+    λ b. SimulatesStep old new input (if b then Some (Refused k) else None) in subst P e h
 
 -- what is told of a command, where the store is usable
-abbrev TellsOf : Type 0 → Content → Content → Input → Told → Type 0
-TellsOf U old new input t = U → (st : State) → Stands old st → Tells t (out st input)
-    × Stands new (next st input)
+abbrev TellsOf : Type 0 → Content → Content → Input → CommandResult → Type 0
+TellsOf U old new input t = U → (st : State) → Refines old st → IsResultOf t (out st input)
+    × Refines new (next st input)
 
 pub told_by_reply :
-    (U : Type 0) (old new : Content) (input : Input) (o : Result Told FaultKind) (reply : Reply)
-    → (U → AnswersAs old new input (Some reply)) →
-    IfOk o (λ t. Tells t reply) → IfOk o (TellsOf U old new input)
+    (U : Type 0) (old new : Content) (input : Input) (o : Result CommandResult FaultKind)
+    (reply : Reply)
+    → (U → SimulatesStep old new input (Some reply)) →
+    IfOk o (λ t. IsResultOf t reply) → IfOk o (TellsOf U old new input)
 told_by_reply U old new input (Err kind) reply h t = tt
 told_by_reply U old new input (Ok told) reply h t = λ u st s. let x = h u st s in
     (λ row tn. t row tn ∙ ap (reply_line row tn) x.0, x.1)
 
 pub told_by_refusal :
-    (U : Type 0) (old new : Content) (input : Input) (o : Result Told FaultKind) (k : ℕ)
-    → (U → AnswersAs old new input (refused_with k)) →
-    IfOk o (λ t. (nat_lt k 29 ≡ true) × Tells t (Refused k)) → IfOk o (TellsOf U old new input)
+    (U : Type 0) (old new : Content) (input : Input) (o : Result CommandResult FaultKind) (k : ℕ)
+    → (U → SimulatesStep old new input (refused_with k)) →
+    IfOk o (λ t. (nat_lt k 29 ≡ true) × IsResultOf t (Refused k)) → IfOk o (TellsOf U old new input)
 told_by_refusal U old new input (Err kind) k h t = tt
 told_by_refusal U old new input (Ok told) k h t =
     told_by_reply U old new input (Ok told) (Refused k) (λ u. by_machine old new input k t.0 (h u))
     t.1
 
 pub kept_by_refusal :
-    (U : Type 0) (old new : Content) (caller : ℕ) (c : Command) (o : Result Told FaultKind) (k : ℕ)
-    → (U → AnswersAs old new (Requests caller (Commands c)) (refused_with k)) →
-    OnErr o (nat_lt k 29 ≡ false) → OnErr o (U → (st : State) → Stands old st
-    → is_of_number c ≡ true → Stands new st)
+    (U : Type 0) (old new : Content) (caller : ℕ) (c : Command) (o : Result CommandResult FaultKind)
+    (k : ℕ)
+    → (U → SimulatesStep old new (RequestFrom caller (CommandRequest c)) (refused_with k)) →
+    OnErr o (nat_lt k 29 ≡ false) → OnErr o (U → (st : State) → Refines old st
+    → is_of_number c ≡ true → Refines new st)
 kept_by_refusal U old new caller c (Ok told) k h e = tt
 kept_by_refusal U old new caller c (Err kind) k h e =
-    λ u st s of. by_none old new (Requests caller (Commands c)) k e (h u) st s
+    λ u st s of. by_none old new (RequestFrom caller (CommandRequest c)) k e (h u) st s
 
 pub kept_by_reply :
-    (U : Type 0) (old new : Content) (caller : ℕ) (c : Command) (o : Result Told FaultKind)
-    (reply : Reply) → (U → AnswersAs old new (Requests caller (Commands c)) (Some reply)) →
-    OnErr o (¬ (IsSaid reply)) → OnErr o (U → (st : State) → Stands old st → is_of_number c ≡ true
-    → Stands new st)
+    (U : Type 0) (old new : Content) (caller : ℕ) (c : Command) (o : Result CommandResult FaultKind)
+    (reply : Reply)
+    → (U → SimulatesStep old new (RequestFrom caller (CommandRequest c)) (Some reply)) →
+    OnErr o (¬ (IsSaid reply)) → OnErr o (U → (st : State) → Refines old st → is_of_number c ≡ true
+    → Refines new st)
 kept_by_reply U old new caller c (Ok told) reply h other = tt
 kept_by_reply U old new caller c (Err kind) reply h other =
     λ u st s of. absurd (other (is_said st caller c reply of (h u st s).0))
 
 -- what is wanted of a number is a create or a command on a version
-of_number : (st : State) (tn : ℕ) (w : Wish) → is_of_number (command_for st tn w) ≡ true
-of_number st tn (wish.Create old_provider new_provider due (creator.OldProvider authorized)) = refl
-of_number st tn (wish.Create old_provider new_provider due (creator.NewProvider routing)) = refl
-of_number st tn (wish.OnVersion command) = refl
+of_number : (st : State) (tn : ℕ) (w : Operation) → is_of_number (command_for st tn w) ≡ true
+of_number st tn (operation.Create old_provider new_provider due (creator.OldProvider authorized)) =
+    refl
+of_number st tn (operation.Create old_provider new_provider due (creator.NewProvider routing)) =
+    refl
+of_number st tn (operation.OnVersion command) = refl
 
 -- told of the command that was made of it
 pub told_for :
-    (U V : Type 0) (old mid new : Content) (caller tn : ℕ) (w : Wish) (c : Command)
-    (o : Result Told FaultKind) → (U → V) →
-    (V → (st : State) → Stands old st → c ≡ command_for st tn w) → (V → (st : State) → Stands old st
-    → Stands mid st) →
-    IfOk o (TellsOf U mid new (Requests caller (Commands c))) →
-    IfOk o (λ t. U → (st : State) → Stands old st → Tells t (out st (input_for st caller tn w))
-    × Stands new (next st (input_for st caller tn w)))
+    (U V : Type 0) (old mid new : Content) (caller tn : ℕ) (w : Operation) (c : Command)
+    (o : Result CommandResult FaultKind) → (U → V) →
+    (V → (st : State) → Refines old st → c ≡ command_for st tn w)
+    → (V → (st : State) → Refines old st
+    → Refines mid st) →
+    IfOk o (TellsOf U mid new (RequestFrom caller (CommandRequest c))) →
+    IfOk o (λ t. U → (st : State) → Refines old st
+    → IsResultOf t (out st (input_for st caller tn w))
+    × Refines new (next st (input_for st caller tn w)))
 told_for U V old mid new caller tn w c (Err kind) before is kept h = tt
 told_for U V old mid new caller tn w c (Ok told) before is kept h = λ u st s.
     let v = before u in
-    subst (λ (d : Command). Tells told (out st (Requests caller (Commands d)))
-    × Stands new (next st (Requests caller (Commands d)))) (is v st s) (h u st (kept v st s))
+    subst (λ (d : Command). IsResultOf told (out st (RequestFrom caller (CommandRequest d)))
+    × Refines new (next st (RequestFrom caller (CommandRequest d)))) (is v st s)
+    (h u st (kept v st s))
 
 pub kept_for :
-    (U V : Type 0) (old mid new : Content) (tn : ℕ) (w : Wish) (c : Command)
-    (o : Result Told FaultKind) → (U → V) →
-    (V → (st : State) → Stands old st → c ≡ command_for st tn w) → (V → (st : State) → Stands old st
-    → Stands mid st) →
-    OnErr o (U → (st : State) → Stands mid st → is_of_number c ≡ true → Stands new st)
-    → OnErr o (U → (st : State) → Stands old st → Stands new st)
+    (U V : Type 0) (old mid new : Content) (tn : ℕ) (w : Operation) (c : Command)
+    (o : Result CommandResult FaultKind) → (U → V) →
+    (V → (st : State) → Refines old st → c ≡ command_for st tn w)
+    → (V → (st : State) → Refines old st
+    → Refines mid st) →
+    OnErr o (U → (st : State) → Refines mid st → is_of_number c ≡ true → Refines new st)
+    → OnErr o (U → (st : State) → Refines old st → Refines new st)
 kept_for U V old mid new tn w c (Ok told) before is kept h = tt
 kept_for U V old mid new tn w c (Err kind) before is kept h = λ u st s.
     let v = before u in h u st (kept v st s) (ap is_of_number (is v st s) ∙ of_number st tn w)

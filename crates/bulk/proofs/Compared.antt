@@ -6,13 +6,13 @@ use Rattle.std.specs.List.{list_any}
 use Rattle.std.specs.BTreeMap.{BTreeMap, IsOrdered}
 use Rattle.std.specs.Ordering.{nat_cmp, on}
 use Rattle.numbers.specs.Routings.{Routing}
-use Rattle.numbers.specs.Subjects.{Subject as SubjectMeant, subject_eq}
-use Rattle.numbers.specs.Views.{key_of, routing_of, subject_of}
+use Rattle.numbers.specs.Subjects.{Subject as SubjectModel, subject_eq}
+use Rattle.numbers.specs.Abstraction.{key_of, routing_of, subject_of}
 use Rattle.numbers.specs.declared.ported.Subject.{Subject}
 use Rattle.delivery.specs.Mirrors.{in_force_of}
 use Rattle.delivery.specs.declared.mirror.RoutedRow.{RoutedRow}
-use Rattle.meaning.specs.Copies.{started}
-use Rattle.meaning.specs.Reading.{State, InForce, all_in_force, is_carrier}
+use Rattle.model.specs.Copies.{copy_of_rows}
+use Rattle.model.specs.State.{State, InForce, all_in_force, is_carrier}
 use Rattle.bulk.specs.Audits.{AreEntries, Audits, EachOnce, Finds, IsNotRead, copy_header, subjects_in}
 use Rattle.bulk.specs.Comparing.{AreCompared, ComparesFile, IsNotCompared}
 use Rattle.bulk.specs.Files.{EndsWithin, file_text}
@@ -36,7 +36,7 @@ sides_found : (rows entries : List RoutedRow) (subjects : List Subject) (s : Sub
     finding_of (waits_after subjects s false) (option_map routing_of (routed_after rows s None))
     (option_map routing_of (routed_after entries s None))
     ≡ finding_of (list_any (λ t. subject_eq t (subject_of s)) (map subject_of subjects))
-    (started (map in_force_of rows) (subject_of s)) (started (map in_force_of entries)
+    (copy_of_rows (map in_force_of rows) (subject_of s)) (copy_of_rows (map in_force_of entries)
     (subject_of s))
 sides_found rows entries subjects s =
     ap (λ (b : Bool). finding_of b (option_map routing_of (routed_after rows s None))
@@ -45,7 +45,7 @@ sides_found rows entries subjects s =
     (map subject_of subjects)) o (option_map routing_of (routed_after entries s None)))
     (routed_started rows s)
     ∙ ap (λ (o : Option Routing). finding_of (list_any (λ t. subject_eq t (subject_of s))
-    (map subject_of subjects)) (started (map in_force_of rows) (subject_of s)) o)
+    (map subject_of subjects)) (copy_of_rows (map in_force_of rows) (subject_of s)) o)
     (routed_started entries s)
 
 abbrev all_sides : (rows entries : List RoutedRow) (subjects : List Subject) (s : Subject) → Sides
@@ -186,11 +186,12 @@ finds st carrier bytes in_force waiting findings force waits registered file = r
     rise = file.compared.rise;
     each = λ s.
         file.compared.each s
-        ∙ ap (λ (ts : List SubjectMeant). finding_of (list_any (λ t. subject_eq t (subject_of s))
-        ts) (started (map in_force_of in_force) (subject_of s))
-        (started (map in_force_of file.entries) (subject_of s))) waits
+        ∙ ap (λ (ts : List SubjectModel). finding_of (list_any (λ t. subject_eq t (subject_of s))
+        ts) (copy_of_rows (map in_force_of in_force) (subject_of s))
+        (copy_of_rows (map in_force_of file.entries) (subject_of s))) waits
         ∙ ap (λ (rs : List InForce). finding_of (list_any (λ t. subject_eq t (subject_of s))
-        (awaited st carrier)) (started rs (subject_of s)) (started (map in_force_of file.entries)
+        (awaited st carrier)) (copy_of_rows rs (subject_of s))
+        (copy_of_rows (map in_force_of file.entries)
         (subject_of s))) force;
   };
 }

@@ -4,7 +4,7 @@ use Rattle.std.specs.Io.KnownBytes.{Appends}
 use Rattle.std.proofs.lemmas.List.{length-map}
 use Rattle.delivery.specs.Mirrors.{in_force_of}
 use Rattle.delivery.specs.declared.mirror.RoutedRow.{RoutedRow}
-use Rattle.meaning.specs.Reading.{InForce}
+use Rattle.model.specs.State.{InForce}
 use Rattle.bulk.specs.Exports.{in_force_line}
 use Rattle.bulk.specs.Files.{EndsWithin, file_text}
 use Rattle.bulk.proofs.Sending.{lines_seen}

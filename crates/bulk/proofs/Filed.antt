@@ -2,12 +2,12 @@
 use Rattle.std.proofs.Common.{◌≡◌, ℕ, List, [], ◌∷◌, Option, Some, None, IfSome, Result, Err, inl, inr, refl, sym, subst, ◌∙◌}
 use Rattle.std.specs.Prelude.{◌⊎◌}
 use Rattle.std.proofs.KnownBytes.{Appends-nil}
-use Rattle.meaning.specs.Content.{Content}
-use Rattle.meaning.specs.Reading.{State}
-use Rattle.register.specs.Answers.{Stands}
-use Rattle.messages.specs.Sending.{AppendsFront}
+use Rattle.model.specs.Content.{Content}
+use Rattle.model.specs.State.{State}
+use Rattle.register.specs.Refinement.{Refines}
+use Rattle.http_messages.specs.Sending.{AppendsFront}
 use Rattle.bulk.specs.Faults.{IsUnread}
-use Rattle.bulk.specs.Orders.{header}
+use Rattle.bulk.specs.Requests.{header}
 use Rattle.bulk.specs.Report.{report_header}
 use Rattle.bulk.specs.Rows.{Row, AreRowsOf}
 use Rattle.bulk.specs.Running.{LacksHeader, Reports, RunsFile}
@@ -36,12 +36,12 @@ no_first_read has (inr u) = inr u
 
 -- the report's header broke off
 pub header_broken : (st : State) (rows : List Row) (new : Content) (had has : Option (List ℕ))
-    (fault : BulkFault) → fault.kind ≡ Write → fault.rows ≡ 0 → Stands new st
+    (fault : BulkFault) → fault.kind ≡ Write → fault.rows ≡ 0 → Refines new st
     → AppendsFront had has report_header → Reports st rows new had has (Err fault)
 header_broken st rows new had has fault kind none s sent = inr (record {
   kind = kind;
   rows = none;
-  stands = s;
+  refines = s;
   part = sent.0;
   sent = sent.2;
 })
@@ -49,12 +49,12 @@ header_broken st rows new had has fault kind none s sent = inr (record {
 -- nothing was run
 pub nothing_run :
     (st : State) (bytes : List ℕ) (new : Content) (had : Option (List ℕ)) (fault : BulkFault)
-    → fault.rows ≡ 0 → Stands new st →
+    → fault.rows ≡ 0 → Refines new st →
     ((fault.kind ≡ BadHeader) × ((rows : List Row) × AreRowsOf bytes rows × LacksHeader rows))
     ⊎ IsUnread fault.kind → RunsFile st bytes new had had (Err fault)
 nothing_run st bytes new had fault none s why = inr (record {
   rows = none;
-  stands = s;
+  refines = s;
   sent = Appends-nil had;
   why = why;
 })

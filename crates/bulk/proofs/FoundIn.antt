@@ -6,14 +6,14 @@ use Rattle.std.specs.List.Sorted.{IsStrictlySortedBy}
 use Rattle.std.specs.Map.{keys_of, lookup}
 use Rattle.std.specs.Ordering.{nat_cmp, on, is_eq}
 use Rattle.std.proofs.lemmas.Bool.Decides.{nat_tests}
-use Rattle.numbers.specs.Subjects.{Subject as SubjectMeant, subject_eq, subject_key}
-use Rattle.numbers.specs.Views.{key_of, subject_of}
+use Rattle.numbers.specs.Subjects.{Subject as SubjectModel, subject_eq, subject_key}
+use Rattle.numbers.specs.Abstraction.{key_of, subject_of}
 use Rattle.numbers.specs.declared.ported.Subject.{Subject}
 use Rattle.numbers.proofs.SubjectKeys.{subject_key-exact}
-use Rattle.meaning.proofs.Ascending.{AreAbove, Rise, sorted-rise}
-use Rattle.meaning.proofs.Entered.{subject_eq-refl}
-use Rattle.meaning.proofs.Ids.{same_subject}
-use Rattle.meaning.specs.Laws.{AllAbove, SubjectsRise}
+use Rattle.model.proofs.Ascending.{AreAbove, Rise, sorted-rise}
+use Rattle.model.proofs.Entered.{subject_eq-refl}
+use Rattle.model.proofs.Ids.{same_subject}
+use Rattle.model.specs.Laws.{AllAbove, AreSubjectsSorted}
 use Rattle.bulk.specs.Findings.{told_of}
 use Rattle.bulk.specs.Sides.{found_in, found_of, no_sides, with_found}
 use Rattle.bulk.specs.declared.finding.Finding.{Finding}
@@ -38,27 +38,27 @@ of_level a b e = grind (arith, nat_tests)
 rise_above : (s : Subject) (es : List Entry) → AreAbove key_of (key_of s) (keys_of es)
     → AllAbove (subject_of s) (map (λ (f : SubjectFinding). subject_of f.subject) (found_in es))
 rise_above s [] above = tt
-rise_above s (e ∷ es) above = go (found_of e.1) (rise_above s es above.1)
+rise_above s (e ∷ es) above = by_cases (found_of e.1) (rise_above s es above.1)
   where
-    go : (o : Option Finding)
+    by_cases : (o : Option Finding)
         → AllAbove (subject_of s) (map (λ (f : SubjectFinding). subject_of f.subject) (found_in es))
         →
         AllAbove (subject_of s) (map (λ (f : SubjectFinding). subject_of f.subject)
         (with_found e.0 o (found_in es)))
-    go None rest = rest
-    go (Some finding) rest = (is_less (key_of s) (key_of e.0) above.0, rest)
+    by_cases None rest = rest
+    by_cases (Some finding) rest = (is_less (key_of s) (key_of e.0) above.0, rest)
 
 found_rise : (es : List Entry) → Rise key_of (keys_of es)
-    → SubjectsRise (map (λ (f : SubjectFinding). subject_of f.subject) (found_in es))
+    → AreSubjectsSorted (map (λ (f : SubjectFinding). subject_of f.subject) (found_in es))
 found_rise [] rise = tt
-found_rise (e ∷ es) rise = go (found_of e.1) (found_rise es rise.1)
+found_rise (e ∷ es) rise = by_cases (found_of e.1) (found_rise es rise.1)
   where
-    go : (o : Option Finding)
-        → SubjectsRise (map (λ (f : SubjectFinding). subject_of f.subject) (found_in es))
-        → SubjectsRise (map (λ (f : SubjectFinding). subject_of f.subject)
+    by_cases : (o : Option Finding)
+        → AreSubjectsSorted (map (λ (f : SubjectFinding). subject_of f.subject) (found_in es))
+        → AreSubjectsSorted (map (λ (f : SubjectFinding). subject_of f.subject)
         (with_found e.0 o (found_in es)))
-    go None rest = rest
-    go (Some finding) rest = (rise_above e.0 es rise.0, rest)
+    by_cases None rest = rest
+    by_cases (Some finding) rest = (rise_above e.0 es rise.0, rest)
 
 -- ---- they tell of each subject what its sides say
 
@@ -67,16 +67,17 @@ none_below : (s : Subject) (es : List Entry) → AreAbove key_of (key_of s) (key
     → told_of (found_in es) (subject_of s) ≡ None
 none_below s [] above = refl
 none_below s (e ∷ es) above =
-    go (found_of e.1) (none_below s es above.1) (subject_eq (subject_of e.0) (subject_of s)) refl
+    by_cases (found_of e.1) (none_below s es above.1) (subject_eq (subject_of e.0) (subject_of s))
+    refl
   where
-    go : (o : Option Finding) → told_of (found_in es) (subject_of s) ≡ None → (b : Bool)
+    by_cases : (o : Option Finding) → told_of (found_in es) (subject_of s) ≡ None → (b : Bool)
         → subject_eq (subject_of e.0) (subject_of s) ≡ b
         → told_of (with_found e.0 o (found_in es)) (subject_of s) ≡ None
-    go None rest b is = rest
-    go (Some finding) rest false is =
+    by_cases None rest b is = rest
+    by_cases (Some finding) rest false is =
         ap (λ (t : Bool). if t then Some finding else told_of (found_in es) (subject_of s)) is
         ∙ rest
-    go (Some finding) rest true is =
+    by_cases (Some finding) rest true is =
         let same : key_of s ≡ key_of e.0 =
         ap subject_key (same_subject (subject_of e.0) (subject_of s) is) in
         let less : key_of s < key_of e.0 = above.0 in
@@ -85,14 +86,14 @@ none_below s (e ∷ es) above =
 -- the map's test of a key is that of subjects
 same_test : (s t : Subject) → is_eq (nat_cmp (key_of s) (key_of t)) ≡ subject_eq (subject_of t)
     (subject_of s)
-same_test s t = go (subject_eq (subject_of t) (subject_of s)) refl
+same_test s t = by_cases (subject_eq (subject_of t) (subject_of s)) refl
   where
-    go : (b : Bool) → subject_eq (subject_of t) (subject_of s) ≡ b
+    by_cases : (b : Bool) → subject_eq (subject_of t) (subject_of s) ≡ b
         → is_eq (nat_cmp (key_of s) (key_of t)) ≡ b
-    go true is =
+    by_cases true is =
         ap (λ (k : ℕ). is_eq (nat_cmp (key_of s) k))
         (sym (ap subject_key (same_subject (subject_of t) (subject_of s) is))) ∙ level (key_of s)
-    go false is = other (is_eq (nat_cmp (key_of s) (key_of t))) refl
+    by_cases false is = other (is_eq (nat_cmp (key_of s) (key_of t))) refl
       where
         other : (b : Bool) → is_eq (nat_cmp (key_of s) (key_of t)) ≡ b → b ≡ false
         other false e = refl
@@ -102,7 +103,7 @@ same_test s t = go (subject_eq (subject_of t) (subject_of s)) refl
             (sym (of_level (key_of s) (key_of t) e)) in
             let x : true ≡ false =
             sym (subject_eq-refl (subject_of s))
-            ∙ ap (λ (r : SubjectMeant). subject_eq r (subject_of s)) (sym same) ∙ is in cc
+            ∙ ap (λ (r : SubjectModel). subject_eq r (subject_of s)) (sym same) ∙ is in cc
 
 abbrev at : Subject → List Entry → Option Sides
 at s es = lookup (is_at (on key_of nat_cmp s)) es
@@ -111,7 +112,7 @@ found_at : (s : Subject) (es : List Entry) → Rise key_of (keys_of es)
     → told_of (found_in es) (subject_of s) ≡ found_of (unwrap_or (at s es) no_sides)
 found_at s [] rise = refl
 found_at s (e ∷ es) rise =
-    go (subject_eq (subject_of e.0) (subject_of s)) refl (found_at s es rise.1)
+    by_cases (subject_eq (subject_of e.0) (subject_of s)) refl (found_at s es rise.1)
   where
     -- of this subject
     here : subject_eq (subject_of e.0) (subject_of s) ≡ true → (o : Option Finding)
@@ -132,22 +133,22 @@ found_at s (e ∷ es) rise =
         ap (λ (t : Bool). if t then Some finding else told_of (found_in es) (subject_of s)) is
     there is None = refl
 
-    go : (b : Bool) → subject_eq (subject_of e.0) (subject_of s) ≡ b
+    by_cases : (b : Bool) → subject_eq (subject_of e.0) (subject_of s) ≡ b
         → told_of (found_in es) (subject_of s) ≡ found_of (unwrap_or (at s es) no_sides) →
         told_of (with_found e.0 (found_of e.1) (found_in es)) (subject_of s)
         ≡ found_of (unwrap_or (at s (e ∷ es)) no_sides)
-    go true is rest =
+    by_cases true is rest =
         here is (found_of e.1)
         ∙ sym (ap (λ (t : Bool). found_of (unwrap_or (if t then Some e.1 else at s es) no_sides))
         (same_test s e.0 ∙ is))
-    go false is rest =
+    by_cases false is rest =
         there is (found_of e.1) ∙ rest
         ∙ sym (ap (λ (t : Bool). found_of (unwrap_or (if t then Some e.1 else at s es) no_sides))
         (same_test s e.0 ∙ is))
 
 -- of an ordered map
 pub findings_rise : (es : List Entry) → IsStrictlySortedBy (on key_of nat_cmp) (keys_of es)
-    → SubjectsRise (map (λ (f : SubjectFinding). subject_of f.subject) (found_in es))
+    → AreSubjectsSorted (map (λ (f : SubjectFinding). subject_of f.subject) (found_in es))
 findings_rise es ordered = found_rise es (sorted-rise key_of (keys_of es) ordered)
 
 pub findings_tell : (es : List Entry) → IsStrictlySortedBy (on key_of nat_cmp) (keys_of es)

@@ -2,15 +2,15 @@
 use Rattle.std.proofs.Common.{◌≡◌, ◌≢◌, ℕ, Bool, true, false, cond, List, [], ◌∷◌, Option, Some, None, IfSome, IfNone, refl, sym, ap, ◌∙◌, find}
 use Rattle.std.specs.Prelude.{⊤}
 use Rattle.std.specs.Cmp.Lexicographic.{same_text, other_text}
-use Rattle.bulk.specs.Orders.{action_name}
+use Rattle.bulk.specs.Requests.{action_name}
 use Rattle.bulk.specs.Fields.{is_action, actions}
-use Rattle.bulk.specs.declared.order.ActionName.{ActionName}
-use Rattle.bulk.specs.declared.order.ActionName.TheVariants.{OldProviderCreate, NewProviderCreate, Activate, PutInConflict, RemoveFromConflict, Cancel, OldProviderCancellationAcknowledge, NewProviderCancellationAcknowledge, Disconnect, ModifyRouting}
+use Rattle.bulk.specs.declared.request.ActionName.{ActionName}
+use Rattle.bulk.specs.declared.request.ActionName.TheVariants.{OldProviderCreate, NewProviderCreate, Activate, PutInConflict, RemoveFromConflict, Cancel, OldProviderCancellationAcknowledge, NewProviderCancellationAcknowledge, Disconnect, ModifyRouting}
 
 passed_at : {A : Type 0} (p : A → Bool) (x a : A) (b : Bool) (more : Option A) → p x ≡ b
     → (more ≡ Some a → p a ≡ true) → cond b (Some x) more ≡ Some a → p a ≡ true
-passed_at p x a true more e go h = let same : x ≡ a = cc in ap p (sym same) ∙ e
-passed_at p x a false more e go h = go h
+passed_at p x a true more e by_cases h = let same : x ≡ a = cc in ap p (sym same) ∙ e
+passed_at p x a false more e by_cases h = by_cases h
 
 passed : {A : Type 0} (p : A → Bool) (xs : List A) (a : A) → find p xs ≡ Some a → p a ≡ true
 passed p [] a e = cc
@@ -23,8 +23,8 @@ Fails p (x ∷ xs) = (p x ≡ false) × Fails p xs
 fails_at : {A : Type 0} (p : A → Bool) (x : A) (xs : List A) (b : Bool) → p x ≡ b
     → (find p xs ≡ None → Fails p xs) → cond b (Some x) (find p xs) ≡ None → (p x ≡ false)
     × Fails p xs
-fails_at p x xs true e go h = cc
-fails_at p x xs false e go h = (e, go h)
+fails_at p x xs true e by_cases h = cc
+fails_at p x xs false e by_cases h = (e, by_cases h)
 
 fails : {A : Type 0} (p : A → Bool) (xs : List A) → find p xs ≡ None → Fails p xs
 unfolding Fails

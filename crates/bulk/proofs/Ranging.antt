@@ -2,8 +2,8 @@
 use Rattle.std.proofs.Common.{◌≡◌, ℕ, zero, suc, ◌+◌, ◌-◌, ◌<◌, ◌≤◌, ◌/◌, List, [], ◌∷◌, ◌++◌, map, Option, Result, ap, sym, subst, ◌∙◌, arith, add-one, add-zero, zero-add}
 use Rattle.std.proofs.lemmas.List.{map-append}
 use Rattle.numbers.specs.Digits.{IsTn, code_of}
-use Rattle.meaning.specs.Content.{Content}
-use Rattle.meaning.specs.Reading.{State}
+use Rattle.model.specs.Content.{Content}
+use Rattle.model.specs.State.{State}
 use Rattle.bulk.specs.Report.{Task, rising, state_after}
 use Rattle.bulk.specs.Running.{DoesAll, FailsIn, RunsTo}
 use Rattle.bulk.specs.declared.fault.BulkFault.{BulkFault}

@@ -4,15 +4,15 @@ use Rattle.std.specs.List.{concat}
 use Rattle.std.specs.Io.KnownBytes.{Appends}
 use Rattle.std.proofs.KnownBytes.{Appends-nil, Appends-trans}
 use Rattle.std.proofs.lemmas.List.Folds.{concat-append}
-use Rattle.meaning.specs.Content.{Content}
-use Rattle.meaning.specs.Machine.{next, state_after as machine_after}
-use Rattle.meaning.specs.Reading.{State}
-use Rattle.meaning.specs.Refusals.{Input}
-use Rattle.register.specs.Answers.{Stands}
-use Rattle.messages.specs.Sending.{AppendsFront}
-use Rattle.bulk.specs.Report.{Task, Bad, Wants, input_for, line_of, lines_of, state_behind, state_after}
+use Rattle.model.specs.Content.{Content}
+use Rattle.model.specs.Machine.{next, state_after as machine_after}
+use Rattle.model.specs.State.{State}
+use Rattle.model.specs.Refusals.{Input}
+use Rattle.register.specs.Refinement.{Refines}
+use Rattle.http_messages.specs.Sending.{AppendsFront}
+use Rattle.bulk.specs.Report.{Task, Bad, CommandTask, input_for, line_of, lines_of, state_behind, state_after}
 use Rattle.bulk.specs.Faults.{IsShort, IsUnread}
-use Rattle.bulk.specs.Running.{Follows, DoesAll, DoesFirst, BreaksAt, FailsIn, RunsTo, SendsOne}
+use Rattle.bulk.specs.Running.{RefinesReachable, DoesAll, DoesFirst, BreaksAt, FailsIn, RunsTo, SendsOne}
 use Rattle.bulk.specs.declared.fault.BulkFault.{BulkFault}
 use Rattle.bulk.specs.declared.fault.FaultKind.{FaultKind}
 use Rattle.bulk.specs.declared.fault.FaultKind.TheVariants.{BadHeader, BadFile, UnknownCarrier, Storage, NoMemory, Read, Write}
@@ -35,9 +35,9 @@ texts-append st xs ys = sym (concat-append (lines_of st xs) (lines_of (state_aft
     ∙ ap concat (sym (lines_of-append st xs ys))
 
 -- nothing yet
-pub nothing : (st : State) (c : Content) (had : Option (List ℕ)) (from : ℕ) → Stands c st
+pub nothing : (st : State) (c : Content) (had : Option (List ℕ)) (from : ℕ) → Refines c st
     → DoesAll st [] c had had from from
-nothing st c had from s = record { stands = s; sent = Appends-nil had; count = omega arith }
+nothing st c had from s = record { refines = s; sent = Appends-nil had; count = omega arith }
 
 pub all_then :
     (st : State) (xs ys : List Task) (mid new : Content) (had at has : Option (List ℕ))
@@ -45,7 +45,7 @@ pub all_then :
     DoesAll st xs mid had at from j → DoesAll (state_after st xs) ys new at has j k
     → DoesAll st (xs ++ ys) new had has from k
 all_then st xs ys mid new had at has from j k before now = record {
-  stands = subst (Stands new) (sym (state_after-append st xs ys)) now.stands;
+  refines = subst (Refines new) (sym (state_after-append st xs ys)) now.refines;
   sent = subst (Appends had has) (texts-append st xs ys)
       (Appends-trans had at has (concat (lines_of st xs)) (concat (lines_of (state_after st xs) ys))
       before.sent now.sent);
@@ -79,7 +79,8 @@ break_then st xs ys mid new had at has from j k before now =
       others = now.others;
       all = ap (λ (ts : List Task). xs ++ ts) now.all
           ∙ sym (append_assoc xs now.first (now.task ∷ now.others));
-      stands = subst (λ (s : State). Stands new (state_behind s now.task)) (sym after) now.stands;
+      refines = subst (λ (s : State). Refines new (state_behind s now.task)) (sym after)
+          now.refines;
       part = now.part;
       sent = subst (λ (s : State). Appends had has (concat (lines_of st (xs ++ now.first)) ++ take
           now.part (line_of s now.task))) (sym after)
@@ -138,7 +139,7 @@ break_more st xs ys new had has from k h =
       task = h.task;
       others = h.others ++ ys;
       all = ap (λ (ts : List Task). ts ++ ys) h.all ∙ append_assoc h.first (h.task ∷ h.others) ys;
-      stands = h.stands;
+      refines = h.refines;
       part = h.part;
       sent = h.sent;
       count = h.count;
@@ -158,7 +159,7 @@ fails_more UnknownCarrier st xs ys new had has from k h = h
 
 -- where no task of them was done
 pub none_done : (st : State) (tasks : List Task) (new : Content) (had : Option (List ℕ)) (from : ℕ)
-    → Stands new st → DoesFirst st tasks new had had from from
+    → Refines new st → DoesFirst st tasks new had had from from
 none_done st tasks new had from s = record {
   first = [];
   others = tasks;
@@ -168,23 +169,23 @@ none_done st tasks new had from s = record {
 
 -- one task
 pub one_done : (st : State) (task : Task) (new : Content) (had has : Option (List ℕ)) (from : ℕ)
-    → Stands new (state_behind st task) → Appends had has (line_of st task)
+    → Refines new (state_behind st task) → Appends had has (line_of st task)
     → DoesAll st (task ∷ []) new had has from (from + 1)
 one_done st task new had has from s sent = record {
-  stands = s;
+  refines = s;
   sent = subst (Appends had has) (sym (append-nil (line_of st task))) sent;
   count = refl;
 }
 
 pub one_broken : (st : State) (task : Task) (new : Content) (had has : Option (List ℕ)) (from : ℕ)
-    → Stands new (state_behind st task) → AppendsFront had has (line_of st task)
+    → Refines new (state_behind st task) → AppendsFront had has (line_of st task)
     → BreaksAt st (task ∷ []) new had has from from
 one_broken st task new had has from s sent = record {
   first = [];
   task = task;
   others = [];
   all = refl;
-  stands = s;
+  refines = s;
   part = sent.0;
   sent = sent.2;
   count = omega arith;
@@ -203,7 +204,7 @@ broken_at st task new had has count kind k is same h =
 pub one_sent :
     (st : State) (task : Task) (new : Content) (had has : Option (List ℕ)) (count : ℕ)
     (text : List ℕ) (r : Result ℕ BulkFault) →
-    text ≡ line_of st task → Stands new (state_behind st task) → SendsOne had has text count r
+    text ≡ line_of st task → Refines new (state_behind st task) → SendsOne had has text count r
     → RunsTo st (task ∷ []) new had has count r
 one_sent st task new had has count text (Ok k) e s sent =
     let h = one_done st task new had has count s (subst (Appends had has) e sent.0) in
@@ -214,7 +215,7 @@ one_sent st task new had has count text (Err fault) e s sent =
 
 -- nothing was made for want of the device or of memory
 pub short_stop : (kind : FaultKind) (st : State) (tasks : List Task) (new : Content)
-    (had : Option (List ℕ)) (from : ℕ) → IsShort kind → Stands new st
+    (had : Option (List ℕ)) (from : ℕ) → IsShort kind → Refines new st
     → FailsIn kind st tasks new had had from from
 short_stop kind st tasks new had from (inl e) s =
     let P : FaultKind → Type 0 = λ w. FailsIn w st tasks new had had from from in
@@ -247,7 +248,7 @@ stops_here kind st tasks new had has from k (inr e) h =
 input_behind : (st : State) (task : Task) → (inputs : List Input)
     × (state_behind st task ≡ machine_after st inputs)
 input_behind st (Bad row) = ([], refl)
-input_behind st (Wants row caller tn w) = (input_for st caller tn w ∷ [], refl)
+input_behind st (CommandTask row caller tn w) = (input_for st caller tn w ∷ [], refl)
 
 machine-append : (st : State) (xs ys : List Input)
     → machine_after st (xs ++ ys) ≡ machine_after (machine_after st xs) ys
@@ -262,35 +263,37 @@ inputs_of st (task ∷ tasks) =
     let (more, f) = inputs_of (state_behind st task) tasks in
     (one ++ more, f ∙ ap (λ (s : State). machine_after s more) e ∙ sym (machine-append st one more))
 
-follows_tasks : (st : State) (tasks : List Task) (new : Content) → Stands new (state_after st tasks)
-    → Follows st new
+follows_tasks : (st : State) (tasks : List Task) (new : Content)
+    → Refines new (state_after st tasks)
+    → RefinesReachable st new
 follows_tasks st tasks new s = let (inputs, e) = inputs_of st tasks in
-    (inputs, subst (Stands new) e s)
+    (inputs, subst (Refines new) e s)
 
 fails_follows : (kind : FaultKind) (st : State) (tasks : List Task) (new : Content)
     (had has : Option (List ℕ)) (from k : ℕ) → FailsIn kind st tasks new had has from k
-    → Follows st new
+    → RefinesReachable st new
 fails_follows Write st tasks new had has from k h =
     follows_tasks st (h.first ++ h.task ∷ []) new
-    (subst (Stands new) (sym (state_after-append st h.first (h.task ∷ []))) h.stands)
-fails_follows Storage st tasks new had has from k h = follows_tasks st h.first new h.done.stands
-fails_follows NoMemory st tasks new had has from k h = follows_tasks st h.first new h.done.stands
-fails_follows Read st tasks new had has from k h = follows_tasks st h.first new h.done.stands
+    (subst (Refines new) (sym (state_after-append st h.first (h.task ∷ []))) h.refines)
+fails_follows Storage st tasks new had has from k h = follows_tasks st h.first new h.done.refines
+fails_follows NoMemory st tasks new had has from k h = follows_tasks st h.first new h.done.refines
+fails_follows Read st tasks new had has from k h = follows_tasks st h.first new h.done.refines
 fails_follows BadHeader st tasks new had has from k h = absurd h
 fails_follows BadFile st tasks new had has from k h = absurd h
 fails_follows UnknownCarrier st tasks new had has from k h = absurd h
 
 pub run_follows : (st : State) (tasks : List Task) (new : Content) (had has : Option (List ℕ))
-    (from : ℕ) (r : Result ℕ BulkFault) → RunsTo st tasks new had has from r → Follows st new
-run_follows st tasks new had has from (Ok k) h = follows_tasks st tasks new h.stands
+    (from : ℕ) (r : Result ℕ BulkFault) → RunsTo st tasks new had has from r
+    → RefinesReachable st new
+run_follows st tasks new had has from (Ok k) h = follows_tasks st tasks new h.refines
 run_follows st tasks new had has from (Err fault) h =
     fails_follows fault.kind st tasks new had has from fault.rows h
 
-pub follows_then : (st : State) (mid new : Content) → Follows st mid
-    → ((later : State) → Stands mid later → Follows later new) → Follows st new
+pub follows_then : (st : State) (mid new : Content) → RefinesReachable st mid
+    → ((later : State) → Refines mid later → RefinesReachable later new) → RefinesReachable st new
 follows_then st mid new before now =
     let h = now (machine_after st before.0) before.1 in
-    (before.0 ++ h.0, subst (Stands new) (sym (machine-append st before.0 h.0)) h.1)
+    (before.0 ++ h.0, subst (Refines new) (sym (machine-append st before.0 h.0)) h.1)
 
-pub follows_none : (st : State) (c : Content) → Stands c st → Follows st c
+pub follows_none : (st : State) (c : Content) → Refines c st → RefinesReachable st c
 follows_none st c s = ([], s)

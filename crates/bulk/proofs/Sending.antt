@@ -6,7 +6,7 @@ use Rattle.std.proofs.KnownBytes.{Appends-trans}
 use Rattle.std.proofs.Math.Seq.{take-suc, drop-cons}
 use Rattle.std.proofs.lemmas.List.{take-append-drop, length-map, length-take-le, take_all, get_or-map}
 use Rattle.std.proofs.lemmas.List.Folds.{concat-append}
-use Rattle.messages.specs.Sending.{AppendsFront}
+use Rattle.http_messages.specs.Sending.{AppendsFront}
 use Rattle.bulk.specs.Files.{AreSent, EndsWithin, IsSentPart, file_text}
 
 -- the lines so far, and one more

@@ -5,15 +5,15 @@ use Rattle.std.specs.List.{list_any}
 use Rattle.std.specs.BTreeMap.{BTreeMap, get}
 use Rattle.std.specs.Ordering.{nat_cmp}
 use Rattle.std.proofs.Math.Seq.{drop-cons}
-use Rattle.numbers.specs.Subjects.{Subject as SubjectMeant, subject_eq, subject_key}
-use Rattle.numbers.specs.Views.{key_of, routing_of, subject_of}
+use Rattle.numbers.specs.Subjects.{Subject as SubjectModel, subject_eq, subject_key}
+use Rattle.numbers.specs.Abstraction.{key_of, routing_of, subject_of}
 use Rattle.numbers.specs.declared.ported.Routing.{Routing}
 use Rattle.numbers.specs.declared.ported.Subject.{Subject}
 use Rattle.delivery.specs.Mirrors.{in_force_of}
 use Rattle.delivery.specs.declared.mirror.RoutedRow.{RoutedRow}
-use Rattle.meaning.proofs.Ids.{same_subject}
-use Rattle.meaning.specs.Copies.{started}
-use Rattle.meaning.specs.Reading.{InForce}
+use Rattle.model.proofs.Ids.{same_subject}
+use Rattle.model.specs.Copies.{copy_of_rows}
+use Rattle.model.specs.State.{InForce}
 use Rattle.bulk.specs.Audits.{AreNew, EachOnce, subjects_in}
 use Rattle.bulk.specs.Sides.{no_sides, routed_after, sides_at, waits_after}
 use Rattle.bulk.specs.declared.sides.Sides.{Sides}
@@ -37,12 +37,13 @@ set_here :
     else sides_at old s) →
     sides_at new s ≡ (if subject_eq (subject_of t) (subject_of s) then f (sides_at old s)
     else sides_at old s)
-set_here old new s t f set = set ∙ go (subject_eq (subject_of t) (subject_of s)) refl
+set_here old new s t f set = set ∙ by_cases (subject_eq (subject_of t) (subject_of s)) refl
   where
-    go : (b : Bool) → subject_eq (subject_of t) (subject_of s) ≡ b → (if b then f (sides_at old t)
+    by_cases : (b : Bool) → subject_eq (subject_of t) (subject_of s) ≡ b
+        → (if b then f (sides_at old t)
         else sides_at old s) ≡ (if b then f (sides_at old s) else sides_at old s)
-    go true e = ap f (same_sides old s t e)
-    go false e = refl
+    by_cases true e = ap f (same_sides old s t e)
+    by_cases false e = refl
 
 -- ---- what is in force
 
@@ -59,18 +60,18 @@ pub in_force_turn :
 in_force_turn rows i row within is old new set s =
     ap (with_in_force (drop (i + 1) rows) s) (set_here old new s row.subject
     (λ sides. record sides { in_force = Some row.routing }) (set s))
-    ∙ go (subject_eq (subject_of row.subject) (subject_of s))
+    ∙ by_cases (subject_eq (subject_of row.subject) (subject_of s))
     ∙ ap (λ (rs : List RoutedRow). with_in_force rs s (sides_at old s))
     (sym (rest_at rows i row within is))
   where
-    go : (b : Bool) → with_in_force (drop (i + 1) rows) s (if b
+    by_cases : (b : Bool) → with_in_force (drop (i + 1) rows) s (if b
         then (record (sides_at old s) { in_force = Some row.routing }) else sides_at old s)
         ≡ record (sides_at old s) {
           in_force = routed_after (drop (i + 1) rows) s (if b then Some row.routing
               else (sides_at old s).in_force);
         }
-    go true = refl
-    go false = refl
+    by_cases true = refl
+    by_cases false = refl
 
 -- ---- what waits
 
@@ -87,18 +88,18 @@ pub waiting_turn :
 waiting_turn subjects i t within is old new set s =
     ap (with_waiting (drop (i + 1) subjects) s)
     (set_here old new s t (λ sides. record sides { waits = true }) (set s))
-    ∙ go (subject_eq (subject_of t) (subject_of s))
+    ∙ by_cases (subject_eq (subject_of t) (subject_of s))
     ∙ ap (λ (ts : List Subject). with_waiting ts s (sides_at old s))
     (sym (rest_at subjects i t within is))
   where
-    go : (b : Bool) → with_waiting (drop (i + 1) subjects) s (if b
+    by_cases : (b : Bool) → with_waiting (drop (i + 1) subjects) s (if b
         then (record (sides_at old s) { waits = true }) else sides_at old s)
         ≡ record (sides_at old s) {
           waits = waits_after (drop (i + 1) subjects) s (if b then true
               else (sides_at old s).waits);
         }
-    go true = refl
-    go false = refl
+    by_cases true = refl
+    by_cases false = refl
 
 -- ---- the copy
 
@@ -116,23 +117,23 @@ pub copied_turn :
 copied_turn entries i entry within is old new set s =
     ap (with_copied (drop (i + 1) entries) s) (set_here old new s entry.subject
     (λ sides. record sides { copied = Some entry.routing }) (set s))
-    ∙ go (subject_eq (subject_of entry.subject) (subject_of s))
+    ∙ by_cases (subject_eq (subject_of entry.subject) (subject_of s))
     ∙ ap (λ (es : List RoutedRow). with_copied es s (sides_at old s))
     (sym (rest_at entries i entry within is))
   where
-    go : (b : Bool) → with_copied (drop (i + 1) entries) s (if b
+    by_cases : (b : Bool) → with_copied (drop (i + 1) entries) s (if b
         then (record (sides_at old s) { copied = Some entry.routing }) else sides_at old s)
         ≡ record (sides_at old s) {
           copied = routed_after (drop (i + 1) entries) s (if b then Some entry.routing
               else (sides_at old s).copied);
         }
-    go true = refl
-    go false = refl
+    by_cases true = refl
+    by_cases false = refl
 
 -- the entries that were taken are each none of those before it, and a subject is copied where it is
 -- among them
 pub record Taken (whole left : List RoutedRow) (all : Map) : Type 0 where
-  pub before : List SubjectMeant
+  pub before : List SubjectModel
   pub forth : EachOnce (subjects_in whole) → AreNew before (subjects_in left)
   pub back : AreNew before (subjects_in left) → EachOnce (subjects_in whole)
   pub copied : (s : Subject)
@@ -158,15 +159,15 @@ entry_taken entries i entry within is old new not set before =
           (subst (λ (es : List RoutedRow). AreNew before.before (subjects_in es)) (sym left)
           (fresh, more));
       copied = λ s. ap (λ (sides : Sides). is_some sides.copied) (set s)
-          ∙ go s (subject_eq (subject_of entry.subject) (subject_of s));
+          ∙ by_cases s (subject_eq (subject_of entry.subject) (subject_of s));
     }
   where
-    go : (s : Subject) (b : Bool)
+    by_cases : (s : Subject) (b : Bool)
         → is_some (if b then (record (sides_at old entry.subject) { copied = Some entry.routing })
         else sides_at old s).copied
         ≡ (b || list_any (λ t. subject_eq t (subject_of s)) before.before)
-    go s true = refl
-    go s false = before.copied s
+    by_cases s true = refl
+    by_cases s false = before.copied s
 
 -- ---- what the definitions say of them
 
@@ -189,7 +190,7 @@ routed_before (r ∷ rs) s before =
     (routed_at r before (subject_eq (subject_of r.subject) (subject_of s)))
 
 pub routed_started : (rows : List RoutedRow) (s : Subject)
-    → option_map routing_of (routed_after rows s None) ≡ started (map in_force_of rows)
+    → option_map routing_of (routed_after rows s None) ≡ copy_of_rows (map in_force_of rows)
     (subject_of s)
 routed_started rows s = routed_before rows s None
 

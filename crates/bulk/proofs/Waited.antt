@@ -1,15 +1,15 @@
 -- What the register says of the subjects that wait for a carrier.
 use Rattle.std.proofs.Common.{◌≡◌, ℕ, Bool, true, false, List, Option, Some, None, refl, sym, ◌∙◌, ap, subst}
 use Rattle.numbers.specs.Subjects.{Subject}
-use Rattle.meaning.specs.Content.{Content}
-use Rattle.meaning.specs.declared.refusal.Refusal.{Refusal}
-use Rattle.meaning.specs.declared.refusal.Refusal.TheVariants.{UnknownCarrier}
-use Rattle.meaning.specs.Machine.{Awaited, Refused, out, refused_or}
-use Rattle.meaning.specs.Reading.{State, is_carrier}
-use Rattle.meaning.specs.Refusals.{Asks, Waiting, refusal, tests}
-use Rattle.meaning.specs.RefusalNumbers.{number_of}
-use Rattle.calls.specs.Calls.{refused_with}
-use Rattle.register.specs.Answers.{AnswersAs, Stands}
+use Rattle.model.specs.Content.{Content}
+use Rattle.model.specs.declared.refusal.Refusal.{Refusal}
+use Rattle.model.specs.declared.refusal.Refusal.TheVariants.{UnknownCarrier}
+use Rattle.model.specs.Machine.{Awaited, Refused, out, refused_or}
+use Rattle.model.specs.State.{State, is_carrier}
+use Rattle.model.specs.Refusals.{QuestionFrom, Waiting, refusal, tests}
+use Rattle.model.specs.RefusalNumbers.{number_of}
+use Rattle.requests.specs.Calls.{refused_with}
+use Rattle.register.specs.Refinement.{SimulatesStep, Refines}
 use Rattle.register.proofs.Downloads.Copied.{known_by}
 use Rattle.register.proofs.Downloads.Fetched.{may_fetch}
 use Rattle.bulk.specs.Findings.{awaited}
@@ -21,11 +21,11 @@ told None xs ys e = (refl, cc)
 told (Some k) xs ys e = let f : Awaited xs ≡ Refused k = e in let x : ⊥ = cc in absurd x
 
 pub waits_are : (st : State) (carrier : ℕ) (subjects : List Subject)
-    → Awaited subjects ≡ out st (Asks carrier Waiting) → (subjects ≡ awaited st carrier)
+    → Awaited subjects ≡ out st (QuestionFrom carrier Waiting) → (subjects ≡ awaited st carrier)
     × (is_carrier st carrier ≡ true)
 unfolding out
 waits_are st carrier subjects e =
-    let answer = told (refusal st (Asks carrier Waiting)) subjects (awaited st carrier) e in (
+    let answer = told (refusal st (QuestionFrom carrier Waiting)) subjects (awaited st carrier) e in (
       answer.1,
       known_by (is_carrier st carrier) (sym (waiting_by st carrier) ∙ answer.0),
     )
@@ -35,7 +35,7 @@ stranger : (known : Bool) (k : ℕ) (ys : List Subject)
 stranger false k ys e = refl
 stranger true k ys e = let f : Refused k ≡ Awaited ys = e in let x : ⊥ = cc in absurd x
 
-is_stranger : (st : State) (carrier k : ℕ) → Refused k ≡ out st (Asks carrier Waiting)
+is_stranger : (st : State) (carrier k : ℕ) → Refused k ≡ out st (QuestionFrom carrier Waiting)
     → is_carrier st carrier ≡ false
 unfolding out
 is_stranger st carrier k e =
@@ -44,9 +44,10 @@ is_stranger st carrier k e =
 
 -- it answered that it knows no such carrier
 pub stranger_told : (old new : Content) (carrier : ℕ) (refusal : Refusal) → refusal ≡ UnknownCarrier
-    → AnswersAs old new (Asks carrier Waiting) (refused_with (number_of refusal)) →
-    (st : State) → Stands old st → is_carrier st carrier ≡ false
-stranger_told old new carrier refusal is answers st stands =
-    let told_so = subst (λ r. AnswersAs old new (Asks carrier Waiting) (refused_with (number_of r)))
+    → SimulatesStep old new (QuestionFrom carrier Waiting) (refused_with (number_of refusal)) →
+    (st : State) → Refines old st → is_carrier st carrier ≡ false
+stranger_told old new carrier refusal is answers st refines =
+    let told_so =
+    subst (λ r. SimulatesStep old new (QuestionFrom carrier Waiting) (refused_with (number_of r)))
     is answers in
-    is_stranger st carrier 1 (told_so st stands).0
+    is_stranger st carrier 1 (told_so st refines).0

@@ -7,11 +7,11 @@ use Rattle.version.specs.declared.command.VersionCommand.TheVariants as command
 use Rattle.numbers.specs.Spids.{IsSpid}
 use Rattle.numbers.specs.Texts.{spid_text}
 use Rattle.bulk.specs.Rows.{Row}
-use Rattle.bulk.specs.Orders.{Says, action_name, action_of, command_action, create_action, wish_fields}
-use Rattle.bulk.specs.declared.order.ActionName.{ActionName}
-use Rattle.bulk.specs.declared.order.Order.{Order}
-use Rattle.bulk.specs.declared.order.Wish.{Wish}
-use Rattle.bulk.specs.declared.order.Wish.TheVariants as wish
+use Rattle.bulk.specs.Requests.{EncodesRequest, action_name, action_of, command_action, create_action, operation_fields}
+use Rattle.bulk.specs.declared.request.ActionName.{ActionName}
+use Rattle.bulk.specs.declared.request.BulkRequest.{BulkRequest}
+use Rattle.bulk.specs.declared.request.Operation.{Operation}
+use Rattle.bulk.specs.declared.request.Operation.TheVariants as operation
 use Rattle.bulk.proofs.Names.{one_name}
 
 -- no create is a command on a version
@@ -36,16 +36,17 @@ no_command (command.ModifyRouting routing) (creator.NewProvider r) = λ e. cc
 -- a create's fields name its new provider
 pub no_new_provider :
     (old new due : List ℕ) (last : Row) (by : Creator) → ((n : ℕ) → IsSpid n → new ≢ spid_text n) →
-    (w : Wish) → action_of w ≡ create_action by → old ∷ new ∷ due ∷ last ≢ wish_fields w
-no_new_provider old new due last by none (wish.Create o n d creator) e =
+    (w : Operation) → action_of w ≡ create_action by → old ∷ new ∷ due ∷ last ≢ operation_fields w
+no_new_provider old new due last by none (operation.Create o n d creator) e =
     λ same. none n.number n.valid cc
-no_new_provider old new due last by none (wish.OnVersion c) e = λ same. no_command c by e
+no_new_provider old new due last by none (operation.OnVersion c) e = λ same. no_command c by e
 
 -- no wish of this action has these fields, so no order has the row
 pub no_order :
     (row : Row) (caller name subject : List ℕ) (six : Row) (a : ActionName)
     → row ≡ caller ∷ name ∷ subject ∷ six → name ≡ action_name a →
-    ((w : Wish) → action_of w ≡ a → six ≢ wish_fields w) → (o : Order) → ¬ (Says row o)
+    ((w : Operation) → action_of w ≡ a → six ≢ operation_fields w) → (o : BulkRequest)
+    → ¬ (EncodesRequest row o)
 no_order row caller name subject six a e named none o says =
-    let same : action_name (action_of o.wish) ≡ action_name a = cc in
-    none o.wish (one_name (action_of o.wish) a same) cc
+    let same : action_name (action_of o.operation) ≡ action_name a = cc in
+    none o.operation (one_name (action_of o.operation) a same) cc

@@ -4,17 +4,17 @@ use Rattle.std.proofs.Common.{ap, sym, ◌∙◌, lit<, lit≤}
 use Rattle.std.specs.List.{list_any}
 use Rattle.numbers.specs.Routings.{Routing}
 use Rattle.numbers.specs.Subjects.{Subject, Number, subject_eq}
-use Rattle.numbers.specs.Views.{subject_of}
-use Rattle.numbers.specs.declared.ported.Subject.{Subject as SubjectCode}
+use Rattle.numbers.specs.Abstraction.{subject_of}
+use Rattle.numbers.specs.declared.ported.Subject.{Subject as SubjectImpl}
 use Rattle.numbers.specs.declared.ported.Subject.TheVariants as code
 use Rattle.numbers.specs.declared.tn.Tn.{Tn}
-use Rattle.meaning.specs.Copies.{started}
-use Rattle.meaning.specs.Examples.{a, c, n, active_at_201, part_at_215}
-use Rattle.meaning.specs.History.{meaning, after, effect}
-use Rattle.meaning.specs.Judge.{judge, judged_for, judged_version}
-use Rattle.meaning.specs.Machine.{next, out}
-use Rattle.meaning.specs.Reading.{InForce, all_in_force, queue}
-use Rattle.meaning.specs.Refusals.{tests}
+use Rattle.model.specs.Copies.{copy_of_rows}
+use Rattle.model.specs.Examples.{a, c, n, active_at_201, part_at_215}
+use Rattle.model.specs.History.{replay_of, replay_step, effect}
+use Rattle.model.specs.Judge.{judge, judged_for, judged_version}
+use Rattle.model.specs.Machine.{next, out}
+use Rattle.model.specs.State.{InForce, all_in_force, queue}
+use Rattle.model.specs.Refusals.{tests}
 use Rattle.bulk.specs.Findings.{AreFindings, awaited, finding_at, finding_of, told_of}
 use Rattle.bulk.specs.declared.finding.Finding.TheVariants.{Waiting, Missing, Extra, Different}
 use Rattle.bulk.specs.declared.finding.SubjectFinding.{SubjectFinding}
@@ -36,11 +36,11 @@ abbrev force : List InForce
 force = row n 2025440000 ∷ []
 
 force_is : all_in_force active_at_201 ≡ force
-unfolding next meaning after effect judge judged_for judged_version queue tests out
+unfolding next replay_of replay_step effect judge judged_for judged_version queue tests out
 force_is = refl
 
 none_waits : awaited active_at_201 c ≡ []
-unfolding next meaning after effect judge judged_for judged_version queue tests out
+unfolding next replay_of replay_step effect judge judged_for judged_version queue tests out
 none_waits = refl
 
 abbrev number : Tn
@@ -56,9 +56,9 @@ findings = record {
 } ∷ record { subject = code.Number other_number; finding = Extra } ∷ []
 
 -- by the rows in force, the copy and no download
-by_rows : (s : SubjectCode)
-    → told_of findings (subject_of s) ≡ finding_of false (started force (subject_of s))
-    (started copy (subject_of s))
+by_rows : (s : SubjectImpl)
+    → told_of findings (subject_of s) ≡ finding_of false (copy_of_rows force (subject_of s))
+    (copy_of_rows copy (subject_of s))
 by_rows (code.Block block) = refl
 by_rows (code.Number tn) = go (n == tn.number) (other == tn.number)
   where
@@ -76,28 +76,28 @@ different_and_extra = record {
   rise = ((refl, tt), (tt, tt));
   each = λ s.
       by_rows s
-      ∙ ap (λ (rows : List InForce). finding_of false (started rows (subject_of s))
-      (started copy (subject_of s))) (sym force_is)
+      ∙ ap (λ (rows : List InForce). finding_of false (copy_of_rows rows (subject_of s))
+      (copy_of_rows copy (subject_of s))) (sym force_is)
       ∙ ap (λ (ts : List Subject). finding_of (list_any (λ t. subject_eq t (subject_of s)) ts)
-      (started (all_in_force active_at_201) (subject_of s)) (started copy (subject_of s)))
+      (copy_of_rows (all_in_force active_at_201) (subject_of s)) (copy_of_rows copy (subject_of s)))
       (sym none_waits);
 }
 
 -- what waits is told before what differs: of a partial failure, to a carrier that has not
 -- acknowledged it
 waiting_first : finding_at part_at_215 a copy (Number n) ≡ Some Waiting
-unfolding next meaning after effect judge judged_for judged_version queue tests out
+unfolding next replay_of replay_step effect judge judged_for judged_version queue tests out
 waiting_first = refl
 
 different_else : finding_at part_at_215 c copy (Number n) ≡ Some Different
-unfolding next meaning after effect judge judged_for judged_version queue tests out
+unfolding next replay_of replay_step effect judge judged_for judged_version queue tests out
 different_else = refl
 
 -- a number in force that no copy has, and one that agrees
 missing : finding_at active_at_201 c [] (Number n) ≡ Some Missing
-unfolding next meaning after effect judge judged_for judged_version queue tests out
+unfolding next replay_of replay_step effect judge judged_for judged_version queue tests out
 missing = refl
 
 agrees : finding_at active_at_201 c force (Number n) ≡ None
-unfolding next meaning after effect judge judged_for judged_version queue tests out
+unfolding next replay_of replay_step effect judge judged_for judged_version queue tests out
 agrees = refl

@@ -4,13 +4,13 @@ use Rattle.std.specs.List.{list_any}
 use Rattle.std.specs.Io.KnownBytes.{Appends}
 use Rattle.numbers.specs.Subjects.{Subject, subject_eq}
 use Rattle.numbers.specs.Texts.{subject_text, lrn_text}
-use Rattle.numbers.specs.Views.{subject_of}
+use Rattle.numbers.specs.Abstraction.{subject_of}
 use Rattle.delivery.specs.Mirrors.{in_force_of}
 use Rattle.delivery.specs.declared.mirror.RoutedRow.{RoutedRow}
-use Rattle.meaning.specs.Reading.{State, is_carrier}
+use Rattle.model.specs.State.{State, is_carrier}
 use Rattle.bulk.specs.Files.{EndsWithin, file_text}
 use Rattle.bulk.specs.Findings.{AreFindings, audit_header, finding_line}
-use Rattle.bulk.specs.Orders.{optional_cic}
+use Rattle.bulk.specs.Requests.{optional_cic}
 use Rattle.bulk.specs.Rows.{Row, AreRowsOf}
 use Rattle.bulk.specs.declared.fault.BulkFault.{BulkFault}
 use Rattle.bulk.specs.declared.fault.FaultKind.{FaultKind}

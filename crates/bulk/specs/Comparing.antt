@@ -2,12 +2,12 @@
 use Rattle.std.specs.Prelude.{◌≡◌, ℕ, List, ◌∷◌, map}
 use Rattle.std.specs.List.{list_any}
 use Rattle.numbers.specs.Subjects.{subject_eq}
-use Rattle.numbers.specs.Views.{subject_of}
+use Rattle.numbers.specs.Abstraction.{subject_of}
 use Rattle.numbers.specs.declared.ported.Subject.{Subject}
 use Rattle.delivery.specs.Mirrors.{in_force_of}
 use Rattle.delivery.specs.declared.mirror.RoutedRow.{RoutedRow}
-use Rattle.meaning.specs.Copies.{started}
-use Rattle.meaning.specs.Laws.{SubjectsRise}
+use Rattle.model.specs.Copies.{copy_of_rows}
+use Rattle.model.specs.Laws.{AreSubjectsSorted}
 use Rattle.bulk.specs.Audits.{HasBadHeader, HasBadRows, IsCopy, copy_header}
 use Rattle.bulk.specs.Findings.{finding_of, told_of}
 use Rattle.bulk.specs.Rows.{Row, AreRowsOf}
@@ -19,10 +19,11 @@ use Rattle.bulk.specs.declared.finding.SubjectFinding.{SubjectFinding}
 -- wait and the entries of a copy
 pub record AreCompared (in_force : List RoutedRow) (waiting : List Subject)
     (entries : List RoutedRow) (findings : List SubjectFinding) : Type 0 where
-  pub rise : SubjectsRise (map (λ (f : SubjectFinding). subject_of f.subject) findings)
+  pub rise : AreSubjectsSorted (map (λ (f : SubjectFinding). subject_of f.subject) findings)
   pub each : (s : Subject) → told_of findings (subject_of s)
       ≡ finding_of (list_any (λ t. subject_eq t (subject_of s)) (map subject_of waiting))
-      (started (map in_force_of in_force) (subject_of s)) (started (map in_force_of entries)
+      (copy_of_rows (map in_force_of in_force) (subject_of s))
+      (copy_of_rows (map in_force_of entries)
       (subject_of s))
 
 -- the file of these bytes is a copy, and so compared

@@ -1,22 +1,22 @@
 -- Worked examples, computed from the definitions.
 use Rattle.std.specs.Prelude.{◌≡◌, true, [], ◌∷◌, codes, decimal, Some, None, refl}
 use Rattle.std.proofs.Common.{inl, lit<, lit≤}
-use Rattle.meaning.specs.History.{meaning, after, effect}
-use Rattle.meaning.specs.Judge.{judge, judged_for, judged_version}
-use Rattle.meaning.specs.Machine.{next, out}
-use Rattle.meaning.specs.Reading.{queue}
-use Rattle.meaning.specs.Refusals.{tests}
+use Rattle.model.specs.History.{replay_of, replay_step, effect}
+use Rattle.model.specs.Judge.{judge, judged_for, judged_version}
+use Rattle.model.specs.Machine.{next, out}
+use Rattle.model.specs.State.{queue}
+use Rattle.model.specs.Refusals.{tests}
 use Rattle.numbers.specs.Texts.{digits_of}
-use Rattle.meaning.specs.Examples.{a, b, c, n, start}
+use Rattle.model.specs.Examples.{a, b, c, n, start}
 use Rattle.numbers.specs.declared.spid.Spid.{Spid}
 use Rattle.numbers.specs.declared.tn.Tn.{Tn}
 use Rattle.numbers.specs.declared.lrn.Lrn.{Lrn}
 use Rattle.numbers.specs.declared.minute.Minute.{Minute}
 use Rattle.version.specs.declared.create.Creator.TheVariants as creator
-use Rattle.bulk.specs.Orders.{Says, action_name}
+use Rattle.bulk.specs.Requests.{EncodesRequest, action_name}
 use Rattle.bulk.specs.Report.{lines_of, report_line, tasks_from}
-use Rattle.bulk.specs.declared.order.Order.{Order}
-use Rattle.bulk.specs.declared.order.Wish.TheVariants as wish
+use Rattle.bulk.specs.declared.request.BulkRequest.{BulkRequest}
+use Rattle.bulk.specs.declared.request.Operation.TheVariants as operation
 use Rattle.bulk.specs.declared.range.Numbers.{Numbers}
 
 -- AAAA, BBBB and CCCC, their number, and minute 100
@@ -42,29 +42,30 @@ alone = record {
 abbrev due : Minute
 due = record { number = 100; valid = lit< tt }
 
-abbrev new_create : Spid → Lrn → Order
+abbrev new_create : Spid → Lrn → BulkRequest
 new_create spid lrn = record {
   caller = spid;
   numbers = alone;
-  wish = wish.Create bbbb spid due (creator.NewProvider (record { lrn = lrn; cic = None }));
+  operation =
+      operation.Create bbbb spid due (creator.NewProvider (record { lrn = lrn; cic = None }));
 }
 
-abbrev first : Order
+abbrev first : BulkRequest
 first = new_create aaaa (record { number = 2025440000; valid = lit< tt })
 
-abbrev second : Order
+abbrev second : BulkRequest
 second = new_create cccc (record { number = 2025550000; valid = lit< tt })
 
-abbrev third : Order
+abbrev third : BulkRequest
 third = record {
   caller = bbbb;
   numbers = alone;
-  wish = wish.Create bbbb aaaa due (creator.OldProvider true);
+  operation = operation.Create bbbb aaaa due (creator.OldProvider true);
 }
 
 -- the row of a new provider's create says it
 first_is_said :
-    Says (codes "AAAA" ∷ codes "subscriptionVersionNewSP-Create" ∷ codes "2025331234" ∷ codes "BBBB"
+    EncodesRequest (codes "AAAA" ∷ codes "subscriptionVersionNewSP-Create" ∷ codes "2025331234" ∷ codes "BBBB"
     ∷ codes "AAAA" ∷ decimal 100 ∷ codes "2025440000" ∷ [] ∷ [] ∷ []) first
 unfolding digits_of action_name
 first_is_said = record { subject = codes "2025331234"; names = inl (refl, refl); fields = refl }
@@ -74,12 +75,14 @@ file_is_reported :
     lines_of start (tasks_from 1 (Some first ∷ Some second ∷ Some third ∷ [])) ≡
     report_line 1 (codes "2025331234") (codes "ok") (decimal 1) ∷ report_line 2 (codes "2025331234")
     (codes "busy") [] ∷ report_line 3 (codes "2025331234") (codes "ok") (decimal 1) ∷ []
-unfolding next meaning after effect judge judged_for judged_version queue tests out digits_of
+unfolding next replay_of replay_step effect judge judged_for judged_version queue tests out
+    digits_of
 file_is_reported = refl
 
 -- a bad row is told, and the rows behind it are run
 bad_row_is_told :
     lines_of start (tasks_from 1 (None ∷ Some third ∷ [])) ≡ report_line 1 [] (codes "bad_row") []
     ∷ report_line 2 (codes "2025331234") (codes "ok") (decimal 1) ∷ []
-unfolding next meaning after effect judge judged_for judged_version queue tests out digits_of
+unfolding next replay_of replay_step effect judge judged_for judged_version queue tests out
+    digits_of
 bad_row_is_told = refl

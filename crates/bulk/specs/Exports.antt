@@ -4,7 +4,7 @@ use Rattle.std.specs.Prelude.{Result, Ok, Err}
 use Rattle.std.specs.Io.KnownBytes.{Appends}
 use Rattle.numbers.specs.Routings.{Routing}
 use Rattle.numbers.specs.Texts.{subject_text, lrn_text, cic_text}
-use Rattle.meaning.specs.Reading.{State, InForce, all_in_force}
+use Rattle.model.specs.State.{State, InForce, all_in_force}
 use Rattle.bulk.specs.Files.{file_text, EndsWithin}
 use Rattle.bulk.specs.declared.fault.BulkFault.{BulkFault}
 use Rattle.bulk.specs.declared.fault.FaultKind.{FaultKind}

@@ -3,9 +3,9 @@ use Rattle.std.specs.Prelude.{ℕ, Bool, List, [], ◌∷◌}
 use Rattle.std.specs.Str.{bytes_eq}
 use Rattle.bulk.specs.Rows.{Row}
 use Rattle.bulk.specs.declared.fields.Fields.{Fields}
-use Rattle.bulk.specs.Orders.{action_name}
-use Rattle.bulk.specs.declared.order.ActionName.{ActionName}
-use Rattle.bulk.specs.declared.order.ActionName.TheVariants.{OldProviderCreate, NewProviderCreate, Activate, PutInConflict, RemoveFromConflict, Cancel, OldProviderCancellationAcknowledge, NewProviderCancellationAcknowledge, Disconnect, ModifyRouting}
+use Rattle.bulk.specs.Requests.{action_name}
+use Rattle.bulk.specs.declared.request.ActionName.{ActionName}
+use Rattle.bulk.specs.declared.request.ActionName.TheVariants.{OldProviderCreate, NewProviderCreate, Activate, PutInConflict, RemoveFromConflict, Cancel, OldProviderCancellationAcknowledge, NewProviderCancellationAcknowledge, Disconnect, ModifyRouting}
 
 -- all actions
 abbrev pub actions : List ActionName

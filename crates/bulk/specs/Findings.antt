@@ -6,12 +6,12 @@ use Rattle.std.specs.List.{list_any}
 use Rattle.numbers.specs.Routings.{Routing}
 use Rattle.numbers.specs.Subjects.{Subject, subject_eq}
 use Rattle.numbers.specs.Texts.{subject_text}
-use Rattle.numbers.specs.Views.{subject_of}
-use Rattle.numbers.specs.declared.ported.Subject.{Subject as SubjectCode}
-use Rattle.meaning.specs.Copies.{started}
-use Rattle.meaning.specs.Laws.{SubjectsRise}
-use Rattle.meaning.specs.Machine.{each_once}
-use Rattle.meaning.specs.Reading.{State, Download, InForce, all_in_force, queue}
+use Rattle.numbers.specs.Abstraction.{subject_of}
+use Rattle.numbers.specs.declared.ported.Subject.{Subject as SubjectImpl}
+use Rattle.model.specs.Copies.{copy_of_rows}
+use Rattle.model.specs.Laws.{AreSubjectsSorted}
+use Rattle.model.specs.Machine.{each_once}
+use Rattle.model.specs.State.{State, Download, InForce, all_in_force, queue}
 use Rattle.bulk.specs.declared.finding.Finding.{Finding}
 use Rattle.bulk.specs.declared.finding.Finding.TheVariants.{Waiting, Missing, Extra, Different}
 use Rattle.bulk.specs.declared.finding.SubjectFinding.{SubjectFinding}
@@ -49,8 +49,9 @@ awaited st carrier = each_once (map (λ (d : Download). d.subject) (queue st car
 
 abbrev pub finding_at : State → (carrier : ℕ) → (copy : List InForce) → Subject → Option Finding
 finding_at st carrier copy s =
-    finding_of (list_any (λ t. subject_eq t s) (awaited st carrier)) (started (all_in_force st) s)
-    (started copy s)
+    finding_of (list_any (λ t. subject_eq t s) (awaited st carrier)) (copy_of_rows (all_in_force st)
+    s)
+    (copy_of_rows copy s)
 
 -- ---- all findings
 
@@ -62,8 +63,8 @@ told_of (f ∷ fs) s = if subject_eq (subject_of f.subject) s then Some f.findin
 -- by subject, each once: what is found of each subject, and nothing else
 pub record AreFindings (st : State) (carrier : ℕ) (copy : List InForce)
     (findings : List SubjectFinding) : Type 0 where
-  pub rise : SubjectsRise (map (λ (f : SubjectFinding). subject_of f.subject) findings)
-  pub each : (s : SubjectCode) → told_of findings (subject_of s) ≡ finding_at st carrier copy
+  pub rise : AreSubjectsSorted (map (λ (f : SubjectFinding). subject_of f.subject) findings)
+  pub each : (s : SubjectImpl) → told_of findings (subject_of s) ≡ finding_at st carrier copy
       (subject_of s)
 
 -- ---- their file

@@ -1,6 +1,6 @@
 pub mod Rows
 pub mod Numbers
-pub mod Orders
+pub mod Requests
 pub mod Fields
 pub mod Faults
 pub mod Files

@@ -1,12 +1,12 @@
 -- What making a command leaves.
 use Rattle.std.specs.Prelude.{◌≡◌, ℕ, Bool, true, false, List, [], codes, decimal}
 use Rattle.numbers.specs.Texts.{tn_text}
-use Rattle.meaning.specs.Commands.{Command, RegisterCarrier, RegisterRoutingNumber, OpenCode, OldProviderCreate, NewProviderCreate, OnVersion, Donate, Assign, Release, SetWindows}
-use Rattle.meaning.specs.Machine.{Reply, Refused, Shown}
-use Rattle.bodies.specs.Failures.{refusal_name}
+use Rattle.model.specs.Commands.{Command, RegisterCarrier, RegisterRoutingNumber, OpenCode, OldProviderCreate, NewProviderCreate, OnVersion, Donate, Assign, Release, SetWindows}
+use Rattle.model.specs.Machine.{Reply, Refused, Shown}
+use Rattle.json_api.specs.Failures.{refusal_name}
 use Rattle.bulk.specs.Report.{report_line, reply_line}
-use Rattle.bulk.specs.declared.told.Told.{Told}
-use Rattle.bulk.specs.declared.told.Told.TheVariants as told
+use Rattle.bulk.specs.declared.command_result.CommandResult.{CommandResult}
+use Rattle.bulk.specs.declared.command_result.CommandResult.TheVariants as told
 
 -- a create, or a command on a version
 abbrev pub is_of_number : Command → Bool
@@ -22,13 +22,13 @@ is_of_number (Assign block holder lrn cic) = false
 is_of_number (Release block) = false
 
 -- the report's line of what was answered
-abbrev pub told_line : (row tn : ℕ) → Told → List ℕ
+abbrev pub told_line : (row tn : ℕ) → CommandResult → List ℕ
 told_line row tn (told.Version id) = report_line row (tn_text tn) (codes "ok") (decimal id)
 told_line row tn (told.Refused refusal) = report_line row (tn_text tn) (refusal_name refusal) []
 
 -- it tells the reply
-abbrev pub Tells : Told → Reply → Type 0
-Tells told reply = (row tn : ℕ) → told_line row tn told ≡ reply_line row tn reply
+abbrev pub IsResultOf : CommandResult → Reply → Type 0
+IsResultOf told reply = (row tn : ℕ) → told_line row tn told ≡ reply_line row tn reply
 
 -- what answers a create or a command on a version: a refusal or a version
 abbrev pub IsSaid : Reply → Type 0

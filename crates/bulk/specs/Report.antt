@@ -2,24 +2,24 @@
 use Rattle.std.specs.Prelude.{ℕ, zero, suc, ◌+◌, ◌-◌, List, [], ◌∷◌, ◌++◌, map, codes, decimal, Option, Some, None, option_map}
 use Rattle.numbers.specs.Subjects.{Number}
 use Rattle.numbers.specs.Texts.{tn_text}
-use Rattle.meaning.specs.Commands.{Command, OnVersion}
-use Rattle.meaning.specs.History.{Commands}
-use Rattle.meaning.specs.Machine.{Reply, Refused, Shown, out, next}
-use Rattle.meaning.specs.Reading.{State, View, record_now}
-use Rattle.meaning.specs.Refusals.{Input, Requests}
-use Rattle.meaning.specs.Versions.{Version, version_in_force, open_version}
-use Rattle.meaning.specs.declared.refusal.Refusal.{Refusal}
-use Rattle.bodies.specs.Failures.{refusal_name}
-use Rattle.bodies.specs.RefusalTexts.{refusal_of}
-use Rattle.version.specs.Commands.{asked_of}
+use Rattle.model.specs.Commands.{Command, OnVersion}
+use Rattle.model.specs.History.{CommandRequest}
+use Rattle.model.specs.Machine.{Reply, Refused, Shown, out, next}
+use Rattle.model.specs.State.{State, View, record_now}
+use Rattle.model.specs.Refusals.{Input, RequestFrom}
+use Rattle.model.specs.Versions.{Version, version_in_force, open_version}
+use Rattle.model.specs.declared.refusal.Refusal.{Refusal}
+use Rattle.json_api.specs.Failures.{refusal_name}
+use Rattle.json_api.specs.RefusalTexts.{refusal_of}
+use Rattle.version.specs.Commands.{command_model}
 use Rattle.version.specs.Creates.{command_by}
 use Rattle.version.specs.declared.command.VersionCommand.{VersionCommand}
 use Rattle.version.specs.declared.command.VersionCommand.TheVariants as command
-use Rattle.bulk.specs.Orders.{Reads}
+use Rattle.bulk.specs.Requests.{ParsesRow}
 use Rattle.bulk.specs.Rows.{Row}
-use Rattle.bulk.specs.declared.order.Order.{Order}
-use Rattle.bulk.specs.declared.order.Wish.{Wish}
-use Rattle.bulk.specs.declared.order.Wish.TheVariants as wish
+use Rattle.bulk.specs.declared.request.BulkRequest.{BulkRequest}
+use Rattle.bulk.specs.declared.request.Operation.{Operation}
+use Rattle.bulk.specs.declared.request.Operation.TheVariants as operation
 use Rattle.bulk.specs.declared.range.Numbers.{Numbers}
 
 -- ---- commands
@@ -54,18 +54,18 @@ open_id st tn =
     option_map (λ (v : Version). v.id) (open_version (Number tn) (record_now st (Number tn)))
 
 -- what is wanted of a number, as a command
-abbrev pub command_for : State → (tn : ℕ) → Wish → Command
-command_for st tn (wish.Create old_provider new_provider due by) =
+abbrev pub command_for : State → (tn : ℕ) → Operation → Command
+command_for st tn (operation.Create old_provider new_provider due by) =
     command_by by tn old_provider.number new_provider.number due.number
-command_for st tn (wish.OnVersion command) =
-    OnVersion (id_taken command (in_force_id st tn) (open_id st tn)) (asked_of command)
+command_for st tn (operation.OnVersion command) =
+    OnVersion (id_taken command (in_force_id st tn) (open_id st tn)) (command_model command)
 
 -- ---- what stands in a file
 
 -- a bad row, or what a caller wants of one number, each with the row's number
 pub data Task : Type 0 where
   Bad : (row : ℕ) → Task
-  Wants : (row caller tn : ℕ) (wish : Wish) → Task
+  CommandTask : (row caller tn : ℕ) (operation : Operation) → Task
 
 -- so many numbers from the first on
 abbrev pub rising : (first many : ℕ) → List ℕ
@@ -76,20 +76,21 @@ abbrev pub numbers_of : Numbers → List ℕ
 numbers_of numbers = rising numbers.first.number (numbers.last.number + 1 - numbers.first.number)
 
 -- the row of this number: one command for each number, by rising number
-abbrev pub tasks_of : (row : ℕ) → Option Order → List Task
+abbrev pub tasks_of : (row : ℕ) → Option BulkRequest → List Task
 tasks_of row None = Bad row ∷ []
-tasks_of row (Some order) =
-    map (λ tn. Wants row order.caller.number tn order.wish) (numbers_of order.numbers)
+tasks_of row (Some request) =
+    map (λ tn. CommandTask row request.caller.number tn request.operation)
+    (numbers_of request.numbers)
 
 -- the rows from this number on
-abbrev pub tasks_from : (row : ℕ) → List (Option Order) → List Task
+abbrev pub tasks_from : (row : ℕ) → List (Option BulkRequest) → List Task
 tasks_from row [] = []
 tasks_from row (o ∷ os) = tasks_of row o ++ tasks_from (row + 1) os
 
 -- each row says its order, or none
-abbrev pub AreRead : List Row → List (Option Order) → Type 0
+abbrev pub AreRead : List Row → List (Option BulkRequest) → Type 0
 AreRead [] [] = Unit {0}
-AreRead (row ∷ rows) (o ∷ os) = Reads row o × AreRead rows os
+AreRead (row ∷ rows) (o ∷ os) = ParsesRow row o × AreRead rows os
 AreRead [] (o ∷ os) = ⊥
 AreRead (row ∷ rows) [] = ⊥
 
@@ -117,17 +118,18 @@ reply_line row tn (Refused number) = report_line row (tn_text tn) (name_of (refu
 reply_line row tn (Shown view) = shown_line row tn view
 reply_line row tn _ = []
 
-abbrev pub input_for : State → (caller tn : ℕ) → Wish → Input
-input_for st caller tn wish = Requests caller (Commands (command_for st tn wish))
+abbrev pub input_for : State → (caller tn : ℕ) → Operation → Input
+input_for st caller tn operation = RequestFrom caller (CommandRequest (command_for st tn operation))
 
 -- the line of a task, and the state behind it
 abbrev pub line_of : State → Task → List ℕ
 line_of st (Bad row) = report_line row [] (codes "bad_row") []
-line_of st (Wants row caller tn wish) = reply_line row tn (out st (input_for st caller tn wish))
+line_of st (CommandTask row caller tn operation) =
+    reply_line row tn (out st (input_for st caller tn operation))
 
 abbrev pub state_behind : State → Task → State
 state_behind st (Bad row) = st
-state_behind st (Wants row caller tn wish) = next st (input_for st caller tn wish)
+state_behind st (CommandTask row caller tn operation) = next st (input_for st caller tn operation)
 
 -- the same of tasks, one after the other
 abbrev pub lines_of : State → List Task → List (List ℕ)

@@ -2,18 +2,18 @@
 use Rattle.std.specs.Prelude.{◌≡◌, ◌≢◌, ◌⊎◌, ℕ, ◌+◌, List, [], ◌∷◌, ◌++◌, length, take, Option, Result, Ok, Err}
 use Rattle.std.specs.List.{concat}
 use Rattle.std.specs.Io.KnownBytes.{Appends}
-use Rattle.meaning.specs.Content.{Content}
-use Rattle.meaning.specs.Machine.{state_after as machine_after}
-use Rattle.meaning.specs.Reading.{State}
-use Rattle.meaning.specs.Refusals.{Input}
-use Rattle.messages.specs.Sending.{AppendsFront}
-use Rattle.register.specs.Answers.{Stands}
+use Rattle.model.specs.Content.{Content}
+use Rattle.model.specs.Machine.{state_after as machine_after}
+use Rattle.model.specs.State.{State}
+use Rattle.model.specs.Refusals.{Input}
+use Rattle.http_messages.specs.Sending.{AppendsFront}
+use Rattle.register.specs.Refinement.{Refines}
 use Rattle.bulk.specs.Faults.{IsUnread}
 use Rattle.bulk.specs.Files.{AreSent}
-use Rattle.bulk.specs.Orders.{header}
+use Rattle.bulk.specs.Requests.{header}
 use Rattle.bulk.specs.Report.{AreRead, Task, line_of, lines_of, report_header, state_behind, state_after, tasks_from}
 use Rattle.bulk.specs.Rows.{Row, AreRowsOf}
-use Rattle.bulk.specs.declared.order.Order.{Order}
+use Rattle.bulk.specs.declared.request.BulkRequest.{BulkRequest}
 use Rattle.bulk.specs.declared.fault.BulkFault.{BulkFault}
 use Rattle.bulk.specs.declared.fault.FaultKind.{FaultKind}
 use Rattle.bulk.specs.declared.fault.FaultKind.TheVariants.{BadHeader, BadFile, UnknownCarrier, Storage, NoMemory, Read, Write}
@@ -28,7 +28,7 @@ SendsOne had has text count (Err fault) = AppendsFront had has text × (fault.ki
 -- all the tasks were done, behind as many lines as from
 pub record DoesAll (st : State) (tasks : List Task) (new : Content) (had has : Option (List ℕ))
     (from k : ℕ) : Type 0 where
-  pub stands : Stands new (state_after st tasks)
+  pub refines : Refines new (state_after st tasks)
   pub sent : AreSent had has (lines_of st tasks)
   pub count : k ≡ from + length tasks
 
@@ -47,7 +47,7 @@ pub record BreaksAt (st : State) (tasks : List Task) (new : Content) (had has : 
   pub task : Task
   pub others : List Task
   pub all : tasks ≡ first ++ task ∷ others
-  pub stands : Stands new (state_behind (state_after st first) task)
+  pub refines : Refines new (state_behind (state_after st first) task)
   pub part : ℕ
   pub sent : Appends had has (concat (lines_of st first) ++ take part
       (line_of (state_after st first) task))
@@ -75,9 +75,9 @@ RunsTo st tasks new had has from (Err fault) =
 -- all rows were run, from the state st on
 pub record RunsAll (st : State) (rows : List Row) (new : Content) (had has : Option (List ℕ))
     (k : ℕ) : Type 0 where
-  pub orders : List (Option Order)
-  pub read : AreRead rows orders
-  pub done : DoesAll st (tasks_from 1 orders) new had has 0 k
+  pub requests : List (Option BulkRequest)
+  pub read : AreRead rows requests
+  pub done : DoesAll st (tasks_from 1 requests) new had has 0 k
 
 -- the first of the rows were run, the last of these not to its end, and no more of the file
 pub record RunsFirst (kind : FaultKind) (st : State) (rows : List Row) (new : Content)
@@ -85,9 +85,9 @@ pub record RunsFirst (kind : FaultKind) (st : State) (rows : List Row) (new : Co
   pub first : List Row
   pub others : List Row
   pub all : rows ≡ first ++ others
-  pub orders : List (Option Order)
-  pub read : AreRead first orders
-  pub failed : FailsIn kind st (tasks_from 1 orders) new had has 0 k
+  pub requests : List (Option BulkRequest)
+  pub read : AreRead first requests
+  pub failed : FailsIn kind st (tasks_from 1 requests) new had has 0 k
 
 abbrev pub RunsRows : State → List Row → Content → (had has : Option (List ℕ)) → Result ℕ BulkFault
     → Type 0
@@ -95,8 +95,8 @@ RunsRows st rows new had has (Ok k) = RunsAll st rows new had has k
 RunsRows st rows new had has (Err fault) = RunsFirst fault.kind st rows new had has fault.rows
 
 -- the content stands for a state that some of the machine's inputs lead to from st
-abbrev pub Follows : State → Content → Type 0
-Follows st new = (inputs : List Input) × Stands new (machine_after st inputs)
+abbrev pub RefinesReachable : State → Content → Type 0
+RefinesReachable st new = (inputs : List Input) × Refines new (machine_after st inputs)
 
 -- ---- a file
 
@@ -106,7 +106,7 @@ pub record IsHeaderBroken (st : State) (new : Content) (had has : Option (List �
     (fault : BulkFault) : Type 0 where
   pub kind : fault.kind ≡ Write
   pub rows : fault.rows ≡ 0
-  pub stands : Stands new st
+  pub refines : Refines new st
   pub part : ℕ
   pub sent : Appends had has (take part report_header)
 
@@ -131,7 +131,7 @@ LacksHeader rows = (others : List Row) → rows ≢ header ∷ others
 pub record RunsNothing (st : State) (bytes : List ℕ) (new : Content) (had has : Option (List ℕ))
     (fault : BulkFault) : Type 0 where
   pub rows : fault.rows ≡ 0
-  pub stands : Stands new st
+  pub refines : Refines new st
   pub sent : Appends had has []
   pub why : ((fault.kind ≡ BadHeader) × ((rows : List Row) × AreRowsOf bytes rows
       × LacksHeader rows)) ⊎ IsUnread fault.kind

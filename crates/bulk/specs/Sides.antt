@@ -3,7 +3,7 @@ use Rattle.std.specs.Prelude.{Bool, true, false, List, [], ◌∷◌, Option, So
 use Rattle.std.specs.BTreeMap.{BTreeMap, get}
 use Rattle.std.specs.Ordering.{nat_cmp, on}
 use Rattle.numbers.specs.Subjects.{subject_eq}
-use Rattle.numbers.specs.Views.{key_of, routing_of, subject_of}
+use Rattle.numbers.specs.Abstraction.{key_of, routing_of, subject_of}
 use Rattle.numbers.specs.declared.ported.Routing.{Routing}
 use Rattle.numbers.specs.declared.ported.Subject.{Subject}
 use Rattle.delivery.specs.declared.mirror.RoutedRow.{RoutedRow}

@@ -1,23 +1,23 @@
 //! What is asked of a register.
 ghost use Rattle.std.specs.Prelude.{◌≡◌, ◌⊎◌, true, false, IfOk, IfErr, Err, map};
 ghost use Rattle.delivery.specs.Mirrors.{in_force_of};
-ghost use Rattle.meaning.specs.declared.refusal.Refusal.TheVariants.{Storage, UnknownCarrier};
-ghost use Rattle.meaning.specs.Reading.{State, all_in_force, is_carrier};
-ghost use Rattle.register.specs.Answers.{Stands};
-ghost use Rattle.settle.specs.Owing.{Owes, SaysStorage};
-ghost use Rattle.calls.specs.Calls.{command_of};
-ghost use Rattle.numbers.specs.Views.{subject_of};
+ghost use Rattle.model.specs.declared.refusal.Refusal.TheVariants.{Storage, UnknownCarrier};
+ghost use Rattle.model.specs.State.{State, all_in_force, is_carrier};
+ghost use Rattle.register.specs.Refinement.{Refines};
+ghost use Rattle.settle.specs.StoreContract.{PreservesStore, ReportsStorage};
+ghost use Rattle.requests.specs.Calls.{command_of};
+ghost use Rattle.numbers.specs.Abstraction.{subject_of};
 ghost use Rattle.bulk.specs.Faults.{IsShort};
 ghost use Rattle.bulk.specs.Findings.{awaited};
 ghost use Rattle.bulk.specs.Report.{command_for, id_taken, in_force_id, open_id};
 
 use crate::fault::FaultKind;
-use crate::order::Wish;
-use calls::{Command, Ids};
+use crate::request::Operation;
 use delivery::RoutedRow;
-use meaning::Refusal;
+use model::Refusal;
 use numbers::{Spid, Subject, Tn};
 use register::Register;
+use requests::{Command, Ids};
 use settle::Store;
 use version::{Create, VersionCommand};
 
@@ -38,13 +38,14 @@ fn kind_of(refusal: Refusal) -> FaultKind
 /// Everything in force, by subject.
 pub fn rows_in_force<S: Store>(register: &mut Register<S>) -> Result<Vec<RoutedRow>, FaultKind>
     ensures rows { IfOk result (λ rows. S.IsUsable register.new.store → (st : State)
-        → Stands (S.content register.old.store) st
+        → Refines (S.content register.old.store) st
         → map in_force_of rows.items ≡ all_in_force st) }
     ensures kept { S.IsUsable register.new.store → (st : State)
-        → Stands (S.content register.old.store) st → Stands (S.content register.new.store) st }
+        → Refines (S.content register.old.store) st → Refines (S.content register.new.store) st }
     ensures short { IfErr result IsShort }
-    ensures owes { Owes S.IsUsable S.IsHonest S.failed register.old.store register.new.store
-        ⊥ (SaysStorage (S.IsUsable register.new.store) (S.content register.old.store)
+    ensures preserves { PreservesStore S.IsUsable S.HasHonestDevice S.failed register.old.store
+        register.new.store
+        ⊥ (ReportsStorage (S.IsUsable register.new.store) (S.content register.old.store)
         (result ≡ Err FaultKind.Storage)) }
 {
     match register.in_force() {
@@ -72,17 +73,18 @@ pub fn subjects_waiting<S: Store>(
     carrier: Spid,
 ) -> Result<Vec<Subject>, FaultKind>
     ensures subjects { IfOk result (λ subjects. S.IsUsable register.new.store → (st : State)
-        → Stands (S.content register.old.store) st
+        → Refines (S.content register.old.store) st
         → (map subject_of subjects.items ≡ awaited st carrier.number)
         × (is_carrier st carrier.number ≡ true)) }
     ensures unknown { result ≡ Err FaultKind.UnknownCarrier → S.IsUsable register.new.store
-        → (st : State) → Stands (S.content register.old.store) st
+        → (st : State) → Refines (S.content register.old.store) st
         → is_carrier st carrier.number ≡ false }
     ensures kept { S.IsUsable register.new.store → (st : State)
-        → Stands (S.content register.old.store) st → Stands (S.content register.new.store) st }
+        → Refines (S.content register.old.store) st → Refines (S.content register.new.store) st }
     ensures kinds { IfErr result (λ kind. IsShort kind ⊎ (kind ≡ FaultKind.UnknownCarrier)) }
-    ensures owes { Owes S.IsUsable S.IsHonest S.failed register.old.store register.new.store
-        ⊥ (SaysStorage (S.IsUsable register.new.store) (S.content register.old.store)
+    ensures preserves { PreservesStore S.IsUsable S.HasHonestDevice S.failed register.old.store
+        register.new.store
+        ⊥ (ReportsStorage (S.IsUsable register.new.store) (S.content register.old.store)
         (result ≡ Err FaultKind.Storage)) }
 {
     match register.waiting(carrier) {
@@ -94,13 +96,14 @@ pub fn subjects_waiting<S: Store>(
 // The ids of a number's versions.
 fn ids_of<S: Store>(register: &mut Register<S>, tn: Tn) -> Result<Ids, FaultKind>
     ensures ids { IfOk result (λ ids. S.IsUsable register.new.store → (st : State)
-        → Stands (S.content register.old.store) st
+        → Refines (S.content register.old.store) st
         → (ids.in_force ≡ in_force_id st tn.number) × (ids.opened ≡ open_id st tn.number)) }
     ensures kept { S.IsUsable register.new.store → (st : State)
-        → Stands (S.content register.old.store) st → Stands (S.content register.new.store) st }
+        → Refines (S.content register.old.store) st → Refines (S.content register.new.store) st }
     ensures short { IfErr result IsShort }
-    ensures owes { Owes S.IsUsable S.IsHonest S.failed register.old.store register.new.store
-        ⊥ (SaysStorage (S.IsUsable register.new.store) (S.content register.old.store)
+    ensures preserves { PreservesStore S.IsUsable S.HasHonestDevice S.failed register.old.store
+        register.new.store
+        ⊥ (ReportsStorage (S.IsUsable register.new.store) (S.content register.old.store)
         (result ≡ Err FaultKind.Storage)) }
 {
     match register.ids(tn) {
@@ -125,20 +128,21 @@ fn id_taken(command: VersionCommand, ids: &Ids) -> u64
 pub fn command_for<S: Store>(
     register: &mut Register<S>,
     tn: Tn,
-    wish: &Wish,
+    operation: &Operation,
 ) -> Result<Command, FaultKind>
     ensures command { IfOk result (λ command. S.IsUsable register.new.store → (st : State)
-        → Stands (S.content register.old.store) st
-        → command_of command ≡ command_for st tn.number wish.now) }
+        → Refines (S.content register.old.store) st
+        → command_of command ≡ command_for st tn.number operation.now) }
     ensures kept { S.IsUsable register.new.store → (st : State)
-        → Stands (S.content register.old.store) st → Stands (S.content register.new.store) st }
+        → Refines (S.content register.old.store) st → Refines (S.content register.new.store) st }
     ensures short { IfErr result IsShort }
-    ensures owes { Owes S.IsUsable S.IsHonest S.failed register.old.store register.new.store
-        ⊥ (SaysStorage (S.IsUsable register.new.store) (S.content register.old.store)
+    ensures preserves { PreservesStore S.IsUsable S.HasHonestDevice S.failed register.old.store
+        register.new.store
+        ⊥ (ReportsStorage (S.IsUsable register.new.store) (S.content register.old.store)
         (result ≡ Err FaultKind.Storage)) }
 {
-    match wish {
-        Wish::Create {
+    match operation {
+        Operation::Create {
             old_provider,
             new_provider,
             due,
@@ -150,7 +154,7 @@ pub fn command_for<S: Store>(
             due: *due,
             creator: *creator,
         })),
-        Wish::OnVersion(command) => {
+        Operation::OnVersion(command) => {
             let ids = ids_of(register, tn)?;
             Ok(Command::OnVersion {
                 id: id_taken(*command, &ids),

@@ -1,10 +1,10 @@
 //! Audits.
 ghost use Rattle.std.specs.Prelude.{◌≡◌, ◌≢◌, ◌⊎◌, Err, IfErr, IfOk, IfSome, false, map, true};
-ghost use Rattle.numbers.specs.Views.{subject_of};
+ghost use Rattle.numbers.specs.Abstraction.{subject_of};
 ghost use Rattle.delivery.specs.Mirrors.{in_force_of};
-ghost use Rattle.meaning.specs.Reading.{State, all_in_force, is_carrier};
-ghost use Rattle.register.specs.Answers.{Stands};
-ghost use Rattle.settle.specs.Owing.{Owes, SaysStorage};
+ghost use Rattle.model.specs.State.{State, all_in_force, is_carrier};
+ghost use Rattle.register.specs.Refinement.{Refines};
+ghost use Rattle.settle.specs.StoreContract.{PreservesStore, ReportsStorage};
 ghost use Rattle.bulk.specs.Audits.{Audits, EachOnce, subjects_in};
 ghost use Rattle.bulk.specs.Comparing.{AreCompared, ComparesFile, IsNotCompared};
 ghost use Rattle.bulk.specs.Faults.{FailsWith, IsShort};
@@ -14,7 +14,7 @@ use crate::asking::{rows_in_force, subjects_waiting};
 use crate::copy::read_copy;
 use crate::fault::{BulkFault, FaultKind};
 use crate::finding::SubjectFinding;
-use crate::line::Line;
+use crate::line::LineBuffer;
 use crate::rows::open;
 use crate::sides::{add_in_force, add_waiting, copy_sides, findings_in};
 use crate::writing::send_file;
@@ -38,18 +38,19 @@ struct Held {
 // What the register has for a carrier.
 fn held_for<S: Store>(register: &mut Register<S>, carrier: Spid) -> Result<Held, FaultKind>
     ensures held { IfOk result (λ held. S.IsUsable register.new.store → (st : State)
-        → Stands (S.content register.old.store) st
+        → Refines (S.content register.old.store) st
         → (map in_force_of held.in_force.items ≡ all_in_force st)
         × (map subject_of held.waiting.items ≡ awaited st carrier.number)
         × (is_carrier st carrier.number ≡ true)) }
     ensures unknown { result ≡ Err FaultKind.UnknownCarrier → S.IsUsable register.new.store
-        → (st : State) → Stands (S.content register.old.store) st
+        → (st : State) → Refines (S.content register.old.store) st
         → is_carrier st carrier.number ≡ false }
     ensures kept { S.IsUsable register.new.store → (st : State)
-        → Stands (S.content register.old.store) st → Stands (S.content register.new.store) st }
+        → Refines (S.content register.old.store) st → Refines (S.content register.new.store) st }
     ensures kinds { IfErr result (λ kind. IsShort kind ⊎ (kind ≡ FaultKind.UnknownCarrier)) }
-    ensures owes { Owes S.IsUsable S.IsHonest S.failed register.old.store register.new.store
-        ⊥ (SaysStorage (S.IsUsable register.new.store) (S.content register.old.store)
+    ensures preserves { PreservesStore S.IsUsable S.HasHonestDevice S.failed register.old.store
+        register.new.store
+        ⊥ (ReportsStorage (S.IsUsable register.new.store) (S.content register.old.store)
         (result ≡ Err FaultKind.Storage)) }
 {
     let waiting = match subjects_waiting(register, carrier) {
@@ -134,16 +135,17 @@ pub fn audit<S: Store, R: Read + Drop, W: Write>(
     writer: &mut W,
 ) -> Result<u64, BulkFault>
     ensures audits { S.IsUsable register.new.store → (st : State)
-        → Stands (S.content register.old.store) st
+        → Refines (S.content register.old.store) st
         → IfSome (R.remaining reader) (λ bytes. Audits st carrier.number bytes
         (W.contents writer.old) (W.contents writer.new) result) }
     ensures kept { S.IsUsable register.new.store → (st : State)
-        → Stands (S.content register.old.store) st → Stands (S.content register.new.store) st }
-    ensures owes { Owes S.IsUsable S.IsHonest S.failed register.old.store register.new.store
-        ⊥ (SaysStorage (S.IsUsable register.new.store) (S.content register.old.store)
+        → Refines (S.content register.old.store) st → Refines (S.content register.new.store) st }
+    ensures preserves { PreservesStore S.IsUsable S.HasHonestDevice S.failed register.old.store
+        register.new.store
+        ⊥ (ReportsStorage (S.IsUsable register.new.store) (S.content register.old.store)
         (FailsWith FaultKind.Storage result)) }
 {
-    let (mut line, held) = match (Line::new(alloc), held_for(register, carrier)) {
+    let (mut line, held) = match (LineBuffer::new(alloc), held_for(register, carrier)) {
         (Ok(line), Ok(held)) => (line, held),
         (Err(_), _) => return Err(BulkFault::at_start(FaultKind::NoMemory)),
         (_, Err(kind)) => return Err(BulkFault::at_start(kind)),

@@ -3,9 +3,9 @@ ghost use Rattle.std.specs.Prelude.{◌≡◌, ◌≢◌, ◌⊎◌, ◌↔◌, 
 ghost use Rattle.csv.specs.Records.{fields_of};
 ghost use Rattle.numbers.specs.Digits.{IsBlock, IsTn};
 ghost use Rattle.numbers.specs.Texts.{block_text, lrn_text, subject_text};
-ghost use Rattle.numbers.specs.Views.{subject_of};
-ghost use Rattle.numbers.specs.declared.ported.Subject.{Subject as SubjectSeen};
-ghost use Rattle.delivery.specs.declared.mirror.RoutedRow.{RoutedRow as RoutedRowSeen};
+ghost use Rattle.numbers.specs.Abstraction.{subject_of};
+ghost use Rattle.numbers.specs.declared.ported.Subject.{Subject as SubjectImpl};
+ghost use Rattle.delivery.specs.declared.mirror.RoutedRow.{RoutedRow as RoutedRowImpl};
 ghost use Rattle.bulk.specs.Audits.{AreEntries, HasNoEntry, IsEntry, IsNoEntry, IsNotRead, copy_header};
 ghost use Rattle.bulk.specs.Faults.{IsUnread};
 ghost use Rattle.bulk.specs.Rows.{Row, HasRows, IsPlain};
@@ -62,7 +62,7 @@ fn block_in(field: &[u8]) -> Option<BlockId>
 
 fn subject_in(field: &[u8]) -> Option<Subject>
     ensures some { IfSome result (λ subject. field.now ≡ subject_text (subject_of subject)) }
-    ensures none { IfNone result ((subject : SubjectSeen)
+    ensures none { IfNone result ((subject : SubjectImpl)
         → field.now ≢ subject_text (subject_of subject)) }
 {
     match tn_in(field) {

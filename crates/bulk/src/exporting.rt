@@ -1,14 +1,14 @@
 //! Exports.
 ghost use Rattle.std.specs.Prelude.{◌≡◌};
-ghost use Rattle.meaning.specs.Reading.{State};
-ghost use Rattle.register.specs.Answers.{Stands};
-ghost use Rattle.settle.specs.Owing.{Owes, SaysStorage};
+ghost use Rattle.model.specs.State.{State};
+ghost use Rattle.register.specs.Refinement.{Refines};
+ghost use Rattle.settle.specs.StoreContract.{PreservesStore, ReportsStorage};
 ghost use Rattle.bulk.specs.Exports.{Exports};
 ghost use Rattle.bulk.specs.Faults.{FailsWith};
 
 use crate::asking::rows_in_force;
 use crate::fault::{BulkFault, FaultKind};
-use crate::line::Line;
+use crate::line::LineBuffer;
 use crate::writing::send_file;
 use register::Register;
 use settle::Store;
@@ -31,15 +31,16 @@ pub fn export<S: Store, W: Write>(
     writer: &mut W,
 ) -> Result<u64, BulkFault>
     ensures exports { S.IsUsable register.new.store → (st : State)
-        → Stands (S.content register.old.store) st
+        → Refines (S.content register.old.store) st
         → Exports result st (W.contents writer.old) (W.contents writer.new) }
     ensures kept { S.IsUsable register.new.store → (st : State)
-        → Stands (S.content register.old.store) st → Stands (S.content register.new.store) st }
-    ensures owes { Owes S.IsUsable S.IsHonest S.failed register.old.store register.new.store
-        ⊥ (SaysStorage (S.IsUsable register.new.store) (S.content register.old.store)
+        → Refines (S.content register.old.store) st → Refines (S.content register.new.store) st }
+    ensures preserves { PreservesStore S.IsUsable S.HasHonestDevice S.failed register.old.store
+        register.new.store
+        ⊥ (ReportsStorage (S.IsUsable register.new.store) (S.content register.old.store)
         (FailsWith FaultKind.Storage result)) }
 {
-    let (mut line, rows) = match (Line::new(alloc), rows_in_force(register)) {
+    let (mut line, rows) = match (LineBuffer::new(alloc), rows_in_force(register)) {
         (Ok(line), Ok(rows)) => (line, rows),
         (Err(_), _) => return Err(BulkFault::at_start(FaultKind::NoMemory)),
         (_, Err(kind)) => return Err(BulkFault::at_start(kind)),

@@ -3,23 +3,23 @@ ghost use Rattle.std.specs.Prelude.{◌≡◌, ◌≢◌, IsUtf8, ℕ, List, IfS
 ghost use Rattle.std.specs.Prelude.{Bool, Option, find, IsTrue, ◌↔◌};
 ghost use Rattle.std.specs.Prelude.{◌++◌, ℕ};
 ghost use Rattle.csv.specs.Records.{fields_of};
-ghost use Rattle.version.specs.declared.create.Creator.{Creator as CreatorSeen};
-ghost use Rattle.version.specs.declared.command.VersionCommand.{VersionCommand as VersionCommandSeen};
-ghost use Rattle.numbers.specs.declared.cic.Cic.{Cic as CicSeen};
-ghost use Rattle.numbers.specs.declared.minute.Minute.{Minute as MinuteSeen};
-ghost use Rattle.bulk.specs.Orders.{action_name, command_action, create_action, action_of, Names, flag_text, optional_cic, optional_minute, create_fields, release_field, wish_fields, Says, Reads, header};
-ghost use Rattle.bulk.specs.declared.order.ActionName.TheVariants.{OldProviderCreate, NewProviderCreate, ModifyRouting};
+ghost use Rattle.version.specs.declared.create.Creator.{Creator as CreatorImpl};
+ghost use Rattle.version.specs.declared.command.VersionCommand.{VersionCommand as VersionCommandImpl};
+ghost use Rattle.numbers.specs.declared.cic.Cic.{Cic as CicImpl};
+ghost use Rattle.numbers.specs.declared.minute.Minute.{Minute as MinuteImpl};
+ghost use Rattle.bulk.specs.Requests.{action_name, command_action, create_action, action_of, Names, flag_text, optional_cic, optional_minute, create_fields, release_field, operation_fields, EncodesRequest, ParsesRow, header};
+ghost use Rattle.bulk.specs.declared.request.ActionName.TheVariants.{OldProviderCreate, NewProviderCreate, ModifyRouting};
 ghost use Rattle.bulk.specs.Fields.{is_action, actions, all_fields, last_fields, six_fields};
-ghost use Rattle.bulk.specs.declared.range.Numbers.{Numbers as NumbersSeen};
-ghost use Rattle.bulk.specs.declared.order.Wish.TheVariants.{OnVersion};
-ghost use Rattle.bulk.specs.declared.order.Wish.{Wish as WishSeen};
-ghost use Rattle.bulk.specs.declared.order.ActionName.{ActionName as ActionNameSeen};
+ghost use Rattle.bulk.specs.declared.range.Numbers.{Numbers as NumbersImpl};
+ghost use Rattle.bulk.specs.declared.request.Operation.TheVariants.{OnVersion};
+ghost use Rattle.bulk.specs.declared.request.Operation.{Operation as OperationImpl};
+ghost use Rattle.bulk.specs.declared.request.ActionName.{ActionName as ActionNameImpl};
 ghost use Rattle.numbers.specs.Digits.{IsTn, IsLrn, IsCic, IsMinute};
 ghost use Rattle.numbers.specs.Spids.{IsSpid};
 ghost use Rattle.numbers.specs.Texts.{spid_text, tn_text, lrn_text, cic_text, minute_text};
 
-use crate::order::{ActionName, Order, Wish};
 use crate::range::Numbers;
+use crate::request::{ActionName, BulkRequest, Operation};
 use csv::ByteRecord;
 use numbers::{Cic, Lrn, Minute, Routing, Spid, Tn};
 use version::{Creator, VersionCommand};
@@ -133,7 +133,7 @@ fn first_named(field: &[u8]) -> Option<ActionName>
 
 fn action_in(field: &[u8]) -> Option<ActionName>
     ensures some { IfSome result (λ action. field.now ≡ action_name action) }
-    ensures none { IfNone result ((action : ActionNameSeen) → field.now ≢ action_name action) }
+    ensures none { IfNone result ((action : ActionNameImpl) → field.now ≢ action_name action) }
 {
     first_named(field)
 }
@@ -155,7 +155,7 @@ fn cut(field: &[u8]) -> Option<(&[u8], &[u8])>
 fn range_in(field: &[u8]) -> Option<Numbers>
     ensures some { IfSome result (λ numbers.
         field.now ≡ tn_text numbers.first.number ++ 45 ∷ tn_text numbers.last.number) }
-    ensures none { IfNone result ((numbers : NumbersSeen)
+    ensures none { IfNone result ((numbers : NumbersImpl)
         → field.now ≢ tn_text numbers.first.number ++ 45 ∷ tn_text numbers.last.number) }
 {
     let (first, last) = cut(field)?;
@@ -164,7 +164,7 @@ fn range_in(field: &[u8]) -> Option<Numbers>
 
 fn numbers_in(field: &[u8]) -> Option<Numbers>
     ensures some { IfSome result (Names field.now) }
-    ensures none { IfNone result ((numbers : NumbersSeen) → ¬ (Names field.now numbers)) }
+    ensures none { IfNone result ((numbers : NumbersImpl) → ¬ (Names field.now numbers)) }
 {
     match tn_in(field) {
         Some(tn) => Numbers::new(tn, tn),
@@ -188,7 +188,7 @@ fn flag_in(field: &[u8]) -> Option<bool>
 /// The carrier code that a field writes, or none where it is empty.
 pub fn optional_cic_in(field: &[u8]) -> Option<Option<Cic>>
     ensures some { IfSome result (λ cic. field.now ≡ optional_cic cic) }
-    ensures none { IfNone result ((cic : Option CicSeen) → field.now ≢ optional_cic cic) }
+    ensures none { IfNone result ((cic : Option CicImpl) → field.now ≢ optional_cic cic) }
 {
     if field.is_empty() {
         return Some(None);
@@ -198,7 +198,7 @@ pub fn optional_cic_in(field: &[u8]) -> Option<Option<Cic>>
 
 fn optional_minute_in(field: &[u8]) -> Option<Option<Minute>>
     ensures some { IfSome result (λ minute. field.now ≡ optional_minute minute) }
-    ensures none { IfNone result ((minute : Option MinuteSeen)
+    ensures none { IfNone result ((minute : Option MinuteImpl)
         → field.now ≢ optional_minute minute) }
 {
     if field.is_empty() {
@@ -212,7 +212,7 @@ fn version_command_in(action: ActionName, due: &[u8]) -> Option<VersionCommand>
     requires { action ≢ ModifyRouting }
     ensures some { IfSome result (λ command. (command_action command ≡ action)
         × (due.now ≡ release_field command)) }
-    ensures none { IfNone result ((command : VersionCommandSeen) → command_action command ≡ action
+    ensures none { IfNone result ((command : VersionCommandImpl) → command_action command ≡ action
         → due.now ≢ release_field command) }
 {
     if action == ActionName::Disconnect {
@@ -245,7 +245,7 @@ fn version_command_in(action: ActionName, due: &[u8]) -> Option<VersionCommand>
 fn authorization_in(fields: &Fields) -> Option<Creator>
     ensures some { IfSome result (λ creator. (create_action creator ≡ OldProviderCreate)
         × (last_fields fields.now ≡ create_fields creator)) }
-    ensures none { IfNone result ((creator : CreatorSeen)
+    ensures none { IfNone result ((creator : CreatorImpl)
         → create_action creator ≡ OldProviderCreate
         → last_fields fields.now ≢ create_fields creator) }
 {
@@ -261,7 +261,7 @@ fn authorization_in(fields: &Fields) -> Option<Creator>
 fn routing_in(fields: &Fields) -> Option<Creator>
     ensures some { IfSome result (λ creator. (create_action creator ≡ NewProviderCreate)
         × (last_fields fields.now ≡ create_fields creator)) }
-    ensures none { IfNone result ((creator : CreatorSeen)
+    ensures none { IfNone result ((creator : CreatorImpl)
         → create_action creator ≡ NewProviderCreate
         → last_fields fields.now ≢ create_fields creator) }
 {
@@ -276,14 +276,15 @@ fn routing_in(fields: &Fields) -> Option<Creator>
 }
 
 // A create, by what its last fields said.
-fn create_in(fields: &Fields, creator: Creator) -> Option<Wish>
+fn create_in(fields: &Fields, creator: Creator) -> Option<Operation>
     requires { last_fields fields.now ≡ create_fields creator }
-    ensures some { IfSome result (λ wish. (action_of wish ≡ create_action creator)
-        × (six_fields fields.now ≡ wish_fields wish)) }
-    ensures none { IfNone result ((wish : WishSeen) → action_of wish ≡ create_action creator
-        → six_fields fields.now ≢ wish_fields wish) }
+    ensures some { IfSome result (λ operation. (action_of operation ≡ create_action creator)
+        × (six_fields fields.now ≡ operation_fields operation)) }
+    ensures none { IfNone result ((operation : OperationImpl)
+        → action_of operation ≡ create_action creator
+        → six_fields fields.now ≢ operation_fields operation) }
 {
-    Some(Wish::Create {
+    Some(Operation::Create {
         old_provider: spid_in(fields.old_provider)?,
         new_provider: spid_in(fields.new_provider)?,
         due: minute_in(fields.due)?,
@@ -316,12 +317,12 @@ fn has_routing_alone(fields: &Fields) -> bool
 }
 
 // A modify, of which the fields lrn and cic alone are not empty.
-fn modify_in(fields: &Fields) -> Option<Wish>
-    ensures some { IfSome result (λ wish. (action_of wish ≡ ModifyRouting)
-        × (six_fields fields.now ≡ wish_fields wish)) }
-    ensures none { IfNone result ((command : VersionCommandSeen)
+fn modify_in(fields: &Fields) -> Option<Operation>
+    ensures some { IfSome result (λ operation. (action_of operation ≡ ModifyRouting)
+        × (six_fields fields.now ≡ operation_fields operation)) }
+    ensures none { IfNone result ((command : VersionCommandImpl)
         → command_action command ≡ ModifyRouting
-        → six_fields fields.now ≢ wish_fields (OnVersion command)) }
+        → six_fields fields.now ≢ operation_fields (OnVersion command)) }
 {
     if !has_routing_alone(fields) {
         return None;
@@ -330,29 +331,29 @@ fn modify_in(fields: &Fields) -> Option<Wish>
         lrn: lrn_in(fields.lrn)?,
         cic: optional_cic_in(fields.cic)?,
     };
-    Some(Wish::OnVersion(VersionCommand::ModifyRouting { routing }))
+    Some(Operation::OnVersion(VersionCommand::ModifyRouting { routing }))
 }
 
-fn command_in(fields: &Fields, action: ActionName) -> Option<Wish>
+fn command_in(fields: &Fields, action: ActionName) -> Option<Operation>
     requires { action ≢ ModifyRouting }
-    ensures some { IfSome result (λ wish. (action_of wish ≡ action)
-        × (six_fields fields.now ≡ wish_fields wish)) }
-    ensures none { IfNone result ((command : VersionCommandSeen) → command_action command ≡ action
-        → six_fields fields.now ≢ wish_fields (OnVersion command)) }
+    ensures some { IfSome result (λ operation. (action_of operation ≡ action)
+        × (six_fields fields.now ≡ operation_fields operation)) }
+    ensures none { IfNone result ((command : VersionCommandImpl) → command_action command ≡ action
+        → six_fields fields.now ≢ operation_fields (OnVersion command)) }
 {
     let command = version_command_in(action, fields.due)?;
     if has_due_alone(fields) {
-        Some(Wish::OnVersion(command))
+        Some(Operation::OnVersion(command))
     } else {
         None
     }
 }
 
-fn wish_in(fields: &Fields, action: ActionName) -> Option<Wish>
-    ensures some { IfSome result (λ wish. (action_of wish ≡ action)
-        × (six_fields fields.now ≡ wish_fields wish)) }
-    ensures none { IfNone result ((wish : WishSeen) → action_of wish ≡ action
-        → six_fields fields.now ≢ wish_fields wish) }
+fn operation_in(fields: &Fields, action: ActionName) -> Option<Operation>
+    ensures some { IfSome result (λ operation. (action_of operation ≡ action)
+        × (six_fields fields.now ≡ operation_fields operation)) }
+    ensures none { IfNone result ((operation : OperationImpl) → action_of operation ≡ action
+        → six_fields fields.now ≢ operation_fields operation) }
 {
     match action {
         ActionName::OldProviderCreate => create_in(fields, authorization_in(fields)?),
@@ -365,15 +366,15 @@ fn wish_in(fields: &Fields, action: ActionName) -> Option<Wish>
 /// The order that a row says, or nothing where it is a bad one: it has another number of fields,
 /// its action is none of the ten, its subject is neither a number nor a range of at most a
 /// thousand of one code, a field that has to be filled is not, or one that has to be empty is.
-pub fn read_order(row: &ByteRecord) -> Option<Order>
-    ensures { Reads (fields_of row.now) result }
+pub fn read_request(row: &ByteRecord) -> Option<BulkRequest>
+    ensures { ParsesRow (fields_of row.now) result }
 {
     let fields = Fields::of(row)?;
     let action = action_in(fields.action)?;
-    Some(Order {
+    Some(BulkRequest {
         caller: spid_in(fields.caller)?,
         numbers: numbers_in(fields.subject)?,
-        wish: wish_in(&fields, action)?,
+        operation: operation_in(&fields, action)?,
     })
 }
 
@@ -384,7 +385,7 @@ pub fn is_text(field: &[u8], text: &str) -> bool
     field == text.as_bytes()
 }
 
-#[tactic(auto, unfolding(crate::specs::Orders::header))]
+#[tactic(auto, unfolding(crate::specs::Requests::header))]
 fn are_names(fields: &Fields) -> bool
     ensures { IsTrue result ↔ (all_fields fields.now ≡ header) }
 {

@@ -1,16 +1,16 @@
 //! Bulk files.
 ghost use Rattle.std.specs.Prelude.{◌≡◌, ◌⊎◌, ◌∷◌, List, IfSome, IfErr, OnOk};
-ghost use Rattle.meaning.specs.Reading.{State};
-ghost use Rattle.register.specs.Answers.{Stands};
-ghost use Rattle.settle.specs.Owing.{Owes, SaysStorage};
+ghost use Rattle.model.specs.State.{State};
+ghost use Rattle.register.specs.Refinement.{Refines};
+ghost use Rattle.settle.specs.StoreContract.{PreservesStore, ReportsStorage};
 ghost use Rattle.bulk.specs.Faults.{FailsWith, IsUnread};
-ghost use Rattle.bulk.specs.Orders.{header};
+ghost use Rattle.bulk.specs.Requests.{header};
 ghost use Rattle.bulk.specs.Rows.{Row, HasRows, IsPlain};
-ghost use Rattle.bulk.specs.Running.{Follows, LacksHeader, Reports, RunsFile};
+ghost use Rattle.bulk.specs.Running.{RefinesReachable, LacksHeader, Reports, RunsFile};
 
 use crate::fault::{BulkFault, FaultKind};
 use crate::fields::is_header;
-use crate::line::Line;
+use crate::line::LineBuffer;
 use crate::rows::{first_row, open};
 use crate::running::run_rows;
 use csv::Reader;
@@ -45,20 +45,22 @@ fn read_header<R: Read>(alloc: Global, reader: &mut Reader<R>) -> Result<(), Fau
 fn report_rows<S: Store, R: Read, W: Write>(
     alloc: Global,
     register: &mut Register<S>,
-    line: &mut Line,
+    line: &mut LineBuffer,
     reader: &mut Reader<R>,
     writer: &mut W,
 ) -> Result<u64, BulkFault>
     requires { IsPlain reader.old }
     ensures reports { S.IsUsable register.new.store → (st : State)
-        → Stands (S.content register.old.store) st → (rows : List Row)
+        → Refines (S.content register.old.store) st → (rows : List Row)
         → HasRows R.remaining reader.old rows
         → Reports st rows (S.content register.new.store) (W.contents writer.old)
         (W.contents writer.new) result }
     ensures state { S.IsUsable register.new.store → (st : State)
-        → Stands (S.content register.old.store) st → Follows st (S.content register.new.store) }
-    ensures owes { Owes S.IsUsable S.IsHonest S.failed register.old.store register.new.store
-        ⊥ (SaysStorage (S.IsUsable register.new.store) (S.content register.old.store)
+        → Refines (S.content register.old.store) st
+        → RefinesReachable st (S.content register.new.store) }
+    ensures preserves { PreservesStore S.IsUsable S.HasHonestDevice S.failed register.old.store
+        register.new.store
+        ⊥ (ReportsStorage (S.IsUsable register.new.store) (S.content register.old.store)
         (FailsWith FaultKind.Storage result)) }
 {
     line.set_first(HEADER);
@@ -90,16 +92,18 @@ pub fn run_file<S: Store, R: Read + Drop, W: Write>(
     writer: &mut W,
 ) -> Result<u64, BulkFault>
     ensures runs { S.IsUsable register.new.store → (st : State)
-        → Stands (S.content register.old.store) st
+        → Refines (S.content register.old.store) st
         → IfSome (R.remaining reader) (λ bytes. RunsFile st bytes (S.content register.new.store)
         (W.contents writer.old) (W.contents writer.new) result) }
     ensures state { S.IsUsable register.new.store → (st : State)
-        → Stands (S.content register.old.store) st → Follows st (S.content register.new.store) }
-    ensures owes { Owes S.IsUsable S.IsHonest S.failed register.old.store register.new.store
-        ⊥ (SaysStorage (S.IsUsable register.new.store) (S.content register.old.store)
+        → Refines (S.content register.old.store) st
+        → RefinesReachable st (S.content register.new.store) }
+    ensures preserves { PreservesStore S.IsUsable S.HasHonestDevice S.failed register.old.store
+        register.new.store
+        ⊥ (ReportsStorage (S.IsUsable register.new.store) (S.content register.old.store)
         (FailsWith FaultKind.Storage result)) }
 {
-    let mut line = match Line::new(alloc) {
+    let mut line = match LineBuffer::new(alloc) {
         Ok(line) => line,
         Err(_) => return Err(BulkFault::at_start(FaultKind::NoMemory)),
     };

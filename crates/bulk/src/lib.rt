@@ -3,6 +3,7 @@
 
 mod asking;
 mod auditing;
+mod command_result;
 mod copy;
 mod digits;
 mod exporting;
@@ -12,20 +13,19 @@ mod file;
 mod finding;
 mod line;
 mod making;
-mod order;
 mod range;
+mod request;
 mod rows;
 mod running;
 mod sides;
-mod told;
 mod writing;
 
 pub use auditing::audit;
+pub use command_result::CommandResult;
 pub use exporting::export;
 pub use fault::{BulkFault, FaultKind};
-pub use fields::read_order;
+pub use fields::read_request;
 pub use file::run_file;
 pub use finding::{Finding, SubjectFinding};
-pub use order::{ActionName, Order, Wish};
 pub use range::Numbers;
-pub use told::Told;
+pub use request::{ActionName, BulkRequest, Operation};

@@ -4,30 +4,30 @@ ghost use Rattle.bulk.specs.Making.{told_line};
 ghost use Rattle.bulk.specs.Report.{report_line};
 ghost use Rattle.std.specs.Io.KnownBytes.{Appends};
 ghost use Rattle.delivery.specs.Mirrors.{in_force_of};
-ghost use Rattle.messages.specs.Sending.{AppendsFront};
+ghost use Rattle.http_messages.specs.Sending.{AppendsFront};
 ghost use Rattle.numbers.specs.Texts.{subject_text};
-ghost use Rattle.numbers.specs.Views.{routing_of, subject_of};
+ghost use Rattle.numbers.specs.Abstraction.{routing_of, subject_of};
 ghost use Rattle.bulk.specs.Exports.{in_force_line, routing_fields};
 ghost use Rattle.bulk.specs.Findings.{finding_line};
 
+use crate::command_result::CommandResult;
 use crate::digits::put_digits;
 use crate::fault::FaultKind;
 use crate::finding::SubjectFinding;
-use crate::told::Told;
 use crate::writing::InLine;
-use bodies::{Failure, put, put_number};
 use delivery::RoutedRow;
-use messages::send_all;
+use http_messages::send_all;
+use json_api::{Failure, put, put_number};
 use numbers::{Routing, Subject, Tn};
 use std::alloc::{AllocError, Global};
 use std::io::Write;
 
 /// The most that a line takes.
-pub const LINE_ROOM: usize = 128;
+pub const LINE_CAPACITY: usize = 128;
 
 /// A line under way.
 #[derive(Drop)]
-pub struct Line {
+pub struct LineBuffer {
     pub text: String,
     pub ghost room: { 128 ≤ string_capacity text },
 }
@@ -61,11 +61,11 @@ fn put_routing(out: &mut String, routing: &Routing)
     }
 }
 
-impl Line {
+impl LineBuffer {
     /// Takes the room for each line that there may be, or answers want of memory.
-    pub fn new(alloc: Global) -> Result<Line, AllocError> {
-        Ok(Line {
-            text: String::with_capacity(alloc, LINE_ROOM)?,
+    pub fn new(alloc: Global) -> Result<LineBuffer, AllocError> {
+        Ok(LineBuffer {
+            text: String::with_capacity(alloc, LINE_CAPACITY)?,
         })
     }
 
@@ -120,17 +120,17 @@ impl Line {
     }
 
     /// Writes the report's line of what was told of a number.
-    pub fn set_told(&mut self, row: u64, tn: Tn, told: Told)
+    pub fn set_told(&mut self, row: u64, tn: Tn, told: CommandResult)
         ensures { string_bytes self.new.text ≡ told_line row tn.number told }
     {
         self.set_row(row);
         put_subject(&mut self.text, Subject::Number(tn));
         match told {
-            Told::Version(id) => {
+            CommandResult::Version(id) => {
                 put(&mut self.text, ",ok,");
                 put_number(&mut self.text, id);
             }
-            Told::Refused(refusal) => {
+            CommandResult::Refused(refusal) => {
                 put(&mut self.text, ",");
                 put(&mut self.text, Failure::Refused(refusal).name());
                 put(&mut self.text, ",");
@@ -157,7 +157,7 @@ impl Line {
 impl InLine for RoutedRow {
     ghost text = { λ row. in_force_line (in_force_of row) };
 
-    fn put_in(&self, line: &mut Line) {
+    fn put_in(&self, line: &mut LineBuffer) {
         line.set_in_force(self);
     }
 }
@@ -165,7 +165,7 @@ impl InLine for RoutedRow {
 impl InLine for SubjectFinding {
     ghost text = { finding_line };
 
-    fn put_in(&self, line: &mut Line) {
+    fn put_in(&self, line: &mut LineBuffer) {
         line.set_finding(self);
     }
 }

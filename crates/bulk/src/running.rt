@@ -2,22 +2,22 @@
 ghost use Rattle.std.specs.Prelude.{◌≡◌, List, ◌+◌, ◌<◌, ◌≤◌, ◌^◌, ⊤, [], ◌∷◌, Some, Option, IfOk, IfErr, OnErr, string_bytes};
 ghost use Rattle.std.specs.Io.KnownBytes.{Appends};
 ghost use Rattle.csv.specs.Records.{fields_of};
-ghost use Rattle.meaning.specs.Reading.{State};
-ghost use Rattle.messages.specs.Sending.{AppendsFront};
-ghost use Rattle.register.specs.Answers.{Stands};
-ghost use Rattle.settle.specs.Owing.{Owes, SaysStorage};
+ghost use Rattle.model.specs.State.{State};
+ghost use Rattle.http_messages.specs.Sending.{AppendsFront};
+ghost use Rattle.register.specs.Refinement.{Refines};
+ghost use Rattle.settle.specs.StoreContract.{PreservesStore, ReportsStorage};
 ghost use Rattle.bulk.specs.Faults.{FailsWith};
-ghost use Rattle.bulk.specs.Orders.{Reads};
-ghost use Rattle.bulk.specs.Report.{Wants, tasks_of};
+ghost use Rattle.bulk.specs.Requests.{ParsesRow};
+ghost use Rattle.bulk.specs.Report.{CommandTask, tasks_of};
 ghost use Rattle.bulk.specs.Rows.{Row, HasRows, IsPlain};
-ghost use Rattle.bulk.specs.Running.{Follows, RunsRows, RunsTo, SendsOne};
-ghost use Rattle.bulk.specs.declared.order.Order.{Order as OrderSeen};
+ghost use Rattle.bulk.specs.Running.{RefinesReachable, RunsRows, RunsTo, SendsOne};
+ghost use Rattle.bulk.specs.declared.request.BulkRequest.{BulkRequest as BulkRequestImpl};
 
 use crate::fault::{BulkFault, FaultKind};
-use crate::fields::read_order;
-use crate::line::Line;
+use crate::fields::read_request;
+use crate::line::LineBuffer;
 use crate::making::make;
-use crate::order::Order;
+use crate::request::BulkRequest;
 use crate::rows::next_row;
 use csv::{ByteRecord, Reader};
 use numbers::Tn;
@@ -27,7 +27,7 @@ use std::alloc::Global;
 use std::io::{Read, Write};
 
 // Sends a line behind so many, and says how many there are then.
-fn send_line<W: Write>(line: &Line, writer: &mut W, count: u64) -> Result<u64, BulkFault>
+fn send_line<W: Write>(line: &LineBuffer, writer: &mut W, count: u64) -> Result<u64, BulkFault>
     requires { count + 1 < 2 ^ 64 }
     ensures { SendsOne (W.contents writer.old) (W.contents writer.new)
         (string_bytes line.now.text) count result }
@@ -41,25 +41,26 @@ fn send_line<W: Write>(line: &Line, writer: &mut W, count: u64) -> Result<u64, B
 // Makes what an order wants of one of its numbers, and sends the line of it.
 fn run_number<S: Store, W: Write>(
     register: &mut Register<S>,
-    line: &mut Line,
+    line: &mut LineBuffer,
     writer: &mut W,
     row: u64,
-    order: &Order,
+    request: &BulkRequest,
     tn: Tn,
     count: u64,
 ) -> Result<u64, BulkFault>
     requires { count + 1 < 2 ^ 64 }
     ensures runs { S.IsUsable register.new.store → (st : State)
-        → Stands (S.content register.old.store) st
-        → RunsTo st (Wants row order.now.caller.number tn.number order.now.wish ∷ [])
+        → Refines (S.content register.old.store) st
+        → RunsTo st (CommandTask row request.now.caller.number tn.number request.now.operation ∷ [])
         (S.content register.new.store) (W.contents writer.old) (W.contents writer.new)
         count result }
     ensures count { IfOk result (λ k. k ≡ count + 1) }
-    ensures owes { Owes S.IsUsable S.IsHonest S.failed register.old.store register.new.store
-        ⊥ (SaysStorage (S.IsUsable register.new.store) (S.content register.old.store)
+    ensures preserves { PreservesStore S.IsUsable S.HasHonestDevice S.failed register.old.store
+        register.new.store
+        ⊥ (ReportsStorage (S.IsUsable register.new.store) (S.content register.old.store)
         (FailsWith FaultKind.Storage result)) }
 {
-    match make(register, line, row, order.caller, tn, &order.wish) {
+    match make(register, line, row, request.caller, tn, &request.operation) {
         Ok(()) => send_line(line, writer, count),
         Err(kind) => Err(BulkFault { kind, rows: count }),
     }
@@ -68,27 +69,28 @@ fn run_number<S: Store, W: Write>(
 // Makes what an order wants of each of its numbers, by rising number.
 fn run_order<S: Store, W: Write>(
     register: &mut Register<S>,
-    line: &mut Line,
+    line: &mut LineBuffer,
     writer: &mut W,
     row: u64,
-    order: &Order,
+    request: &BulkRequest,
     count: u64,
 ) -> Result<u64, BulkFault>
     requires { count + 1001 < 2 ^ 64 }
     ensures runs { S.IsUsable register.new.store → (st : State)
-        → Stands (S.content register.old.store) st
-        → RunsTo st (tasks_of row (Some order.now)) (S.content register.new.store)
+        → Refines (S.content register.old.store) st
+        → RunsTo st (tasks_of row (Some request.now)) (S.content register.new.store)
         (W.contents writer.old) (W.contents writer.new) count result }
     ensures few { IfOk result (λ k. k ≤ count + 1000) }
-    ensures owes { Owes S.IsUsable S.IsHonest S.failed register.old.store register.new.store
-        ⊥ (SaysStorage (S.IsUsable register.new.store) (S.content register.old.store)
+    ensures preserves { PreservesStore S.IsUsable S.HasHonestDevice S.failed register.old.store
+        register.new.store
+        ⊥ (ReportsStorage (S.IsUsable register.new.store) (S.content register.old.store)
         (FailsWith FaultKind.Storage result)) }
 {
     let mut written = count;
-    let numbers = order.numbers;
+    let numbers = request.numbers;
     for number in numbers.first.number..numbers.last.number + 1 {
         let tn = numbers.at(number);
-        match run_number(register, line, writer, row, order, tn, written) {
+        match run_number(register, line, writer, row, request, tn, written) {
             Ok(count) => written = count,
             Err(fault) => return Err(fault),
         }
@@ -99,25 +101,26 @@ fn run_order<S: Store, W: Write>(
 // Runs a row, which is an order's or a bad one.
 fn run_row<S: Store, W: Write>(
     register: &mut Register<S>,
-    line: &mut Line,
+    line: &mut LineBuffer,
     writer: &mut W,
     row: u64,
     raw: &ByteRecord,
     count: u64,
 ) -> Result<u64, BulkFault>
     requires { count + 1001 < 2 ^ 64 }
-    ensures runs { (o : Option OrderSeen) × Reads (fields_of raw.now) o
+    ensures runs { (o : Option BulkRequestImpl) × ParsesRow (fields_of raw.now) o
         × (S.IsUsable register.new.store → (st : State)
-        → Stands (S.content register.old.store) st
+        → Refines (S.content register.old.store) st
         → RunsTo st (tasks_of row o) (S.content register.new.store)
         (W.contents writer.old) (W.contents writer.new) count result) }
     ensures few { IfOk result (λ k. k ≤ count + 1000) }
-    ensures owes { Owes S.IsUsable S.IsHonest S.failed register.old.store register.new.store
-        ⊥ (SaysStorage (S.IsUsable register.new.store) (S.content register.old.store)
+    ensures preserves { PreservesStore S.IsUsable S.HasHonestDevice S.failed register.old.store
+        register.new.store
+        ⊥ (ReportsStorage (S.IsUsable register.new.store) (S.content register.old.store)
         (FailsWith FaultKind.Storage result)) }
 {
-    match read_order(raw) {
-        Some(order) => run_order(register, line, writer, row, &order, count),
+    match read_request(raw) {
+        Some(request) => run_order(register, line, writer, row, &request, count),
         None => {
             line.set_bad(row);
             send_line(line, writer, count)
@@ -132,20 +135,22 @@ const MOST_ROWS: u64 = 1 << 50;
 pub fn run_rows<S: Store, R: Read, W: Write>(
     alloc: Global,
     register: &mut Register<S>,
-    line: &mut Line,
+    line: &mut LineBuffer,
     reader: &mut Reader<R>,
     writer: &mut W,
 ) -> Result<u64, BulkFault>
     requires { IsPlain reader.old }
     ensures runs { S.IsUsable register.new.store → (st : State)
-        → Stands (S.content register.old.store) st → (rows : List Row)
+        → Refines (S.content register.old.store) st → (rows : List Row)
         → HasRows R.remaining reader.old rows
         → RunsRows st rows (S.content register.new.store) (W.contents writer.old)
         (W.contents writer.new) result }
     ensures state { S.IsUsable register.new.store → (st : State)
-        → Stands (S.content register.old.store) st → Follows st (S.content register.new.store) }
-    ensures owes { Owes S.IsUsable S.IsHonest S.failed register.old.store register.new.store
-        ⊥ (SaysStorage (S.IsUsable register.new.store) (S.content register.old.store)
+        → Refines (S.content register.old.store) st
+        → RefinesReachable st (S.content register.new.store) }
+    ensures preserves { PreservesStore S.IsUsable S.HasHonestDevice S.failed register.old.store
+        register.new.store
+        ⊥ (ReportsStorage (S.IsUsable register.new.store) (S.content register.old.store)
         (FailsWith FaultKind.Storage result)) }
 {
     let mut raw = ByteRecord::new(alloc);

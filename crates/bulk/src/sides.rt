@@ -3,8 +3,8 @@ ghost use Rattle.std.specs.Prelude.{◌≡◌, ◌⊎◌, false, true, None, Err
 ghost use Rattle.std.specs.BTreeMap.{IsOrdered};
 ghost use Rattle.std.specs.Ordering.{nat_cmp, on};
 ghost use Rattle.numbers.specs.Subjects.{subject_eq};
-ghost use Rattle.numbers.specs.Views.{key_of, routing_of, subject_of};
-ghost use Rattle.numbers.specs.declared.ported.Subject.{Subject as SubjectSeen};
+ghost use Rattle.numbers.specs.Abstraction.{key_of, routing_of, subject_of};
+ghost use Rattle.numbers.specs.declared.ported.Subject.{Subject as SubjectImpl};
 ghost use Rattle.bulk.specs.Audits.{EachOnce, subjects_in};
 ghost use Rattle.bulk.specs.Findings.{finding_of, same_routing};
 ghost use Rattle.bulk.specs.declared.finding.Finding.TheVariants.{Different};
@@ -88,7 +88,7 @@ fn set_sides(
     subject: Subject,
     sides: Sides,
 ) -> Result<(), FaultKind>
-    ensures set { OnOk result ((s : SubjectSeen) → sides_at all.new s
+    ensures set { OnOk result ((s : SubjectImpl) → sides_at all.new s
         ≡ if subject_eq (subject_of subject) (subject_of s) then sides else sides_at all.old s) }
     ensures memory { IfErr result (λ kind. kind ≡ FaultKind.NoMemory) }
 {
@@ -100,7 +100,7 @@ fn set_sides(
 
 /// What is in force is one side.
 pub fn add_in_force(all: &mut BTreeMap<Subject, Sides>, rows: &[RoutedRow]) -> Result<(), FaultKind>
-    ensures added { OnOk result ((s : SubjectSeen) → sides_at all.new s
+    ensures added { OnOk result ((s : SubjectImpl) → sides_at all.new s
         ≡ record (sides_at all.old s) {
           in_force = routed_after rows.now s (sides_at all.old s).in_force;
         }) }
@@ -119,7 +119,7 @@ pub fn add_waiting(
     all: &mut BTreeMap<Subject, Sides>,
     subjects: &[Subject],
 ) -> Result<(), FaultKind>
-    ensures added { OnOk result ((s : SubjectSeen) → sides_at all.new s
+    ensures added { OnOk result ((s : SubjectImpl) → sides_at all.new s
         ≡ record (sides_at all.old s) {
           waits = waits_after subjects.now s (sides_at all.old s).waits;
         }) }
@@ -138,7 +138,7 @@ pub fn copy_sides(
     alloc: Global,
     entries: &[RoutedRow],
 ) -> Result<BTreeMap<Subject, Sides>, FaultKind>
-    ensures added { IfOk result (λ all. (s : SubjectSeen) → sides_at all s
+    ensures added { IfOk result (λ all. (s : SubjectImpl) → sides_at all s
         ≡ record { in_force = None; copied = routed_after entries.now s None; waits = false }) }
     ensures once { OnOk result (EachOnce (subjects_in entries.now)) }
     ensures twice { result ≡ Err FaultKind.BadFile → ¬ (EachOnce (subjects_in entries.now)) }

@@ -3,7 +3,7 @@ ghost use Rattle.std.specs.Prelude.{◌≡◌, ◌≤◌, ◌++◌, ◌∷◌, [
 ghost use Rattle.std.specs.Io.KnownBytes.{Appends};
 ghost use Rattle.bulk.specs.Files.{AreSent, EndsWithin, IsSentPart, file_text};
 
-use crate::line::Line;
+use crate::line::LineBuffer;
 use std::io::Write;
 
 /// What has a line of its own in a file.
@@ -11,12 +11,16 @@ pub trait InLine {
     ghost text: { Self → List ℕ };
 
     /// Writes its line, in place of what stood there.
-    fn put_in(&self, line: &mut Line)
+    fn put_in(&self, line: &mut LineBuffer)
         ensures { string_bytes line.new.text ≡ text self.now };
 }
 
 // Sends the lines of these rows. Says how many there were, or how many were sent whole.
-fn send_rows<L: InLine, W: Write>(line: &mut Line, rows: &[L], writer: &mut W) -> Result<u64, u64>
+fn send_rows<L: InLine, W: Write>(
+    line: &mut LineBuffer,
+    rows: &[L],
+    writer: &mut W,
+) -> Result<u64, u64>
     ensures ok { IfOk result (λ count. (count ≡ length rows.now)
         × AreSent (W.contents writer.old) (W.contents writer.new) (map L.text rows.now)) }
     ensures err { IfErr result (IsSentPart (W.contents writer.old) (W.contents writer.new)
@@ -37,7 +41,7 @@ fn send_rows<L: InLine, W: Write>(line: &mut Line, rows: &[L], writer: &mut W) -
 /// Sends a header and then the lines of these rows, each flushed before the next. Says how many
 /// rows there were, or how many were sent whole.
 pub fn send_file<L: InLine, W: Write>(
-    line: &mut Line,
+    line: &mut LineBuffer,
     header: &str,
     rows: &[L],
     writer: &mut W,

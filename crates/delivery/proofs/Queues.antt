@@ -3,21 +3,21 @@ use Rattle.std.proofs.Common.{◌≡◌, ℕ, Bool, true, false, not, cond, ◌&
 use Rattle.std.specs.Prelude.{find, is_some, if◌then◌else◌, ◌==◌, nat_lt}
 use Rattle.std.specs.List.{list_any}
 use Rattle.numbers.specs.Subjects.{Subject, subject_eq}
-use Rattle.meaning.specs.Reading.{Download, is_before}
-use Rattle.meaning.specs.Refusals.{is_download, is_not_among, is_preceded}
-use Rattle.meaning.proofs.Entered.{subject_eq-refl}
+use Rattle.model.specs.State.{Download, is_before}
+use Rattle.model.specs.Refusals.{is_download, is_not_among, is_preceded}
+use Rattle.model.proofs.Entered.{subject_eq-refl}
 use Rattle.delivery.specs.declared.download.DownloadKey.{DownloadKey}
 use Rattle.delivery.specs.Queues.{IsKeyOf, is_key, is_earlier, has_earlier, is_missing, is_behind, key_refusal, AreKeysOf, queue_refusal}
 
 pub any_found : {A : Type 0} (test : A → Bool) (xs : List A)
     → list_any test xs ≡ is_some (find test xs)
 any_found test [] = refl
-any_found test (x ∷ xs) = go (any_found test xs) (test x)
+any_found test (x ∷ xs) = by_cases (any_found test xs) (test x)
   where
-    go : list_any test xs ≡ is_some (find test xs) → (b : Bool)
+    by_cases : list_any test xs ≡ is_some (find test xs) → (b : Bool)
         → (b || list_any test xs) ≡ is_some (cond b (Some x) (find test xs))
-    go later true = refl
-    go later false = later
+    by_cases later true = refl
+    by_cases later false = later
 
 -- ---- the keys say what the downloads say
 

@@ -2,16 +2,16 @@
 use Rattle.std.specs.Prelude.{ℕ, Bool, true, false, List, [], Option, option_map}
 use Rattle.numbers.specs.Subjects.{Subject}
 use Rattle.numbers.specs.Routings.{Routing}
-use Rattle.numbers.specs.Views.{subject_of, routing_of}
-use Rattle.delivery.specs.declared.broadcast.Broadcast.{Broadcast as BroadcastCode}
-use Rattle.meaning.specs.declared.words.Action.{Action}
-use Rattle.meaning.specs.declared.words.Outcome.{Outcome}
-use Rattle.meaning.specs.declared.words.Outcome.TheVariants.{Open, AllAcknowledged, SomeAcknowledged, NoneAcknowledged}
-use Rattle.meaning.specs.Versions.{Broadcast, is_open_broadcast, with_number}
-use Rattle.meaning.specs.Content.{BroadcastRow, is_nonempty}
+use Rattle.numbers.specs.Abstraction.{subject_of, routing_of}
+use Rattle.delivery.specs.declared.broadcast.Broadcast.{Broadcast as BroadcastImpl}
+use Rattle.model.specs.declared.words.Action.{Action}
+use Rattle.model.specs.declared.words.Outcome.{Outcome}
+use Rattle.model.specs.declared.words.Outcome.TheVariants.{Open, AllAcknowledged, SomeAcknowledged, NoneAcknowledged}
+use Rattle.model.specs.Versions.{Broadcast, is_open_broadcast, with_number}
+use Rattle.model.specs.Content.{BroadcastRow, is_nonempty}
 
 -- a broadcast of the code is the row of one
-abbrev pub row_of : BroadcastCode → BroadcastRow
+abbrev pub row_of : BroadcastImpl → BroadcastRow
 row_of b = record {
   minute = b.minute.number;
   subject = subject_of b.subject;
@@ -33,13 +33,14 @@ broadcast_row s b = record {
 }
 
 -- a broadcast as it begins: to every carrier that there is
-abbrev pub begun : (attempt minute : ℕ) → Action → Option Routing → (everyone : List ℕ) → Broadcast
-begun attempt minute action routing everyone = record {
+abbrev pub new_broadcast : (attempt minute : ℕ) → Action → Option Routing → (all_carriers : List ℕ)
+    → Broadcast
+new_broadcast attempt minute action routing all_carriers = record {
   attempt = attempt;
   minute = minute;
   action = action;
   routing = routing;
-  recipients = everyone;
+  recipients = all_carriers;
   acknowledged = [];
   outcome = Open;
 }
@@ -53,8 +54,8 @@ outcome_after is_last SomeAcknowledged = SomeAcknowledged
 outcome_after is_last NoneAcknowledged = NoneAcknowledged
 
 -- a broadcast after the acknowledgement of the carrier c
-abbrev pub answered : (c : ℕ) → (is_last : Bool) → Broadcast → Broadcast
-answered c is_last b = record b {
+abbrev pub after_acknowledgement : (c : ℕ) → (is_last : Bool) → Broadcast → Broadcast
+after_acknowledgement c is_last b = record b {
   acknowledged = with_number c b.acknowledged;
   outcome = outcome_after is_last b.outcome;
 }

@@ -3,15 +3,15 @@ use Rattle.std.specs.Prelude.{Option, Some, option_map}
 use Rattle.std.specs.Ordering.{nat_cmp, on}
 use Rattle.std.specs.BTreeMap.{BTreeMap, get}
 use Rattle.numbers.specs.Routings.{Routing}
-use Rattle.numbers.specs.Views.{key_of, subject_of, routing_of}
-use Rattle.numbers.specs.declared.ported.Subject.{Subject as SubjectCode}
-use Rattle.numbers.specs.declared.ported.Routing.{Routing as RoutingCode}
-use Rattle.meaning.specs.Reading.{Download, InForce}
-use Rattle.delivery.specs.declared.download.Download.{Download as DownloadCode}
+use Rattle.numbers.specs.Abstraction.{key_of, subject_of, routing_of}
+use Rattle.numbers.specs.declared.ported.Subject.{Subject as SubjectImpl}
+use Rattle.numbers.specs.declared.ported.Routing.{Routing as RoutingImpl}
+use Rattle.model.specs.State.{Download, InForce}
+use Rattle.delivery.specs.declared.download.Download.{Download as DownloadImpl}
 use Rattle.delivery.specs.declared.mirror.RoutedRow.{RoutedRow}
 
 -- a download of the code
-abbrev pub download_of : DownloadCode → Download
+abbrev pub download_of : DownloadImpl → Download
 download_of d = record {
   id = d.id;
   attempt = d.attempt;
@@ -26,5 +26,5 @@ abbrev pub in_force_of : RoutedRow → InForce
 in_force_of r = record { subject = subject_of r.subject; routing = Some (routing_of r.routing) }
 
 -- where a copy routes a subject
-abbrev pub copied : BTreeMap SubjectCode RoutingCode → SubjectCode → Option Routing
-copied routings s = option_map routing_of (get (on key_of nat_cmp) routings s)
+abbrev pub routing_in_copy : BTreeMap SubjectImpl RoutingImpl → SubjectImpl → Option Routing
+routing_in_copy routings s = option_map routing_of (get (on key_of nat_cmp) routings s)

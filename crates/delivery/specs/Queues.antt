@@ -3,8 +3,8 @@ use Rattle.std.specs.Prelude.{ℕ, Bool, not, ◌&&◌, ◌||◌, ◌==◌, ◌�
 use Rattle.std.specs.List.{list_any}
 use Rattle.numbers.specs.Subjects.{Subject}
 use Rattle.delivery.specs.declared.download.DownloadKey.{DownloadKey}
-use Rattle.meaning.specs.Reading.{Download}
-use Rattle.meaning.specs.Refusals.{first_that_holds, is_not_among, is_preceded}
+use Rattle.model.specs.State.{Download}
+use Rattle.model.specs.Refusals.{first_refusal, is_not_among, is_preceded}
 
 -- the key is that of an attempt of a version
 abbrev pub is_key : (id attempt : ℕ) → DownloadKey → Bool
@@ -32,7 +32,7 @@ is_behind keys id attempt = list_any (λ k. is_key id attempt k && has_earlier k
 -- why an attempt of a version may not be acknowledged yet
 abbrev pub key_refusal : List DownloadKey → (id attempt : ℕ) → Option ℕ
 key_refusal keys id attempt =
-    first_that_holds ((25, is_missing keys id attempt) ∷ (26, is_behind keys id attempt) ∷ [])
+    first_refusal ((25, is_missing keys id attempt) ∷ (26, is_behind keys id attempt) ∷ [])
 
 -- the key is that of a download of the subject
 pub record IsKeyOf (s : Subject) (k : DownloadKey) (d : Download) : Type 0 where
@@ -51,7 +51,7 @@ AreKeysOf s (k ∷ ks) [] = ⊥
 -- why an acknowledgement of waiting downloads is refused
 abbrev pub queue_refusal : List Download → (id attempt : ℕ) → Option ℕ
 queue_refusal downloads id attempt =
-    first_that_holds ((25, is_not_among downloads id attempt) ∷ (
+    first_refusal ((25, is_not_among downloads id attempt) ∷ (
       26,
       is_preceded downloads id
           attempt,

@@ -1,8 +1,8 @@
 -- The number of the refusal that a call answered with.
 use Rattle.std.specs.Prelude.{ℕ, Option, Some, None}
 use Rattle.std.specs.Prelude.{Result, Ok, Err}
-use Rattle.meaning.specs.declared.refusal.Refusal.{Refusal}
-use Rattle.meaning.specs.RefusalNumbers.{number_of}
+use Rattle.model.specs.declared.refusal.Refusal.{Refusal}
+use Rattle.model.specs.RefusalNumbers.{number_of}
 
 abbrev pub refusal_in : {A : Type 0} → Result A Refusal → Option ℕ
 refusal_in (Ok value) = None

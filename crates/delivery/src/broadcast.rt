@@ -1,12 +1,12 @@
 //! One send of a version.
 ghost use Rattle.std.specs.Prelude.{◌≡◌, ℕ, List, Some, option_map};
-ghost use Rattle.numbers.specs.Subjects.{Subject as SubjectSeen};
-ghost use Rattle.numbers.specs.Views.{routing_of, subject_of};
-ghost use Rattle.meaning.specs.Versions.{Broadcast as BroadcastSeen};
-ghost use Rattle.meaning.specs.Content.{stored_broadcast};
-ghost use Rattle.delivery.specs.Broadcasts.{answered, begun, broadcast_row, outcome_after, outcome_while_waited, row_of};
+ghost use Rattle.numbers.specs.Subjects.{Subject as SubjectModel};
+ghost use Rattle.numbers.specs.Abstraction.{routing_of, subject_of};
+ghost use Rattle.model.specs.Versions.{Broadcast as BroadcastModel};
+ghost use Rattle.model.specs.Content.{stored_broadcast};
+ghost use Rattle.delivery.specs.Broadcasts.{after_acknowledgement, new_broadcast, broadcast_row, outcome_after, outcome_while_waited, row_of};
 
-use meaning::{Action, Outcome};
+use model::{Action, Outcome};
 use numbers::{Minute, Routing, Subject};
 
 /// One send of a version to every carrier: open until its last recipient acknowledges it or its
@@ -31,10 +31,11 @@ impl Broadcast {
         action: Action,
         routing: Option<Routing>,
     ) -> Broadcast
-        ensures { (attempt : ℕ) (everyone : List ℕ)
+        ensures { (attempt : ℕ) (all_carriers : List ℕ)
             → Some (row_of result)
             ≡ stored_broadcast (subject_of subject)
-            (begun attempt minute.number action (option_map routing_of routing) everyone) }
+            (new_broadcast attempt minute.number action (option_map routing_of routing)
+            all_carriers) }
     {
         Broadcast {
             minute,
@@ -48,9 +49,9 @@ impl Broadcast {
 
     /// The broadcast after one recipient more has acknowledged it. The last one closes it.
     pub fn acknowledged(&self, is_last: bool) -> Broadcast
-        ensures { (s : SubjectSeen) (b : BroadcastSeen) (c : ℕ)
+        ensures { (s : SubjectModel) (b : BroadcastModel) (c : ℕ)
             → row_of self.now ≡ broadcast_row s b
-            → row_of result ≡ broadcast_row s (answered c is_last b) }
+            → row_of result ≡ broadcast_row s (after_acknowledgement c is_last b) }
     {
         Broadcast {
             is_open: self.is_open && !is_last,

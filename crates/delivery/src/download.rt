@@ -2,10 +2,10 @@
 ghost use Rattle.std.specs.Prelude.{◌≡◌, ℕ, List, IfOk, Some, find};
 ghost use Rattle.delivery.specs.Refused.{refusal_in};
 ghost use Rattle.delivery.specs.Queues.{AreKeysOf, has_earlier, is_behind, is_earlier, is_key, key_refusal, queue_refusal};
-ghost use Rattle.numbers.specs.Subjects.{Subject as SubjectSeen};
-ghost use Rattle.meaning.specs.Reading.{Download as DownloadSeen};
+ghost use Rattle.numbers.specs.Subjects.{Subject as SubjectModel};
+ghost use Rattle.model.specs.State.{Download as DownloadModel};
 
-use meaning::{Action, Refusal};
+use model::{Action, Refusal};
 use numbers::{Minute, Routing, Subject};
 
 /// A broadcast as a carrier is handed it: a create or a modify with the routing that it puts, or a
@@ -87,7 +87,7 @@ pub fn may_acknowledge(
     id: u64,
     attempt: u64,
 ) -> Result<DownloadKey, Refusal>
-    ensures refusal { (subject : SubjectSeen) (downloads : List DownloadSeen)
+    ensures refusal { (subject : SubjectModel) (downloads : List DownloadModel)
         → AreKeysOf subject waiting.now downloads
         → refusal_in result ≡ queue_refusal downloads id attempt }
     ensures of_keys { refusal_in result ≡ key_refusal waiting.now id attempt }

@@ -1,9 +1,9 @@
 //! A carrier's own copy.
 ghost use Rattle.std.specs.Prelude.{◌≡◌, map, None, option_map, IfOk, OnOk, OnErr};
-ghost use Rattle.numbers.specs.Views.{routing_of, subject_of};
-ghost use Rattle.numbers.specs.declared.ported.Subject.{Subject as SubjectSeen};
-ghost use Rattle.meaning.specs.Copies.{applied, started};
-ghost use Rattle.delivery.specs.Mirrors.{copied, download_of, in_force_of};
+ghost use Rattle.numbers.specs.Abstraction.{routing_of, subject_of};
+ghost use Rattle.numbers.specs.declared.ported.Subject.{Subject as SubjectImpl};
+ghost use Rattle.model.specs.Copies.{copy_after_download, copy_of_rows};
+ghost use Rattle.delivery.specs.Mirrors.{routing_in_copy, download_of, in_force_of};
 
 use crate::download::Download;
 use numbers::{Routing, Subject};
@@ -28,8 +28,8 @@ pub struct Mirror {
 
 // A map of these rows. Of two rows of one subject the later one counts.
 fn routings_of(alloc: Global, rows: &[RoutedRow]) -> Result<BTreeMap<Subject, Routing>, AllocError>
-    ensures { IfOk result (λ routings. (s : SubjectSeen)
-        → copied routings s ≡ started (map in_force_of rows.now) (subject_of s)) }
+    ensures { IfOk result (λ routings. (s : SubjectImpl)
+        → routing_in_copy routings s ≡ copy_of_rows (map in_force_of rows.now) (subject_of s)) }
 {
     let mut routings = BTreeMap::new(alloc);
     for row in rows {
@@ -41,7 +41,7 @@ fn routings_of(alloc: Global, rows: &[RoutedRow]) -> Result<BTreeMap<Subject, Ro
 impl Mirror {
     /// An empty copy.
     pub fn new(alloc: Global) -> Mirror
-        ensures { (s : SubjectSeen) → copied result.routings s ≡ None }
+        ensures { (s : SubjectImpl) → routing_in_copy result.routings s ≡ None }
     {
         Mirror {
             alloc,
@@ -53,8 +53,9 @@ impl Mirror {
     /// answered. Of two rows of one subject the later one counts. After want of memory the copy is
     /// as it was.
     pub fn start(&mut self, rows: &[RoutedRow]) -> Result<(), AllocError>
-        ensures started { OnOk result ((s : SubjectSeen)
-            → copied self.new.routings s ≡ started (map in_force_of rows.now) (subject_of s)) }
+        ensures started { OnOk result ((s : SubjectImpl)
+            → routing_in_copy self.new.routings s ≡ copy_of_rows (map in_force_of rows.now)
+            (subject_of s)) }
         ensures same { OnErr result (self.new ≡ self.old) }
     {
         self.routings = routings_of(self.alloc, rows)?;
@@ -65,11 +66,12 @@ impl Mirror {
     /// its subject, a delete takes that away. After want of memory the copy is as it was, and a
     /// delete takes none.
     pub fn apply(&mut self, download: &Download) -> Result<(), AllocError>
-        ensures applied { OnOk result ((s : SubjectSeen)
-            → copied self.new.routings s
-            ≡ applied (download_of download.now) (subject_of s) (copied self.old.routings s)) }
-        ensures same { OnErr result ((s : SubjectSeen)
-            → copied self.new.routings s ≡ copied self.old.routings s) }
+        ensures applied { OnOk result ((s : SubjectImpl)
+            → routing_in_copy self.new.routings s
+            ≡ copy_after_download (download_of download.now) (subject_of s)
+            (routing_in_copy self.old.routings s)) }
+        ensures same { OnErr result ((s : SubjectImpl)
+            → routing_in_copy self.new.routings s ≡ routing_in_copy self.old.routings s) }
     {
         match download.routing {
             Some(routing) => {
@@ -84,7 +86,7 @@ impl Mirror {
 
     /// Where the subject is routed by this copy, if it has it. It takes no memory.
     pub fn get(&self, subject: Subject) -> Option<Routing>
-        ensures { option_map routing_of result ≡ copied self.now.routings subject }
+        ensures { option_map routing_of result ≡ routing_in_copy self.now.routings subject }
     {
         self.routings.get(&subject).copied()
     }

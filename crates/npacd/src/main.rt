@@ -2,8 +2,8 @@
 //! the library `npac`, which does all else. Its promises stand at these four.
 #![tactic(auto)]
 
-pub use npac::{feed, parse, run, serve_next};
-use npac::{tell_usage, words_of};
+pub use cli::{feed, parse, run, serve_next};
+use cli::{report_usage, words_of};
 use std::io;
 use std::process::ExitCode;
 
@@ -19,6 +19,6 @@ fn main(rt: HostRuntime) -> ExitCode {
             &mut writer,
             &mut errors,
         ),
-        Err(usage) => tell_usage(&mut writer, &mut errors, &usage),
+        Err(usage) => report_usage(&mut writer, &mut errors, &usage),
     })
 }

@@ -3,4 +3,4 @@ pub mod Subjects
 pub mod Routings
 pub mod Texts
 pub mod Spids
-pub mod Views
+pub mod Abstraction

@@ -2,7 +2,7 @@
 
 ghost use Rattle.std.specs.Prelude.{◌≡◌, ◌+◌, ◌≤◌, ◌++◌, IsOk, OnOk, OnErr, string_bytes, string_len, string_capacity};
 ghost use Rattle.numbers.specs.Texts.{subject_text, AreInOrderOfTexts};
-ghost use Rattle.numbers.specs.Views.{key_of, subject_of};
+ghost use Rattle.numbers.specs.Abstraction.{key_of, subject_of};
 
 use crate::{BlockId, Cic, Lrn, Tn};
 use std::alloc::AllocError;
@@ -61,7 +61,7 @@ impl PartialEq for Subject {
     ghost use Rattle.std.proofs.Common.{rules};
     ghost use Rattle.std.specs.Cmp.Rules.{comparing};
     ghost use Rattle.std.specs.Ordering.{on};
-    ghost use Rattle.numbers.specs.Views.{key_of};
+    ghost use Rattle.numbers.specs.Abstraction.{key_of};
 
     ghost eq = { on key_of ◌==◌ };
 
@@ -83,7 +83,7 @@ impl Ord for Subject {
     ghost use Rattle.std.proofs.Common.{rules};
     ghost use Rattle.std.specs.Cmp.Rules.{comparing};
     ghost use Rattle.std.specs.Ordering.{nat_cmp, on};
-    ghost use Rattle.numbers.specs.Views.{key_of};
+    ghost use Rattle.numbers.specs.Abstraction.{key_of};
 
     ghost cmp = { on key_of nat_cmp };
 
@@ -103,7 +103,7 @@ impl PartialOrd for Subject {
     ghost use Rattle.std.specs.Cmp.{partial_order_from_own_ties};
     ghost use Rattle.std.specs.Cmp.Rules.{comparing};
     ghost use Rattle.std.specs.Ordering.{nat_cmp, on, as_partial_cmp};
-    ghost use Rattle.numbers.specs.Views.{key_of};
+    ghost use Rattle.numbers.specs.Abstraction.{key_of};
 
     ghost partial_cmp = { as_partial_cmp (on key_of nat_cmp) };
 

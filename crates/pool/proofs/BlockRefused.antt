@@ -8,33 +8,34 @@ use Rattle.numbers.specs.Subjects.{Subject, Number, Block, subject_eq}
 use Rattle.numbers.specs.declared.line.Line.{Line}
 use Rattle.version.specs.declared.in_use.NumberInUse.{NumberInUse}
 use Rattle.numbers.specs.declared.spid.Spid.{Spid}
-use Rattle.version.specs.declared.version.Version.{Version as VersionCode}
-use Rattle.version.specs.Views.{version_of, seen}
-use Rattle.version.specs.Facts.{Sees}
-use Rattle.meaning.specs.Commands.{Release}
-use Rattle.meaning.specs.Versions.{Version, Broadcast, last_version, version_in_force, with_number}
-use Rattle.meaning.specs.History.{Commands, next_id, code_holder, donor_of, makes, rising, AreLines}
-use Rattle.meaning.specs.Reading.{State, record_now, next_of}
-use Rattle.meaning.specs.Conditions.{limit, holds_of, is_the, is_active, takes_block, has_no_attempt_left}
-use Rattle.meaning.specs.Refusals.{Requests, tests, refusal, npac, first_that_holds, holds_at, own_tests, contaminated_numbers as contaminated_in, has_open_port as has_open_port_in}
+use Rattle.version.specs.declared.version.Version.{Version as VersionImpl}
+use Rattle.version.specs.Abstraction.{version_of, model_of}
+use Rattle.version.specs.Facts.{HasModelIfAny}
+use Rattle.model.specs.Commands.{Release}
+use Rattle.model.specs.Versions.{Version, Broadcast, last_version, version_in_force, with_number}
+use Rattle.model.specs.History.{CommandRequest, next_id, code_holder, donor_of, subjects_made_by, rising, AreLines}
+use Rattle.model.specs.State.{State, record_now, next_of}
+use Rattle.model.specs.Conditions.{limit, holds_of, is_the, is_active, takes_block, has_no_attempt_left}
+use Rattle.model.specs.Refusals.{RequestFrom, tests, refusal, npac, first_refusal, holds_at, own_tests, contaminated_numbers as contaminated_in, has_open_port as has_open_port_in}
 use Rattle.numbers.specs.Digits.{block_code_of, number_in}
 use Rattle.pool.specs.declared.facts.BlockFacts.{BlockFacts}
 use Rattle.pool.specs.declared.assignment.Assignment.{Assignment}
 use Rattle.pool.specs.Facts.{carrier_number, in_force_numbers}
-use Rattle.pool.specs.Blocks.{BlockFactsAre, IsBlockCommandIn, NumbersAre}
+use Rattle.pool.specs.Blocks.{BlockFactsMatch, IsBlockCommandIn, NumbersMatch}
 use Rattle.pool.specs.declared.donation.Donation.{Donation}
 use Rattle.pool.specs.Donations.{command_of as donated, lines_of, used_by, unnamed, made_numbers, contaminated_numbers, donation_refusal}
 use Rattle.pool.specs.Assignments.{command_of, assignment_refusal}
 use Rattle.pool.specs.Releases.{is_others, release_refusal}
-use Rattle.meaning.specs.Windows.{Windows}
-use Rattle.meaning.proofs.Donated.{with_number-lines, rising-lines}
+use Rattle.model.specs.Windows.{Windows}
+use Rattle.model.proofs.Donated.{with_number-lines, rising-lines}
 use Rattle.numbers.proofs.Small.{not_not}
 
 none_carrier : (o : Option Spid) (p : Option ℕ) → carrier_number o ≡ p → is_none p ≡ is_none o
 none_carrier None p is = ap is_none (sym is)
 none_carrier (Some s) p is = ap is_none (sym is)
 
-none_seen : (o : Option VersionCode) (p : Option Version) → Sees o p → is_none p ≡ is_none o
+none_seen : (o : Option VersionImpl) (p : Option Version) → HasModelIfAny o p
+    → is_none p ≡ is_none o
 none_seen None None sees = refl
 none_seen (Some u) (Some v) sees = refl
 none_seen None (Some v) sees = absurd sees
@@ -42,32 +43,33 @@ none_seen (Some u) None sees = absurd sees
 
 -- a test that asks for neither the id, the broadcasts nor the windows
 holds_seen : (test : Version → Bool)
-    → ((u : VersionCode) (id : ℕ) (bs : List Broadcast) (ws : Windows)
-    → test (version_of id bs ws u) ≡ test (seen u)) → (o : Option VersionCode) (p : Option Version)
-    → Sees o p →
-    holds_of test p ≡ holds_of (λ u. test (seen u)) o
+    → ((u : VersionImpl) (id : ℕ) (bs : List Broadcast) (ws : Windows)
+    → test (version_of id bs ws u) ≡ test (model_of u))
+    → (o : Option VersionImpl) (p : Option Version)
+    → HasModelIfAny o p →
+    holds_of test p ≡ holds_of (λ u. test (model_of u)) o
 holds_seen test same None None sees = refl
 holds_seen test same (Some u) (Some v) sees =
     ap test (sym sees) ∙ same u v.id v.broadcasts v.held.windows
 holds_seen test same None (Some v) sees = absurd sees
 holds_seen test same (Some u) None sees = absurd sees
 
-others_seen : (caller : ℕ) (o : Option VersionCode) (p : Option Version) → Sees o p →
+others_seen : (caller : ℕ) (o : Option VersionImpl) (p : Option Version) → HasModelIfAny o p →
     (not (caller == npac) && holds_of (λ (v : Version). not (caller == v.new_provider)) p)
     ≡ holds_of (is_others caller) o
-others_seen caller None None sees = go (not (caller == npac))
+others_seen caller None None sees = by_cases (not (caller == npac))
   where
-    go : (b : Bool) → (b && false) ≡ false
-    go true = refl
-    go false = refl
+    by_cases : (b : Bool) → (b && false) ≡ false
+    by_cases true = refl
+    by_cases false = refl
 others_seen caller (Some u) (Some v) sees =
     ap (λ (w : Version). not (caller == npac) && not (caller == w.new_provider)) (sym sees)
 others_seen caller None (Some v) sees = absurd sees
 others_seen caller (Some u) None sees = absurd sees
 
 release_by_table : (st : State) (caller block : ℕ)
-    → refusal st (Requests caller (Commands (Release block)))
-    ≡ first_that_holds ((1, holds_at 1 (own_tests st caller (Release block)))
+    → refusal st (RequestFrom caller (CommandRequest (Release block)))
+    ≡ first_refusal ((1, holds_at 1 (own_tests st caller (Release block)))
     ∷ (3, is_none (code_holder (block_code_of block) st.history))
     ∷ (
       10,
@@ -92,8 +94,8 @@ unfolding tests
 release_by_table st caller block = refl
 
 assign_by_table : (st : State) (caller : ℕ) (a : Assignment)
-    → refusal st (Requests caller (Commands (command_of a)))
-    ≡ first_that_holds ((1, holds_at 1 (own_tests st caller (command_of a)))
+    → refusal st (RequestFrom caller (CommandRequest (command_of a)))
+    ≡ first_refusal ((1, holds_at 1 (own_tests st caller (command_of a)))
     ∷ (2, not (caller == npac))
     ∷ (3, is_none (code_holder (block_code_of a.block.number) st.history))
     ∷ (7, holds_at 7 (own_tests st caller (command_of a)))
@@ -108,8 +110,8 @@ unfolding tests
 assign_by_table st caller a = refl
 
 donate_by_table : (st : State) (caller : ℕ) (d : Donation)
-    → refusal st (Requests caller (Commands (donated d)))
-    ≡ first_that_holds ((1, holds_at 1 (own_tests st caller (donated d)))
+    → refusal st (RequestFrom caller (CommandRequest (donated d)))
+    ≡ first_refusal ((1, holds_at 1 (own_tests st caller (donated d)))
     ∷ (3, is_none (code_holder (block_code_of d.block.number) st.history))
     ∷ (7, holds_at 7 (own_tests st caller (donated d))) ∷ (
       11,
@@ -123,7 +125,7 @@ donate_by_table : (st : State) (caller : ℕ) (d : Donation)
     ∷ (
       28,
       nat_lt limit (next_of st + length
-          (makes (Commands (donated d)) (record_now st))),
+          (subjects_made_by (CommandRequest (donated d)) (record_now st))),
     ) ∷ [])
 unfolding tests
 donate_by_table st caller d = refl
@@ -140,14 +142,14 @@ none_or_some None false is = refl
 none_or_some (Some x) true is = refl
 none_or_some (Some x) false is = cc
 
-picked_in : (st : State) (block : ℕ) (numbers : List NumberInUse) → NumbersAre st block numbers
+picked_in : (st : State) (block : ℕ) (numbers : List NumberInUse) → NumbersMatch st block numbers
     → (ns : List ℕ) → AreLines ns →
     filter (λ s. is_none (version_in_force (record_now st s)))
     (map (λ line. Number (number_in block line)) ns)
     ≡ made_numbers (map (λ line. Number (number_in block line)) ns) (in_force_numbers numbers)
 picked_in st block numbers are [] lines = refl
 picked_in st block numbers are (n ∷ ns) lines =
-    go (picked_in st block numbers are ns lines.1)
+    by_cases (picked_in st block numbers are ns lines.1)
     (is_none (version_in_force (record_now st (Number (number_in block n)))))
     (not (list_any (subject_eq (Number (number_in block n))) (in_force_numbers numbers)))
     (none_or_some (version_in_force (record_now st (Number (number_in block n))))
@@ -157,29 +159,29 @@ picked_in st block numbers are (n ∷ ns) lines =
     all : List Subject
     all = map (λ line. Number (number_in block line)) ns
 
-    go : filter (λ s. is_none (version_in_force (record_now st s))) all ≡ made_numbers all
+    by_cases : filter (λ s. is_none (version_in_force (record_now st s))) all ≡ made_numbers all
         (in_force_numbers numbers) → (b c : Bool) → b ≡ c →
         cond b (Number (number_in block n) ∷ filter
         (λ s. is_none (version_in_force (record_now st s))) all)
         (filter (λ s. is_none (version_in_force (record_now st s))) all)
         ≡ cond c (Number (number_in block n) ∷ made_numbers all (in_force_numbers numbers))
         (made_numbers all (in_force_numbers numbers))
-    go later true true e = ap (λ ss. Number (number_in block n) ∷ ss) later
-    go later false false e = later
-    go later true false e = cc
-    go later false true e = cc
+    by_cases later true true e = ap (λ ss. Number (number_in block n) ∷ ss) later
+    by_cases later false false e = later
+    by_cases later true false e = cc
+    by_cases later false true e = cc
 
 -- the numbers for which a donation makes versions are those of the state
 pub donation_makes : (st : State) (d : Donation) (facts : BlockFacts)
-    → NumbersAre st d.block.number facts.numbers.now →
-    makes (Commands (donated d)) (record_now st) ≡ made_numbers (used_by d)
+    → NumbersMatch st d.block.number facts.numbers.now →
+    subjects_made_by (CommandRequest (donated d)) (record_now st) ≡ made_numbers (used_by d)
     (in_force_numbers facts.numbers.now)
 donation_makes st d facts are =
     picked_in st d.block.number facts.numbers.now are (rising (lines_of d.used.now))
     (rising-lines (lines_of d.used.now) (are_lines d.used.now))
 
 donation_contaminates : (st : State) (caller : ℕ) (d : Donation) (facts : BlockFacts)
-    → NumbersAre st d.block.number facts.numbers.now →
+    → NumbersMatch st d.block.number facts.numbers.now →
     length (contaminated_in st d.block.number (lines_of d.used.now))
     ≡ length (contaminated_numbers (used_by d) (in_force_numbers facts.numbers.now))
 donation_contaminates st caller d facts are =
@@ -193,8 +195,8 @@ some_carrier (Some s) p is = ap is_some (sym is)
 module _ (st : State) (caller : ℕ) (facts : BlockFacts) where
   -- a release by a caller who is not registered is refused with number 1, and every other as the
   -- facts say, where they are those of the state
-  pub release_refused : (block : ℕ) → BlockFactsAre st caller block (Release block) facts →
-      refusal st (Requests caller (Commands (Release block)))
+  pub release_refused : (block : ℕ) → BlockFactsMatch st caller block (Release block) facts →
+      refusal st (RequestFrom caller (CommandRequest (Release block)))
       ≡ (if holds_at 1 (own_tests st caller (Release block)) then Some 1
       else release_refusal caller facts)
   release_refused block are =
@@ -210,14 +212,15 @@ module _ (st : State) (caller : ℕ) (facts : BlockFacts) where
       holds_seen (λ (v : Version). has_no_attempt_left v.attempt) (λ u id bs ws. refl) facts.last
       last are.last in
       release_by_table st caller block
-      ∙ (λ i. first_that_holds ((1, holds_at 1 (own_tests st caller (Release block)))
+      ∙ (λ i. first_refusal ((1, holds_at 1 (own_tests st caller (Release block)))
       ∷ (3, code i) ∷ (10, donor i || made i) ∷ (11, others i) ∷ (13, active i)
       ∷ (23, sym are.ports i) ∷ (28, attempts i) ∷ []))
 
   -- the same of an assignment, whose holder has to be registered too
-  pub assignment_refused : (a : Assignment) → BlockFactsAre st caller a.block.number (command_of a)
+  pub assignment_refused : (a : Assignment)
+      → BlockFactsMatch st caller a.block.number (command_of a)
       facts →
-      refusal st (Requests caller (Commands (command_of a)))
+      refusal st (RequestFrom caller (CommandRequest (command_of a)))
       ≡ (if holds_at 1 (own_tests st caller (command_of a)) then Some 1
       else assignment_refusal caller facts)
   assignment_refused a are =
@@ -230,14 +233,14 @@ module _ (st : State) (caller : ℕ) (facts : BlockFacts) where
       let taken = holds_seen (λ (v : Version). takes_block v.status) (λ u id bs ws. refl) facts.last
       last are.last in
       assign_by_table st caller a
-      ∙ (λ i. first_that_holds ((1, holds_at 1 (own_tests st caller (command_of a)))
+      ∙ (λ i. first_refusal ((1, holds_at 1 (own_tests st caller (command_of a)))
       ∷ (2, not (caller == npac)) ∷ (3, code i) ∷ (7, lrn i) ∷ (10, donor i)
       ∷ (23, sym are.ports i) ∷ (24, taken i) ∷ (28, nat_lt limit (sym are.next_id i + 1)) ∷ []))
 
   -- the same of a donation
-  pub donation_refused : (d : Donation) → BlockFactsAre st caller d.block.number (donated d) facts
-      → NumbersAre st d.block.number facts.numbers.now →
-      refusal st (Requests caller (Commands (donated d)))
+  pub donation_refused : (d : Donation) → BlockFactsMatch st caller d.block.number (donated d) facts
+      → NumbersMatch st d.block.number facts.numbers.now →
+      refusal st (RequestFrom caller (CommandRequest (donated d)))
       ≡ (if holds_at 1 (own_tests st caller (donated d)) then Some 1
       else donation_refusal caller d facts)
   donation_refused d are numbers =
@@ -251,7 +254,7 @@ module _ (st : State) (caller : ℕ) (facts : BlockFacts) where
       let many = donation_contaminates st caller d facts numbers in
       let made = donation_makes st d facts numbers in
       donate_by_table st caller d
-      ∙ (λ i. first_that_holds ((1, holds_at 1 (own_tests st caller (donated d)))
+      ∙ (λ i. first_refusal ((1, holds_at 1 (own_tests st caller (donated d)))
       ∷ (3, code i) ∷ (7, lrn i) ∷ (11, not (holder i)) ∷ (22, nat_lt 100 (many i))
       ∷ (23, sym are.ports i) ∷ (24, donor i)
       ∷ (28, nat_lt limit (sym are.next_id i + length (made i))) ∷ []))
@@ -262,7 +265,7 @@ module _ (st : State) (caller : ℕ) (facts : BlockFacts) where
   pub release_refused_in : (block : ℕ) → IsBlockCommandIn st caller block (Release block) facts
       → (refused : Option ℕ) →
       refused ≡ release_refusal caller facts
-      → refused ≡ refusal st (Requests caller (Commands (Release block)))
+      → refused ≡ refusal st (RequestFrom caller (CommandRequest (Release block)))
   release_refused_in block is refused by_facts =
       by_facts ∙ sym (release_refused st caller facts block is.are
       ∙ ap (λ b. if b then Some 1 else release_refusal caller facts) is.known)
@@ -270,14 +273,14 @@ module _ (st : State) (caller : ℕ) (facts : BlockFacts) where
   pub assignment_refused_in : (a : Assignment)
       → IsBlockCommandIn st caller a.block.number (command_of a) facts → (refused : Option ℕ) →
       refused ≡ assignment_refusal caller facts
-      → refused ≡ refusal st (Requests caller (Commands (command_of a)))
+      → refused ≡ refusal st (RequestFrom caller (CommandRequest (command_of a)))
   assignment_refused_in a is refused by_facts =
       by_facts ∙ sym (assignment_refused st caller facts a is.are ∙ ap (λ b. if b then Some 1
       else assignment_refusal caller facts) is.known)
 
   pub donation_refused_in : (d : Donation) → IsBlockCommandIn st caller d.block.number (donated d)
-      facts → NumbersAre st d.block.number facts.numbers.now →
-      refusal st (Requests caller (Commands (donated d))) ≡ donation_refusal caller d facts
+      facts → NumbersMatch st d.block.number facts.numbers.now →
+      refusal st (RequestFrom caller (CommandRequest (donated d))) ≡ donation_refusal caller d facts
   donation_refused_in d is numbers =
       donation_refused st caller facts d is.are numbers ∙ ap (λ b. if b then Some 1
       else donation_refusal caller d facts) is.known

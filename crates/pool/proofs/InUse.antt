@@ -20,22 +20,22 @@ any-named n (k ∷ ks) = ap (λ b. (n == k.number) || b) (any-named n ks)
 any-in_force : (n : ℕ) (us : List NumberInUse)
     → list_any (subject_eq (Number n)) (in_force_numbers us) ≡ list_any (is_in_force n) us
 any-in_force n [] = refl
-any-in_force n (u ∷ us) = go (any-in_force n us) u.is_in_force
+any-in_force n (u ∷ us) = by_cases (any-in_force n us) u.is_in_force
   where
-    go : list_any (subject_eq (Number n)) (in_force_numbers us) ≡ list_any (is_in_force n) us
+    by_cases : list_any (subject_eq (Number n)) (in_force_numbers us) ≡ list_any (is_in_force n) us
         → (b : Bool) →
         list_any (subject_eq (Number n)) (map (λ (v : NumberInUse). Number v.tn.number)
         (cond b (u ∷ filter (λ (v : NumberInUse). v.is_in_force) us)
         (filter (λ (v : NumberInUse). v.is_in_force) us)))
         ≡ ((b && (n == u.tn.number)) || list_any (is_in_force n) us)
-    go later true = ap (λ c. (n == u.tn.number) || c) later
-    go later false = later
+    by_cases later true = ap (λ c. (n == u.tn.number) || c) later
+    by_cases later false = later
 
 length-unnamed : (used : BTreeSet Tn) (us : List NumberInUse)
     → length (unnamed (numbers_in used) (in_force_numbers us))
     ≡ length (filter (is_unnamed used) us)
 length-unnamed used [] = refl
-length-unnamed used (u ∷ us) = go (length-unnamed used us) u.is_in_force
+length-unnamed used (u ∷ us) = by_cases (length-unnamed used us) u.is_in_force
   where
     test : Subject → Bool
     test s = not (list_any (subject_eq s) (numbers_in used))
@@ -50,16 +50,16 @@ length-unnamed used (u ∷ us) = go (length-unnamed used us) u.is_in_force
     more later true false e = cc
     more later false true e = cc
 
-    go : length (unnamed (numbers_in used) (in_force_numbers us))
+    by_cases : length (unnamed (numbers_in used) (in_force_numbers us))
         ≡ length (filter (is_unnamed used) us) → (b : Bool) →
         length (unnamed (numbers_in used) (map (λ (v : NumberInUse). Number v.tn.number)
         (cond b (u ∷ filter (λ (v : NumberInUse). v.is_in_force) us)
         (filter (λ (v : NumberInUse). v.is_in_force) us))))
         ≡ length (cond (b && not (is_named used u.tn)) (u ∷ filter (is_unnamed used) us)
         (filter (is_unnamed used) us))
-    go later true = more later (list_any (subject_eq (Number u.tn.number)) (numbers_in used))
+    by_cases later true = more later (list_any (subject_eq (Number u.tn.number)) (numbers_in used))
         (is_named used u.tn) (any-named u.tn.number (keys used))
-    go later false = later
+    by_cases later false = later
 
 -- how many numbers are contaminated, by the size of the set and the others in force
 pub length-contaminated : (used : BTreeSet Tn) (us : List NumberInUse) →
@@ -80,18 +80,19 @@ pub picked : (facts : BlockFacts) (ks : List Tn)
     (filter (is_unprotected facts) ks)
 picked facts [] = refl
 picked facts (k ∷ ks) =
-    go (picked facts ks) (list_any (subject_eq (Number k.number))
+    by_cases (picked facts ks) (list_any (subject_eq (Number k.number))
     (in_force_numbers facts.numbers.now)) (list_any (is_in_force k.number) facts.numbers.now)
     (any-in_force k.number facts.numbers.now)
   where
-    go : made_numbers (map tn_subject ks) (in_force_numbers facts.numbers.now) ≡ map tn_subject
+    by_cases : made_numbers (map tn_subject ks) (in_force_numbers facts.numbers.now)
+        ≡ map tn_subject
         (filter (is_unprotected facts) ks) → (b c : Bool) → b ≡ c →
         cond (not b) (Number k.number ∷ made_numbers (map tn_subject ks)
         (in_force_numbers facts.numbers.now)) (made_numbers (map tn_subject ks)
         (in_force_numbers facts.numbers.now))
         ≡ map tn_subject (cond (not c) (k ∷ filter (is_unprotected facts) ks)
         (filter (is_unprotected facts) ks))
-    go later true true e = later
-    go later false false e = ap (λ ss. Number k.number ∷ ss) later
-    go later true false e = cc
-    go later false true e = cc
+    by_cases later true true e = later
+    by_cases later false false e = ap (λ ss. Number k.number ∷ ss) later
+    by_cases later true false e = cc
+    by_cases later false true e = cc

@@ -3,13 +3,13 @@ use Rattle.std.proofs.Common.{◌≡◌, ℕ, suc, ◌+◌, ◌<◌, List, [], �
 use Rattle.std.proofs.lemmas.List.{take_more, map-append, length-map, length-take-le}
 use Rattle.numbers.specs.declared.tn.Tn.{Tn}
 use Rattle.numbers.specs.Subjects.{Subject, Number}
-use Rattle.version.specs.declared.version.Version.{Version as VersionCode}
+use Rattle.version.specs.declared.version.Version.{Version as VersionImpl}
 use Rattle.pool.specs.declared.donation.Donation.{Donation}
 use Rattle.pool.specs.Donations.{tn_subject, AreProtective, IsProtective}
-use Rattle.meaning.specs.Windows.{WindowSet}
+use Rattle.model.specs.Windows.{WindowSet}
 
 pub one-more : (w : WindowSet) (caller minute : ℕ) (d : Donation) (from : ℕ) (ss : List Subject)
-    (es : List (ℕ × VersionCode)) (s : Subject) (id : ℕ) (v : VersionCode) →
+    (es : List (ℕ × VersionImpl)) (s : Subject) (id : ℕ) (v : VersionImpl) →
     AreProtective w caller minute d from ss es → id ≡ from + length ss
     → IsProtective w caller minute d s v → AreProtective w caller minute d from (ss ++ s ∷ [])
     (es ++ (id, v) ∷ [])
@@ -24,7 +24,7 @@ one-more w caller minute d from (t ∷ ts) (e ∷ es) s id v are at is = (
 
 -- the version of the next number of a list
 pub next-made : (w : WindowSet) (caller minute : ℕ) (d : Donation) (from : ℕ) (ns : List Tn) (i : ℕ)
-    (t : Tn) (id : ℕ) (v : VersionCode) (old new : List (ℕ × VersionCode)) →
+    (t : Tn) (id : ℕ) (v : VersionImpl) (old new : List (ℕ × VersionImpl)) →
     new ≡ old ++ (id, v) ∷ [] → i < length ns → t ≡ get_or ns i t → id ≡ from + i
     → AreProtective w caller minute d from (map tn_subject (take i ns)) old →
     IsProtective w caller minute d (Number t.number) v

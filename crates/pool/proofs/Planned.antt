@@ -6,48 +6,48 @@ use Rattle.std.specs.BTreeSet.{BTreeSet, keys}
 use Rattle.std.proofs.lemmas.List.{length-map}
 use Rattle.std.proofs.lemmas.Bool.Decides.{nat_tests}
 use Rattle.numbers.specs.declared.tn.Tn.{Tn}
-use Rattle.version.specs.declared.version.Version.{Version as VersionCode}
-use Rattle.meaning.specs.declared.refusal.Refusal.{Refusal}
-use Rattle.meaning.specs.declared.refusal.Refusal.TheVariants.{NoMemory}
-use Rattle.meaning.specs.RefusalNumbers.{number_of}
-use Rattle.meaning.specs.Conditions.{limit}
-use Rattle.meaning.specs.Refusals.{first_that_holds}
+use Rattle.version.specs.declared.version.Version.{Version as VersionImpl}
+use Rattle.model.specs.declared.refusal.Refusal.{Refusal}
+use Rattle.model.specs.declared.refusal.Refusal.TheVariants.{NoMemory}
+use Rattle.model.specs.RefusalNumbers.{number_of}
+use Rattle.model.specs.Conditions.{limit}
+use Rattle.model.specs.Refusals.{first_refusal}
 use Rattle.pool.specs.declared.donation.Donation.{Donation}
 use Rattle.pool.specs.declared.facts.BlockFacts.{BlockFacts}
 use Rattle.pool.specs.Facts.{has_open_port, in_force_numbers}
 use Rattle.pool.specs.Donations.{tn_subject, numbers_in, used_by, is_unprotected, made_numbers, is_contaminated, donor_tests, tests_by, block_tests, donation_refusal, AreProtective, IsPlanned, IsRefusedAs}
 use Rattle.pool.proofs.InUse.{picked}
-use Rattle.meaning.specs.Windows.{WindowSet}
+use Rattle.model.specs.Windows.{WindowSet}
 
 -- ---- tests in turn
 
-refused-first : (ts us : List (ℕ × Bool)) (n : ℕ) → first_that_holds ts ≡ Some n
-    → first_that_holds (ts ++ us) ≡ Some n
+refused-first : (ts us : List (ℕ × Bool)) (n : ℕ) → first_refusal ts ≡ Some n
+    → first_refusal (ts ++ us) ≡ Some n
 refused-first [] us n is = cc
-refused-first (t ∷ ts) us n is = go (refused-first ts us n) t.1 is
+refused-first (t ∷ ts) us n is = by_cases (refused-first ts us n) t.1 is
   where
-    go : (first_that_holds ts ≡ Some n → first_that_holds (ts ++ us) ≡ Some n) → (b : Bool)
-        → (if b then Some t.0 else first_that_holds ts) ≡ Some n →
-        (if b then Some t.0 else first_that_holds (ts ++ us)) ≡ Some n
-    go later true e = e
-    go later false e = later e
+    by_cases : (first_refusal ts ≡ Some n → first_refusal (ts ++ us) ≡ Some n) → (b : Bool)
+        → (if b then Some t.0 else first_refusal ts) ≡ Some n →
+        (if b then Some t.0 else first_refusal (ts ++ us)) ≡ Some n
+    by_cases later true e = e
+    by_cases later false e = later e
 
-passed-first : (ts us : List (ℕ × Bool)) → first_that_holds ts ≡ None
-    → first_that_holds (ts ++ us) ≡ first_that_holds us
+passed-first : (ts us : List (ℕ × Bool)) → first_refusal ts ≡ None
+    → first_refusal (ts ++ us) ≡ first_refusal us
 passed-first [] us is = refl
-passed-first (t ∷ ts) us is = go (passed-first ts us) t.1 is
+passed-first (t ∷ ts) us is = by_cases (passed-first ts us) t.1 is
   where
-    go : (first_that_holds ts ≡ None → first_that_holds (ts ++ us) ≡ first_that_holds us)
-        → (b : Bool) → (if b then Some t.0 else first_that_holds ts) ≡ None →
-        (if b then Some t.0 else first_that_holds (ts ++ us)) ≡ first_that_holds us
-    go later true e = cc
-    go later false e = later e
+    by_cases : (first_refusal ts ≡ None → first_refusal (ts ++ us) ≡ first_refusal us)
+        → (b : Bool) → (if b then Some t.0 else first_refusal ts) ≡ None →
+        (if b then Some t.0 else first_refusal (ts ++ us)) ≡ first_refusal us
+    by_cases later true e = cc
+    by_cases later false e = later e
 
 -- ---- a donation's
 
 -- the donor is refused
 pub refused : (caller : ℕ) (d : Donation) (facts : BlockFacts) (n : ℕ)
-    → first_that_holds (donor_tests caller facts) ≡ Some n
+    → first_refusal (donor_tests caller facts) ≡ Some n
     → donation_refusal caller d facts ≡ Some n
 refused caller d facts n is =
     refused-first (donor_tests caller facts) (block_tests (used_by d) facts) n is
@@ -62,26 +62,26 @@ made-are d facts used made all is =
 
 -- the donor is not refused: the block decides
 judged : (caller : ℕ) (d : Donation) (facts : BlockFacts) (used : BTreeSet Tn) (made : List Tn)
-    → first_that_holds (donor_tests caller facts) ≡ None → numbers_in used ≡ used_by d →
+    → first_refusal (donor_tests caller facts) ≡ None → numbers_in used ≡ used_by d →
     made ≡ filter (is_unprotected facts) (keys used)
-    → donation_refusal caller d facts ≡ first_that_holds (tests_by (numbers_in used) (length made)
+    → donation_refusal caller d facts ≡ first_refusal (tests_by (numbers_in used) (length made)
     facts)
 judged caller d facts used made passed all is =
     passed-first (donor_tests caller facts) (block_tests (used_by d) facts) passed
-    ∙ ap (λ n. first_that_holds (tests_by (used_by d) n facts))
+    ∙ ap (λ n. first_refusal (tests_by (used_by d) n facts))
     (ap length (made-are d facts used made all is) ∙ length-map made tn_subject)
-    ∙ ap (λ ss. first_that_holds (tests_by ss (length made) facts)) (sym all)
+    ∙ ap (λ ss. first_refusal (tests_by ss (length made) facts)) (sym all)
 
 pub answered : (caller : ℕ) (d : Donation) (facts : BlockFacts) (used : BTreeSet Tn)
     (made : List Tn) (versions : ℕ) (refusal : Option ℕ)
-    → None ≡ first_that_holds (donor_tests caller facts) →
+    → None ≡ first_refusal (donor_tests caller facts) →
     numbers_in used ≡ used_by d → made ≡ filter (is_unprotected facts) (keys used)
     → versions ≡ length made
-    → refusal ≡ first_that_holds (tests_by (numbers_in used) versions facts) →
+    → refusal ≡ first_refusal (tests_by (numbers_in used) versions facts) →
     donation_refusal caller d facts ≡ refusal
 answered caller d facts used made versions refusal passed all is many answer =
     judged caller d facts used made (sym passed) all is
-    ∙ ap (λ n. first_that_holds (tests_by (numbers_in used) n facts)) (sym many) ∙ sym answer
+    ∙ ap (λ n. first_refusal (tests_by (numbers_in used) n facts)) (sym many) ∙ sym answer
 
 -- a refusal that is handed on
 pub handed : {A : Type 0} (result : Result A Refusal) (was : Refusal) (o : Option ℕ)
@@ -98,25 +98,25 @@ refused_as (Err r) was o is e = λ other. e ∙ ap (λ x. Some (number_of x)) (s
 
 -- the ids are within the limit where the block is not refused
 pub within : (facts : BlockFacts) (used : BTreeSet Tn) (versions : ℕ)
-    → first_that_holds (tests_by (numbers_in used) versions facts) ≡ None
+    → first_refusal (tests_by (numbers_in used) versions facts) ≡ None
     → facts.next_id + versions ≤ limit
 within facts used versions is =
-    fits (go (is_contaminated (numbers_in used) facts) (has_open_port facts.numbers.now)
+    fits (by_cases (is_contaminated (numbers_in used) facts) (has_open_port facts.numbers.now)
     (is_some facts.donor) (nat_lt limit (facts.next_id + versions)) is)
   where
-    go : (a b c d : Bool) → first_that_holds ((22, a) ∷ (23, b) ∷ (24, c) ∷ (28, d) ∷ []) ≡ None
+    by_cases : (a b c d : Bool) → first_refusal ((22, a) ∷ (23, b) ∷ (24, c) ∷ (28, d) ∷ []) ≡ None
         → d ≡ false
-    go true b c d e = cc
-    go false true c d e = cc
-    go false false true d e = cc
-    go false false false true e = cc
-    go false false false false e = refl
+    by_cases true b c d e = cc
+    by_cases false true c d e = cc
+    by_cases false false true d e = cc
+    by_cases false false false true e = cc
+    by_cases false false false false e = refl
 
     fits : nat_lt limit (facts.next_id + versions) ≡ false → facts.next_id + versions ≤ limit
     fits e = grind (arith, nat_tests)
 
 pub planned : (w : WindowSet) (caller minute : ℕ) (d : Donation) (facts : BlockFacts)
-    (used : BTreeSet Tn) (made : List Tn) (versions : List (ℕ × VersionCode))
+    (used : BTreeSet Tn) (made : List Tn) (versions : List (ℕ × VersionImpl))
     → numbers_in used ≡ used_by d →
     made ≡ filter (is_unprotected facts) (keys used)
     → AreProtective w caller minute d facts.next_id (map tn_subject made) versions

@@ -7,8 +7,8 @@ use Rattle.std.specs.Ordering.{nat_cmp, match_ordering}
 use Rattle.std.specs.BTreeSet.{insert_key}
 use Rattle.std.proofs.lemmas.Bool.Decides.{nat_tests}
 use Rattle.numbers.specs.Digits.{number_in}
-use Rattle.meaning.specs.Versions.{with_number}
-use Rattle.meaning.specs.History.{rising, used_numbers}
+use Rattle.model.specs.Versions.{with_number}
+use Rattle.model.specs.History.{rising, used_numbers}
 use Rattle.numbers.specs.Subjects.{Number}
 use Rattle.numbers.specs.declared.line.Line.{Line}
 use Rattle.numbers.specs.declared.tn.Tn.{Tn}
@@ -49,7 +49,7 @@ gt-of a b e f = grind (arith, nat_tests)
 less-swap : (a b : ℕ) (ds : List ℕ) → a < b
     → with_number a (with_number b ds) ≡ with_number b (with_number a ds)
 less-swap a b [] less = before a b [] less ∙ sym (behind b a [] less)
-less-swap a b (d ∷ ds) less = go (less-swap a b ds less) (nat_lt b d) (b == d) refl refl
+less-swap a b (d ∷ ds) less = by_cases (less-swap a b ds less) (nat_lt b d) (b == d) refl refl
   where
     -- where b goes behind d
     far : with_number a (with_number b ds) ≡ with_number b (with_number a ds) → d < b → (p q : Bool)
@@ -67,33 +67,33 @@ less-swap a b (d ∷ ds) less = go (less-swap a b ds less) (nat_lt b d) (b == d)
         ∙ sym (ap (with_number b) (behind a d ds (gt-of a d e f)) ∙ behind b d (with_number a ds)
         more)
 
-    go : with_number a (with_number b ds) ≡ with_number b (with_number a ds) → (p q : Bool)
+    by_cases : with_number a (with_number b ds) ≡ with_number b (with_number a ds) → (p q : Bool)
         → nat_lt b d ≡ p → (b == d) ≡ q →
         with_number a (with_number b (d ∷ ds)) ≡ with_number b (with_number a (d ∷ ds))
-    go later true q e f =
+    by_cases later true q e f =
         let next : b < d = less_is b d e in
         let first : a < d = omega (arith, less, next) in
         ap (with_number a) (before b d ds next) ∙ before a b (d ∷ ds) less
         ∙ sym (ap (with_number b) (before a d ds first) ∙ behind b a (d ∷ ds) less
         ∙ ap (λ ns. a ∷ ns) (before b d ds next))
-    go later false true e f =
+    by_cases later false true e f =
         let same : b ≡ d = equal_number b d f in
         let first : a < d = omega (arith, less, same) in
         ap (with_number a) (there b d ds e f) ∙ before a d ds first
         ∙ sym (ap (with_number b) (before a d ds first) ∙ behind b a (d ∷ ds) less
         ∙ ap (λ ns. a ∷ ns) (there b d ds e f))
-    go later false false e f = ap (with_number a) (behind b d ds (gt-of b d e f))
+    by_cases later false false e f = ap (with_number a) (behind b d ds (gt-of b d e f))
         ∙ far later (gt-of b d e f) (nat_lt a d) (a == d) refl refl
 
 swap : (a b : ℕ) (ds : List ℕ) → with_number a (with_number b ds) ≡ with_number b (with_number a ds)
-swap a b ds = go (nat_lt a b) (a == b) refl refl
+swap a b ds = by_cases (nat_lt a b) (a == b) refl refl
   where
-    go : (p q : Bool) → nat_lt a b ≡ p → (a == b) ≡ q
+    by_cases : (p q : Bool) → nat_lt a b ≡ p → (a == b) ≡ q
         → with_number a (with_number b ds) ≡ with_number b (with_number a ds)
-    go true q e f = less-swap a b ds (less_is a b e)
-    go false true e f = ap (λ n. with_number n (with_number b ds)) (equal_number a b f)
+    by_cases true q e f = less-swap a b ds (less_is a b e)
+    by_cases false true e f = ap (λ n. with_number n (with_number b ds)) (equal_number a b f)
         ∙ ap (λ n. with_number b (with_number n ds)) (sym (equal_number a b f))
-    go false false e f = sym (less-swap b a ds (gt-of a b e f))
+    by_cases false false e f = sym (less-swap b a ds (gt-of a b e f))
 
 -- one more number at the end
 pub rising-more : (ns : List ℕ) (n : ℕ) → rising (ns ++ n ∷ []) ≡ with_number n (rising ns)
@@ -106,24 +106,25 @@ pub of-block : (block n : ℕ) (ns : List ℕ)
     → with_number (number_in block n) (map (number_in block) ns) ≡ map (number_in block)
     (with_number n ns)
 of-block block n [] = refl
-of-block block n (m ∷ ms) = go (of-block block n ms) (nat_lt n m) (n == m) refl refl
+of-block block n (m ∷ ms) = by_cases (of-block block n ms) (nat_lt n m) (n == m) refl refl
   where
     less-in : (a b : ℕ) → a < b → block * 1000 + a < block * 1000 + b
     less-in a b less = omega arith
 
-    go : with_number (number_in block n) (map (number_in block) ms) ≡ map (number_in block)
+    by_cases : with_number (number_in block n) (map (number_in block) ms) ≡ map (number_in block)
         (with_number n ms) → (p q : Bool) → nat_lt n m ≡ p → (n == m) ≡ q →
         with_number (number_in block n) (number_in block m ∷ map (number_in block) ms)
         ≡ map (number_in block) (if p then n ∷ m ∷ ms
         else (if q then m ∷ ms else m ∷ with_number n ms))
-    go later true q e f = before (number_in block n) (number_in block m) (map (number_in block) ms)
+    by_cases later true q e f =
+        before (number_in block n) (number_in block m) (map (number_in block) ms)
         (less-in n m (less_is n m e))
-    go later false true e f =
+    by_cases later false true e f =
         let same : number_in block n ≡ number_in block m =
         ap (number_in block) (equal_number n m f) in
         there (number_in block n) (number_in block m) (map (number_in block) ms)
         (grind (arith, nat_tests, same)) (grind (arith, nat_tests, same))
-    go later false false e f =
+    by_cases later false false e f =
         behind (number_in block n) (number_in block m) (map (number_in block) ms)
         (less-in m n (gt-of n m e f)) ∙ ap (λ ns. number_in block m ∷ ns) later
 
@@ -138,15 +139,15 @@ pub inserted : {K : Type 0} (key : K → ℕ) (cmp : K → K → Ordering)
 inserted key cmp is [] k = refl
 inserted {K} key cmp is (x ∷ xs) k =
     ap (λ o. map key (match_ordering o (k ∷ x ∷ xs) (x ∷ xs) (x ∷ insert_key cmp xs k))) (is k x)
-    ∙ go (inserted key cmp is xs k) (nat_lt (key k) (key x)) (key k == key x)
+    ∙ by_cases (inserted key cmp is xs k) (nat_lt (key k) (key x)) (key k == key x)
   where
-    go : map key (insert_key cmp xs k) ≡ with_number (key k) (map key xs) → (p q : Bool) →
+    by_cases : map key (insert_key cmp xs k) ≡ with_number (key k) (map key xs) → (p q : Bool) →
         map key (match_ordering (order p q) (k ∷ x ∷ xs) (x ∷ xs) (x ∷ insert_key cmp xs k))
         ≡ (if p then key k ∷ key x ∷ map key xs else (if q then key x ∷ map key xs
         else key x ∷ with_number (key k) (map key xs)))
-    go later true q = refl
-    go later false true = refl
-    go later false false = ap (λ ns. key x ∷ ns) later
+    by_cases later true q = refl
+    by_cases later false true = refl
+    by_cases later false false = ap (λ ns. key x ∷ ns) later
 
 -- ---- the lines of a donation, as they are put into a set
 

@@ -1,18 +1,18 @@
 -- What an assignment makes, and what it is refused for.
 use Rattle.std.specs.Prelude.{ℕ, ◌+◌, ◌≡◌, Bool, not, ◌==◌, nat_lt, List, [], ◌∷◌, Option, is_none, option_map}
 use Rattle.numbers.specs.Subjects.{Block}
-use Rattle.numbers.specs.Views.{subject_of}
+use Rattle.numbers.specs.Abstraction.{subject_of}
 use Rattle.numbers.specs.declared.cic.Cic.{Cic}
-use Rattle.version.specs.declared.version.Version.{Version as VersionCode}
-use Rattle.version.specs.Views.{IsSeen, seen}
-use Rattle.meaning.specs.Commands.{Command, Assign}
-use Rattle.meaning.specs.Conditions.{limit, holds_of, takes_block}
-use Rattle.meaning.specs.History.{Commands, made_version}
-use Rattle.meaning.specs.Refusals.{npac, first_that_holds}
+use Rattle.version.specs.declared.version.Version.{Version as VersionImpl}
+use Rattle.version.specs.Abstraction.{HasModel, model_of}
+use Rattle.model.specs.Commands.{Command, Assign}
+use Rattle.model.specs.Conditions.{limit, holds_of, takes_block}
+use Rattle.model.specs.History.{CommandRequest, made_version}
+use Rattle.model.specs.Refusals.{npac, first_refusal}
 use Rattle.pool.specs.declared.assignment.Assignment.{Assignment}
 use Rattle.pool.specs.declared.facts.BlockFacts.{BlockFacts}
 use Rattle.pool.specs.Facts.{has_open_port}
-use Rattle.meaning.specs.Windows.{WindowSet}
+use Rattle.model.specs.Windows.{WindowSet}
 
 abbrev pub command_of : Assignment → Command
 command_of a =
@@ -24,16 +24,17 @@ abbrev pub assignment_tests : (caller : ℕ) → BlockFacts → List (ℕ × Boo
 assignment_tests caller facts =
     (2, not (caller == npac)) ∷ (3, is_none facts.code_holder) ∷ (7, not facts.is_lrn_good)
     ∷ (10, is_none facts.donor) ∷ (23, has_open_port facts.numbers.now)
-    ∷ (24, holds_of (λ v. takes_block (seen v).status) facts.last)
+    ∷ (24, holds_of (λ v. takes_block (model_of v).status) facts.last)
     ∷ (28, nat_lt limit (facts.next_id + 1)) ∷ []
 
 abbrev pub assignment_refusal : (caller : ℕ) → BlockFacts → Option ℕ
-assignment_refusal caller facts = first_that_holds (assignment_tests caller facts)
+assignment_refusal caller facts = first_refusal (assignment_tests caller facts)
 
 -- the block's version as the assignment makes it. It has one broadcast, its create
 pub record IsAssigned (present : WindowSet) (minute : ℕ) (a : Assignment) (donor : Option ℕ)
-    (v : VersionCode) : Type 0 where
+    (v : VersionImpl) : Type 0 where
   pub subject : subject_of v.subject ≡ Block a.block.number
-  pub version : (id caller : ℕ) (everyone : List ℕ) →
-      let made = made_version present id caller minute everyone donor (Commands (command_of a)) in
-      IsSeen v made
+  pub version : (id caller : ℕ) (all_carriers : List ℕ) →
+      let made = made_version present id caller minute all_carriers donor
+      (CommandRequest (command_of a)) in
+      HasModel v made

@@ -3,24 +3,24 @@ use Rattle.std.specs.Prelude.{ℕ, suc, ◌+◌, ◌≡◌, ◌≢◌, Bool, not
 use Rattle.std.specs.List.{list_any}
 use Rattle.std.specs.BTreeSet.{BTreeSet, keys}
 use Rattle.numbers.specs.Subjects.{Subject, Number, subject_eq}
-use Rattle.numbers.specs.Views.{subject_of}
+use Rattle.numbers.specs.Abstraction.{subject_of}
 use Rattle.numbers.specs.declared.cic.Cic.{Cic}
 use Rattle.numbers.specs.declared.line.Line.{Line}
 use Rattle.numbers.specs.declared.tn.Tn.{Tn}
-use Rattle.version.specs.declared.version.Version.{Version as VersionCode}
+use Rattle.version.specs.declared.version.Version.{Version as VersionImpl}
 use Rattle.version.specs.declared.in_use.NumberInUse.{NumberInUse}
-use Rattle.version.specs.Views.{IsSeen}
-use Rattle.meaning.specs.Commands.{Command, Donate}
-use Rattle.meaning.specs.Conditions.{limit, is_the}
-use Rattle.meaning.specs.History.{Commands, used_numbers, made_version}
-use Rattle.meaning.specs.declared.refusal.Refusal.{Refusal}
-use Rattle.meaning.specs.declared.refusal.Refusal.TheVariants.{NoMemory}
-use Rattle.meaning.specs.RefusalNumbers.{number_of}
-use Rattle.meaning.specs.Refusals.{first_that_holds}
+use Rattle.version.specs.Abstraction.{HasModel}
+use Rattle.model.specs.Commands.{Command, Donate}
+use Rattle.model.specs.Conditions.{limit, is_the}
+use Rattle.model.specs.History.{CommandRequest, used_numbers, made_version}
+use Rattle.model.specs.declared.refusal.Refusal.{Refusal}
+use Rattle.model.specs.declared.refusal.Refusal.TheVariants.{NoMemory}
+use Rattle.model.specs.RefusalNumbers.{number_of}
+use Rattle.model.specs.Refusals.{first_refusal}
 use Rattle.pool.specs.declared.donation.Donation.{Donation}
 use Rattle.pool.specs.declared.facts.BlockFacts.{BlockFacts}
 use Rattle.pool.specs.Facts.{carrier_number, in_force_numbers, is_in_force, has_open_port}
-use Rattle.meaning.specs.Windows.{WindowSet}
+use Rattle.model.specs.Windows.{WindowSet}
 
 -- ---- the donation as the definitions see it
 
@@ -95,7 +95,7 @@ block_tests used facts =
 -- the least number whose condition holds of the donation by a registered carrier
 abbrev pub donation_refusal : (caller : ℕ) → Donation → BlockFacts → Option ℕ
 donation_refusal caller d facts =
-    first_that_holds (donor_tests caller facts ++ block_tests (used_by d) facts)
+    first_refusal (donor_tests caller facts ++ block_tests (used_by d) facts)
 
 -- the call is refused for this, or is not where this is none. Want of memory tells nothing of it
 abbrev pub IsRefusedAs : {A : Type 0} → Option ℕ → Result A Refusal → Type 0
@@ -106,15 +106,16 @@ IsRefusedAs refusal (Err r) = r ≢ NoMemory → refusal ≡ Some (number_of r)
 
 -- a version as the donation makes it for s. It has one broadcast, its create
 pub record IsProtective (present : WindowSet) (caller minute : ℕ) (d : Donation) (s : Subject)
-    (v : VersionCode) : Type 0 where
+    (v : VersionImpl) : Type 0 where
   pub subject : subject_of v.subject ≡ s
-  pub version : (id : ℕ) (everyone : List ℕ) (donor : Option ℕ) →
-      let made = made_version present id caller minute everyone donor (Commands (command_of d)) in
-      IsSeen v made
+  pub version : (id : ℕ) (all_carriers : List ℕ) (donor : Option ℕ) →
+      let made = made_version present id caller minute all_carriers donor
+      (CommandRequest (command_of d)) in
+      HasModel v made
 
 -- a version for each of these subjects, in their order, with ids in turn
 abbrev pub AreProtective : WindowSet → (caller minute : ℕ) → Donation → (from : ℕ) → List Subject
-    → List (ℕ × VersionCode) → Type 0
+    → List (ℕ × VersionImpl) → Type 0
 AreProtective present caller minute d from [] [] = ⊤
 AreProtective present caller minute d from (s ∷ ss) (e ∷ es) =
     (e.0 ≡ from) × IsProtective present caller minute d s e.1
@@ -124,7 +125,7 @@ AreProtective present caller minute d from (s ∷ ss) [] = ⊥
 
 -- the versions that a donation makes, given what the facts say
 abbrev pub IsPlanned : WindowSet → (caller minute : ℕ) → Donation → BlockFacts
-    → List (ℕ × VersionCode) → Type 0
+    → List (ℕ × VersionImpl) → Type 0
 IsPlanned present caller minute d facts versions =
     AreProtective present caller minute d facts.next_id
     (made_numbers (used_by d) (in_force_numbers facts.numbers.now)) versions

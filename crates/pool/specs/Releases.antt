@@ -1,35 +1,36 @@
 -- What a release makes, and what it is refused for.
 use Rattle.std.specs.Prelude.{ℕ, ◌≡◌, Bool, not, ◌&&◌, ◌||◌, ◌==◌, List, [], ◌∷◌, Option, Some, None, is_none}
-use Rattle.version.specs.declared.version.Version.{Version as VersionCode}
-use Rattle.version.specs.declared.command.Step.{Step}
-use Rattle.version.specs.Commands.{sends_seen}
-use Rattle.version.specs.Views.{seen, Becomes}
-use Rattle.meaning.specs.Statuses.{Delete}
-use Rattle.meaning.specs.Changes.{sent}
-use Rattle.meaning.specs.Conditions.{holds_of, is_active, has_no_attempt_left}
-use Rattle.meaning.specs.Refusals.{npac, first_that_holds}
+use Rattle.version.specs.declared.version.Version.{Version as VersionImpl}
+use Rattle.version.specs.declared.command.Transition.{Transition}
+use Rattle.version.specs.Commands.{sends_model}
+use Rattle.version.specs.Abstraction.{model_of, Becomes}
+use Rattle.model.specs.Statuses.{Delete}
+use Rattle.model.specs.Changes.{next_attempt}
+use Rattle.model.specs.Conditions.{holds_of, is_active, has_no_attempt_left}
+use Rattle.model.specs.Refusals.{npac, first_refusal}
 use Rattle.pool.specs.declared.facts.BlockFacts.{BlockFacts}
 use Rattle.pool.specs.Facts.{has_open_port}
-use Rattle.meaning.specs.Windows.{WindowSet}
+use Rattle.model.specs.Windows.{WindowSet}
 
 -- the caller is neither the administrator nor the version's provider
-abbrev pub is_others : (caller : ℕ) → VersionCode → Bool
+abbrev pub is_others : (caller : ℕ) → VersionImpl → Bool
 is_others caller v = not (caller == npac) && not (caller == v.new_provider.number)
 
 abbrev pub release_tests : (caller : ℕ) → BlockFacts → List (ℕ × Bool)
 release_tests caller facts =
     (3, is_none facts.code_holder) ∷ (10, is_none facts.donor || is_none facts.last)
     ∷ (11, holds_of (is_others caller) facts.last)
-    ∷ (13, holds_of (λ v. not (is_active (seen v).status)) facts.last)
+    ∷ (13, holds_of (λ v. not (is_active (model_of v).status)) facts.last)
     ∷ (23, has_open_port facts.numbers.now)
-    ∷ (28, holds_of (λ v. has_no_attempt_left (seen v).attempt) facts.last) ∷ []
+    ∷ (28, holds_of (λ v. has_no_attempt_left (model_of v).attempt) facts.last) ∷ []
 
 -- the least number whose condition holds of the release
 abbrev pub release_refusal : (caller : ℕ) → BlockFacts → Option ℕ
-release_refusal caller facts = first_that_holds (release_tests caller facts)
+release_refusal caller facts = first_refusal (release_tests caller facts)
 
 -- the block's last version sends a delete
-abbrev pub IsReleased : WindowSet → (minute : ℕ) → Option VersionCode → Step → Type 0
+abbrev pub IsReleased : WindowSet → (minute : ℕ) → Option VersionImpl → Transition → Type 0
 IsReleased present minute None step = ⊥
-IsReleased present minute (Some v) step = (sends_seen step.sends ≡ Some Delete)
-    × ((everyone : List ℕ) → Becomes (sent present Delete everyone minute) v step.version)
+IsReleased present minute (Some v) step = (sends_model step.sends ≡ Some Delete)
+    × ((all_carriers : List ℕ) → Becomes (next_attempt present Delete all_carriers minute) v
+    step.version)

@@ -2,21 +2,21 @@
 use Rattle.std.specs.Prelude.{ℕ, ◌≡◌, Option, Some, None, is_some, option_map, if◌then◌else◌}
 use Rattle.numbers.specs.Digits.{code_of, block_of}
 use Rattle.numbers.specs.Subjects.{Number, Block}
-use Rattle.version.specs.Views.{seen}
-use Rattle.version.specs.Facts.{Sees}
-use Rattle.meaning.specs.Versions.{Version, open_version, version_in_force}
-use Rattle.meaning.specs.History.{code_holder, donor_of}
-use Rattle.meaning.specs.Reading.{State, Server, ByVersion, ByBlock, InPool, ByCode, record_now, protected_by, served_by_block}
-use Rattle.pool.specs.declared.service.Server.{Server as ServerCode}
-use Rattle.pool.specs.declared.service.Server.TheVariants.{Version as VersionCode, Block as BlockCode, Pool as PoolCode, Code as CodeCode}
+use Rattle.version.specs.Abstraction.{model_of}
+use Rattle.version.specs.Facts.{HasModelIfAny}
+use Rattle.model.specs.Versions.{Version, open_version, version_in_force}
+use Rattle.model.specs.History.{code_holder, donor_of}
+use Rattle.model.specs.State.{State, Server, ByVersion, ByBlock, InPool, ByCode, record_now, protected_by, served_by_block}
+use Rattle.pool.specs.declared.service.Server.{Server as ServerImpl}
+use Rattle.pool.specs.declared.service.Server.TheVariants.{Version as VersionImpl, Block as BlockImpl, Pool as PoolImpl, Code as CodeImpl}
 use Rattle.pool.specs.declared.service.ServingFacts.{ServingFacts}
 use Rattle.pool.specs.Facts.{carrier_number}
 
-abbrev pub server_of : ServerCode → Server
-server_of (VersionCode carrier) = ByVersion carrier.number
-server_of (BlockCode carrier) = ByBlock carrier.number
-server_of PoolCode = InPool
-server_of (CodeCode carrier) = ByCode (carrier_number carrier)
+abbrev pub server_of : ServerImpl → Server
+server_of (VersionImpl carrier) = ByVersion carrier.number
+server_of (BlockImpl carrier) = ByBlock carrier.number
+server_of PoolImpl = InPool
+server_of (CodeImpl carrier) = ByCode (carrier_number carrier)
 
 -- the carrier that a server is
 abbrev pub carrier_of : Server → Option ℕ
@@ -32,19 +32,19 @@ served_by_version None other = other
 
 -- a donated block's holder; else the code's
 abbrev pub served_by_code : ServingFacts → Server
-served_by_code f = if f.is_donated then served_by_block (option_map seen f.block_in_force)
+served_by_code f = if f.is_donated then served_by_block (option_map model_of f.block_in_force)
     else ByCode (carrier_number f.code_holder)
 
 -- the definitions' `serving`, over what is known
 abbrev pub serving_of : ServingFacts → Server
 serving_of f =
-    served_by_version (option_map seen f.in_force) (protected_by (option_map seen f.opened)
+    served_by_version (option_map model_of f.in_force) (protected_by (option_map model_of f.opened)
     (served_by_code f))
 
 -- the facts are those of a number of the state
-pub record ServingFactsAre (st : State) (n : ℕ) (f : ServingFacts) : Type 0 where
-  pub in_force : Sees f.in_force (version_in_force (record_now st (Number n)))
-  pub opened : Sees f.opened (open_version (Number n) (record_now st (Number n)))
+pub record ServingFactsMatch (st : State) (n : ℕ) (f : ServingFacts) : Type 0 where
+  pub in_force : HasModelIfAny f.in_force (version_in_force (record_now st (Number n)))
+  pub opened : HasModelIfAny f.opened (open_version (Number n) (record_now st (Number n)))
   pub donated : f.is_donated ≡ is_some (donor_of (block_of n) st.history)
-  pub block : Sees f.block_in_force (version_in_force (record_now st (Block (block_of n))))
+  pub block : HasModelIfAny f.block_in_force (version_in_force (record_now st (Block (block_of n))))
   pub code : carrier_number f.code_holder ≡ code_holder (code_of n) st.history

@@ -1,17 +1,17 @@
 //! Assignment: the administrator gives a donated block to a carrier.
 ghost use Rattle.std.specs.Prelude.{◌≡◌, IfOk};
 ghost use Rattle.delivery.specs.Refused.{refusal_in};
-ghost use Rattle.meaning.specs.History.{Commands};
-ghost use Rattle.meaning.specs.Reading.{State};
-ghost use Rattle.meaning.specs.Refusals.{refusal, Requests};
-ghost use Rattle.meaning.specs.Conditions.{holds_of, takes_block};
-ghost use Rattle.version.specs.Views.{seen, set_of};
+ghost use Rattle.model.specs.History.{CommandRequest};
+ghost use Rattle.model.specs.State.{State};
+ghost use Rattle.model.specs.Refusals.{refusal, RequestFrom};
+ghost use Rattle.model.specs.Conditions.{holds_of, takes_block};
+ghost use Rattle.version.specs.Abstraction.{model_of, set_of};
 ghost use Rattle.pool.specs.Facts.{carrier_number};
 ghost use Rattle.pool.specs.Assignments.{assignment_refusal, command_of, IsAssigned};
 ghost use Rattle.pool.specs.Blocks.{IsBlockCommandIn};
 
 use crate::facts::BlockFacts;
-use meaning::{Refusal, Status};
+use model::{Refusal, Status};
 use numbers::{BlockId, Minute, Routing, Spid, Subject};
 use version::{ID_LIMIT, Version};
 use windows::WindowSet;
@@ -28,7 +28,7 @@ pub struct Assignment {
 
 // Whether the block is a carrier's, on the way to one or on the way back.
 fn is_taken(last: &Option<Version>) -> bool
-    ensures { result ≡ holds_of (λ v. takes_block (seen v).status) last.now }
+    ensures { result ≡ holds_of (λ v. takes_block (model_of v).status) last.now }
 {
     match last {
         Some(version) => matches!(
@@ -87,7 +87,7 @@ impl Assignment {
             → IsBlockCommandIn st caller.number self.now.block.number (command_of self.now)
             facts.now
             → refusal_in result
-            ≡ refusal st (Requests caller.number (Commands (command_of self.now))) }
+            ≡ refusal st (RequestFrom caller.number (CommandRequest (command_of self.now))) }
         ensures made { IfOk result
             (IsAssigned (set_of present.now) minute.number self.now
             (carrier_number facts.now.donor)) }

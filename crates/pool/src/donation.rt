@@ -1,20 +1,20 @@
 //! Donation: a carrier gives a block back to the pool.
 ghost use Rattle.std.specs.Prelude.{◌≡◌, ◌≢◌, ◌+◌, ◌≤◌, nat_lt, filter, length, map, None, Some, IfOk, IfErr, OnOk};
 ghost use Rattle.std.specs.BTreeSet.{keys};
-ghost use Rattle.meaning.specs.Conditions.{limit};
+ghost use Rattle.model.specs.Conditions.{limit};
 ghost use Rattle.delivery.specs.Refused.{refusal_in};
-ghost use Rattle.meaning.specs.RefusalNumbers.{number_of};
-ghost use Rattle.meaning.specs.declared.refusal.Refusal.TheVariants.{NoMemory};
-ghost use Rattle.meaning.specs.History.{Commands};
-ghost use Rattle.meaning.specs.Reading.{State};
-ghost use Rattle.meaning.specs.Refusals.{first_that_holds, refusal, Requests};
+ghost use Rattle.model.specs.RefusalNumbers.{number_of};
+ghost use Rattle.model.specs.declared.refusal.Refusal.TheVariants.{NoMemory};
+ghost use Rattle.model.specs.History.{CommandRequest};
+ghost use Rattle.model.specs.State.{State};
+ghost use Rattle.model.specs.Refusals.{first_refusal, refusal, RequestFrom};
 ghost use Rattle.numbers.specs.Subjects.{Number};
-ghost use Rattle.version.specs.Views.{set_of};
-ghost use Rattle.pool.specs.Blocks.{IsBlockCommandIn, NumbersAre};
+ghost use Rattle.version.specs.Abstraction.{set_of};
+ghost use Rattle.pool.specs.Blocks.{IsBlockCommandIn, NumbersMatch};
 ghost use Rattle.pool.specs.Donations.{command_of, donation_refusal, donor_tests, is_contaminated, is_named, is_unnamed, is_unprotected, numbers_in, tests_by, tn_subject, used_by, AreProtective, IsPlanned, IsProtective, IsRefusedAs};
 
 use crate::facts::BlockFacts;
-use meaning::{Refusal, Status};
+use model::{Refusal, Status};
 use numbers::{BlockId, Line, Minute, Routing, Spid, Subject, Tn};
 use std::alloc::{AllocError, Global};
 use std::collections::BTreeSet;
@@ -46,7 +46,7 @@ pub struct Plan {
 
 // Whether the caller may donate a block of this code with this routing.
 fn check_donor(caller: Spid, facts: &BlockFacts<'_>) -> Result<(), Refusal>
-    ensures { refusal_in result ≡ first_that_holds (donor_tests caller.number facts.now) }
+    ensures { refusal_in result ≡ first_refusal (donor_tests caller.number facts.now) }
 {
     let Some(holder) = facts.code_holder else {
         return Err(Refusal::UnknownCode);
@@ -117,7 +117,7 @@ fn unprotected(
 // Whether a block with these used numbers may be donated, for which so many versions are made.
 fn check_block(used: &BTreeSet<Tn>, versions: usize, facts: &BlockFacts<'_>) -> Result<(), Refusal>
     ensures { refusal_in result
-        ≡ first_that_holds (tests_by (numbers_in used.now) versions facts.now) }
+        ≡ first_refusal (tests_by (numbers_in used.now) versions facts.now) }
 {
     if is_contaminated(used, facts) {
         return Err(Refusal::Contaminated);
@@ -218,9 +218,9 @@ impl Donation<'_> {
         ensures state { (st : State)
             → IsBlockCommandIn st caller.number self.now.block.number (command_of self.now)
             facts.now
-            → NumbersAre st self.now.block.number facts.now.numbers.now
+            → NumbersMatch st self.now.block.number facts.now.numbers.now
             → IsRefusedAs
-            (refusal st (Requests caller.number (Commands (command_of self.now)))) result }
+            (refusal st (RequestFrom caller.number (CommandRequest (command_of self.now)))) result }
         ensures planned { IfOk result (λ plan.
             IsPlanned (set_of present.now) caller.number minute.number self.now facts.now
             plan.versions.items) }

@@ -1,18 +1,18 @@
 //! Release: a block is given back to the pool.
 ghost use Rattle.std.specs.Prelude.{◌≡◌, ℕ, List, IfOk};
 ghost use Rattle.delivery.specs.Refused.{refusal_in};
-ghost use Rattle.meaning.specs.Commands.{Release};
-ghost use Rattle.meaning.specs.History.{Commands};
-ghost use Rattle.meaning.specs.Reading.{State};
-ghost use Rattle.meaning.specs.Refusals.{refusal, Requests};
-ghost use Rattle.version.specs.Views.{set_of};
+ghost use Rattle.model.specs.Commands.{Release};
+ghost use Rattle.model.specs.History.{CommandRequest};
+ghost use Rattle.model.specs.State.{State};
+ghost use Rattle.model.specs.Refusals.{refusal, RequestFrom};
+ghost use Rattle.version.specs.Abstraction.{set_of};
 ghost use Rattle.pool.specs.Blocks.{IsBlockCommandIn};
 ghost use Rattle.pool.specs.Releases.{is_others, release_refusal, IsReleased};
 
 use crate::facts::BlockFacts;
-use meaning::{Refusal, Send, Status};
+use model::{Refusal, Send, Status};
 use numbers::{Minute, Spid};
-use version::{Step, Version};
+use version::{Transition, Version};
 use windows::WindowSet;
 
 // The caller is neither the administrator nor the version's provider.
@@ -37,11 +37,12 @@ pub fn release(
     facts: &BlockFacts<'_>,
     minute: Minute,
     present: &WindowSet,
-) -> Result<Step, Refusal>
+) -> Result<Transition, Refusal>
     ensures refusal { refusal_in result ≡ release_refusal caller.number facts.now }
     ensures state { (st : State) (block : ℕ)
         → IsBlockCommandIn st caller.number block (Release block) facts.now
-        → refusal_in result ≡ refusal st (Requests caller.number (Commands (Release block))) }
+        → refusal_in result
+        ≡ refusal st (RequestFrom caller.number (CommandRequest (Release block))) }
     ensures released { IfOk result (IsReleased (set_of present.now) minute.number facts.now.last) }
 {
     if facts.code_holder.is_none() {
@@ -65,7 +66,7 @@ pub fn release(
     if version.is_sent_too_often() {
         return Err(Refusal::Full);
     }
-    Ok(Step {
+    Ok(Transition {
         version: version.sending(Send::Delete, minute, present),
         sends: Some(Send::Delete),
     })

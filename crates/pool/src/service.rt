@@ -1,9 +1,9 @@
 //! Who serves a number.
 ghost use Rattle.std.specs.Prelude.{◌≡◌, ℕ};
-ghost use Rattle.meaning.specs.Conditions.{is_the};
-ghost use Rattle.meaning.specs.Reading.{is_served_by, serving, State};
+ghost use Rattle.model.specs.Conditions.{is_the};
+ghost use Rattle.model.specs.State.{is_served_by, serving, State};
 ghost use Rattle.pool.specs.Facts.{carrier_number};
-ghost use Rattle.pool.specs.Serving.{carrier_of, server_of, served_by_code, serving_of, ServingFactsAre};
+ghost use Rattle.pool.specs.Serving.{carrier_of, server_of, served_by_code, serving_of, ServingFactsMatch};
 
 use numbers::Spid;
 use version::Version;
@@ -70,7 +70,7 @@ fn by_block(facts: &ServingFacts) -> Server
 pub fn serving(facts: &ServingFacts) -> Server
     ensures server { server_of result ≡ serving_of facts.now }
     ensures state { (st : State) (n : ℕ)
-        → ServingFactsAre st n facts.now → server_of result ≡ serving st n }
+        → ServingFactsMatch st n facts.now → server_of result ≡ serving st n }
 {
     by_version(facts)
 }

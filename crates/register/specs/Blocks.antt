@@ -2,27 +2,27 @@
 use Rattle.std.specs.Prelude.{◌≡◌, ◌⊎◌, ℕ, Bool, true, false, nat_lt, Option, Some, None, is_some, option_map, ⊤}
 use Rattle.std.specs.FinMap.{get}
 use Rattle.numbers.specs.Digits.{block_code_of}
-use Rattle.meaning.specs.Commands.{Command, RegisterCarrier, RegisterRoutingNumber, OpenCode, OldProviderCreate, NewProviderCreate, OnVersion, Donate, Assign, Release, SetWindows}
-use Rattle.meaning.specs.Conditions.{is_the}
-use Rattle.meaning.specs.Content.{Content, ClockRow}
-use Rattle.meaning.specs.RefusalNumbers.{number_of}
-use Rattle.meaning.specs.declared.refusal.Refusal.{Refusal}
-use Rattle.meaning.specs.declared.refusal.Refusal.TheVariants.{UnknownCarrier}
-use Rattle.version.specs.declared.version.Version.{Version as VersionCode}
+use Rattle.model.specs.Commands.{Command, RegisterCarrier, RegisterRoutingNumber, OpenCode, OldProviderCreate, NewProviderCreate, OnVersion, Donate, Assign, Release, SetWindows}
+use Rattle.model.specs.Conditions.{is_the}
+use Rattle.model.specs.Content.{Content, ClockRow}
+use Rattle.model.specs.RefusalNumbers.{number_of}
+use Rattle.model.specs.declared.refusal.Refusal.{Refusal}
+use Rattle.model.specs.declared.refusal.Refusal.TheVariants.{UnknownCarrier}
+use Rattle.version.specs.declared.version.Version.{Version as VersionImpl}
 use Rattle.settle.specs.declared.rows.VersionRow.TheInside.{Inside}
-use Rattle.settle.specs.declared.rows.BlockRow.{BlockRow as BlockRowCode}
+use Rattle.settle.specs.declared.rows.BlockRow.{BlockRow as BlockRowImpl}
 use Rattle.settle.specs.Reads.{AreInBlock}
-use Rattle.settle.specs.Views.{version_row_of, block_row_of, spid_of}
+use Rattle.settle.specs.Abstraction.{version_row_of, block_row_of, spid_of}
 use Rattle.pool.specs.declared.facts.BlockFacts.{BlockFacts}
 use Rattle.register.specs.declared.blocks.BlockRead.{BlockRead}
 
 -- the id of the version that was made last of a block, by the block's row
-abbrev pub last_id : Option BlockRowCode → Option ℕ
+abbrev pub last_id : Option BlockRowImpl → Option ℕ
 last_id None = None
 last_id (Some row) = row.last
 
 -- the version with this id, where one is named
-abbrev pub IsLast : Content → Option ℕ → Option (ℕ × VersionCode) → Type 0
+abbrev pub IsLast : Content → Option ℕ → Option (ℕ × VersionImpl) → Type 0
 IsLast c None None = ⊤
 IsLast c (Some id) (Some e) = (e.0 ≡ id) × (row : Inside)
     × (get c.versions id ≡ Some (version_row_of row)) × (row.version ≡ e.1)
@@ -49,8 +49,8 @@ pub record IsBlockFound (c : Content) (is_known : Bool) (block : ℕ) (clock : C
   pub is_read : IsBlockRead c block read
 
 -- they are not known; or it is no refusal of the machine's
-abbrev pub IsBlockFoundInVain : (is_known : Bool) → Refusal → Type 0
-IsBlockFoundInVain is_known r = ((r ≡ UnknownCarrier) × (is_known ≡ false))
+abbrev pub IsBlockLookupRefused : (is_known : Bool) → Refusal → Type 0
+IsBlockLookupRefused is_known r = ((r ≡ UnknownCarrier) × (is_known ≡ false))
     ⊎ (nat_lt (number_of r) 29 ≡ false)
 
 -- the routing number, if one is named, is that of the carrier to whom calls will be routed
@@ -72,7 +72,7 @@ pub record AreBlockFacts (read : BlockRead) (is_lrn_good : Bool) (next : ℕ)
     (facts : BlockFacts) : Type 0 where
   pub code : facts.code_holder ≡ read.code_holder
   pub lrn : facts.is_lrn_good ≡ is_lrn_good
-  pub donor : facts.donor ≡ option_map (λ (row : BlockRowCode). row.donor) read.row
+  pub donor : facts.donor ≡ option_map (λ (row : BlockRowImpl). row.donor) read.row
   pub last : facts.last ≡ option_map (λ e. e.1) read.last
   pub numbers : facts.numbers.now ≡ read.numbers.items
   pub next_id : facts.next_id ≡ next

@@ -1,17 +1,17 @@
 -- What a carrier knows of its copy by what waits for it.
 use Rattle.std.specs.Prelude.{◌≡◌, ℕ, false, List, Contains}
 use Rattle.numbers.specs.Subjects.{Subject}
-use Rattle.meaning.specs.Laws.{steady_routing}
-use Rattle.meaning.specs.Reading.{State, record_now, any_open, copy_of, published}
+use Rattle.model.specs.Laws.{steady_routing}
+use Rattle.model.specs.State.{State, record_now, any_open, copy_of, published}
 
 -- its copy is what was last published to it; and, where no broadcast is open, it is the routings of
 -- what is in force
-pub record HoldsWhatWasPublished (st : State) (c : ℕ) : Type 0 where
+pub record CopyMatchesPublished (st : State) (c : ℕ) : Type 0 where
   pub published : (s : Subject) → copy_of st.windows c s st.history ≡ published st c s
   pub in_force : any_open st ≡ false → (s : Subject)
       → copy_of st.windows c s st.history ≡ steady_routing (record_now st s)
 
 -- of each subject but these its copy is what was last published to it
-abbrev pub HoldsAllBut : State → (c : ℕ) → List Subject → Type 0
-HoldsAllBut st c subjects = (s : Subject) → (Contains subjects s → ⊥)
+abbrev pub CopyMatchesPublishedBut : State → (c : ℕ) → List Subject → Type 0
+CopyMatchesPublishedBut st c subjects = (s : Subject) → (Contains subjects s → ⊥)
     → copy_of st.windows c s st.history ≡ published st c s

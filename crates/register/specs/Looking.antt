@@ -1,12 +1,12 @@
 -- What is found of a version that a caller names.
 use Rattle.std.specs.Prelude.{◌≢◌, ◌≡◌, ◌⊎◌, ℕ, Bool, true, false, is_some, nat_lt, Some, None}
 use Rattle.std.specs.FinMap.{get}
-use Rattle.meaning.specs.Content.{Content, ClockRow}
-use Rattle.meaning.specs.RefusalNumbers.{number_of}
-use Rattle.meaning.specs.declared.refusal.Refusal.{Refusal}
-use Rattle.meaning.specs.declared.refusal.Refusal.TheVariants.{UnknownCarrier, NotFound}
+use Rattle.model.specs.Content.{Content, ClockRow}
+use Rattle.model.specs.RefusalNumbers.{number_of}
+use Rattle.model.specs.declared.refusal.Refusal.{Refusal}
+use Rattle.model.specs.declared.refusal.Refusal.TheVariants.{UnknownCarrier, NotFound}
 use Rattle.settle.specs.declared.rows.VersionRow.{VersionRow}
-use Rattle.meaning.specs.Windows.{Windows}
+use Rattle.model.specs.Windows.{Windows}
 
 -- ---- the set of windows that a version holds
 
@@ -37,8 +37,8 @@ pub record IsLookedUp (c : Content) (is_known : Bool) (id : ℕ) (clock : ClockR
   pub are_held : AreHeld c clock row.held held
 
 -- the caller is not known; no version has the id; or it is no refusal of the machine's
-abbrev pub IsLookedUpInVain : Content → (is_known : Bool) → (id : ℕ) → Refusal → Type 0
-IsLookedUpInVain c is_known id r =
+abbrev pub IsLookupRefused : Content → (is_known : Bool) → (id : ℕ) → Refusal → Type 0
+IsLookupRefused c is_known id r =
     ((r ≡ UnknownCarrier) × (is_known ≡ false))
     ⊎ (((r ≡ NotFound) × (is_known ≡ true) × (get c.versions id ≡ None))
     ⊎ (nat_lt (number_of r) 29 ≡ false))

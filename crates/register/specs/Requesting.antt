@@ -1,9 +1,9 @@
 -- What is requested of a register, as the definitions see it.
-use Rattle.meaning.specs.History.{Request as RequestMeant, Commands, Acknowledges}
-use Rattle.calls.specs.Calls.{command_of}
+use Rattle.model.specs.History.{Request as RequestModel, CommandRequest, AcknowledgementRequest}
+use Rattle.requests.specs.Calls.{command_of}
 use Rattle.register.specs.declared.request.Request.{Request}
 use Rattle.register.specs.declared.request.Request.TheVariants.{Command, Acknowledge}
 
-abbrev pub request_of : Request → RequestMeant
-request_of (Command command) = Commands (command_of command.now)
-request_of (Acknowledge id attempt) = Acknowledges id attempt
+abbrev pub request_of : Request → RequestModel
+request_of (Command command) = CommandRequest (command_of command.now)
+request_of (Acknowledge id attempt) = AcknowledgementRequest id attempt

@@ -1,10 +1,10 @@
 //! What stands of a block.
-ghost use Rattle.settle.specs.Owing.{IsAnswer, IsAnswered, Reads, SaysStorage};
-ghost use Rattle.settle.specs.Views.{clock_row_of};
+ghost use Rattle.settle.specs.StoreContract.{IsAnswer, IsAvailable, IsReadOnly, ReportsStorage};
+ghost use Rattle.settle.specs.Abstraction.{clock_row_of};
 ghost use Rattle.std.specs.Prelude.{◌≡◌, Err, IfOk, OnOk, IfErr, option_map};
-ghost use Rattle.register.specs.Blocks.{IsLast, IsRowThere, IsBlockFound, IsBlockFoundInVain, IsBlockRead, AreBlockFacts, last_id};
+ghost use Rattle.register.specs.Blocks.{IsLast, IsRowThere, IsBlockFound, IsBlockLookupRefused, IsBlockRead, AreBlockFacts, last_id};
 
-use meaning::Refusal;
+use model::Refusal;
 use numbers::{BlockId, Spid};
 use pool::BlockFacts;
 use settle::{BlockRow, ClockRow, Store, StoreFault};
@@ -62,7 +62,8 @@ impl BlockRead {
 // The version with this id, where one is named.
 fn last_made<S: Store>(store: &mut S, id: Option<u64>) -> Result<Option<(u64, Version)>, StoreFault>
     ensures value { S.IsUsable store.new → IfOk result (IsLast (S.content store.old) id) }
-    ensures reads { Reads S.IsUsable S.IsHonest S.MayLeave S.content S.failed store.old store.new
+    ensures read_only { IsReadOnly S.IsUsable S.HasHonestDevice S.IsCrashState S.content S.failed
+        store.old store.new
         (IsAnswer result) (S.IsUsable store.new × IsRowThere (S.content store.old) id
         × (result ≡ Err StoreFault.Storage)) }
 {
@@ -89,8 +90,9 @@ fn last_id(row: Option<BlockRow>) -> Option<u64>
 pub fn read_block<S: Store>(store: &mut S, block: BlockId) -> Result<BlockRead, StoreFault>
     ensures value { S.IsUsable store.new
         → IfOk result (IsBlockRead (S.content store.old) block.number) }
-    ensures reads { Reads S.IsUsable S.IsHonest S.MayLeave S.content S.failed store.old store.new
-        (IsAnswer result) (SaysStorage (S.IsUsable store.new) (S.content store.old)
+    ensures read_only { IsReadOnly S.IsUsable S.HasHonestDevice S.IsCrashState S.content S.failed
+        store.old store.new
+        (IsAnswer result) (ReportsStorage (S.IsUsable store.new) (S.content store.old)
         (result ≡ Err StoreFault.Storage)) }
 {
     let code_holder = store.code(block.code())?;
@@ -123,10 +125,11 @@ pub fn find_block<S: Store>(
     ensures found { S.IsUsable store.new
         → IfOk result (λ found. IsBlockFound (S.content store.old) is_known block.number
         (clock_row_of found.clock) found.read) }
-    ensures refused { S.IsUsable store.new → IfErr result (IsBlockFoundInVain is_known) }
-    ensures open { OnOk result (S.IsHonest store.new → S.IsUsable store.new) }
-    ensures reads { Reads S.IsUsable S.IsHonest S.MayLeave S.content S.failed store.old store.new
-        (IsAnswered result) (SaysStorage (S.IsUsable store.new) (S.content store.old)
+    ensures refused { S.IsUsable store.new → IfErr result (IsBlockLookupRefused is_known) }
+    ensures open { OnOk result (S.HasHonestDevice store.new → S.IsUsable store.new) }
+    ensures read_only { IsReadOnly S.IsUsable S.HasHonestDevice S.IsCrashState S.content S.failed
+        store.old store.new
+        (IsAvailable result) (ReportsStorage (S.IsUsable store.new) (S.content store.old)
         (result ≡ Err Refusal.Storage)) }
 {
     if !is_known {

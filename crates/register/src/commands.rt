@@ -1,14 +1,14 @@
 //! A request whose subjects are settled.
-ghost use Rattle.settle.specs.Owing.{IsAnswered, Leaves, Owes, Reads};
+ghost use Rattle.settle.specs.StoreContract.{IsAvailable, AddsOnlyCrashStates, PreservesStore, IsReadOnly};
 ghost use Rattle.std.specs.Prelude.{◌≡◌, Err, OnOk};
-ghost use Rattle.meaning.specs.History.{Commands};
-ghost use Rattle.meaning.specs.Refusals.{Requests};
-ghost use Rattle.calls.specs.Calls.{command_of, replied, reply_of};
+ghost use Rattle.model.specs.History.{CommandRequest};
+ghost use Rattle.model.specs.Refusals.{RequestFrom};
+ghost use Rattle.requests.specs.Calls.{command_of, replied, reply_of};
 ghost use Rattle.settle.specs.Changes.{changes_of, no_changes};
-ghost use Rattle.register.specs.Crashes.{ComesSettled};
+ghost use Rattle.register.specs.Crashes.{TakesSettledStep};
 ghost use Rattle.register.specs.Deciding.{Decides};
 ghost use Rattle.register.specs.Requesting.{request_of};
-ghost use Rattle.register.specs.Settling.{AnswersSettled, SaysOnceSettled};
+ghost use Rattle.register.specs.Settling.{SimulatesSettledStep, ReportsOnceSettled};
 
 use crate::acknowledgement::acknowledge;
 use crate::change::change_version;
@@ -17,10 +17,10 @@ use crate::create::create;
 use crate::pooling::{assign, donate, release};
 use crate::registration::{open_code, register_carrier, register_routing_number};
 use crate::request::Request;
-use calls::{Command, Reply};
-use meaning::Refusal;
+use model::Refusal;
 use numbers::Spid;
 use pool::Donation;
+use requests::{Command, Reply};
 use settle::{Changes, Store};
 use std::alloc::Global;
 
@@ -34,13 +34,15 @@ fn decide_command<S: Store>(
 ) -> Result<Reply, Refusal>
     requires { changes_of changes.old ≡ no_changes }
     ensures decides { S.IsUsable store.new → Decides (S.content store.old)
-        (Requests caller.number (Commands (command_of command.now))) (changes_of changes.new)
+        (RequestFrom caller.number (CommandRequest (command_of command.now)))
+        (changes_of changes.new)
         result }
-    ensures reads { Reads S.IsUsable S.IsHonest S.MayLeave S.content S.failed store.old store.new
-        (IsAnswered result) (SaysOnceSettled (S.IsUsable store.new) (S.content store.old)
-        (Requests caller.number (Commands (command_of command.now)))
+    ensures read_only { IsReadOnly S.IsUsable S.HasHonestDevice S.IsCrashState S.content S.failed
+        store.old store.new
+        (IsAvailable result) (ReportsOnceSettled (S.IsUsable store.new) (S.content store.old)
+        (RequestFrom caller.number (CommandRequest (command_of command.now)))
         (result ≡ Err Refusal.Storage)) }
-    ensures open { OnOk result (S.IsHonest store.new → S.IsUsable store.new) }
+    ensures open { OnOk result (S.HasHonestDevice store.new → S.IsUsable store.new) }
 {
     match command {
         Command::RegisterCarrier { spid } => {
@@ -82,12 +84,13 @@ fn decide<S: Store>(
 ) -> Result<Reply, Refusal>
     requires { changes_of changes.old ≡ no_changes }
     ensures decides { S.IsUsable store.new → Decides (S.content store.old)
-        (Requests caller.number (request_of request.entry)) (changes_of changes.new)
+        (RequestFrom caller.number (request_of request.entry)) (changes_of changes.new)
         result }
-    ensures reads { Reads S.IsUsable S.IsHonest S.MayLeave S.content S.failed store.old store.new
-        (IsAnswered result) (SaysOnceSettled (S.IsUsable store.new) (S.content store.old)
-        (Requests caller.number (request_of request.entry)) (result ≡ Err Refusal.Storage)) }
-    ensures open { OnOk result (S.IsHonest store.new → S.IsUsable store.new) }
+    ensures read_only { IsReadOnly S.IsUsable S.HasHonestDevice S.IsCrashState S.content S.failed
+        store.old store.new
+        (IsAvailable result) (ReportsOnceSettled (S.IsUsable store.new) (S.content store.old)
+        (RequestFrom caller.number (request_of request.entry)) (result ≡ Err Refusal.Storage)) }
+    ensures open { OnOk result (S.HasHonestDevice store.new → S.IsUsable store.new) }
 {
     match request {
         Request::Command(command) => decide_command(alloc, store, changes, caller, command),
@@ -97,21 +100,21 @@ fn decide<S: Store>(
 
 /// Carries out a request whose subjects are settled: what it comes to is decided by what stands,
 /// and written in one commit.
-pub fn carry_out<S: Store>(
+pub fn execute<S: Store>(
     alloc: Global,
     store: &mut S,
     caller: Spid,
     request: Request<'_>,
 ) -> Result<Reply, Refusal>
     ensures answers { S.IsUsable store.new
-        → AnswersSettled (S.content store.old) (S.content store.new)
-        (Requests caller.number (request_of request.entry)) (replied reply_of result) }
-    ensures left { Leaves S.IsHonest S.MayLeave store.old store.new (λ m. S.IsUsable store.old
-        × ComesSettled (S.content store.old)
-        (Requests caller.number (request_of request.entry)) m) }
-    ensures owes { Owes S.IsUsable S.IsHonest S.failed store.old store.new
-        (IsAnswered result) (SaysOnceSettled (S.IsUsable store.new) (S.content store.old)
-        (Requests caller.number (request_of request.entry)) (result ≡ Err Refusal.Storage)) }
+        → SimulatesSettledStep (S.content store.old) (S.content store.new)
+        (RequestFrom caller.number (request_of request.entry)) (replied reply_of result) }
+    ensures left { AddsOnlyCrashStates S.HasHonestDevice S.IsCrashState store.old store.new
+        (λ m. S.IsUsable store.old × TakesSettledStep (S.content store.old)
+        (RequestFrom caller.number (request_of request.entry)) m) }
+    ensures preserves { PreservesStore S.IsUsable S.HasHonestDevice S.failed store.old store.new
+        (IsAvailable result) (ReportsOnceSettled (S.IsUsable store.new) (S.content store.old)
+        (RequestFrom caller.number (request_of request.entry)) (result ≡ Err Refusal.Storage)) }
 {
     let mut changes = Changes::none(alloc);
     let reply = decide(alloc, store, &mut changes, caller, request)?;

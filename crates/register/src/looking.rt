@@ -1,13 +1,13 @@
 //! The version that a caller names.
-ghost use Rattle.settle.specs.Owing.{IsAnswer, IsAnswered, Reads};
+ghost use Rattle.settle.specs.StoreContract.{IsAnswer, IsAvailable, IsReadOnly};
 ghost use Rattle.std.specs.Prelude.{◌≡◌, Err, IfOk, IfErr, OnOk, is_some};
 ghost use Rattle.std.specs.FinMap.{get};
-ghost use Rattle.meaning.specs.Conditions.{is_the};
-ghost use Rattle.settle.specs.Views.{clock_row_of};
-ghost use Rattle.register.specs.Looking.{AreHeld, HasHeldSet, HasSet, IsLookedUp, IsLookedUpInVain};
-ghost use Rattle.version.specs.Views.{windows_of};
+ghost use Rattle.model.specs.Conditions.{is_the};
+ghost use Rattle.settle.specs.Abstraction.{clock_row_of};
+ghost use Rattle.register.specs.Looking.{AreHeld, HasHeldSet, HasSet, IsLookedUp, IsLookupRefused};
+ghost use Rattle.version.specs.Abstraction.{windows_of};
 
-use meaning::Refusal;
+use model::Refusal;
 use numbers::{Lrn, Spid};
 use settle::{ClockRow, Store, StoreFault, VersionRow};
 use windows::Windows;
@@ -31,9 +31,10 @@ pub fn look_up<S: Store>(store: &mut S, is_known: bool, id: u64) -> Result<Looke
         (λ found. IsLookedUp (S.content store.old) is_known id (clock_row_of found.clock)
         found.row (windows_of found.held)) }
     ensures refused { S.IsUsable store.new
-        → IfErr result (IsLookedUpInVain (S.content store.old) is_known id) }
-    ensures reads { Reads S.IsUsable S.IsHonest S.MayLeave S.content S.failed store.old store.new
-        (IsAnswered result) (S.IsUsable store.new × HasHeldSet (S.content store.old) id
+        → IfErr result (IsLookupRefused (S.content store.old) is_known id) }
+    ensures read_only { IsReadOnly S.IsUsable S.HasHonestDevice S.IsCrashState S.content S.failed
+        store.old store.new
+        (IsAvailable result) (S.IsUsable store.new × HasHeldSet (S.content store.old) id
         × (result ≡ Err Refusal.Storage)) }
 {
     if !is_known {
@@ -58,13 +59,14 @@ pub fn look_up_for<S: Store>(store: &mut S, carrier: Spid, id: u64) -> Result<Lo
         (is_some (get (S.content store.old).carriers carrier.number)) id
         (clock_row_of found.clock) found.row (windows_of found.held)) }
     ensures refused { S.IsUsable store.new
-        → IfErr result (IsLookedUpInVain (S.content store.old)
+        → IfErr result (IsLookupRefused (S.content store.old)
         (is_some (get (S.content store.old).carriers carrier.number)) id) }
-    ensures reads { Reads S.IsUsable S.IsHonest S.MayLeave S.content S.failed store.old store.new
-        (IsAnswered result) (S.IsUsable store.new × HasHeldSet (S.content store.old) id
+    ensures read_only { IsReadOnly S.IsUsable S.HasHonestDevice S.IsCrashState S.content S.failed
+        store.old store.new
+        (IsAvailable result) (S.IsUsable store.new × HasHeldSet (S.content store.old) id
         × (result ≡ Err Refusal.Storage)) }
     // a store that is shut answers none
-    ensures open { OnOk result (S.IsHonest store.new → S.IsUsable store.new) }
+    ensures open { OnOk result (S.HasHonestDevice store.new → S.IsUsable store.new) }
 {
     let is_carrier = store.carrier(carrier)?;
     look_up(store, is_carrier, id)
@@ -80,8 +82,8 @@ pub fn held_windows<S: Store>(
         → IfOk result
         (λ windows. AreHeld (S.content store.old) (clock_row_of clock.now) held
         (windows_of windows)) }
-    ensures reads { Reads S.IsUsable S.IsHonest S.MayLeave S.content S.failed store.old store.new
-        (IsAnswer result) (S.IsUsable store.new
+    ensures read_only { IsReadOnly S.IsUsable S.HasHonestDevice S.IsCrashState S.content S.failed
+        store.old store.new (IsAnswer result) (S.IsUsable store.new
         × HasSet (S.content store.old) (clock_row_of clock.now) held
         × (result ≡ Err StoreFault.Storage)) }
 {
@@ -99,8 +101,8 @@ pub fn is_lrn_of<S: Store>(store: &mut S, lrn: Lrn, carrier: Spid) -> Result<boo
     ensures value { S.IsUsable store.new
         → IfOk result (λ good. good
         ≡ is_the carrier.number (get (S.content store.old).lrns lrn.number)) }
-    ensures reads { Reads S.IsUsable S.IsHonest S.MayLeave S.content S.failed store.old store.new
-        (IsAnswer result) (result ≡ Err StoreFault.Storage) }
+    ensures read_only { IsReadOnly S.IsUsable S.HasHonestDevice S.IsCrashState S.content S.failed
+        store.old store.new (IsAnswer result) (result ≡ Err StoreFault.Storage) }
 {
     match store.lrn(lrn)? {
         None => Ok(false),

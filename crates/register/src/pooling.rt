@@ -1,30 +1,30 @@
 //! Commands on blocks.
-ghost use Rattle.settle.specs.Owing.{IsAnswer, IsAnswered, Reads, SaysStorage};
+ghost use Rattle.settle.specs.StoreContract.{IsAnswer, IsAvailable, IsReadOnly, ReportsStorage};
 ghost use Rattle.std.specs.Prelude.{◌≡◌, ◌+◌, ◌≤◌, ◌==◌, ◌||◌, ℕ, Err, Some, IfOk, OnOk, map, length, is_some, vec_len};
 ghost use Rattle.std.specs.FinMap.{get, keys};
-ghost use Rattle.meaning.specs.Statuses.{Create};
-ghost use Rattle.meaning.specs.Commands.{Release};
-ghost use Rattle.meaning.specs.Conditions.{limit};
-ghost use Rattle.meaning.specs.History.{Commands};
-ghost use Rattle.meaning.specs.Refusals.{Requests, npac};
-ghost use Rattle.version.specs.declared.version.Version.{Version as VersionSeen};
-ghost use Rattle.version.specs.Views.{windows_of};
+ghost use Rattle.model.specs.Statuses.{Create};
+ghost use Rattle.model.specs.Commands.{Release};
+ghost use Rattle.model.specs.Conditions.{limit};
+ghost use Rattle.model.specs.History.{CommandRequest};
+ghost use Rattle.model.specs.Refusals.{RequestFrom, npac};
+ghost use Rattle.version.specs.declared.version.Version.{Version as VersionImpl};
+ghost use Rattle.version.specs.Abstraction.{windows_of};
 ghost use Rattle.pool.specs.Assignments.{command_of as assignment_of};
 ghost use Rattle.pool.specs.Donations.{command_of as donation_of};
 ghost use Rattle.settle.specs.Changes.{changes_of, clock_move_of, no_changes};
-ghost use Rattle.settle.specs.Sending.{begun_of, sending_each};
-ghost use Rattle.settle.specs.Views.{block_of, block_row_of, clock_row_of};
+ghost use Rattle.settle.specs.Sending.{begun_of, sends_changes};
+ghost use Rattle.settle.specs.Abstraction.{block_of, block_row_of, clock_row_of};
 ghost use Rattle.register.specs.Deciding.{Decides};
-ghost use Rattle.register.specs.Pooling.{pooling};
+ghost use Rattle.register.specs.Pooling.{block_changes};
 
 use crate::blocks::find_block;
 use crate::looking::is_lrn_of;
-use calls::{Reply, VersionView};
-use meaning::{Refusal, Send};
+use model::{Refusal, Send};
 use numbers::{BlockId, Spid};
 use pool::{Assignment, Donation};
+use requests::{Reply, VersionView};
 use settle::{
-    BlockRow, Changes, ClockMove, ClockRow, Store, StoreFault, begin_sending_each, put_step,
+    BlockRow, Changes, ClockMove, ClockRow, Store, StoreFault, begin_sending_each, stage_transition,
 };
 use std::alloc::{AllocError, Global};
 use version::Version;
@@ -56,8 +56,8 @@ fn put_made<S: Store>(
 ) -> Result<(), StoreFault>
     requires { changes_of changes.old ≡ no_changes }
     ensures value { S.IsUsable store.new → clock.now.next_id + length made.now ≤ limit
-        → OnOk result (changes_of changes.new ≡ pooling
-        (sending_each clock.now.minute.number Create
+        → OnOk result (changes_of changes.new ≡ block_changes
+        (sends_changes clock.now.minute.number Create
         (map (begun_of (windows_of clock.now.present.windows)) made.now)
         (keys (S.content store.old).carriers))
         (Some (block_of block.0, block_row_of block.1))
@@ -65,10 +65,10 @@ fn put_made<S: Store>(
           minute = clock.now.minute.number;
           next_id = clock.now.next_id + length made.now;
         })) }
-    ensures reads { Reads S.IsUsable S.IsHonest S.MayLeave S.content S.failed store.old store.new
-        (IsAnswer result) (result ≡ Err StoreFault.Storage) }
+    ensures read_only { IsReadOnly S.IsUsable S.HasHonestDevice S.IsCrashState S.content S.failed
+        store.old store.new (IsAnswer result) (result ≡ Err StoreFault.Storage) }
 {
-    let everyone = store.carriers()?;
+    let all_carriers = store.carriers()?;
     let windows = &clock.present.windows;
     begin_sending_each(
         alloc,
@@ -77,7 +77,7 @@ fn put_made<S: Store>(
         Send::Create,
         clock.minute,
         windows,
-        &everyone,
+        &all_carriers,
     )?;
     changes.block = Some(block);
     changes.clock = Some(past_ids(clock, made));
@@ -86,7 +86,7 @@ fn put_made<S: Store>(
 
 // The ids of versions.
 fn ids_of(alloc: Global, made: &[(u64, Version)]) -> Result<Vec<u64>, AllocError>
-    ensures { IfOk result (λ ids. ids.items ≡ map (λ (e : ℕ × VersionSeen). e.0) made.now) }
+    ensures { IfOk result (λ ids. ids.items ≡ map (λ (e : ℕ × VersionImpl). e.0) made.now) }
 {
     made.iter().map(|entry| entry.0).collect(alloc)
 }
@@ -95,8 +95,8 @@ fn ids_of(alloc: Global, made: &[(u64, Version)]) -> Result<Vec<u64>, AllocError
 fn may_release<S: Store>(store: &mut S, caller: Spid) -> Result<bool, StoreFault>
     ensures value { S.IsUsable store.new → IfOk result (λ known. known
         ≡ ((caller.number == npac) || is_some (get (S.content store.old).carriers caller.number))) }
-    ensures reads { Reads S.IsUsable S.IsHonest S.MayLeave S.content S.failed store.old store.new
-        (IsAnswer result) (result ≡ Err StoreFault.Storage) }
+    ensures read_only { IsReadOnly S.IsUsable S.HasHonestDevice S.IsCrashState S.content S.failed
+        store.old store.new (IsAnswer result) (result ≡ Err StoreFault.Storage) }
 {
     if caller.number == Spid::NPAC.number {
         return Ok(true);
@@ -116,12 +116,14 @@ pub fn donate<S: Store>(
 ) -> Result<Reply, Refusal>
     requires { changes_of changes.old ≡ no_changes }
     ensures decides { S.IsUsable store.new → Decides (S.content store.old)
-        (Requests caller.number (Commands (donation_of donation.now))) (changes_of changes.new)
+        (RequestFrom caller.number (CommandRequest (donation_of donation.now)))
+        (changes_of changes.new)
         result }
-    ensures reads { Reads S.IsUsable S.IsHonest S.MayLeave S.content S.failed store.old store.new
-        (IsAnswered result) (SaysStorage (S.IsUsable store.new) (S.content store.old)
+    ensures read_only { IsReadOnly S.IsUsable S.HasHonestDevice S.IsCrashState S.content S.failed
+        store.old store.new
+        (IsAvailable result) (ReportsStorage (S.IsUsable store.new) (S.content store.old)
         (result ≡ Err Refusal.Storage)) }
-    ensures open { OnOk result (S.IsHonest store.new → S.IsUsable store.new) }
+    ensures open { OnOk result (S.HasHonestDevice store.new → S.IsUsable store.new) }
 {
     let is_known = store.carrier(caller)?;
     let found = find_block(store, is_known, donation.block)?;
@@ -160,12 +162,14 @@ pub fn assign<S: Store>(
 ) -> Result<Reply, Refusal>
     requires { changes_of changes.old ≡ no_changes }
     ensures decides { S.IsUsable store.new → Decides (S.content store.old)
-        (Requests caller.number (Commands (assignment_of assignment.now))) (changes_of changes.new)
+        (RequestFrom caller.number (CommandRequest (assignment_of assignment.now)))
+        (changes_of changes.new)
         result }
-    ensures reads { Reads S.IsUsable S.IsHonest S.MayLeave S.content S.failed store.old store.new
-        (IsAnswered result) (SaysStorage (S.IsUsable store.new) (S.content store.old)
+    ensures read_only { IsReadOnly S.IsUsable S.HasHonestDevice S.IsCrashState S.content S.failed
+        store.old store.new
+        (IsAvailable result) (ReportsStorage (S.IsUsable store.new) (S.content store.old)
         (result ≡ Err Refusal.Storage)) }
-    ensures open { OnOk result (S.IsHonest store.new → S.IsUsable store.new) }
+    ensures open { OnOk result (S.HasHonestDevice store.new → S.IsUsable store.new) }
 {
     let is_known = store.carrier(assignment.holder)?;
     let found = find_block(store, is_known, assignment.block)?;
@@ -201,12 +205,13 @@ pub fn release<S: Store>(
 ) -> Result<Reply, Refusal>
     requires { changes_of changes.old ≡ no_changes }
     ensures decides { S.IsUsable store.new → Decides (S.content store.old)
-        (Requests caller.number (Commands (Release block.number))) (changes_of changes.new)
+        (RequestFrom caller.number (CommandRequest (Release block.number))) (changes_of changes.new)
         result }
-    ensures reads { Reads S.IsUsable S.IsHonest S.MayLeave S.content S.failed store.old store.new
-        (IsAnswered result) (SaysStorage (S.IsUsable store.new) (S.content store.old)
+    ensures read_only { IsReadOnly S.IsUsable S.HasHonestDevice S.IsCrashState S.content S.failed
+        store.old store.new
+        (IsAvailable result) (ReportsStorage (S.IsUsable store.new) (S.content store.old)
         (result ≡ Err Refusal.Storage)) }
-    ensures open { OnOk result (S.IsHonest store.new → S.IsUsable store.new) }
+    ensures open { OnOk result (S.HasHonestDevice store.new → S.IsUsable store.new) }
 {
     let is_known = may_release(store, caller)?;
     let found = find_block(store, is_known, block)?;
@@ -217,6 +222,6 @@ pub fn release<S: Store>(
     let Some((id, _)) = last else {
         unreachable!();
     };
-    put_step(store, changes, id, &step, clock)?;
+    stage_transition(store, changes, id, &step, clock)?;
     Ok(Reply::Shown(VersionView::of(id, &step.version, clock.minute, &clock.present.windows)))
 }

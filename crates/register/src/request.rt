@@ -1,5 +1,5 @@
 //! What is requested of a register.
-use calls::Command;
+use requests::Command;
 
 /// A caller's command, or an acknowledgement.
 #[derive(Clone, Copy, Debug)]

@@ -7,13 +7,13 @@ use Rattle.std.specs.Cmp.{IsTotalOrder, nat_cmp_total, unsigned_tied, tied_then}
 use Rattle.std.specs.FinMap.{FinMap, get, insert, get-insert}
 use Rattle.std.proofs.lemmas.Cmp.{then_total, on_total}
 use Rattle.numbers.specs.Subjects.{Subject}
-use Rattle.meaning.specs.Statuses.{Send}
-use Rattle.meaning.specs.Windows.{WindowSet}
-use Rattle.meaning.specs.Versions.{Record}
-use Rattle.meaning.specs.Changes.{routing_sent}
-use Rattle.meaning.specs.Content.{Content, VersionRow, BroadcastRow, BroadcastKey, WaitKey, broadcast_cmp, wait_cmp, Shows, of_subject}
-use Rattle.settle.specs.Changes.{Changes, IsChanged, put_rows, same_broadcast, same_wait}
-use Rattle.settle.specs.Sending.{Begun, begun_version, begun_broadcast, begun_waits, sending, sending_each}
+use Rattle.model.specs.Statuses.{Send}
+use Rattle.model.specs.Windows.{WindowSet}
+use Rattle.model.specs.Versions.{Record}
+use Rattle.model.specs.Changes.{routing_sent}
+use Rattle.model.specs.Content.{Content, VersionRow, BroadcastRow, BroadcastKey, WaitKey, broadcast_cmp, wait_cmp, RowsMatch, of_subject}
+use Rattle.settle.specs.Changes.{Changes, AppliesChanges, put_rows, same_broadcast, same_wait}
+use Rattle.settle.specs.Sending.{SendingVersion, begun_version, begun_broadcast, begun_waits, send_changes, sends_changes}
 use Rattle.numbers.proofs.Small.{numbers_turned, grouped}
 
 -- ---- one table
@@ -100,17 +100,18 @@ applied_puts changes c = record {
 
 -- ---- many versions that begin to send, one after the other
 
-module _ (w : WindowSet) (minute : ℕ) (action : Send) (everyone : List ℕ) where
-  abbrev pub sending_one : Begun → Changes
-  sending_one b = sending b.id minute action b.subject b.version (routing_sent action b.version)
-      everyone
+module _ (w : WindowSet) (minute : ℕ) (action : Send) (all_carriers : List ℕ) where
+  abbrev pub sending_one : SendingVersion → Changes
+  sending_one b =
+      send_changes b.id minute action b.subject b.version (routing_sent action b.version)
+      all_carriers
 
-  abbrev pub sent_in_turn : List Begun → Content → Content
+  abbrev pub sent_in_turn : List SendingVersion → Content → Content
   sent_in_turn [] c = c
   sent_in_turn (b ∷ bs) c = sent_in_turn bs (applied (sending_one b) c)
 
-  pub sent_puts : (bs : List Begun) (c : Content)
-      → Puts (sending_each minute action bs everyone) c (sent_in_turn bs c)
+  pub sent_puts : (bs : List SendingVersion) (c : Content)
+      → Puts (sends_changes minute action bs all_carriers) c (sent_in_turn bs c)
   sent_puts [] c = record { versions = λ k. refl; broadcasts = λ k. refl; waits = λ k. refl }
   sent_puts (b ∷ bs) c =
       let later = sent_puts bs (applied (sending_one b) c) in
@@ -123,14 +124,15 @@ module _ (w : WindowSet) (minute : ℕ) (action : Send) (everyone : List ℕ) wh
             ∙ ap (put_rows same_broadcast (map (begun_broadcast minute action) bs) k)
             (first.broadcasts k);
         waits = λ k. later.waits k
-            ∙ ap (put_rows same_wait (flat_map (begun_waits minute everyone) bs) k) (first.waits k)
-            ∙ sym (put_rows-append same_wait (begun_waits minute everyone b)
-            (flat_map (begun_waits minute everyone) bs) k (get c.waits k));
+            ∙ ap (put_rows same_wait (flat_map (begun_waits minute all_carriers) bs) k)
+            (first.waits k)
+            ∙ sym (put_rows-append same_wait (begun_waits minute all_carriers b)
+            (flat_map (begun_waits minute all_carriers) bs) k (get c.waits k));
       }
 
   -- one step
-  pub one_changed : (b : Begun) (c : Content)
-      → IsChanged (sending_one b) c (applied (sending_one b) c)
+  pub one_changed : (b : SendingVersion) (c : Content)
+      → AppliesChanges (sending_one b) c (applied (sending_one b) c)
   one_changed b c =
       let puts = applied_puts (sending_one b) c in
       record {
@@ -147,8 +149,8 @@ module _ (w : WindowSet) (minute : ℕ) (action : Send) (everyone : List ℕ) wh
 
 -- two contents with the same rows put show the same records
 pub same_shows : (changes : Changes) (old one other : Content) → Puts changes old one
-    → Puts changes old other → (w : WindowSet) (s : Subject) (r : Record) → Shows one s r
-    → Shows other s r
+    → Puts changes old other → (w : WindowSet) (s : Subject) (r : Record) → RowsMatch one s r
+    → RowsMatch other s r
 same_shows changes old one other is its w s r shows = record {
   versions = λ k. ap (of_subject s (λ (v : VersionRow). v.subject)) (its.versions k
       ∙ sym (is.versions k)) ∙ shows.versions k;

@@ -1,20 +1,20 @@
 -- The broadcasts and the downloads of versions that begin to send ask for no windows.
 use Rattle.std.proofs.Common.{◌≡◌, ℕ, List, [], ◌∷◌, ◌++◌, map, refl, ap, ◌∙◌}
 use Rattle.std.specs.Prelude.{flat_map}
-use Rattle.meaning.specs.Windows.{Windows}
-use Rattle.meaning.specs.Statuses.{Send, Create, Delete, Modify}
-use Rattle.version.specs.Views.{no_windows}
-use Rattle.version.specs.declared.version.Version.{Version as VersionCode}
+use Rattle.model.specs.Windows.{Windows}
+use Rattle.model.specs.Statuses.{Send, Create, Delete, Modify}
+use Rattle.version.specs.Abstraction.{no_windows}
+use Rattle.version.specs.declared.version.Version.{Version as VersionImpl}
 use Rattle.settle.specs.Sending.{begun_of, begun_broadcast, begun_waits}
 
-broadcast-any : (w : Windows) (minute : ℕ) (action : Send) (e : ℕ × VersionCode)
+broadcast-any : (w : Windows) (minute : ℕ) (action : Send) (e : ℕ × VersionImpl)
     → begun_broadcast minute action (begun_of no_windows e) ≡ begun_broadcast minute action
     (begun_of w e)
 broadcast-any w minute Create e = refl
 broadcast-any w minute Delete e = refl
 broadcast-any w minute (Modify routing) e = refl
 
-pub broadcasts-any : (w : Windows) (minute : ℕ) (action : Send) (es : List (ℕ × VersionCode)) →
+pub broadcasts-any : (w : Windows) (minute : ℕ) (action : Send) (es : List (ℕ × VersionImpl)) →
     map (begun_broadcast minute action) (map (begun_of no_windows) es)
     ≡ map (begun_broadcast minute action) (map (begun_of w) es)
 broadcasts-any w minute action [] = refl
@@ -24,9 +24,10 @@ broadcasts-any w minute action (e ∷ es) =
     ∙ ap (λ bs. begun_broadcast minute action (begun_of w e) ∷ bs) (broadcasts-any w minute action
     es)
 
-pub waits-any : (w : Windows) (minute : ℕ) (everyone : List ℕ) (es : List (ℕ × VersionCode)) →
-    flat_map (begun_waits minute everyone) (map (begun_of no_windows) es)
-    ≡ flat_map (begun_waits minute everyone) (map (begun_of w) es)
-waits-any w minute everyone [] = refl
-waits-any w minute everyone (e ∷ es) =
-    ap (λ ws. begun_waits minute everyone (begun_of w e) ++ ws) (waits-any w minute everyone es)
+pub waits-any : (w : Windows) (minute : ℕ) (all_carriers : List ℕ) (es : List (ℕ × VersionImpl)) →
+    flat_map (begun_waits minute all_carriers) (map (begun_of no_windows) es)
+    ≡ flat_map (begun_waits minute all_carriers) (map (begun_of w) es)
+waits-any w minute all_carriers [] = refl
+waits-any w minute all_carriers (e ∷ es) =
+    ap (λ ws. begun_waits minute all_carriers (begun_of w e) ++ ws) (waits-any w minute all_carriers
+    es)

@@ -1,22 +1,22 @@
 -- A fault of the store, and the refusal by which it is told.
 use Rattle.std.proofs.Common.{◌≡◌, refl, sym, ◌∙◌, subst}
 use Rattle.std.specs.Prelude.{Result, Err}
-use Rattle.meaning.specs.declared.refusal.Refusal.{Refusal}
-use Rattle.meaning.specs.declared.refusal.Refusal.TheVariants.{NoMemory, Storage}
+use Rattle.model.specs.declared.refusal.Refusal.{Refusal}
+use Rattle.model.specs.declared.refusal.Refusal.TheVariants.{NoMemory, Storage}
 use Rattle.settle.specs.Faults.{refusal_of}
-use Rattle.settle.specs.Owing.{IsAnswered}
+use Rattle.settle.specs.StoreContract.{IsAvailable}
 use Rattle.settle.specs.declared.store.StoreFault.{StoreFault}
 use Rattle.settle.specs.declared.store.StoreFault.TheVariants.{Storage as StorageFault, NoMemory as NoMemoryFault}
 
 -- a call that ends for a fault of the store answers nothing
 pub fault_is_none : {A : Type 0} (result : Result A Refusal) (fault : StoreFault)
-    → result ≡ Err (refusal_of fault) → ¬ IsAnswered result
+    → result ≡ Err (refusal_of fault) → ¬ IsAvailable result
 fault_is_none {A = A} result fault is answered =
-    go fault (subst (λ r. IsAnswered {A = A} r) is answered)
+    by_cases fault (subst (λ r. IsAvailable {A = A} r) is answered)
   where
-    go : (f : StoreFault) → ¬ IsAnswered {A = A} (Err (refusal_of f))
-    go StorageFault none = none.0 refl
-    go NoMemoryFault none = none.1 refl
+    by_cases : (f : StoreFault) → ¬ IsAvailable {A = A} (Err (refusal_of f))
+    by_cases StorageFault none = none.0 refl
+    by_cases NoMemoryFault none = none.1 refl
 
 -- a call that ends for this fault of the store, and answers storage
 pub storage_by : {A : Type 0} (result : Result A Refusal) (fault : StoreFault)

@@ -2,22 +2,23 @@
 use Rattle.std.proofs.Common.{◌≡◌, ℕ, ◌∙◌}
 use Rattle.std.specs.Prelude.{⊤, Result, Err}
 use Rattle.std.proofs.Math.Nat.{le_trans}
-use Rattle.meaning.specs.Content.{Content}
-use Rattle.meaning.specs.declared.refusal.Refusal.{Refusal}
-use Rattle.meaning.specs.declared.refusal.Refusal.TheVariants.{Storage}
+use Rattle.model.specs.Content.{Content}
+use Rattle.model.specs.declared.refusal.Refusal.{Refusal}
+use Rattle.model.specs.declared.refusal.Refusal.TheVariants.{Storage}
 use Rattle.settle.specs.Faults.{refusal_of}
-use Rattle.settle.specs.Owing.{IsAnswered, Reads, SaysStorage}
+use Rattle.settle.specs.StoreContract.{IsAvailable, IsReadOnly, ReportsStorage}
 use Rattle.settle.specs.declared.store.StoreFault.{StoreFault}
 use Rattle.settle.specs.declared.store.StoreFault.TheVariants.{Storage as StorageFault}
 use Rattle.settle.proofs.Risen.{risen-since}
 use Rattle.settle.proofs.Faults.{fault_is_none, storage_by}
 
-module _ {S : Type 0} {IsUsable IsHonest : S → Type 0} {MayLeave : S → Content → Type 0}
+module _ {S : Type 0} {IsUsable HasHonestDevice : S → Type 0} {IsCrashState : S → Content → Type 0}
     {content : S → Content} {failed : S → ℕ} {a b : S} where
   -- by what is answered and said
   pub reads_told : {A P Answers Says : Type 0}
-      → Reads IsUsable IsHonest MayLeave content failed a b A P → (Answers → A) → (Says → P)
-      → Reads IsUsable IsHonest MayLeave content failed a b Answers Says
+      → IsReadOnly IsUsable HasHonestDevice IsCrashState content failed a b A P → (Answers → A)
+      → (Says → P)
+      → IsReadOnly IsUsable HasHonestDevice IsCrashState content failed a b Answers Says
   reads_told read answers turn = record {
     same = read.same;
     honest = read.honest;
@@ -27,21 +28,23 @@ module _ {S : Type 0} {IsUsable IsHonest : S → Type 0} {MayLeave : S → Conte
     left = read.left;
   }
 
-  pub reads_saying : {A P Says : Type 0} → Reads IsUsable IsHonest MayLeave content failed a b A P
-      → (Says → P) → Reads IsUsable IsHonest MayLeave content failed a b A Says
+  pub reads_saying : {A P Says : Type 0} → IsReadOnly IsUsable HasHonestDevice IsCrashState content
+      failed a b A P
+      → (Says → P) → IsReadOnly IsUsable HasHonestDevice IsCrashState content failed a b A Says
   reads_saying read turn = reads_told read (λ answered. answered) turn
 
   -- a refusal that says no storage
   pub reads_refused : {A P Answers Says : Type 0}
-      → Reads IsUsable IsHonest MayLeave content failed a b A P → A → (Says → ⊥)
-      → Reads IsUsable IsHonest MayLeave content failed a b Answers Says
+      → IsReadOnly IsUsable HasHonestDevice IsCrashState content failed a b A P → A → (Says → ⊥)
+      → IsReadOnly IsUsable HasHonestDevice IsCrashState content failed a b Answers Says
   reads_refused read found never = reads_told read (λ answered. found) (λ says. absurd (never says))
 
   -- and then what only reads, by what is answered and said then
   pub reads_past : {d : S} {A P B Q Answers Says : Type 0} →
-      Reads IsUsable IsHonest MayLeave content failed a b A P → A →
-      Reads IsUsable IsHonest MayLeave content failed b d B Q → (Answers → B) → (Says → Q) →
-      Reads IsUsable IsHonest MayLeave content failed a d Answers Says
+      IsReadOnly IsUsable HasHonestDevice IsCrashState content failed a b A P → A →
+      IsReadOnly IsUsable HasHonestDevice IsCrashState content failed b d B Q → (Answers → B)
+      → (Says → Q) →
+      IsReadOnly IsUsable HasHonestDevice IsCrashState content failed a d Answers Says
   reads_past {d = d} first found second answers turn = record {
     same = λ usable. let mid = second.same usable in let start = first.same mid.0 in
         (start.0, mid.1 ∙ start.1);
@@ -55,27 +58,30 @@ module _ {S : Type 0} {IsUsable IsHonest : S → Type 0} {MayLeave : S → Conte
   }
 
   -- one after another, both answered
-  pub reads_on : {d : S} {A P B Q : Type 0} → Reads IsUsable IsHonest MayLeave content failed a b A
-      P → A → Reads IsUsable IsHonest MayLeave content failed b d B Q → B →
-      Reads IsUsable IsHonest MayLeave content failed a d ⊤ ⊥
+  pub reads_on : {d : S} {A P B Q : Type 0}
+      → IsReadOnly IsUsable HasHonestDevice IsCrashState content failed a b A
+      P → A → IsReadOnly IsUsable HasHonestDevice IsCrashState content failed b d B Q → B →
+      IsReadOnly IsUsable HasHonestDevice IsCrashState content failed a d ⊤ ⊥
   reads_on first found second answered =
       reads_past first found second (λ it. answered) (λ never. absurd never)
 
   -- and then a fault of the store
   pub reads_fault : {d : S} {A P B Q : Type 0} {X : Type 0} {c : Content} →
-      Reads IsUsable IsHonest MayLeave content failed a b A P → A →
-      Reads IsUsable IsHonest MayLeave content failed b d B Q →
+      IsReadOnly IsUsable HasHonestDevice IsCrashState content failed a b A P → A →
+      IsReadOnly IsUsable HasHonestDevice IsCrashState content failed b d B Q →
       (result : Result X Refusal) (fault : StoreFault) → result ≡ Err (refusal_of fault) →
       (fault ≡ StorageFault → Q) →
-      Reads IsUsable IsHonest MayLeave content failed a d (IsAnswered result)
-      (SaysStorage (IsUsable d) c (result ≡ Err Storage))
+      IsReadOnly IsUsable HasHonestDevice IsCrashState content failed a d (IsAvailable result)
+      (ReportsStorage (IsUsable d) c (result ≡ Err Storage))
   reads_fault first found second result fault is says = reads_past first found second
       (λ answered. absurd (fault_is_none result fault is answered))
       (λ told. says (storage_by result fault is told.says))
 
   -- and then what only reads, whatever it says
-  pub reads_then : {d : S} {A P B Q Says : Type 0} → Reads IsUsable IsHonest MayLeave content failed
-      a b A P → A → Reads IsUsable IsHonest MayLeave content failed b d B Q → (Says → Q) →
-      Reads IsUsable IsHonest MayLeave content failed a d B Says
+  pub reads_then : {d : S} {A P B Q Says : Type 0}
+      → IsReadOnly IsUsable HasHonestDevice IsCrashState content failed
+      a b A P → A → IsReadOnly IsUsable HasHonestDevice IsCrashState content failed b d B Q
+      → (Says → Q) →
+      IsReadOnly IsUsable HasHonestDevice IsCrashState content failed a d B Says
   reads_then first found second turn =
       reads_past first found second (λ answered. answered) turn

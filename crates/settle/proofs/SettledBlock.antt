@@ -5,16 +5,16 @@ use Rattle.std.specs.List.{list_any}
 use Rattle.numbers.specs.Digits.{block_of}
 use Rattle.numbers.specs.Subjects.{Subject, Number, Block, subject_eq}
 use Rattle.numbers.specs.declared.block_id.BlockId.{BlockId}
-use Rattle.numbers.specs.declared.ported.Subject.{Subject as SubjectCode}
-use Rattle.meaning.specs.Reading.{State}
-use Rattle.meaning.specs.Refusals.{is_in_block}
-use Rattle.meaning.specs.Content.{ClockRow, Content, Represents, SameRows}
-use Rattle.meaning.proofs.Entered.{subject_eq-refl}
-use Rattle.meaning.proofs.Ids.{same_subject}
-use Rattle.meaning.proofs.Lists.{any_there, contains-among, there_any}
+use Rattle.numbers.specs.declared.ported.Subject.{Subject as SubjectImpl}
+use Rattle.model.specs.State.{State}
+use Rattle.model.specs.Refusals.{is_in_block}
+use Rattle.model.specs.Content.{ClockRow, Content, Represents, SameRows}
+use Rattle.model.proofs.Entered.{subject_eq-refl}
+use Rattle.model.proofs.Ids.{same_subject}
+use Rattle.model.proofs.Lists.{any_there, contains-among, there_any}
 use Rattle.numbers.proofs.Small.{same_number, neither, equal_number, impossible, or_false}
-use Rattle.settle.specs.Reads.{AreInBlock, Holds, IsInBlock, Opens}
-use Rattle.settle.specs.Settling.{IsSettled, LeavesRows, Settles, Under, is_one_of, is_within, those_with_block}
+use Rattle.settle.specs.Reads.{AreInBlock, HasRowInForce, IsInBlock, HasOpenRow}
+use Rattle.settle.specs.Settling.{IsSettled, FramesRows, Settles, ForStatesAtClock, is_one_of, is_within, those_with_block}
 use Rattle.settle.proofs.Among.{all-among}
 use Rattle.settle.proofs.Settled.{none-due, stays_settled}
 use Rattle.version.specs.declared.in_use.NumberInUse.{NumberInUse}
@@ -29,14 +29,14 @@ listed_is : (numbers : List NumberInUse) (block : BlockId) (t : Subject)
     → is_one_of (those_with_block numbers block) t
     ≡ (is_any_of numbers t || subject_eq t (Block block.number))
 listed_is [] block t = or_false (subject_eq t (Block block.number))
-listed_is (x ∷ xs) block t = go (subject_eq t (Number x.tn.number)) (listed_is xs block t)
+listed_is (x ∷ xs) block t = by_cases (subject_eq t (Number x.tn.number)) (listed_is xs block t)
   where
-    go : (b : Bool) → is_one_of (those_with_block xs block) t
+    by_cases : (b : Bool) → is_one_of (those_with_block xs block) t
         ≡ (is_any_of xs t || subject_eq t (Block block.number)) →
         (b || is_one_of (those_with_block xs block) t)
         ≡ ((b || is_any_of xs t) || subject_eq t (Block block.number))
-    go true rest = refl
-    go false rest = rest
+    by_cases true rest = refl
+    by_cases false rest = rest
 
 -- ---- a block
 
@@ -66,7 +66,7 @@ module _ (c : Content) (block : ℕ) (numbers : List NumberInUse) (are : AreInBl
         (None, (λ id row found holds. unlisted (inl (id, row, found, holds))), refl),
       )
     where
-      unlisted : Holds c (Number n) ⊎ Opens c (Number n) → ⊥
+      unlisted : HasRowInForce c (Number n) ⊎ HasOpenRow c (Number n) → ⊥
       unlisted stood =
           let x = are.each n (equal_number (block_of n) block inside) stood in
           let never : true ≡ false = sym (listed n x.0 x.1 x.2) ∙ other in cc
@@ -74,31 +74,33 @@ module _ (c : Content) (block : ℕ) (numbers : List NumberInUse) (are : AreInBl
 -- over the contents before the reading of the clock and of the numbers, between them and behind
 -- them
 module _ (clock : ClockRow) (old mid read new : Content) (block : BlockId)
-    (numbers : List NumberInUse) (subjects : List SubjectCode) (is : old.clock ≡ Some clock)
+    (numbers : List NumberInUse) (subjects : List SubjectImpl) (is : old.clock ≡ Some clock)
     (same_mid : mid ≡ old) (same_read : read ≡ mid)
     (listed_are : subjects ≡ those_with_block numbers block)
     (are : AreInBlock mid block.number numbers)
     (leaves : (s : Subject) → is_one_of subjects s ≡ false
-    → Under clock read (λ st. SameRows s read new)) where
+    → ForStatesAtClock clock read (λ st. SameRows s read new)) where
   -- what holds of those that are listed and of what was read holds of the old content too
   of_old : (wanted : Bool) (P : Content → State → Subject → Type 0)
-      → ((s : Subject) → is_one_of subjects s ≡ wanted → Under clock read (λ st. P read st s))
+      → ((s : Subject) → is_one_of subjects s ≡ wanted
+      → ForStatesAtClock clock read (λ st. P read st s))
       → (s : Subject) → is_one_of (those_with_block numbers block) s ≡ wanted
-      → Under clock old (λ st. P old st s)
+      → ForStatesAtClock clock old (λ st. P old st s)
   of_old wanted P holds =
-      subst (λ xs. (s : Subject) → is_one_of xs s ≡ wanted → Under clock old (λ st. P old st s))
+      subst (λ xs. (s : Subject) → is_one_of xs s ≡ wanted
+      → ForStatesAtClock clock old (λ st. P old st s))
       listed_are
       (subst (λ m. (s : Subject) → is_one_of subjects s ≡ wanted
-      → Under clock m (λ st. P m st s)) (same_read ∙ same_mid) holds)
+      → ForStatesAtClock clock m (λ st. P m st s)) (same_read ∙ same_mid) holds)
 
   inside : AreInBlock old block.number numbers
   inside = subst (λ m. AreInBlock m block.number numbers) same_mid are
 
   stay : (s : Subject) → is_one_of (those_with_block numbers block) s ≡ false
-      → Under clock old (λ st. SameRows s old new)
+      → ForStatesAtClock clock old (λ st. SameRows s old new)
   stay = of_old false (λ m st s. SameRows s m new) leaves
 
-  pub within_elsewhere : (s : Subject) → is_within block.number s ≡ false → LeavesRows old new s
+  pub within_elsewhere : (s : Subject) → is_within block.number s ≡ false → FramesRows old new s
   within_elsewhere s other st rep written =
       let no = neither (subject_eq s (Block block.number)) (is_in_block block.number s) other in
       stay s (listed_is numbers block s ∙ ap (λ b. b || subject_eq s (Block block.number))
@@ -111,14 +113,14 @@ module _ (clock : ClockRow) (old mid read new : Content) (block : BlockId)
           impossible (sym (any_inside old block.number numbers inside st s e) ∙ apart)
 
   pub within_settled : ((s : Subject) → is_one_of subjects s ≡ true
-      → Under clock read (λ st. IsSettled new st s)) → (s : Subject)
+      → ForStatesAtClock clock read (λ st. IsSettled new st s)) → (s : Subject)
       → is_within block.number s ≡ true → Settles old new s
   within_settled settled s its st rep written =
-      go (is_one_of (those_with_block numbers block) s) refl
+      by_cases (is_one_of (those_with_block numbers block) s) refl
     where
-      go : (b : Bool) → is_one_of (those_with_block numbers block) s ≡ b → IsSettled new st s
-      go true e = of_old true (λ m st s. IsSettled new st s) settled s e st rep is
-      go false e =
+      by_cases : (b : Bool) → is_one_of (those_with_block numbers block) s ≡ b → IsSettled new st s
+      by_cases true e = of_old true (λ m st s. IsSettled new st s) settled s e st rep is
+      by_cases false e =
           let no = neither (is_any_of numbers s) (subject_eq s (Block block.number))
           (sym (listed_is numbers block s) ∙ e) in
           stays_settled old new st s (stay s e st rep is)

@@ -1,18 +1,18 @@
 -- How some subjects are settled, one after the other.
 use Rattle.std.proofs.Common.{◌≡◌, Bool, true, false, ◌||◌, List, [], ◌∷◌, Some, refl, ap, sym, ◌∙◌, subst}
 use Rattle.numbers.specs.Subjects.{Subject, subject_eq}
-use Rattle.numbers.specs.Views.{subject_of}
-use Rattle.numbers.specs.declared.ported.Subject.{Subject as SubjectCode}
-use Rattle.meaning.specs.Content.{ClockRow, Content, Represents, SameRows}
-use Rattle.meaning.specs.Reading.{State}
-use Rattle.meaning.proofs.Entered.{subject_eq-refl}
-use Rattle.meaning.proofs.Ids.{same_subject, other_subject}
-use Rattle.settle.specs.Settling.{IsSettled, KeepsUnder, Under, is_one_of}
+use Rattle.numbers.specs.Abstraction.{subject_of}
+use Rattle.numbers.specs.declared.ported.Subject.{Subject as SubjectImpl}
+use Rattle.model.specs.Content.{ClockRow, Content, Represents, SameRows}
+use Rattle.model.specs.State.{State}
+use Rattle.model.proofs.Entered.{subject_eq-refl}
+use Rattle.model.proofs.Ids.{same_subject, other_subject}
+use Rattle.settle.specs.Settling.{IsSettled, PreservesAtClock, ForStatesAtClock, is_one_of}
 use Rattle.settle.proofs.Settled.{rows_joined, stays_settled}
 use Rattle.numbers.proofs.Small.{impossible}
 
 -- the subjects up to these that are left are settled, and nothing else has changed
-pub record HasSettled (clock : ClockRow) (subjects rest : List SubjectCode) (old new : Content)
+pub record HasSettled (clock : ClockRow) (subjects rest : List SubjectImpl) (old new : Content)
     (st : State) : Type 0 where
   pub represents : Represents new st
   pub clock_row : new.clock ≡ Some clock
@@ -21,32 +21,32 @@ pub record HasSettled (clock : ClockRow) (subjects rest : List SubjectCode) (old
   pub settled : (t : Subject) → is_one_of subjects t ≡ true → is_one_of rest t ≡ false
       → IsSettled new st t
 
-abbrev pub SettlesUpTo : ClockRow → (subjects rest : List SubjectCode) → (old new : Content)
+abbrev pub SettlesUpTo : ClockRow → (subjects rest : List SubjectImpl) → (old new : Content)
     → Type 0
 SettlesUpTo clock subjects rest old new =
-    Under clock old (λ st. HasSettled clock subjects rest old new st)
+    ForStatesAtClock clock old (λ st. HasSettled clock subjects rest old new st)
 
-first_named : (x : SubjectCode) (rest : List SubjectCode)
+first_named : (x : SubjectImpl) (rest : List SubjectImpl)
     → is_one_of (x ∷ rest) (subject_of x) ≡ true
 first_named x rest =
     ap (λ b. b || is_one_of rest (subject_of x)) (subject_eq-refl (subject_of x))
 
-later_named : (x : SubjectCode) (rest : List SubjectCode) (t : Subject)
+later_named : (x : SubjectImpl) (rest : List SubjectImpl) (t : Subject)
     → is_one_of rest t ≡ true → is_one_of (x ∷ rest) t ≡ true
-later_named x rest t its = go (subject_eq t (subject_of x))
+later_named x rest t its = by_cases (subject_eq t (subject_of x))
   where
-    go : (b : Bool) → (b || is_one_of rest t) ≡ true
-    go true = refl
-    go false = its
+    by_cases : (b : Bool) → (b || is_one_of rest t) ≡ true
+    by_cases true = refl
+    by_cases false = its
 
-module _ (clock : ClockRow) (subjects rest : List SubjectCode) (x : SubjectCode)
+module _ (clock : ClockRow) (subjects rest : List SubjectImpl) (x : SubjectImpl)
     (old mid new : Content) (before : SettlesUpTo clock subjects (x ∷ rest) old mid)
-    (kept : KeepsUnder clock mid new)
+    (kept : PreservesAtClock clock mid new)
     (leaves : (t : Subject) → subject_eq (subject_of x) t ≡ false
-    → Under clock mid (λ st. SameRows t mid new)) where
+    → ForStatesAtClock clock mid (λ st. SameRows t mid new)) where
   -- the next subject's rows may change, and no other's
   pub next_elsewhere : (t : Subject) → is_one_of subjects t ≡ false
-      → Under clock old (λ st. SameRows t old new)
+      → ForStatesAtClock clock old (λ st. SameRows t old new)
   next_elsewhere t other st rep is =
       let was = before st rep is in
       rows_joined t old mid new (was.others t other)
@@ -58,7 +58,7 @@ module _ (clock : ClockRow) (subjects rest : List SubjectCode) (x : SubjectCode)
           (ap (is_one_of (x ∷ rest)) (same_subject (subject_of x) t e) ∙ first_named x rest))
           ∙ other)
 
-  pub next_settled : Under clock mid (λ st. IsSettled new st (subject_of x))
+  pub next_settled : ForStatesAtClock clock mid (λ st. IsSettled new st (subject_of x))
       → SettlesUpTo clock subjects rest old new
   next_settled settles st rep is =
       let was = before st rep is in
@@ -68,23 +68,23 @@ module _ (clock : ClockRow) (subjects rest : List SubjectCode) (x : SubjectCode)
         clock_row = still.1;
         others = λ t other. next_elsewhere t other st rep is;
         among = λ t its. was.among t (later_named x rest t its);
-        settled = λ t its not. go t its not (subject_eq t (subject_of x)) refl;
+        settled = λ t its not. by_cases t its not (subject_eq t (subject_of x)) refl;
       }
     where
-      go : (t : Subject) → is_one_of subjects t ≡ true → is_one_of rest t ≡ false → (b : Bool)
+      by_cases : (t : Subject) → is_one_of subjects t ≡ true → is_one_of rest t ≡ false → (b : Bool)
           → subject_eq t (subject_of x) ≡ b → IsSettled new st t
-      go t its not true e =
+      by_cases t its not true e =
           let was = before st rep is in
           subst (IsSettled new st) (same_subject t (subject_of x) e)
           (settles st was.represents was.clock_row)
-      go t its not false e =
+      by_cases t its not false e =
           let was = before st rep is in
           stays_settled mid new st t (leaves t (other_subject t (subject_of x) e) st
           was.represents was.clock_row)
           (was.settled t its (ap (λ b. b || is_one_of rest t) e ∙ not))
 
-pub all_settled : (clock : ClockRow) (subjects : List SubjectCode) (old new : Content)
+pub all_settled : (clock : ClockRow) (subjects : List SubjectImpl) (old new : Content)
     → SettlesUpTo clock subjects [] old new → (t : Subject) → is_one_of subjects t ≡ true
-    → Under clock old (λ st. IsSettled new st t)
+    → ForStatesAtClock clock old (λ st. IsSettled new st t)
 all_settled clock subjects old new settles t its st rep is =
     (settles st rep is).settled t its refl

@@ -3,23 +3,23 @@ use Rattle.std.proofs.Common.{◌≡◌, ℕ, ◌+◌, Bool, true, false, Some, 
 use Rattle.std.specs.Prelude.{◌==◌, option_map, is_some, if◌then◌else◌}
 use Rattle.std.specs.FinMap.{get}
 use Rattle.numbers.specs.Subjects.{Subject, Block}
-use Rattle.meaning.specs.Commands.{SetWindows}
-use Rattle.meaning.specs.Windows.{Windows, AreWindows, WindowSet}
-use Rattle.meaning.specs.Versions.{Version, Record, last_version}
-use Rattle.meaning.specs.History.{Commands, set_of_number, next_id, donor_of}
-use Rattle.meaning.specs.Reading.{State, set_now, record_now, next_of}
-use Rattle.meaning.specs.Refusals.{Requests, refusal}
-use Rattle.meaning.specs.Content.{Content, ClockRow, VersionRow, BroadcastRow, Represents, ClockShows, SameRows, of_subject, stored_set}
-use Rattle.meaning.proofs.Represented.{same_rows_show}
-use Rattle.meaning.proofs.SettingWindows.{after_windows, windows-record, windows-next_id, windows-history, windows-lag}
-use Rattle.settle.specs.Changes.{IsChanged, no_changes, clock_after}
+use Rattle.model.specs.Commands.{SetWindows}
+use Rattle.model.specs.Windows.{Windows, AreWindows, WindowSet}
+use Rattle.model.specs.Versions.{Version, Record, last_version}
+use Rattle.model.specs.History.{CommandRequest, set_of_number, next_id, donor_of}
+use Rattle.model.specs.State.{State, set_now, record_now, next_of}
+use Rattle.model.specs.Refusals.{RequestFrom, refusal}
+use Rattle.model.specs.Content.{Content, ClockRow, VersionRow, BroadcastRow, Represents, ClockRowMatches, SameRows, of_subject, stored_set}
+use Rattle.model.proofs.Represented.{same_rows_show}
+use Rattle.model.proofs.SettingWindows.{after_windows, windows-record, windows-next_id, windows-history, windows-lag}
+use Rattle.settle.specs.Changes.{AppliesChanges, no_changes, clock_after}
 use Rattle.settle.specs.Settling.{IsSettled}
 
 module _ (st : State) (old new : Content) (caller : ℕ) (windows : Windows) (clock : ClockRow)
     (rep : Represents old st) (is : old.clock ≡ Some clock) (are : AreWindows windows)
-    (ok : refusal st (Requests caller (Commands (SetWindows windows))) ≡ None)
+    (ok : refusal st (RequestFrom caller (CommandRequest (SetWindows windows))) ≡ None)
     (settled : (s : Subject) → IsSettled old st s)
-    (changed : IsChanged (record no_changes {
+    (changed : AppliesChanges (record no_changes {
       set = Some (record { number = clock.present.number + 1; windows = windows });
     }) old new) where
   abbrev after : State
@@ -30,7 +30,7 @@ module _ (st : State) (old new : Content) (caller : ℕ) (windows : Windows) (cl
     next_id = next_of st;
     present = set_now st;
   }
-  clock_now = subst (λ o. ClockShows o st) is rep.clock
+  clock_now = subst (λ o. ClockRowMatches o st) is rep.clock
 
   -- the clock's row has the next set
   clock_new : new.clock ≡ Some (record {
@@ -62,17 +62,17 @@ module _ (st : State) (old new : Content) (caller : ℕ) (windows : Windows) (cl
       else get old.sets k) clock_now
       ∙ ap (λ o. if (set_now st).number + 1 == k then Some windows
       else o) (rep.sets k ∙ ap (λ o. stored_set o st k) is)
-      ∙ go ((set_now st).number + 1 == k)
+      ∙ by_cases ((set_now st).number + 1 == k)
     where
-      go : (b : Bool)
+      by_cases : (b : Bool)
           → (if b then Some windows
           else option_map (λ (x : WindowSet). x.windows) (set_of_number k st.windows st.history))
           ≡ option_map (λ (x : WindowSet). x.windows) (if b then Some (record {
             number = (set_now st).number + 1;
             windows = windows;
           }) else set_of_number k st.windows st.history)
-      go true = refl
-      go false = refl
+      by_cases true = refl
+      by_cases false = refl
 
   same : (s : Subject) → SameRows s old new
   same s = record {
@@ -93,7 +93,7 @@ module _ (st : State) (old new : Content) (caller : ℕ) (windows : Windows) (cl
     windows = rep.windows;
     early = rep.early;
     history = windows-history st caller windows are rep.history ok;
-    clock = subst (λ o. ClockShows o (after_windows st caller windows)) (sym clock_new) refl;
+    clock = subst (λ o. ClockRowMatches o (after_windows st caller windows)) (sym clock_new) refl;
     sets = λ k. sets_new k ∙ sym (ap (λ o. stored_set o (after_windows st caller windows) k)
         clock_new);
     carriers = λ k. ap is_some (changed.carriers k) ∙ rep.carriers k;
@@ -105,5 +105,6 @@ module _ (st : State) (old new : Content) (caller : ℕ) (windows : Windows) (cl
           last = option_map (λ (v : Version). v.id) (last_version r);
         }) (donor_of b st.history)) (sym (windows-record st caller windows (Block b)));
     subjects = λ s. windows-lag st caller windows are rep.history ok new s
-        (same_rows_show s old new (record_now st s) (same s) (settled s).shows) (settled s).quiet;
+        (same_rows_show s old new (record_now st s) (same s) (settled s).rows_match)
+        (settled s).quiet;
   }

@@ -7,35 +7,35 @@ use Rattle.sqlite.specs.declared.types.Value.TheVariants.{Int, Text}
 use Rattle.sqlite.specs.Values.{or_null}
 use Rattle.numbers.specs.Digits.{IsTn, IsBlock, IsCode}
 use Rattle.numbers.specs.Spids.{IsSpid, is_spid_character}
-use Rattle.numbers.specs.Views.{subject_of, routing_of, minute_of}
-use Rattle.numbers.specs.declared.ported.Subject.{Subject as SubjectCode}
-use Rattle.numbers.specs.declared.ported.Subject.TheVariants.{Number as NumberCode, Block as BlockCode}
-use Rattle.numbers.specs.declared.ported.Routing.{Routing as RoutingCode}
+use Rattle.numbers.specs.Abstraction.{subject_of, routing_of, minute_of}
+use Rattle.numbers.specs.declared.ported.Subject.{Subject as SubjectImpl}
+use Rattle.numbers.specs.declared.ported.Subject.TheVariants.{Number as NumberImpl, Block as BlockImpl}
+use Rattle.numbers.specs.declared.ported.Routing.{Routing as RoutingImpl}
 use Rattle.numbers.specs.declared.minute.Minute.{Minute}
 use Rattle.numbers.specs.declared.spid.Spid.{Spid}
 use Rattle.numbers.specs.declared.cic.Cic.{Cic}
 use Rattle.numbers.specs.declared.lrn.Lrn.{Lrn}
 use Rattle.numbers.specs.declared.code_id.CodeId.{CodeId}
 use Rattle.numbers.specs.declared.block_id.BlockId.{BlockId}
-use Rattle.meaning.specs.declared.words.Status.{Status as StatusCode}
-use Rattle.meaning.specs.declared.words.Status.TheVariants as code
+use Rattle.model.specs.declared.words.Status.{Status as StatusImpl}
+use Rattle.model.specs.declared.words.Status.TheVariants as code
 use Rattle.numbers.specs.Routings.{Routing}
-use Rattle.meaning.specs.declared.words.Action.TheVariants.{Create, Delete, Modify}
+use Rattle.model.specs.declared.words.Action.TheVariants.{Create, Delete, Modify}
 use Rattle.sql_rows.specs.Versions.{bare, bare_status, is_routed_while_modified}
-use Rattle.meaning.specs.declared.words.Side.TheVariants.{OldProvider, NewProvider}
-use Rattle.meaning.specs.Views.{status_of}
-use Rattle.meaning.specs.Content.{subject_if}
-use Rattle.settle.specs.Views.{version_row_of, block_row_of, broadcast_row_of, broadcast_key_of, wait_key_of}
-use Rattle.settle.specs.declared.rows.BlockRow.{BlockRow as BlockRowCode}
-use Rattle.sql_rows.specs.declared.keyed.StoredClock.{StoredClock as ClockCode}
+use Rattle.model.specs.declared.words.Side.TheVariants.{OldProvider, NewProvider}
+use Rattle.model.specs.Abstraction.{status_of}
+use Rattle.model.specs.Content.{subject_if}
+use Rattle.settle.specs.Abstraction.{version_row_of, block_row_of, broadcast_row_of, broadcast_key_of, wait_key_of}
+use Rattle.settle.specs.declared.rows.BlockRow.{BlockRow as BlockRowImpl}
+use Rattle.sql_rows.specs.declared.keyed.StoredClock.{StoredClock as ClockImpl}
 use Rattle.sql_rows.specs.Clocks.{clock_of}
-use Rattle.version.specs.Views.{windows_of}
-use Rattle.windows.specs.declared.window.WindowSet.{WindowSet as SetCode}
-use Rattle.settle.specs.declared.rows.BroadcastKey.{BroadcastKey as KeyCode}
-use Rattle.settle.specs.declared.rows.WaitKey.{WaitKey as WaitCode}
-use Rattle.delivery.specs.declared.broadcast.Broadcast.{Broadcast as BroadcastCode}
+use Rattle.version.specs.Abstraction.{windows_of}
+use Rattle.windows.specs.declared.window.WindowSet.{WindowSet as SetImpl}
+use Rattle.settle.specs.declared.rows.BroadcastKey.{BroadcastKey as KeyImpl}
+use Rattle.settle.specs.declared.rows.WaitKey.{WaitKey as WaitImpl}
+use Rattle.delivery.specs.declared.broadcast.Broadcast.{Broadcast as BroadcastImpl}
 use Rattle.windows.specs.declared.window.Window.{Window}
-use Rattle.meaning.specs.declared.words.Action.{Action}
+use Rattle.model.specs.declared.words.Action.{Action}
 use Rattle.sql_rows.specs.Content.{next_entry, next_params, carrier_entry, lrn_entry, code_entry, block_entry, broadcast_entry, wait_entry, set_entry, clock_entry, carrier_params, owner_params, block_params, broadcast_params, wait_params, set_params, clock_params, stored}
 use Rattle.settle.specs.declared.rows.VersionRow.TheInside.{Inside}
 use Rattle.sql_rows.specs.Values.{number_in, minute_in, lrn_in, cic_in, bool_in, subject_in, spid_in, or_null_in, status_in, routing_in, number_value, spid_value, bool_value, subject_value, lrn_value, cic_value, status_word, sends_word, release_value, by_value, found_in, found_value, subject_number, window_in, set_number_in, action_in, action_word}
@@ -56,9 +56,9 @@ pub minutes_back : (o : Option Minute)
 minutes_back None = refl
 minutes_back (Some m) = ap (option_map Some) (minute_back m)
 
-pub subject_back : (s : SubjectCode) → subject_in (subject_value (subject_of s))
+pub subject_back : (s : SubjectImpl) → subject_in (subject_value (subject_of s))
     ≡ Some (subject_of s)
-subject_back (NumberCode tn) =
+subject_back (NumberImpl tn) =
     let n = tn.number in
     let v : IsTn n = tn.valid in
     let low : nat_lt n 10000000 ≡ false = grind (arith, v.1) in
@@ -67,7 +67,7 @@ subject_back (NumberCode tn) =
       at_most 2 (n / 1000000000) v.1,
       at_most 2 (n / 1000000 % 10) v.2,
     ) refl))
-subject_back (BlockCode block) =
+subject_back (BlockImpl block) =
     let n = block.number in
     let v : IsBlock n = block.valid in
     rw (is_less n 9223372036854775808 (omega (arith, v.0))) (rw (
@@ -76,7 +76,7 @@ subject_back (BlockCode block) =
       at_most 2 (n / 1000 % 10) v.2,
     ) refl)
 
-pub found_back : (id : ℕ) (s : SubjectCode) (b : Bool)
+pub found_back : (id : ℕ) (s : SubjectImpl) (b : Bool)
     → found_in id (subject_of s) (found_value id (subject_if b (subject_of s))) ≡ Some b
 found_back id s false = rw ((signed_Decides (negsuc id) (negsuc id)).1 refl) refl
 found_back id s true =
@@ -87,17 +87,17 @@ pub spid_back : (s : Spid) → spid_in (spid_value s.number) ≡ Some s.number
 spid_back s =
     let n = s.number in
     let v : IsSpid n = s.valid in
-    go n (is_spid_character (n / 16777216)) (is_spid_character (n / 65536 % 256))
+    by_cases n (is_spid_character (n / 16777216)) (is_spid_character (n / 65536 % 256))
     (is_spid_character (n / 256 % 256)) (is_spid_character (n % 256)) v
   where
-    go : (n : ℕ) (a b c d : Bool) → IsTrue (a && (b && (c && (d && true))))
+    by_cases : (n : ℕ) (a b c d : Bool) → IsTrue (a && (b && (c && (d && true))))
         → cond (a && (b && (c && d))) (Some (n / 16777216 * 16777216 + n / 65536 % 256 * 65536 + n /
         256 % 256 * 256 + n % 256)) None ≡ Some n
-    go n true true true true h = ap Some (omega arith)
-    go n true true true false h = absurd cc
-    go n true true false d h = absurd cc
-    go n true false c d h = absurd cc
-    go n false b c d h = absurd cc
+    by_cases n true true true true h = ap Some (omega arith)
+    by_cases n true true true false h = absurd cc
+    by_cases n true true false d h = absurd cc
+    by_cases n true false c d h = absurd cc
+    by_cases n false b c d h = absurd cc
 
 pub bool_back : (b : Bool) → bool_in (bool_value b) ≡ Some b
 bool_back true = refl
@@ -108,18 +108,18 @@ routed_back l = let small : l.number < 10000000000 = l.valid in
     rw (is_less l.number 9223372036854775808 (omega arith)) (rw (is_less l.number 10000000000 small)
     refl)
 
-pub routing_back : (o : Option RoutingCode)
+pub routing_back : (o : Option RoutingImpl)
     → routing_in (lrn_value (option_map routing_of o)) (cic_value (option_map routing_of o))
     ≡ Some (option_map routing_of o)
 routing_back None = refl
-routing_back (Some r) = go r.cic
+routing_back (Some r) = by_cases r.cic
   where
     cic_back : (c : Cic) → cic_in (Int (pos c.number)) ≡ Some c.number
     cic_back c = let small : c.number < 10000 = c.valid in
         rw (is_less c.number 9223372036854775808 (omega arith)) (rw (is_less c.number 10000 small)
         refl)
 
-    go : (o : Option Cic) → routing_in (lrn_value (Some (record {
+    by_cases : (o : Option Cic) → routing_in (lrn_value (Some (record {
       lrn = r.lrn.number;
       cic = option_map (λ (c : Cic). c.number) o;
     }))) (cic_value (Some (record {
@@ -127,10 +127,10 @@ routing_back (Some r) = go r.cic
       cic = option_map (λ (c : Cic). c.number) o;
     })))
         ≡ Some (Some (record { lrn = r.lrn.number; cic = option_map (λ (c : Cic). c.number) o }))
-    go None = rw (routed_back r.lrn) refl
-    go (Some c) = rw (routed_back r.lrn, cic_back c) refl
+    by_cases None = rw (routed_back r.lrn) refl
+    by_cases (Some c) = rw (routed_back r.lrn, cic_back c) refl
 
-pub status_back : (own : Option Routing) (s : StatusCode)
+pub status_back : (own : Option Routing) (s : StatusImpl)
     → is_routed_while_modified own (status_of s) ≡ true →
     status_in own (Text (status_word (status_of s))) (Text (sends_word (status_of s)))
     (release_value (status_of s)) (by_value (status_of s)) ≡ Some (bare_status own (status_of s))
@@ -201,7 +201,7 @@ code_back k c =
       at_most 2 (n / 100 % 10) v.2,
     ) refl)
 
-pub next_back : (id : ℕ) (r : RoutingCode) → id < 9223372036854775808
+pub next_back : (id : ℕ) (r : RoutingImpl) → id < 9223372036854775808
     → next_entry (stored (next_params id (routing_of r))) ≡ Some (id, routing_of r)
 next_back id r low = rw (number_back id low, routing_back (Some r)) refl
 
@@ -210,7 +210,7 @@ last_back : (o : Option ℕ) → IfSome o (λ n. n < 9223372036854775808)
 last_back None low = refl
 last_back (Some n) low = ap (option_map Some) (number_back n low)
 
-pub block_back : (k : BlockId) (b : BlockRowCode) → IfSome b.last (λ id. id < 9223372036854775808)
+pub block_back : (k : BlockId) (b : BlockRowImpl) → IfSome b.last (λ id. id < 9223372036854775808)
     → block_entry (stored (block_params k.number (block_row_of b)))
     ≡ Some (k.number, block_row_of b)
 block_back k b last =
@@ -231,7 +231,7 @@ action_back Create = refl
 action_back Delete = refl
 action_back Modify = refl
 
-pub broadcast_back : (rowid : Value) (k : KeyCode) (b : BroadcastCode) → k.id < 9223372036854775808
+pub broadcast_back : (rowid : Value) (k : KeyImpl) (b : BroadcastImpl) → k.id < 9223372036854775808
     → k.attempt < 9223372036854775808
     → broadcast_entry (rowid ∷ broadcast_params (broadcast_key_of k) (broadcast_row_of b))
     ≡ Some (broadcast_key_of k, broadcast_row_of b)
@@ -247,7 +247,7 @@ broadcast_back rowid k b low few =
       bool_back b.is_acknowledged,
     ) refl
 
-pub wait_back : (rowid : Value) (k : WaitCode) (s : SubjectCode) → k.id < 9223372036854775808
+pub wait_back : (rowid : Value) (k : WaitImpl) (s : SubjectImpl) → k.id < 9223372036854775808
     → k.attempt < 9223372036854775808
     → wait_entry (rowid ∷ wait_params (wait_key_of k) (subject_of s))
     ≡ Some (wait_key_of k, subject_of s)
@@ -266,7 +266,7 @@ window_back w =
     rw (is_less w.minutes 9223372036854775808 (omega arith))
     (rw (is_less 0 w.minutes least, at_most w.minutes 525600 most) refl)
 
-pub set_back : (set : SetCode) → 0 < set.number → set.number ≤ 1000
+pub set_back : (set : SetImpl) → 0 < set.number → set.number ≤ 1000
     → set_entry (stored (set_params set.number (windows_of set.windows)))
     ≡ Some (set.number, windows_of set.windows)
 set_back set least most =
@@ -284,7 +284,7 @@ set_back set least most =
       window_back w.broadcast,
     ) refl
 
-pub clock_back : (c : ClockCode) → c.next_id < 9223372036854775808 → 0 < c.present
+pub clock_back : (c : ClockImpl) → c.next_id < 9223372036854775808 → 0 < c.present
     → c.present ≤ 1000 → clock_entry (stored (clock_params 0 (clock_of c))) ≡ Some (0, clock_of c)
 clock_back c few least most = rw (
   minute_back c.minute,

@@ -6,11 +6,11 @@ use Rattle.sqlite.specs.Values.{or_null, bound, bound_value}
 use Rattle.sqlite.specs.Order.{Row}
 use Rattle.numbers.specs.Subjects.{Subject}
 use Rattle.numbers.specs.Routings.{Routing}
-use Rattle.meaning.specs.Content.{VersionRow}
-use Rattle.meaning.specs.Statuses.{Status, Pending, Conflict, CancelPending, Sending, Active, PartialFailure, Failed, DisconnectPending, Old, Canceled}
+use Rattle.model.specs.Content.{VersionRow}
+use Rattle.model.specs.Statuses.{Status, Pending, Conflict, CancelPending, Sending, Active, PartialFailure, Failed, DisconnectPending, Old, Canceled}
 use Rattle.sql_rows.specs.Values.{number_value, bool_value, lrn_value, cic_value, cic_of, release_value, by_value, found_value}
-use Rattle.meaning.specs.Content.{BlockRow, BroadcastKey, BroadcastRow, WaitKey}
-use Rattle.meaning.specs.Windows.{Windows}
+use Rattle.model.specs.Content.{BlockRow, BroadcastKey, BroadcastRow, WaitKey}
+use Rattle.model.specs.Windows.{Windows}
 use Rattle.sql_rows.specs.Clocks.{StoredClock}
 use Rattle.sql_rows.specs.Versions.{version_params}
 use Rattle.sql_rows.specs.Content.{block_params, broadcast_params, wait_params, clock_params, set_params, next_params, wait_key_params, broadcast_key_params}
@@ -37,11 +37,11 @@ lrns (Some r) = refl
 
 cics : (o : Option Routing) → bound_value (cic_value o) ≡ cic_value o
 cics None = refl
-cics (Some r) = go r.cic
+cics (Some r) = by_cases r.cic
   where
-    go : (c : Option ℕ) → bound_value (cic_of c) ≡ cic_of c
-    go None = refl
-    go (Some n) = refl
+    by_cases : (c : Option ℕ) → bound_value (cic_of c) ≡ cic_of c
+    by_cases None = refl
+    by_cases (Some n) = refl
 
 releases : (s : Status) → bound_value (release_value s) ≡ release_value s
 releases Pending = refl

@@ -9,10 +9,10 @@ use Rattle.sqlite.specs.Cast.{cast}
 use Rattle.sqlite.specs.Tree.{Trees}
 use Rattle.numbers.specs.Subjects.{Subject}
 use Rattle.numbers.specs.Routings.{Routing}
-use Rattle.meaning.specs.Content.{BlockRow, VersionRow, BroadcastRow, BroadcastKey, WaitKey}
-use Rattle.meaning.specs.Windows.{Windows}
+use Rattle.model.specs.Content.{BlockRow, VersionRow, BroadcastRow, BroadcastKey, WaitKey}
+use Rattle.model.specs.Windows.{Windows}
 use Rattle.sql_rows.specs.Clocks.{StoredClock}
-use Rattle.meaning.specs.Statuses.{Status, Pending, Conflict, CancelPending, Sending, Active, PartialFailure, Failed, DisconnectPending, Old, Canceled}
+use Rattle.model.specs.Statuses.{Status, Pending, Conflict, CancelPending, Sending, Active, PartialFailure, Failed, DisconnectPending, Old, Canceled}
 use Rattle.sqlite.specs.Edit.{next_rowid}
 use Rattle.sql_rows.specs.Values.{number_value, bool_value, lrn_value, cic_value, cic_of, release_value, by_value, found_value, subject_value}
 use Rattle.sql_rows.specs.Versions.{version_params, version_row}
@@ -53,11 +53,11 @@ cast_lrn (Some r) = cast_int _
 
 cast_cic : (o : Option Routing) → cast kind.Integer (cic_value o) ≡ cic_value o
 cast_cic None = cast_null
-cast_cic (Some r) = go r.cic
+cast_cic (Some r) = by_cases r.cic
   where
-    go : (c : Option ℕ) → cast kind.Integer (cic_of c) ≡ cic_of c
-    go None = cast_null
-    go (Some n) = cast_int _
+    by_cases : (c : Option ℕ) → cast kind.Integer (cic_of c) ≡ cic_of c
+    by_cases None = cast_null
+    by_cases (Some n) = cast_int _
 
 cast_release : (s : Status) → cast kind.Integer (release_value s) ≡ release_value s
 cast_release Pending = cast_null

@@ -27,16 +27,17 @@ all_kept (x ∷ xs) = ap (λ l. x ∷ l) (all_kept xs)
 twice : (f g : Row → Bool) (rows : List Row)
     → filter (λ r. not (f r)) (filter (λ r. not (g r)) rows) ≡ filter (λ r. not (g r || f r)) rows
 twice f g [] = refl
-twice f g (r ∷ rows) = go (g r) (f r) refl refl (twice f g rows)
+twice f g (r ∷ rows) = by_cases (g r) (f r) refl refl (twice f g rows)
   where
-    go : (b c : Bool) → g r ≡ b → f r ≡ c → filter (λ r. not (f r)) (filter (λ r. not (g r)) rows)
+    by_cases : (b c : Bool) → g r ≡ b → f r ≡ c
+        → filter (λ r. not (f r)) (filter (λ r. not (g r)) rows)
         ≡ filter (λ r. not (g r || f r)) rows
         → filter (λ r. not (f r)) (cond (not b) (r ∷ filter (λ r. not (g r)) rows)
         (filter (λ r. not (g r)) rows)) ≡ cond (not (b || f r)) (r ∷ filter (λ r. not (g r || f r))
         rows) (filter (λ r. not (g r || f r)) rows)
-    go true c x y more = more
-    go false true x y more = rw y more
-    go false false x y more = rw y (ap (λ l. r ∷ l) more)
+    by_cases true c x y more = more
+    by_cases false true x y more = rw y more
+    by_cases false false x y more = rw y (ap (λ l. r ∷ l) more)
 
 without_all_is : (ids : List ℤ) (rows : List Row)
     → without_all rows ids ≡ filter (λ r. not (hit_by ids r)) rows
@@ -82,27 +83,27 @@ module _ (p : Row → Bool) where
   hit r (x ∷ xs) (inl same) is int =
       subst (λ y. list_any (meets r) (cond (p y) (y ∷ filter p xs) (filter p xs)) ≡ true) same
       (rw is (rw (meets_itself r int) refl))
-  hit r (x ∷ xs) (inr at) is int = go (p x) (hit r xs at is int)
+  hit r (x ∷ xs) (inr at) is int = by_cases (p x) (hit r xs at is int)
     where
-      go : (b : Bool) → list_any (meets r) (filter p xs) ≡ true
+      by_cases : (b : Bool) → list_any (meets r) (filter p xs) ≡ true
           → list_any (meets r) (cond b (x ∷ filter p xs) (filter p xs)) ≡ true
-      go true more = rw more (or_true (meets r x))
-      go false more = more
+      by_cases true more = rw more (or_true (meets r x))
+      by_cases false more = more
 
   missed : (r : Row) (xs : List Row) → p r ≡ false → ((x : Row) → Has xs x → p x ≡ true
       → meets r x ≡ false) → list_any (meets r) (filter p xs) ≡ false
   missed r [] is apart = refl
-  missed r (x ∷ xs) is apart = go (p x) refl (missed r xs is (λ y at. apart y (inr at)))
+  missed r (x ∷ xs) is apart = by_cases (p x) refl (missed r xs is (λ y at. apart y (inr at)))
     where
-      go : (b : Bool) → p x ≡ b → list_any (meets r) (filter p xs) ≡ false
+      by_cases : (b : Bool) → p x ≡ b → list_any (meets r) (filter p xs) ≡ false
           → list_any (meets r) (cond b (x ∷ filter p xs) (filter p xs)) ≡ false
-      go true e more = rw (apart x (inl refl) e, more) refl
-      go false e more = more
+      by_cases true e more = rw (apart x (inl refl) e, more) refl
+      by_cases false e more = more
 
   module _ (rows : List Row) (up : IsTable rows)
       (ints : AllByRecursion (λ r. IsTrue (is_int (rowid r))) rows) where
     decides : (r : Row) → Has rows r → list_any (meets r) (filter p rows) ≡ p r
-    decides r at = go (p r) refl
+    decides r at = by_cases (p r) refl
       where
         apart : p r ≡ false → (x : Row) → Has rows x → p x ≡ true → (b : Bool) → meets r x ≡ b
             → b ≡ false
@@ -114,9 +115,9 @@ module _ (p : Row → Bool) where
             let same : r ≡ x = tied_same rows r x up at there tied in
             absurd (true≢false (sym passes ∙ ap p (sym same) ∙ fails))
 
-        go : (b : Bool) → p r ≡ b → list_any (meets r) (filter p rows) ≡ b
-        go true e = hit r rows at e (int_at rows r ints at)
-        go false e = missed r rows e (λ x there passes. apart e x there passes _ refl)
+        by_cases : (b : Bool) → p r ≡ b → list_any (meets r) (filter p rows) ≡ b
+        by_cases true e = hit r rows at e (int_at rows r ints at)
+        by_cases false e = missed r rows e (λ x there passes. apart e x there passes _ refl)
 
     -- what a DELETE leaves, whichever order its query found the rowids in
     pub deleted : (found : List Row) → IsPermutation (map (λ r. column r 0 ∷ []) (filter p rows))

@@ -25,8 +25,8 @@ use Rattle.sqlite_rules.proofs.ListLemmas.{has_filtered, has_kept, all_has, all_
 use Rattle.sqlite.specs.Query.{Query as Asked, IsAnswer, output, Output, output_cmp}
 use Rattle.sqlite.specs.Program.{overlay}
 use Rattle.sqlite.specs.Tree.{Trees}
-use Rattle.meaning.specs.Content.{VersionRow}
-use Rattle.meaning.specs.Due.{NoRowIsDue}
+use Rattle.model.specs.Content.{VersionRow}
+use Rattle.model.specs.Due.{NoRowIsDue}
 use Rattle.settle.specs.Reads.{IsLeastDue, IsLeastDeadline}
 use Rattle.settle.specs.declared.rows.NumberedRow.{NumberedRow}
 use Rattle.sql_rows.specs.Shaped.{AreShaped}
@@ -186,7 +186,7 @@ pub data Found (db : Trees) (n : ℕ) (rows : List Row) : Type 0 where
 
 due_found : (db : Trees) (n : ℕ) (rows : List Row)
     → IsAnswer due_query (overlay db []) (Int (pos n) ∷ []) rows → Found db n rows
-due_found db n rows a = go a.ordered a.same a.sorted a.shown
+due_found db n rows a = by_cases a.ordered a.same a.sorted a.shown
   where
     picks : List Row
     picks = filter (is_due n) (db 18)
@@ -198,15 +198,16 @@ due_found db n rows a = go a.ordered a.same a.sorted a.shown
         a.distinct ∙ ap (map (output due_query)) staged ∙ map_twice (output due_query)
         (λ r. (Int (pos n) ∷ []) ∷ r ∷ []) picks
 
-    go : (ordered : List Output) → IsPermutation a.kept ordered
+    by_cases : (ordered : List Output) → IsPermutation a.kept ordered
         → IsSorted (output_cmp due_query) ordered
         → rows ≡ take 1 (map (λ (o : Output). o.1) ordered) → Found db n rows
-    go [] same up shown = nothing shown (no_rows picks (subst (λ l. IsPermutation l []) kept same))
+    by_cases [] same up shown =
+        nothing shown (no_rows picks (subst (λ l. IsPermutation l []) kept same))
       where
         no_rows : (xs : List Row) → IsPermutation (map out xs) [] → xs ≡ []
         no_rows [] p = refl
         no_rows (x ∷ xs) p = absurd (has_permuted (map out (x ∷ xs)) [] (out x) p (inl refl))
-    go (o ∷ rest) same up shown =
+    by_cases (o ∷ rest) same up shown =
         let p : IsPermutation (map out picks) (o ∷ rest) =
         subst (λ l. IsPermutation l (o ∷ rest)) kept same in
         let at : IsOutput db n o =
@@ -233,11 +234,11 @@ deadline_at r e d is given =
 
 module _ (db : Trees) (shaped : AreShaped db) (n : ℕ) where
   none_due : filter (is_due n) (db 18) ≡ [] → NoRowIsDue (bare_in db) n
-  none_due none id row at d given = go (nat_lt n d) refl
+  none_due none id row at d given = by_cases (nat_lt n d) refl
     where
-      go : (b : Bool) → nat_lt n d ≡ b → n < d
-      go true e = less_is n d e
-      go false e =
+      by_cases : (b : Bool) → nat_lt n d ≡ b → n < d
+      by_cases true e = less_is n d e
+      by_cases false e =
           let f = version_row_of db id row at in
           let low : d ≤ n = lt_no n d e in
           absurd (none_passes (is_due n) (db 18) f.row none f.has
@@ -247,14 +248,14 @@ module _ (db : Trees) (shaped : AreShaped db) (n : ℕ) where
       → version_entry r ≡ Some (v.id, v.row) → ((x : Row) → Has (db 18) x → is_due n x ≡ true
       → is_lt (value_cmp (column x 18) (column r 18)) ≡ false)
       → IsLeastDue (bare_in db) n (Some v)
-  least r v at due is low = go v.row.deadline refl
+  least r v at due is low = by_cases v.row.deadline refl
     where
-      go : (o : Option ℕ) → v.row.deadline ≡ o → IsLeastDue (bare_in db) n (Some v)
-      go None e =
+      by_cases : (o : Option ℕ) → v.row.deadline ≡ o → IsLeastDue (bare_in db) n (Some v)
+      by_cases None e =
           absurd (true≢false (sym due
           ∙ null_not_due n r (none_read minute_in (column r 18)
           ((reads (shown_of r) (v.id, v.row) is).deadline ∙ ap Some e))))
-      go (Some d) e =
+      by_cases (Some d) e =
           let col : column r 18 ≡ Int (pos d) = deadline_at r (v.id, v.row) d is e in
           let come : d ≤ n = le_said d n (sym (number_due n d r col) ∙ due) in
           (version_stands db shaped r v.id v.row at is, d, e, come, each d col come)
@@ -278,15 +279,15 @@ module _ (db : Trees) (shaped : AreShaped db) (n : ℕ) where
   pub due_is_found : (o : Option NumberedRow)
       → IsSoleAnswer VersionDue version_in db (Int (pos n) ∷ [])
       (option_map (λ (v : NumberedRow). (v.id, v.row)) o) → IsLeastDue (bare_in db) n o
-  due_is_found None h = go (due_found db n h.0 h.1)
+  due_is_found None h = by_cases (due_found db n h.0 h.1)
     where
-      go : Found db n h.0 → NoRowIsDue (bare_in db) n
-      go (nothing e none) = none_due none
-      go (first r at due e low) = absurd (let x = sym h.2 ∙ e in cc)
-  due_is_found (Some v) h = go (due_found db n h.0 h.1)
+      by_cases : Found db n h.0 → NoRowIsDue (bare_in db) n
+      by_cases (nothing e none) = none_due none
+      by_cases (first r at due e low) = absurd (let x = sym h.2 ∙ e in cc)
+  due_is_found (Some v) h = by_cases (due_found db n h.0 h.1)
     where
-      go : Found db n h.0 → IsLeastDue (bare_in db) n (Some v)
-      go (nothing e none) = absurd (let x = sym h.2.1 ∙ e in cc)
-      go (first r at due e low) =
+      by_cases : Found db n h.0 → IsLeastDue (bare_in db) n (Some v)
+      by_cases (nothing e none) = absurd (let x = sym h.2.1 ∙ e in cc)
+      by_cases (first r at due e low) =
           let same : h.2.0 ≡ shown_of r = same_head _ _ (sym h.2.1 ∙ e) in
           least r v at due (ap version_in (sym same) ∙ h.2.2) low

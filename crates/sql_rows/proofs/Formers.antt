@@ -16,21 +16,21 @@ use Rattle.sqlite_rules.proofs.PlaceLemmas.{tied_same}
 use Rattle.sqlite_trees.specs.declared.store.Shape.TheVariants.{Table as AsTable}
 use Rattle.sqlite_value.proofs.OrderLemmas.{value_cmp_total}
 use Rattle.numbers.specs.Routings.{Routing}
-use Rattle.meaning.specs.Content.{ClockRow, VersionRow}
-use Rattle.meaning.specs.Statuses.{Send, Create, Delete, Modify, Status, Pending, Conflict, CancelPending, Sending, Active, PartialFailure, Failed, DisconnectPending, Old, Canceled}
-use Rattle.meaning.specs.declared.words.Side.{Side}
+use Rattle.model.specs.Content.{ClockRow, VersionRow}
+use Rattle.model.specs.Statuses.{Send, Create, Delete, Modify, Status, Pending, Conflict, CancelPending, Sending, Active, PartialFailure, Failed, DisconnectPending, Old, Canceled}
+use Rattle.model.specs.declared.words.Side.{Side}
 use Rattle.sql_rows.specs.Clocks.{old_clock_of}
 use Rattle.sql_rows.specs.Content.{old_clock_entry, old_clock_in, old_clock_shown, windows_in}
-use Rattle.sql_rows.specs.Former.{old_clock, old_versions_in}
+use Rattle.sql_rows.specs.OldSchemas.{old_clock, old_versions_in}
 use Rattle.sql_rows.specs.Found.{IsListAnswer, IsSole, IsSoleAnswer}
-use Rattle.sql_rows.specs.Moving.{table_of_old}
+use Rattle.sql_rows.specs.Migration.{table_of_old}
 use Rattle.sql_rows.specs.Shaped.{AreShaped}
 use Rattle.sql_rows.specs.Statements.{query_of, query_test, shown_by, tree_of}
 use Rattle.sql_rows.specs.Values.{is_int, minute_in, number_in, only_in, send_in, side_in, status_in}
 use Rattle.sql_rows.specs.Versions.{bare, bare_status, old_shown_of, old_version_entry, old_version_in, version_with}
 use Rattle.sql_rows.specs.Written.{IsFrame}
 use Rattle.sql_rows.specs.declared.keyed.OldClock.{OldClock}
-use Rattle.sql_rows.specs.declared.moving.OldTable.{OldTable}
+use Rattle.sql_rows.specs.declared.migration.OldTable.{OldTable}
 use Rattle.sql_rows.specs.declared.statement.Query.TheVariants.{All, OldVersionNumbered}
 use Rattle.sql_rows.specs.declared.statement.Table.TheVariants.{OldClock as ClockTable, OldVersion as VersionTable}
 use Rattle.sql_rows.specs.declared.version_row.OldVersion.{OldVersion}
@@ -186,11 +186,11 @@ old_clock_key r e h =
     sym (ap (λ (x : ℕ × ClockRow). x.0) d.2) ∙ only_zero (column r 0) a.0 a.1
   where
     only_zero : (v : Value) (n : ℕ) → only_in v ≡ Some n → n ≡ 0
-    only_zero v n e = go (is_int (pos 0) v) e
+    only_zero v n e = by_cases (is_int (pos 0) v) e
       where
-        go : (b : Bool) → cond b (Some 0) None ≡ Some n → n ≡ 0
-        go true e = cc
-        go false e = absurd cc
+        by_cases : (b : Bool) → cond b (Some 0) None ≡ Some n → n ≡ 0
+        by_cases true e = cc
+        by_cases false e = absurd cc
 
 pub old_clock_is : (db : Trees) (o : Option (ℕ × ClockRow)) (rows : List Row)
     → IsAnswer (query_of (All ClockTable)) (overlay db []) [] rows → IsSole old_clock_in rows o

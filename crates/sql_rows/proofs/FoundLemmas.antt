@@ -14,11 +14,11 @@ use Rattle.sqlite_rules.proofs.PlaceLemmas.{tied_same}
 use Rattle.sqlite_value.proofs.OrderLemmas.{value_cmp_total}
 use Rattle.sqlite.specs.Program.{overlay}
 use Rattle.numbers.specs.Subjects.{Subject}
-use Rattle.numbers.specs.Views.{subject_of}
+use Rattle.numbers.specs.Abstraction.{subject_of}
 use Rattle.numbers.specs.declared.spid.Spid.{Spid}
-use Rattle.numbers.specs.declared.ported.Subject.{Subject as SubjectCode}
-use Rattle.meaning.specs.Content.{BlockRow, VersionRow, BroadcastRow, BroadcastKey, broadcast_cmp, subject_if}
-use Rattle.meaning.specs.Windows.{Windows}
+use Rattle.numbers.specs.declared.ported.Subject.{Subject as SubjectImpl}
+use Rattle.model.specs.Content.{BlockRow, VersionRow, BroadcastRow, BroadcastKey, broadcast_cmp, subject_if}
+use Rattle.model.specs.Windows.{Windows}
 use Rattle.sql_rows.specs.Clocks.{StoredClock}
 use Rattle.settle.specs.Reads.{IsInForce, IsOpen}
 use Rattle.settle.specs.declared.rows.NumberedRow.{NumberedRow}
@@ -34,7 +34,7 @@ use Rattle.sql_rows.specs.declared.statement.Query.TheVariants.{CarrierNamed, Lr
 use Rattle.sql_rows.proofs.QueryLemmas.{passes, plain_answer}
 use Rattle.sql_rows.proofs.Lookups.{looked_up, only, none_picked, none_passes, entry_of, entry_from, From}
 use Rattle.sql_rows.proofs.Orders.{same_number, same_broadcast}
-use Rattle.meaning.proofs.KeyOrders.{broadcast_total}
+use Rattle.model.proofs.KeyOrders.{broadcast_total}
 use Rattle.sql_rows.proofs.KeyTests.{next_tests, column_passes, equal_numbers, never_below, carrier_tests, lrn_tests, code_tests, block_tests, version_tests, set_tests, clock_tests, broadcast_tests}
 use Rattle.sql_rows.proofs.Inversions.{reads, number_read, number_small, subject_read, found_read, unfound_read, version_key, next_key, broadcast_reads}
 use Rattle.sql_rows.proofs.Backs.{subject_back}
@@ -124,22 +124,22 @@ module _ (db : Trees) where
 
   pub no_great_id : (id : ℕ) → nat_lt id 9223372036854775808 ≡ false
       → get (bare_in db).versions id ≡ None
-  no_great_id id great = go (get (bare_in db).versions id) refl
+  no_great_id id great = by_cases (get (bare_in db).versions id) refl
     where
-      go : (o : Option VersionRow) → get (bare_in db).versions id ≡ o → o ≡ None
-      go None e = refl
-      go (Some w) e =
+      by_cases : (o : Option VersionRow) → get (bare_in db).versions id ≡ o → o ≡ None
+      by_cases None e = refl
+      by_cases (Some w) e =
           let f = entry_from nat_cmp nat_cmp_total version_in shown_of same_number (db 18) id w e in
           absurd (true≢false
           (sym (number_small (column f.row 0) id (version_key f.row (id, w) f.reads)) ∙ great))
 
   pub no_great_next : (id : ℕ) → nat_lt id 9223372036854775808 ≡ false
       → get (nexts_in (db 16)) id ≡ None
-  no_great_next id great = go (get (nexts_in (db 16)) id) refl
+  no_great_next id great = by_cases (get (nexts_in (db 16)) id) refl
     where
-      go : (o : Option Routing) → get (nexts_in (db 16)) id ≡ o → o ≡ None
-      go None e = refl
-      go (Some w) e =
+      by_cases : (o : Option Routing) → get (nexts_in (db 16)) id ≡ o → o ≡ None
+      by_cases None e = refl
+      by_cases (Some w) e =
           let f = entry_from nat_cmp nat_cmp_total next_row_in next_shown same_number (db 16) id w
           e in
           absurd (true≢false
@@ -148,11 +148,11 @@ module _ (db : Trees) where
   pub no_great_broadcast : (k : BroadcastKey)
       → (nat_lt k.id 9223372036854775808 && nat_lt k.attempt 9223372036854775808) ≡ false
       → get (content_in db).broadcasts k ≡ None
-  no_great_broadcast k great = go (get (content_in db).broadcasts k) refl
+  no_great_broadcast k great = by_cases (get (content_in db).broadcasts k) refl
     where
-      go : (o : Option BroadcastRow) → get (content_in db).broadcasts k ≡ o → o ≡ None
-      go None e = refl
-      go (Some w) e =
+      by_cases : (o : Option BroadcastRow) → get (content_in db).broadcasts k ≡ o → o ≡ None
+      by_cases None e = refl
+      by_cases (Some w) e =
           let f = entry_from broadcast_cmp broadcast_total broadcast_in broadcast_shown
           same_broadcast (db 8) k w e in
           let r = broadcast_reads f.row (k, w) f.reads in
@@ -186,7 +186,7 @@ module _ (db : Trees) where
       id v e
 
 -- a column by which a subject's row is found passes the test of that subject alone
-found_passes : (place id : ℕ) (r : Row) (t : Subject) (b : Bool) (s : SubjectCode)
+found_passes : (place id : ℕ) (r : Row) (t : Subject) (b : Bool) (s : SubjectImpl)
     → found_in id t (column r place) ≡ Some b → subject_in (column r 2) ≡ Some t
     → subject_if b t ≡ Some (subject_of s)
     → passes (column_is place 0 ∷ []) (subject_value (subject_of s) ∷ []) r ≡ true
@@ -198,7 +198,7 @@ found_passes place id r t true s is of e =
     ∙ ap (λ u. is_eq (nat_cmp (subject_number u) (subject_number (subject_of s)))) same
     ∙ ap is_eq (tied_itself nat_cmp_total (subject_number (subject_of s)))
 
-passes_found : (place id : ℕ) (r : Row) (t : Subject) (b : Bool) (s : SubjectCode)
+passes_found : (place id : ℕ) (r : Row) (t : Subject) (b : Bool) (s : SubjectImpl)
     → found_in id t (column r place) ≡ Some b → subject_in (column r 2) ≡ Some t
     → passes (column_is place 0 ∷ []) (subject_value (subject_of s) ∷ []) r ≡ true
     → subject_if b t ≡ Some (subject_of s)
@@ -216,7 +216,7 @@ passes_found place id r t true s is of passed =
     ap (λ k. subject_in (Int (pos k))) (sym same) ∙ ap subject_in (sym own) ∙ of in
     sym read ∙ subject_back s
 
-module _ (db : Trees) (shaped : AreShaped db) (s : SubjectCode) where
+module _ (db : Trees) (shaped : AreShaped db) (s : SubjectImpl) where
   pub in_force_found : (o : Option NumberedRow)
       → IsSoleAnswer VersionInForce version_in db (subject_value (subject_of s) ∷ [])
       (option_map (λ (v : NumberedRow). (v.id, v.row)) o) → IsInForce (bare_in db) (subject_of s) o

@@ -7,11 +7,11 @@ use Rattle.sqlite.specs.declared.types.Value.TheVariants.{Null, Int, Real, Text,
 use Rattle.sqlite.specs.Order.{Row, column}
 use Rattle.numbers.specs.Routings.{Routing}
 use Rattle.numbers.specs.Subjects.{Subject, Number, Block}
-use Rattle.meaning.specs.Content.{VersionRow, subject_if}
+use Rattle.model.specs.Content.{VersionRow, subject_if}
 use Rattle.sql_rows.specs.Values.{number_in, lrn_in, code_from, code_in, block_from, block_in, minute_in, subject_in, subject_from, below, or_null_in, spid_in, routing_in, status_in, bool_in, subject_number, found_in, is_int, only_in, set_from, set_number_in}
 use Rattle.numbers.specs.Texts.{spid_text}
-use Rattle.meaning.specs.Content.{BlockRow, BroadcastRow, BroadcastKey, WaitKey}
-use Rattle.meaning.specs.Windows.{Windows}
+use Rattle.model.specs.Content.{BlockRow, BroadcastRow, BroadcastKey, WaitKey}
+use Rattle.model.specs.Windows.{Windows}
 use Rattle.sql_rows.specs.Clocks.{StoredClock}
 use Rattle.sql_rows.specs.Versions.{version_with, version_in, version_entry, shown_of}
 use Rattle.sql_rows.specs.Values.{action_in}
@@ -80,11 +80,11 @@ pub reads : (r : Row) (e : ℕ × VersionRow) → version_in r ≡ Some e → Re
 reads r e h = reads_with (set_number_in (column r 20)) r e h
 
 pub number_read : (v : Value) (n : ℕ) → number_in v ≡ Some n → v ≡ Int (pos n)
-number_read (Int (pos m)) n h = go (nat_lt m 9223372036854775808) h
+number_read (Int (pos m)) n h = by_cases (nat_lt m 9223372036854775808) h
   where
-    go : (b : Bool) → cond b (Some m) None ≡ Some n → Int (pos m) ≡ Int (pos n)
-    go true h = cc
-    go false h = absurd cc
+    by_cases : (b : Bool) → cond b (Some m) None ≡ Some n → Int (pos m) ≡ Int (pos n)
+    by_cases true h = cc
+    by_cases false h = absurd cc
 number_read (Int (negsuc m)) n h = absurd cc
 number_read Null n h = absurd cc
 number_read (Real x) n h = absurd cc
@@ -92,12 +92,13 @@ number_read (Text t) n h = absurd cc
 number_read (Blob b) n h = absurd cc
 
 pub number_small : (v : Value) (n : ℕ) → number_in v ≡ Some n → nat_lt n 9223372036854775808 ≡ true
-number_small (Int (pos m)) n h = go (nat_lt m 9223372036854775808) refl h
+number_small (Int (pos m)) n h = by_cases (nat_lt m 9223372036854775808) refl h
   where
-    go : (b : Bool) → nat_lt m 9223372036854775808 ≡ b → cond b (Some m) None ≡ Some n
+    by_cases : (b : Bool) → nat_lt m 9223372036854775808 ≡ b → cond b (Some m) None ≡ Some n
         → nat_lt n 9223372036854775808 ≡ true
-    go true e h = let same : m ≡ n = cc in ap (λ k. nat_lt k 9223372036854775808) (sym same) ∙ e
-    go false e h = absurd cc
+    by_cases true e h = let same : m ≡ n = cc in ap (λ k. nat_lt k 9223372036854775808) (sym same)
+        ∙ e
+    by_cases false e h = absurd cc
 number_small (Int (negsuc m)) n h = absurd cc
 number_small Null n h = absurd cc
 number_small (Real x) n h = absurd cc
@@ -117,14 +118,15 @@ minute_read v n h = let a = bind_some _ (number_in v) n h in
     number_read v a.0 a.1 ∙ ap (λ k. Int (pos k)) (below_same 1099511627776 a.0 n a.2)
 
 pub subject_same : (n : ℕ) (s : Subject) → subject_from n ≡ Some s → n ≡ subject_number s
-subject_same n s h = go (nat_lt n 10000000) _ _ h
+subject_same n s h = by_cases (nat_lt n 10000000) _ _ h
   where
-    go : (b c d : Bool) → cond b (cond c (Some (Block n)) None) (cond d (Some (Number n)) None)
+    by_cases : (b c d : Bool)
+        → cond b (cond c (Some (Block n)) None) (cond d (Some (Number n)) None)
         ≡ Some s → n ≡ subject_number s
-    go true true d h = let same : Block n ≡ s = cc in ap subject_number same
-    go true false d h = absurd cc
-    go false c true h = let same : Number n ≡ s = cc in ap subject_number same
-    go false c false h = absurd cc
+    by_cases true true d h = let same : Block n ≡ s = cc in ap subject_number same
+    by_cases true false d h = absurd cc
+    by_cases false c true h = let same : Number n ≡ s = cc in ap subject_number same
+    by_cases false c false h = absurd cc
 
 pub subject_read : (v : Value) (s : Subject) → subject_in v ≡ Some s
     → v ≡ Int (pos (subject_number s))
@@ -165,25 +167,26 @@ is_int_read n (Blob b) h = absurd (true≢false (sym h))
 -- a column by which the subject's row is found holds the subject's number
 pub found_read : (id : ℕ) (s : Subject) (v : Value) → found_in id s v ≡ Some true
     → v ≡ Int (pos (subject_number s))
-found_read id s v h = go (is_int (negsuc id) v) (is_int (pos (subject_number s)) v) refl h
+found_read id s v h = by_cases (is_int (negsuc id) v) (is_int (pos (subject_number s)) v) refl h
   where
-    go : (b c : Bool) → is_int (pos (subject_number s)) v ≡ c
+    by_cases : (b c : Bool) → is_int (pos (subject_number s)) v ≡ c
         → cond b (Some false) (cond c (Some true) None) ≡ Some true
         → v ≡ Int (pos (subject_number s))
-    go true c e h = absurd (let f : false ≡ true = cc in true≢false (sym f))
-    go false true e h = is_int_read (pos (subject_number s)) v e
-    go false false e h = absurd cc
+    by_cases true c e h = absurd (let f : false ≡ true = cc in true≢false (sym f))
+    by_cases false true e h = is_int_read (pos (subject_number s)) v e
+    by_cases false false e h = absurd cc
 
 -- or what says that it is not
 pub unfound_read : (id : ℕ) (s : Subject) (v : Value) → found_in id s v ≡ Some false
     → v ≡ Int (negsuc id)
-unfound_read id s v h = go (is_int (negsuc id) v) (is_int (pos (subject_number s)) v) refl h
+unfound_read id s v h = by_cases (is_int (negsuc id) v) (is_int (pos (subject_number s)) v) refl h
   where
-    go : (b c : Bool) → is_int (negsuc id) v ≡ b → cond b (Some false) (cond c (Some true) None)
+    by_cases : (b c : Bool) → is_int (negsuc id) v ≡ b
+        → cond b (Some false) (cond c (Some true) None)
         ≡ Some false → v ≡ Int (negsuc id)
-    go true c e h = is_int_read (negsuc id) v e
-    go false true e h = absurd (let f : true ≡ false = cc in true≢false f)
-    go false false e h = absurd cc
+    by_cases true c e h = is_int_read (negsuc id) v e
+    by_cases false true e h = absurd (let f : true ≡ false = cc in true≢false f)
+    by_cases false false e h = absurd cc
 
 -- ---- the keys of the other tables
 
@@ -226,11 +229,12 @@ block_key r e h =
     tested_read block_from block_same (column r 0) a.0 a.1 ∙ ap (λ (x : ℕ × BlockRow). Some x.0) c.2
 
 only_read : (v : Value) (n : ℕ) → only_in v ≡ Some n → number_in v ≡ Some n
-only_read v n h = go (is_int (pos 0) v) refl h
+only_read v n h = by_cases (is_int (pos 0) v) refl h
   where
-    go : (b : Bool) → is_int (pos 0) v ≡ b → cond b (Some 0) None ≡ Some n → number_in v ≡ Some n
-    go true e h = ap number_in (is_int_read (pos 0) v e) ∙ h
-    go false e h = absurd cc
+    by_cases : (b : Bool) → is_int (pos 0) v ≡ b → cond b (Some 0) None ≡ Some n
+        → number_in v ≡ Some n
+    by_cases true e h = ap number_in (is_int_read (pos 0) v e) ∙ h
+    by_cases false e h = absurd cc
 
 pub next_key : (r : Row) (e : ℕ × Routing) → next_entry r ≡ Some e
     → number_in (column r 0) ≡ Some e.0

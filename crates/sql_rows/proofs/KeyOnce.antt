@@ -18,7 +18,7 @@ use Rattle.numbers.specs.Texts.{spid_text}
 use Rattle.sql_rows.specs.Tables.{the_schema}
 use Rattle.sql_rows.specs.Shaped.{AreShaped}
 use Rattle.sql_rows.specs.Content.{broadcast_entry, carrier_entry, wait_entry}
-use Rattle.sql_rows.specs.Once.{AreOnce, AreKeysOnce}
+use Rattle.sql_rows.specs.Once.{AreKeysUnique, HasUniqueKeys}
 use Rattle.sql_rows.specs.declared.statement.Table.TheVariants.{Broadcast, Carrier, Wait}
 use Rattle.sql_rows.proofs.Inversions.{broadcast_reads, carrier_key, wait_reads, number_read, minute_read, spid_read}
 use Rattle.sql_rows.proofs.OnceLemmas.{broadcast_once, carrier_once, wait_once}
@@ -35,7 +35,7 @@ agree_from o (p ∷ ps) s r all =
     rw (all.0.0, equal_itself _ (column r p) all.0.1) (agree_from (later o) ps s r all.1)
 
 pub broadcasts_once : (db : Trees) → Obeys the_schema db → IsShaped Table (db 8)
-    → AreOnce broadcast_entry (db 8)
+    → AreKeysUnique broadcast_entry (db 8)
 broadcasts_once db obeys shaped = λ r s k a b at there is also.
     let one = broadcast_reads r (k, a) is in
     let two = broadcast_reads s (k, b) also in
@@ -48,7 +48,7 @@ broadcasts_once db obeys shaped = λ r s k a b at there is also.
     ))
 
 pub waits_once : (db : Trees) → Obeys the_schema db → IsShaped Table (db 10)
-    → AreOnce wait_entry (db 10)
+    → AreKeysUnique wait_entry (db 10)
 waits_once db obeys shaped = λ r s k a b at there is also.
     let one = wait_reads r (k, a) is in
     let two = wait_reads s (k, b) also in
@@ -70,7 +70,7 @@ waits_once db obeys shaped = λ r s k a b at there is also.
     ))
 
 pub carriers_once : (db : Trees) → Obeys the_schema db → IsShaped Table (db 0)
-    → AreOnce carrier_entry (db 0)
+    → AreKeysUnique carrier_entry (db 0)
 carriers_once db obeys shaped = λ r s k a b at there is also.
     let one : column r 1 ≡ Text (spid_text k) =
     spid_read (column r 1) k (carrier_key r (k, a) is) in
@@ -80,7 +80,7 @@ carriers_once db obeys shaped = λ r s k a b at there is also.
     (agree_from plain (1 ∷ []) s r ((two ∙ sym one, ap is_null one), tt))
 
 -- in a database that obeys its rules no key stands twice
-pub keys_once : (db : Trees) → Obeys the_schema db → AreShaped db → AreKeysOnce db
+pub keys_once : (db : Trees) → Obeys the_schema db → AreShaped db → HasUniqueKeys db
 keys_once db obeys shaped = record {
   carriers = carriers_once db obeys (shaped Carrier);
   broadcasts = broadcasts_once db obeys (shaped Broadcast);

@@ -17,7 +17,7 @@ use Rattle.sqlite.specs.Collation.TheVariants.{Binary}
 use Rattle.sqlite_value.proofs.OrderLemmas.{value_cmp-Int, value_cmp-Text, value_cmp_total}
 use Rattle.numbers.specs.Texts.{spid_text}
 use Rattle.numbers.specs.declared.spid.Spid.{Spid}
-use Rattle.meaning.specs.Content.{BroadcastKey, WaitKey, broadcast_cmp, wait_cmp}
+use Rattle.model.specs.Content.{BroadcastKey, WaitKey, broadcast_cmp, wait_cmp}
 use Rattle.sql_rows.specs.Values.{number_in, spid_in, spid_value}
 use Rattle.sql_rows.specs.Versions.{version_entry}
 use Rattle.sql_rows.specs.Content.{next_entry, carrier_entry, lrn_entry, code_entry, block_entry, broadcast_entry, wait_entry, set_entry, clock_entry}
@@ -28,7 +28,7 @@ use Rattle.sql_rows.proofs.RowLemmas.{Tests}
 use Rattle.sql_rows.proofs.Inversions.{number_read, minute_read, spid_read, carrier_key, lrn_key, code_key, block_key, next_key, set_key, clock_key, version_key, broadcast_reads, wait_reads}
 use Rattle.sql_rows.proofs.Backs.{spid_back}
 use Rattle.sql_rows.proofs.Orders.{broadcast_tie, wait_tie, same_number}
-use Rattle.meaning.proofs.KeyOrders.{broadcast_total, wait_total}
+use Rattle.model.proofs.KeyOrders.{broadcast_total, wait_total}
 use Rattle.std.proofs.lemmas.Map.Lookups.{exact_bytes}
 use Rattle.sql_rows.proofs.OnceLemmas.{true_of}
 use Rattle.numbers.proofs.Small.{tied}
@@ -58,16 +58,16 @@ same_text s t h = exact_bytes s t (sym (value_cmp-Text s t) ∙ tied (value_cmp 
 pub equal_spids : (m : ℕ) (s : Spid) → spid_in (spid_value m) ≡ Some m
     → equals (spid_value m) (spid_value s.number) ≡ is_eq (nat_cmp m s.number)
 equal_spids m s valid =
-    texts _ _ ∙ go (is_eq (nat_cmp m s.number)) refl
+    texts _ _ ∙ by_cases (is_eq (nat_cmp m s.number)) refl
     (is_eq (value_cmp (spid_value m) (spid_value s.number))) refl
   where
-    go : (b : Bool) → is_eq (nat_cmp m s.number) ≡ b → (c : Bool)
+    by_cases : (b : Bool) → is_eq (nat_cmp m s.number) ≡ b → (c : Bool)
         → is_eq (value_cmp (spid_value m) (spid_value s.number)) ≡ c → c ≡ b
-    go true e c d = let same = same_number m s.number e in
+    by_cases true e c d = let same = same_number m s.number e in
         sym d ∙ ap (λ n. is_eq (value_cmp (spid_value n) (spid_value s.number))) same
         ∙ ap is_eq (tied_itself value_cmp_total (spid_value s.number))
-    go false e false d = refl
-    go false e true d =
+    by_cases false e false d = refl
+    by_cases false e true d =
         let same : spid_text m ≡ spid_text s.number = same_text _ _ d in
         let one : m ≡ s.number = (let read : ◌≡◌ {A = Option ℕ} (Some m) (Some s.number) =
         sym valid ∙ ap (λ t. spid_in (Text t)) same ∙ spid_back s in cc) in

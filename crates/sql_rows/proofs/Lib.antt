@@ -8,7 +8,7 @@ pub mod Backs
 pub mod Lookups
 pub mod Orders
 pub mod KeyTests
-pub mod MovingLemmas
+pub mod MigrationLemmas
 pub mod WriteLemmas
 pub mod Casts
 pub mod BoundLemmas

@@ -36,11 +36,13 @@ none_passes p [] r none at is = at
 none_passes p (x ∷ rows) r none (inl same) is = let h : p x ≡ true = ap p (sym same) ∙ is in
     let e : cond true (x ∷ filter p rows) (filter p rows) ≡ [] =
     subst (λ b. cond b (x ∷ filter p rows) (filter p rows) ≡ []) h none in absurd cc
-none_passes p (x ∷ rows) r none (inr at) is = go (p x) none (λ e. none_passes p rows r e at is)
+none_passes p (x ∷ rows) r none (inr at) is =
+    by_cases (p x) none (λ e. none_passes p rows r e at is)
   where
-    go : (b : Bool) → cond b (x ∷ filter p rows) (filter p rows) ≡ [] → (filter p rows ≡ [] → ⊥) → ⊥
-    go true e more = absurd cc
-    go false e more = more e
+    by_cases : (b : Bool) → cond b (x ∷ filter p rows) (filter p rows) ≡ []
+        → (filter p rows ≡ [] → ⊥) → ⊥
+    by_cases true e more = absurd cc
+    by_cases false e more = more e
 
 -- one row that the query found, as it stands in the table
 pub record Only (shown : Row → Row) (p : Row → Bool) (rows : List Row) (found : Row) : Type 0 where
@@ -52,13 +54,13 @@ pub record Only (shown : Row → Row) (p : Row → Bool) (rows : List Row) (foun
 
 pub only : (shown : Row → Row) (p : Row → Bool) (rows : List Row) (found : Row)
     → IsPermutation (map shown (filter p rows)) (found ∷ []) → Only shown p rows found
-only shown p rows found h = go (filter p rows) refl (one_back found _ h)
+only shown p rows found h = by_cases (filter p rows) refl (one_back found _ h)
   where
-    go : (picked : List Row) → filter p rows ≡ picked → map shown picked ≡ found ∷ []
+    by_cases : (picked : List Row) → filter p rows ≡ picked → map shown picked ≡ found ∷ []
         → Only shown p rows found
-    go [] is one = absurd cc
-    go (r ∷ x ∷ more) is one = absurd (let e = ap length one in omega arith)
-    go (r ∷ []) is one =
+    by_cases [] is one = absurd cc
+    by_cases (r ∷ x ∷ more) is one = absurd (let e = ap length one in omega arith)
+    by_cases (r ∷ []) is one =
         let shows : shown r ≡ found = cc in
         let at = has_filtered p rows r (subst (λ l. Has l r) (sym is) (inl refl)) in
         record { row = r; has = at.0; passes = at.1; shows = shows; alone = is }
@@ -94,7 +96,7 @@ module _ {K V : Type 0} (R : K → K → Ordering) (o : IsTotalOrder R) (read : 
     find_from : (k : K) (rows : List Row) (w : V) → find R k (filter_map entry rows) ≡ Some w
         → From k rows w
     find_from k [] w h = absurd cc
-    find_from k (x ∷ rows) w h = go (entry x) refl h (find_from k rows w)
+    find_from k (x ∷ rows) w h = by_cases (entry x) refl h (find_from k rows w)
       where
         later : From k rows w → From k (x ∷ rows) w
         later f = record { row = f.row; has = inr f.has; reads = f.reads }
@@ -112,11 +114,12 @@ module _ {K V : Type 0} (R : K → K → Ordering) (o : IsTotalOrder R) (read : 
             }
         here f false is tie h more = later (more h)
 
-        go : (o : Option (K × V)) → entry x ≡ o → find R k (cons_option o (filter_map entry rows))
+        by_cases : (o : Option (K × V)) → entry x ≡ o
+            → find R k (cons_option o (filter_map entry rows))
             ≡ Some w → (find R k (filter_map entry rows) ≡ Some w → From k rows w)
             → From k (x ∷ rows) w
-        go None is h more = later (more h)
-        go (Some f) is h more = here f _ is refl h more
+        by_cases None is h more = later (more h)
+        by_cases (Some f) is h more = here f _ is refl h more
 
     -- an entry stands in a row
     pub entry_from : (rows : List Row) (k : K) (w : V) → get (content_of R entry rows) k ≡ Some w
@@ -130,7 +133,7 @@ module _ {K V : Type 0} (R : K → K → Ordering) (o : IsTotalOrder R) (read : 
     find_some k (x ∷ rows) r e (inl same) is tie =
         let o : entry x ≡ Some e = ap entry (sym same) ∙ is in
         (e.1, ap (λ o. find R k (cons_option o (filter_map entry rows))) o ∙ rw tie refl)
-    find_some k (x ∷ rows) r e (inr at) is tie = go (entry x) (find_some k rows r e at is tie)
+    find_some k (x ∷ rows) r e (inr at) is tie = by_cases (entry x) (find_some k rows r e at is tie)
       where
         here : (f : K × V) (b : Bool) → eq_by_cmp R k f.0 ≡ b
             → ((w : V) × (find R k (filter_map entry rows) ≡ Some w))
@@ -138,10 +141,10 @@ module _ {K V : Type 0} (R : K → K → Ordering) (o : IsTotalOrder R) (read : 
         here f true h more = (f.1, refl)
         here f false h more = more
 
-        go : (o : Option (K × V)) → ((w : V) × (find R k (filter_map entry rows) ≡ Some w))
+        by_cases : (o : Option (K × V)) → ((w : V) × (find R k (filter_map entry rows) ≡ Some w))
             → (w : V) × (find R k (cons_option o (filter_map entry rows)) ≡ Some w)
-        go None more = more
-        go (Some f) more = here f _ refl more
+        by_cases None more = more
+        by_cases (Some f) more = here f _ refl more
 
     same_second : (k : K) (v w : V) → ◌≡◌ {A = Option (K × V)} (Some (k, v)) (Some (k, w)) → v ≡ w
     same_second k v w h = let pairs : ◌≡◌ {A = K × V} (k, v) (k, w) = cc in

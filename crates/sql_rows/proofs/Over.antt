@@ -13,16 +13,17 @@ module _ {X Y : Type 0} (change : Option Y → X → X) where
       → find nat_cmp k (map (λ (e : ℕ × X). (e.0, change (get more e.0) e.1)) es)
       ≡ option_map (change (get more k)) (find nat_cmp k es)
   found more [] k = refl
-  found more (e ∷ es) k = go (eq_by_cmp nat_cmp k e.0) refl (found more es k)
+  found more (e ∷ es) k = by_cases (eq_by_cmp nat_cmp k e.0) refl (found more es k)
     where
-      go : (b : Bool) → eq_by_cmp nat_cmp k e.0 ≡ b
+      by_cases : (b : Bool) → eq_by_cmp nat_cmp k e.0 ≡ b
           → find nat_cmp k (map (λ (x : ℕ × X). (x.0, change (get more x.0) x.1)) es)
           ≡ option_map (change (get more k)) (find nat_cmp k es) →
           cond b (Some (change (get more e.0) e.1))
           (find nat_cmp k (map (λ (x : ℕ × X). (x.0, change (get more x.0) x.1)) es))
           ≡ option_map (change (get more k)) (cond b (Some e.1) (find nat_cmp k es))
-      go true same later = ap (λ j. Some (change (get more j) e.1)) (sym (same_number k e.0 same))
-      go false same later = later
+      by_cases true same later =
+          ap (λ j. Some (change (get more j) e.1)) (sym (same_number k e.0 same))
+      by_cases false same later = later
 
   pub get-over : (bare : FinMap nat_cmp X) (more : FinMap nat_cmp Y) (k : ℕ)
       → get (over change bare more) k ≡ option_map (change (get more k)) (get bare k)

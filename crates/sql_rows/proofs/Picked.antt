@@ -7,7 +7,7 @@ use Rattle.std.specs.FinMap.{FinMap, get}
 use Rattle.sqlite.specs.Order.{Row}
 use Rattle.sqlite_rules.specs.Lists.{Has}
 use Rattle.sql_rows.specs.Content.{content_of}
-use Rattle.sql_rows.specs.Once.{AreOnce}
+use Rattle.sql_rows.specs.Once.{AreKeysUnique}
 use Rattle.sql_rows.proofs.Listed.{Lists}
 use Rattle.sql_rows.proofs.Lookups.{entry_of, entry_from}
 
@@ -26,7 +26,7 @@ module _ {T K V : Type 0} {R : K → K → Ordering} (o : IsTotalOrder R) (same_
       × (P k v → p r ≡ true)
 
   pub picks : (p : Row → Bool) (P : K → V → Type 0) (rows : List Row) (items : List T)
-      → AreOnce (λ r. read (shown r)) rows → Says p P
+      → AreKeysUnique (λ r. read (shown r)) rows → Says p P
       → Lists seen (λ r. read (shown r)) p rows items
       → Picks seen (content_of R (λ r. read (shown r)) rows) P items
   picks p P rows items once says lists = record {

@@ -10,10 +10,10 @@ use Rattle.sqlite.specs.Effect.{Database}
 use Rattle.sqlite.specs.Tree.{Trees}
 use Rattle.numbers.specs.declared.spid.Spid.{Spid}
 use Rattle.numbers.specs.Subjects.{Subject}
-use Rattle.settle.specs.Views.{wait_key_of}
-use Rattle.settle.specs.declared.rows.WaitKey.{WaitKey as WaitCode}
-use Rattle.meaning.specs.Content.{Content, BlockRow, VersionRow, BroadcastRow, BroadcastKey, ClockRow, broadcast_cmp, wait_cmp}
-use Rattle.meaning.specs.Windows.{Windows}
+use Rattle.settle.specs.Abstraction.{wait_key_of}
+use Rattle.settle.specs.declared.rows.WaitKey.{WaitKey as WaitImpl}
+use Rattle.model.specs.Content.{Content, BlockRow, VersionRow, BroadcastRow, BroadcastKey, ClockRow, broadcast_cmp, wait_cmp}
+use Rattle.model.specs.Windows.{Windows}
 use Rattle.sql_rows.specs.Clocks.{StoredClock, clock_row, with_windows}
 use Rattle.numbers.specs.Routings.{Routing}
 use Rattle.sql_rows.specs.Tables.{the_schema}
@@ -24,7 +24,7 @@ use Rattle.sql_rows.specs.Over.{over}
 use Rattle.sql_rows.specs.Content.{next_entry, next_params, content_in, versions_in, nexts_in, carrier_entry, lrn_entry, code_entry, block_entry, broadcast_entry, wait_entry, set_entry, clock_entry, sets_in, clocks_in, clock_from, set_params, carrier_params, owner_params, block_params, broadcast_params, wait_params, clock_params, stored, broadcast_key_params, wait_key_params}
 use Rattle.sql_rows.specs.Written.{IsFrame, Removed, Replaced}
 use Rattle.sql_rows.specs.declared.statement.Table.TheVariants.{Carrier, Lrn, Code, Block, Version, Broadcast, Wait, Clock, NextRouting, WindowSet}
-use Rattle.meaning.proofs.KeyOrders.{broadcast_total, broadcast_exact, wait_total, wait_exact}
+use Rattle.model.proofs.KeyOrders.{broadcast_total, broadcast_exact, wait_total, wait_exact}
 use Rattle.sql_rows.proofs.KeyTests.{next_tests, set_tests, carrier_tests, lrn_tests, code_tests, block_tests, version_tests, clock_tests, broadcast_tests, wait_tests}
 use Rattle.sql_rows.proofs.Casts.{next_cast, set_cast, next_in, carrier_cast, lrn_cast, code_cast, block_cast, version_cast, broadcast_cast, wait_cast, clock_cast}
 use Rattle.sql_rows.proofs.TableLemmas.{Leaves, framed_twice, put, taken, content_framed}
@@ -162,7 +162,7 @@ module _ (old new : Database) (shaped : AreShaped old.trees) where
             ∙ ap (λ m. record (content_in old.trees) { broadcasts = m }) l.map;
       }
 
-  pub put_wait : (c : WaitCode) (v : Subject)
+  pub put_wait : (c : WaitImpl) (v : Subject)
       → ((rowid : Value) → wait_entry (rowid ∷ wait_params (wait_key_of c) v)
       ≡ Some (wait_key_of c, v))
       → Replaced Wait (wait_key_params (wait_key_of c)) (wait_params (wait_key_of c) v) old new
@@ -197,7 +197,7 @@ module _ (old new : Database) (shaped : AreShaped old.trees) where
             ∙ ap (λ m. record (content_in old.trees) { broadcasts = m }) l.map;
       }
 
-  pub take_wait : (c : WaitCode) → Removed Wait (wait_key_params (wait_key_of c)) old new
+  pub take_wait : (c : WaitImpl) → Removed Wait (wait_key_params (wait_key_of c)) old new
       → Became new (record (content_in old.trees) {
         waits = remove (content_in old.trees).waits (wait_key_of c);
       })

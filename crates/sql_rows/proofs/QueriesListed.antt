@@ -14,18 +14,18 @@ use Rattle.sqlite.specs.Collation.TheVariants.{Binary}
 use Rattle.sqlite.specs.Tree.{Trees}
 use Rattle.sqlite.specs.Program.{overlay}
 use Rattle.numbers.specs.Subjects.{Subject}
-use Rattle.numbers.specs.Views.{subject_of}
+use Rattle.numbers.specs.Abstraction.{subject_of}
 use Rattle.numbers.specs.declared.spid.Spid.{Spid}
-use Rattle.numbers.specs.declared.ported.Subject.{Subject as SubjectCode}
-use Rattle.meaning.specs.Content.{VersionRow, BroadcastKey, BroadcastRow, WaitKey, subject_if}
-use Rattle.settle.specs.Views.{spid_of, broadcast_key_of, broadcast_row_of, wait_key_of}
+use Rattle.numbers.specs.declared.ported.Subject.{Subject as SubjectImpl}
+use Rattle.model.specs.Content.{VersionRow, BroadcastKey, BroadcastRow, WaitKey, subject_if}
+use Rattle.settle.specs.Abstraction.{spid_of, broadcast_key_of, broadcast_row_of, wait_key_of}
 use Rattle.settle.specs.declared.rows.NumberedRow.{NumberedRow}
 use Rattle.sql_rows.specs.Shaped.{AreShaped}
 use Rattle.sql_rows.specs.Values.{bool_from, found_in, number_in, spid_in, spid_value, subject_in, subject_number, subject_value}
 use Rattle.sql_rows.specs.Versions.{version_in, shown_of}
 use Rattle.sql_rows.specs.Content.{content_in, bare_in, carrier_in, carrier_shown, broadcast_in, broadcast_shown, wait_in, wait_shown}
 use Rattle.sql_rows.specs.Found.{IsListAnswer}
-use Rattle.sql_rows.specs.Once.{AreKeysOnce}
+use Rattle.sql_rows.specs.Once.{HasUniqueKeys}
 use Rattle.sql_rows.specs.Statements.{query_test, shown_by}
 use Rattle.sql_rows.specs.declared.keyed.KeyedBroadcast.{KeyedBroadcast}
 use Rattle.sql_rows.specs.declared.keyed.KeyedWait.{KeyedWait}
@@ -38,7 +38,7 @@ use Rattle.sql_rows.proofs.Inversions.{bind_some, broadcast_reads, found_read, n
 use Rattle.sql_rows.proofs.KeyTests.{both, column_passes, equal_numbers, equal_spids, equals, two_of}
 use Rattle.sql_rows.proofs.Listed.{listed}
 use Rattle.sql_rows.proofs.Orders.{same_broadcast, same_number, same_wait}
-use Rattle.meaning.proofs.KeyOrders.{broadcast_total, wait_total}
+use Rattle.model.proofs.KeyOrders.{broadcast_total, wait_total}
 use Rattle.sql_rows.proofs.Picked.{Picks, Says, picks}
 use Rattle.sql_rows.proofs.QueryLemmas.{passes, plain_answer}
 use Rattle.numbers.proofs.Small.{and_both, true_both}
@@ -91,7 +91,7 @@ of_says id attempt r k v is =
     )
 
 -- the number of a subject that was read is its own
-same_subject : (v : Value) (t : Subject) (s : SubjectCode) → subject_in v ≡ Some t
+same_subject : (v : Value) (t : Subject) (s : SubjectImpl) → subject_in v ≡ Some t
     → subject_number t ≡ subject_number (subject_of s) → t ≡ subject_of s
 same_subject v t s is same =
     let own : v ≡ subject_value t = subject_read v t is in
@@ -100,7 +100,7 @@ same_subject v t s is same =
     let one : ◌≡◌ {A = Option Subject} (Some t) (Some (subject_of s)) = sym read ∙ subject_back s in
     cc
 
-about_says : (c : Spid) (s : SubjectCode) → Says wait_total same_wait wait_in wait_shown wait_seen
+about_says : (c : Spid) (s : SubjectImpl) → Says wait_total same_wait wait_in wait_shown wait_seen
     (passes (query_test WaitsAbout) (subject_value (subject_of s) ∷ spid_value c.number ∷ []))
     (λ k v. (k.carrier ≡ c.number) × (v ≡ subject_of s))
 about_says c s r k v is =
@@ -127,16 +127,16 @@ about_says c s r k v is =
     )
 
 bool_told : (n : ℕ) (b : Bool) → bool_from n ≡ Some b → is_eq (nat_cmp n 1) ≡ b
-bool_told n b h = go (nat_lt n 1) refl (nat_lt n 2) refl h
+bool_told n b h = by_cases (nat_lt n 1) refl (nat_lt n 2) refl h
   where
-    go : (low : Bool) → nat_lt n 1 ≡ low → (high : Bool) → nat_lt n 2 ≡ high
+    by_cases : (low : Bool) → nat_lt n 1 ≡ low → (high : Bool) → nat_lt n 2 ≡ high
         → (if low then Some false else (if high then Some true else None)) ≡ Some b
         → is_eq (nat_cmp n 1) ≡ b
-    go true e high f h = let same : false ≡ b = cc in (let is : is_eq (nat_cmp n 1) ≡ false =
+    by_cases true e high f h = let same : false ≡ b = cc in (let is : is_eq (nat_cmp n 1) ≡ false =
         grind (arith, nat_tests) in is) ∙ same
-    go false e true f h = let same : true ≡ b = cc in (let is : is_eq (nat_cmp n 1) ≡ true =
+    by_cases false e true f h = let same : true ≡ b = cc in (let is : is_eq (nat_cmp n 1) ≡ true =
         grind (arith, nat_tests) in is) ∙ same
-    go false e false f h = absurd cc
+    by_cases false e false f h = absurd cc
 
 open_says : Says broadcast_total same_broadcast broadcast_in broadcast_shown broadcast_seen
     (passes (query_test BroadcastsByOpen) (Int (pos 1) ∷ [])) (λ k v. v.is_open ≡ true)
@@ -150,7 +150,7 @@ open_says r k v is =
 
 -- ---- the lists
 
-module _ (db : Trees) (once : AreKeysOnce db) where
+module _ (db : Trees) (once : HasUniqueKeys db) where
   pub carriers_picked : (items : List Spid)
       → IsListAnswer (All Carrier) carrier_in db [] (map carrier_seen items)
       → Picks carrier_seen (content_in db).carriers (λ k v. Unit {0}) items
@@ -181,7 +181,7 @@ module _ (db : Trees) (once : AreKeysOnce db) where
       (listed wait_seen wait_in wait_shown _ (db 10) h.0 items (plain_answer 10 (query_test WaitsOf)
       (shown_by Wait) (overlay db []) (Int (pos id) ∷ Int (pos attempt) ∷ []) h.0 h.1) h.2)
 
-  pub waits_about_picked : (c : Spid) (s : SubjectCode) (items : List KeyedWait)
+  pub waits_about_picked : (c : Spid) (s : SubjectImpl) (items : List KeyedWait)
       → IsListAnswer WaitsAbout wait_in db (subject_value (subject_of s) ∷ spid_value c.number ∷ [])
       (map wait_seen items)
       → Picks wait_seen (content_in db).waits (λ k v. (k.carrier ≡ c.number) × (v ≡ subject_of s))

@@ -13,13 +13,13 @@ pub use Rattle.sql_rows.specs.Written.{passes}
 pub picked : {X Y : Type 0} (p : X → Bool) (f : X → Y) (xs : List X)
     → flat_map (λ x. cond (p x) (f x ∷ []) []) xs ≡ map f (filter p xs)
 picked p f [] = refl
-picked p f (x ∷ xs) = go (p x) (picked p f xs)
+picked p f (x ∷ xs) = by_cases (p x) (picked p f xs)
   where
-    go : (b : Bool) → flat_map (λ x. cond (p x) (f x ∷ []) []) xs ≡ map f (filter p xs)
+    by_cases : (b : Bool) → flat_map (λ x. cond (p x) (f x ∷ []) []) xs ≡ map f (filter p xs)
         → cond b (f x ∷ []) [] ++ flat_map (λ x. cond (p x) (f x ∷ []) []) xs
         ≡ map f (cond b (x ∷ filter p xs) (filter p xs))
-    go true more = ap (λ l. f x ∷ l) more
-    go false more = more
+    by_cases true more = ap (λ l. f x ∷ l) more
+    by_cases false more = more
 
 pub map_twice : {X Y Z : Type 0} (g : Y → Z) (f : X → Y) (xs : List X)
     → map g (map f xs) ≡ map (λ x. g (f x)) xs

@@ -5,8 +5,8 @@ use Rattle.std.specs.Ordering.{nat_cmp, eq_by_cmp}
 use Rattle.std.specs.FinMap.{FinMap, get, insert}
 use Rattle.numbers.specs.Routings.{Routing}
 use Rattle.numbers.specs.Subjects.{Subject}
-use Rattle.meaning.specs.Content.{VersionRow}
-use Rattle.meaning.specs.Statuses.{Create, Delete, Modify, Status, Pending, Conflict, CancelPending, Sending, Active, PartialFailure, Failed, DisconnectPending, Old, Canceled}
+use Rattle.model.specs.Content.{VersionRow}
+use Rattle.model.specs.Statuses.{Create, Delete, Modify, Status, Pending, Conflict, CancelPending, Sending, Active, PartialFailure, Failed, DisconnectPending, Old, Canceled}
 use Rattle.sqlite.specs.Tree.{Trees}
 use Rattle.settle.specs.Reads.{IsInForce, IsOpen, IsLeastDue}
 use Rattle.settle.specs.declared.rows.NumberedRow.{NumberedRow}

@@ -33,33 +33,33 @@ module _ {K V : Type 0} (R : K → K → Ordering) (read : Row → Option (K × 
   pub find_none : Catches → (rows : List Row) → filter p rows ≡ []
       → find R k (filter_map read rows) ≡ None
   find_none catches [] h = refl
-  find_none catches (r ∷ rows) h = go (p r) refl (read r) refl h (find_none catches rows)
+  find_none catches (r ∷ rows) h = by_cases (p r) refl (read r) refl h (find_none catches rows)
     where
-      go : (b : Bool) → p r ≡ b → (o : Option (K × V)) → read r ≡ o
+      by_cases : (b : Bool) → p r ≡ b → (o : Option (K × V)) → read r ≡ o
           → cond b (r ∷ filter p rows) (filter p rows) ≡ []
           → (filter p rows ≡ [] → find R k (filter_map read rows) ≡ None)
           → find R k (cons_option o (filter_map read rows)) ≡ None
-      go true e o d h more = absurd cc
-      go false e None d h more = more h
-      go false e (Some x) d h more = rw (apart catches r x d e _ refl) (more h)
+      by_cases true e o d h more = absurd cc
+      by_cases false e None d h more = more h
+      by_cases false e (Some x) d h more = rw (apart catches r x d e _ refl) (more h)
 
   pub find_one : Catches → (rows : List Row) (r0 : Row) (e0 : K × V) → read r0 ≡ Some e0
       → eq_by_cmp R k e0.0 ≡ true → filter p rows ≡ r0 ∷ []
       → find R k (filter_map read rows) ≡ Some e0.1
   find_one catches [] r0 e0 is tie h = absurd cc
   find_one catches (r ∷ rows) r0 e0 is tie h =
-      go (p r) refl (read r) refl h (find_one catches rows r0 e0 is tie)
+      by_cases (p r) refl (read r) refl h (find_one catches rows r0 e0 is tie)
     where
-      go : (b : Bool) → p r ≡ b → (o : Option (K × V)) → read r ≡ o
+      by_cases : (b : Bool) → p r ≡ b → (o : Option (K × V)) → read r ≡ o
           → cond b (r ∷ filter p rows) (filter p rows) ≡ r0 ∷ []
           → (filter p rows ≡ r0 ∷ [] → find R k (filter_map read rows) ≡ Some e0.1)
           → find R k (cons_option o (filter_map read rows)) ≡ Some e0.1
-      go true e o d h more =
+      by_cases true e o d h more =
           let same : o ≡ Some e0 = sym d ∙ ap read (same_first h) ∙ is in
           subst (λ o. find R k (cons_option o (filter_map read rows)) ≡ Some e0.1) (sym same)
           (rw tie refl)
-      go false e None d h more = more h
-      go false e (Some x) d h more = rw (apart catches r x d e _ refl) (more h)
+      by_cases false e None d h more = more h
+      by_cases false e (Some x) d h more = rw (apart catches r x d e _ refl) (more h)
 
   module _ (o : IsTotalOrder R) (tests : Tests) where
     find_kept : (rows : List Row) (q : K)
@@ -67,7 +67,7 @@ module _ {K V : Type 0} (R : K → K → Ordering) (read : Row → Option (K × 
         (find R q (filter_map read rows))
     find_kept [] q = elim (eq_by_cmp R q k) as (λ b. ◌≡◌ {A = Option V} None (cond b None None))
         [ true ↦ refl | false ↦ refl ]
-    find_kept (r ∷ rows) q = go (p r) refl (read r) refl (find_kept rows q)
+    find_kept (r ∷ rows) q = by_cases (p r) refl (read r) refl (find_kept rows q)
       where
         none_here : (e : K × V) → p r ≡ true → read r ≡ Some e → (b c : Bool) → eq_by_cmp R q k ≡ b
             → eq_by_cmp R q e.0 ≡ c → (rest : Option V)
@@ -90,16 +90,16 @@ module _ {K V : Type 0} (R : K → K → Ordering) (read : Row → Option (K × 
         stays e t d true false x y rest = refl
         stays e t d false c x y rest = refl
 
-        go : (b : Bool) → p r ≡ b → (x : Option (K × V)) → read r ≡ x
+        by_cases : (b : Bool) → p r ≡ b → (x : Option (K × V)) → read r ≡ x
             → find R q (filter_map read (filter (λ r. not (p r)) rows)) ≡ cond (eq_by_cmp R q k)
             None (find R q (filter_map read rows))
             → find R q (filter_map read (cond (not b) (r ∷ filter (λ r. not (p r)) rows)
             (filter (λ r. not (p r)) rows))) ≡ cond (eq_by_cmp R q k) None
             (find R q (cons_option x (filter_map read rows)))
-        go true t None d more = more
-        go true t (Some e) d more = more ∙ none_here e t d _ _ refl refl _
-        go false t None d more = rw d more
-        go false t (Some e) d more =
+        by_cases true t None d more = more
+        by_cases true t (Some e) d more = more ∙ none_here e t d _ _ refl refl _
+        by_cases false t None d more = rw d more
+        by_cases false t (Some e) d more =
             rw d (ap (cond (eq_by_cmp R q e.0) (Some e.1)) more ∙ stays e t d _ _ refl refl _)
 
     -- to keep the rows that fail the test is to remove the key
@@ -119,28 +119,29 @@ pub record Adds (new : Row) (rows after : List Row) : Type 0 where
 pub put_adds : (new : Row) (rows : List Row) → is_taken rows new ≡ false
     → Adds new rows (put_row new rows)
 put_adds new [] free = record { front = []; rest = []; was = refl; is = refl }
-put_adds new (r ∷ rows) free = go (value_cmp (rowid r) (rowid new)) refl free (put_adds new rows)
+put_adds new (r ∷ rows) free =
+    by_cases (value_cmp (rowid r) (rowid new)) refl free (put_adds new rows)
   where
-    go : (o : Ordering) → value_cmp (rowid r) (rowid new) ≡ o
+    by_cases : (o : Ordering) → value_cmp (rowid r) (rowid new) ≡ o
         → (is_eq o || is_taken rows new) ≡ false
         → (is_taken rows new ≡ false → Adds new rows (put_row new rows))
         → Adds new (r ∷ rows) (match_ordering o (r ∷ put_row new rows) (new ∷ rows)
         (new ∷ r ∷ rows))
-    go Less e free more = let a = more free in record {
+    by_cases Less e free more = let a = more free in record {
       front = r ∷ a.front;
       rest = a.rest;
       was = ap (λ l. r ∷ l) a.was;
       is = ap (λ l. r ∷ l) a.is;
     }
-    go Equal e free more = absurd (true≢false free)
-    go Greater e free more = record { front = []; rest = r ∷ rows; was = refl; is = refl }
+    by_cases Equal e free more = absurd (true≢false free)
+    by_cases Greater e free more = record { front = []; rest = r ∷ rows; was = refl; is = refl }
 
 module _ {K V : Type 0} {R : K → K → Ordering} (o : IsTotalOrder R) where
   find_among : (k : K) (v : V) (q : K) (xs ys : List (K × V)) → find R k (xs ++ ys) ≡ None
       → find R q (xs ++ (k, v) ∷ ys) ≡ cond (eq_by_cmp R q k) (Some v) (find R q (xs ++ ys))
   find_among k v q [] ys none = refl
   find_among k v q (a ∷ xs) ys none =
-      go (eq_by_cmp R k a.0) refl none (λ h. find_among k v q xs ys h)
+      by_cases (eq_by_cmp R k a.0) refl none (λ h. find_among k v q xs ys h)
     where
       turn : (b c : Bool) → eq_by_cmp R k a.0 ≡ false → eq_by_cmp R q k ≡ b → eq_by_cmp R q a.0 ≡ c
           → (rest : Option V) → cond c (Some a.1) (cond b (Some v) rest) ≡ cond b (Some v)
@@ -150,14 +151,15 @@ module _ {K V : Type 0} {R : K → K → Ordering} (o : IsTotalOrder R) where
       turn true false f x y rest = refl
       turn false c f x y rest = refl
 
-      go : (b : Bool) → eq_by_cmp R k a.0 ≡ b → cond b (Some a.1) (find R k (xs ++ ys)) ≡ None
+      by_cases : (b : Bool) → eq_by_cmp R k a.0 ≡ b → cond b (Some a.1) (find R k (xs ++ ys)) ≡ None
           → (find R k (xs ++ ys) ≡ None → find R q (xs ++ (k, v) ∷ ys) ≡ cond (eq_by_cmp R q k)
           (Some v) (find R q (xs ++ ys)))
           → cond (eq_by_cmp R q a.0) (Some a.1) (find R q (xs ++ (k, v) ∷ ys))
           ≡ cond (eq_by_cmp R q k) (Some v) (cond (eq_by_cmp R q a.0) (Some a.1)
           (find R q (xs ++ ys)))
-      go true e h more = absurd cc
-      go false e h more = ap (cond (eq_by_cmp R q a.0) (Some a.1)) (more h) ∙ turn _ _ e refl refl _
+      by_cases true e h more = absurd cc
+      by_cases false e h more = ap (cond (eq_by_cmp R q a.0) (Some a.1)) (more h)
+          ∙ turn _ _ e refl refl _
 
   filter_map_join : (read : Row → Option (K × V)) (xs ys : List Row)
       → filter_map read (xs ++ ys) ≡ filter_map read xs ++ filter_map read ys

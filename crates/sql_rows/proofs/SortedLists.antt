@@ -30,7 +30,7 @@ module _ {X : Type 0} (c : X → X → Ordering) (never : (x y : X) → c x y �
   same_sorted [] (y ∷ ys) up high there back = absurd (back y (inl refl))
   same_sorted (x ∷ xs) [] up high there back = absurd (there x (inl refl))
   same_sorted (x ∷ xs) (y ∷ ys) up high there back =
-      go (λ one two. same_sorted xs ys (tail_of x xs up) (tail_of y ys high) one two)
+      by_cases (λ one two. same_sorted xs ys (tail_of x xs up) (tail_of y ys high) one two)
       (there x (inl refl)) (back y (inl refl))
     where
       later : (zs : List X) (r h : X) → (r ≡ h) ⊎ Has zs r → (r ≡ h → ⊥) → Has zs r
@@ -49,11 +49,11 @@ module _ {X : Type 0} (c : X → X → Ordering) (never : (x y : X) → c x y �
           (λ r is. later ys r y (there r (inr is)) (λ f. not_head x xs up r is (f ∙ sym e)))
           (λ r is. later xs r x (back r (inr is)) (λ f. not_head y ys high r is (f ∙ e))))
 
-      go : (((r : X) → Has xs r → Has ys r) → ((r : X) → Has ys r → Has xs r) → xs ≡ ys)
+      by_cases : (((r : X) → Has xs r → Has ys r) → ((r : X) → Has ys r → Has xs r) → xs ≡ ys)
           → (x ≡ y) ⊎ Has ys x → (y ≡ x) ⊎ Has xs y → x ∷ xs ≡ y ∷ ys
-      go rest (inl e) other = same_head rest e
-      go rest (inr is) (inl e) = same_head rest (sym e)
-      go rest (inr is) (inr also) =
+      by_cases rest (inl e) other = same_head rest e
+      by_cases rest (inr is) (inl e) = same_head rest (sym e)
+      by_cases rest (inr is) (inr also) =
           absurd (never x y (head_of x xs up y also) (head_of y ys high x is))
 
 less_of : (o : Ordering) → is_lt o ≡ true → o ≡ Less
@@ -91,15 +91,15 @@ module _ {K V : Type 0} {R : K → K → Ordering} (o : IsTotalOrder R)
 
   find_has : (k : K) (v : V) (es : List (K × V)) → find R k es ≡ Some v → Has es (k, v)
   find_has k v [] h = absurd cc
-  find_has k v (e ∷ es) h = go (eq_by_cmp R k e.0) refl h (λ f. find_has k v es f)
+  find_has k v (e ∷ es) h = by_cases (eq_by_cmp R k e.0) refl h (λ f. find_has k v es f)
     where
-      go : (b : Bool) → eq_by_cmp R k e.0 ≡ b → cond b (Some e.1) (find R k es) ≡ Some v
+      by_cases : (b : Bool) → eq_by_cmp R k e.0 ≡ b → cond b (Some e.1) (find R k es) ≡ Some v
           → (find R k es ≡ Some v → Has es (k, v)) → Has (e ∷ es) (k, v)
-      go true t h more =
+      by_cases true t h more =
           let key : k ≡ e.0 = exact k e.0 (tied (R k e.0) t) in
           let value : e.1 ≡ v = cc in
           inl (ap (λ x. (x, v)) key ∙ ap (λ x. (e.0, x)) (sym value))
-      go false t h more = inr (more h)
+      by_cases false t h more = inr (more h)
 
   pub entry_has : (m : FinMap R V) (k : K) (v : V) → get m k ≡ Some v → Has (entries m) (k, v)
   entry_has m k v h = find_has k v (entries m) (sym (get-entries m k) ∙ h)

@@ -19,21 +19,22 @@ digits n a b c d e low_b low_c low_d =
 -- a text that reads as a provider is the provider's own
 pub spelt : (t : List ℕ) (n : ℕ) → spid_from t ≡ Some n → t ≡ spid_text n
 spelt (a ∷ b ∷ c ∷ d ∷ []) n h =
-    go (is_spid_character a) (is_spid_character b) (is_spid_character c) (is_spid_character d) refl
+    by_cases (is_spid_character a) (is_spid_character b) (is_spid_character c) (is_spid_character d)
+    refl
     refl refl h
   where
-    go : (w x y z : Bool) → is_spid_character b ≡ x → is_spid_character c ≡ y
+    by_cases : (w x y z : Bool) → is_spid_character b ≡ x → is_spid_character c ≡ y
         → is_spid_character d ≡ z
         → cond (w && (x && (y && z))) (Some (a * 16777216 + b * 65536 + c * 256 + d)) None ≡ Some n
         → a ∷ b ∷ c ∷ d ∷ [] ≡ spid_text n
-    go true true true true q r s h =
+    by_cases true true true true q r s h =
         let sum : a * 16777216 + b * 65536 + c * 256 + d ≡ n = cc in
         sym (digits n a b c d (sym sum) (small_character b q) (small_character c r)
         (small_character d s))
-    go true true true false q r s h = absurd cc
-    go true true false z q r s h = absurd cc
-    go true false y z q r s h = absurd cc
-    go false x y z q r s h = absurd cc
+    by_cases true true true false q r s h = absurd cc
+    by_cases true true false z q r s h = absurd cc
+    by_cases true false y z q r s h = absurd cc
+    by_cases false x y z q r s h = absurd cc
 spelt [] n h = absurd cc
 spelt (a ∷ []) n h = absurd cc
 spelt (a ∷ b ∷ []) n h = absurd cc

@@ -42,11 +42,11 @@ bare_is (Some r) fs found command is = absurd (none-some command is)
 module _ (text : List ℕ) (command : Command)
     (compiles : plain_command (compiled the_schema text) ≡ Some command) where
   unlisted : reads_listing the_schema text ≡ false
-  unlisted = go (compiled the_schema text) compiles where
-    go : (x : Result Compiled CompileError) → plain_command x ≡ Some command
+  unlisted = by_cases (compiled the_schema text) compiles where
+    by_cases : (x : Result Compiled CompileError) → plain_command x ≡ Some command
         → misses_table x ≡ false
-    go (Ok c) is = refl
-    go (Err e) is = absurd (none-some command is)
+    by_cases (Ok c) is = refl
+    by_cases (Err e) is = absurd (none-some command is)
 
   same : understood the_schema text ≡ compiled the_schema text
   unfolding understood
@@ -55,17 +55,17 @@ module _ (text : List ℕ) (command : Command)
       unlisted
 
   means : command_of (understood the_schema text) ≡ command
-  means = ap command_of same ∙ go (compiled the_schema text) compiles where
-    go : (x : Result Compiled CompileError) → plain_command x ≡ Some command
+  means = ap command_of same ∙ by_cases (compiled the_schema text) compiles where
+    by_cases : (x : Result Compiled CompileError) → plain_command x ≡ Some command
         → command_of x ≡ command
-    go (Ok c) is = (bare_is c.returning c.formats c.command command is).0
-    go (Err e) is = absurd (none-some command is)
+    by_cases (Ok c) is = (bare_is c.returning c.formats c.command command is).0
+    by_cases (Err e) is = absurd (none-some command is)
 
   plain : IsPlain (understood the_schema text)
-  plain = subst IsPlain (sym same) (go (compiled the_schema text) compiles) where
-    go : (x : Result Compiled CompileError) → plain_command x ≡ Some command → IsPlain x
-    go (Ok c) is = (bare_is c.returning c.formats c.command command is).1
-    go (Err e) is = absurd (none-some command is)
+  plain = subst IsPlain (sym same) (by_cases (compiled the_schema text) compiles) where
+    by_cases : (x : Result Compiled CompileError) → plain_command x ≡ Some command → IsPlain x
+    by_cases (Ok c) is = (bare_is c.returning c.formats c.command command is).1
+    by_cases (Err e) is = absurd (none-some command is)
 
 -- ---- queries
 

@@ -24,9 +24,9 @@ use Rattle.sqlite.specs.State.{State, mode_of, Executes}
 use Rattle.sqlite.specs.Command.TheVariants.{Delete}
 use Rattle.sqlite.specs.Term.{Term, col}
 use Rattle.sqlite.proofs.Callers.{IsPlain, command_of, statement_of, runs_as, one_step}
-use Rattle.sql_rows.specs.Moving.{IsCleared, clear_text, table_of_old}
-use Rattle.sql_rows.specs.declared.moving.OldTable.{OldTable}
-use Rattle.sql_rows.proofs.MovingLemmas.{clear_is, clear_plain, went, same_value}
+use Rattle.sql_rows.specs.Migration.{IsCleared, clear_text, table_of_old}
+use Rattle.sql_rows.specs.declared.migration.OldTable.{OldTable}
+use Rattle.sql_rows.proofs.MigrationLemmas.{clear_is, clear_plain, went, same_value}
 use Rattle.sql_rows.specs.Tables.{the_schema}
 use Rattle.sql_rows.specs.Statements.{plain_query, slot_of, table_of, tree_of, key_test, delete_text, insert_text, insert_terms, width_of, insert_command}
 use Rattle.sql_rows.specs.declared.statement.Table.{Table}

@@ -2,10 +2,10 @@
 use Rattle.std.specs.Prelude.{ℕ, Option, option_map}
 use Rattle.std.specs.Ordering.{nat_cmp}
 use Rattle.std.specs.FinMap.{FinMap, get}
-use Rattle.meaning.specs.Content.{ClockRow}
-use Rattle.meaning.specs.Windows.{Windows}
-use Rattle.version.specs.Views.{windows_of}
-use Rattle.sql_rows.specs.declared.keyed.StoredClock.{StoredClock as StoredCode}
+use Rattle.model.specs.Content.{ClockRow}
+use Rattle.model.specs.Windows.{Windows}
+use Rattle.version.specs.Abstraction.{windows_of}
+use Rattle.sql_rows.specs.declared.keyed.StoredClock.{StoredClock as StoredImpl}
 use Rattle.sql_rows.specs.declared.keyed.OldClock.{OldClock}
 
 -- of the present set the number alone
@@ -14,7 +14,7 @@ pub record StoredClock : Type 0 where
   pub next_id : ℕ
   pub present : ℕ
 
-abbrev pub clock_of : StoredCode → StoredClock
+abbrev pub clock_of : StoredImpl → StoredClock
 clock_of c = record { minute = c.minute.number; next_id = c.next_id; present = c.present }
 
 abbrev pub clock_row : ℕ → ℕ → ℕ → Windows → ClockRow

@@ -7,8 +7,8 @@ use Rattle.std.specs.List.{filter_map}
 use Rattle.std.specs.FinMap.{FinMap, from_entries, get}
 use Rattle.sqlite.specs.Order.{Row, column}
 use Rattle.sqlite.specs.Tree.{Trees}
-use Rattle.meaning.specs.Content.{Content, BlockRow, VersionRow, BroadcastRow, BroadcastKey, WaitKey, ClockRow, broadcast_cmp, wait_cmp}
-use Rattle.meaning.specs.Windows.{Windows}
+use Rattle.model.specs.Content.{Content, BlockRow, VersionRow, BroadcastRow, BroadcastKey, WaitKey, ClockRow, broadcast_cmp, wait_cmp}
+use Rattle.model.specs.Windows.{Windows}
 use Rattle.numbers.specs.Subjects.{Subject}
 use Rattle.numbers.specs.Routings.{Routing}
 use Rattle.sqlite.specs.declared.types.Value.{Value}

@@ -17,6 +17,6 @@ abbrev pub fault_of : Error → Fault
 fault_of (SqliteFailure code) = fault_of_code code
 fault_of _ = Device
 
-abbrev pub told_of : Fault → StoreFault
-told_of Device = Storage
-told_of Memory = NoMemory
+abbrev pub store_fault_of : Fault → StoreFault
+store_fault_of Device = Storage
+store_fault_of Memory = NoMemory

@@ -10,5 +10,5 @@ pub mod Shaped
 pub mod Written
 pub mod Once
 pub mod Over
-pub mod Moving
-pub mod Former
+pub mod Migration
+pub mod OldSchemas

@@ -6,12 +6,12 @@ use Rattle.sqlite_rules.specs.Lists.{Has}
 use Rattle.sql_rows.specs.Content.{broadcast_entry, carrier_entry, wait_entry}
 
 -- rows that read as one key are one row
-abbrev pub AreOnce : {K V : Type 0} → (Row → Option (K × V)) → List Row → Type 0
-AreOnce {K} {V} entry rows = (r s : Row) (k : K) (a b : V) → Has rows r → Has rows s
+abbrev pub AreKeysUnique : {K V : Type 0} → (Row → Option (K × V)) → List Row → Type 0
+AreKeysUnique {K} {V} entry rows = (r s : Row) (k : K) (a b : V) → Has rows r → Has rows s
     → entry r ≡ Some (k, a) → entry s ≡ Some (k, b) → s ≡ r
 
 -- those of the tables whose keys are no rowids
-pub record AreKeysOnce (db : Trees) : Type 0 where
-  pub carriers : AreOnce carrier_entry (db 0)
-  pub broadcasts : AreOnce broadcast_entry (db 8)
-  pub waits : AreOnce wait_entry (db 10)
+pub record HasUniqueKeys (db : Trees) : Type 0 where
+  pub carriers : AreKeysUnique carrier_entry (db 0)
+  pub broadcasts : AreKeysUnique broadcast_entry (db 8)
+  pub waits : AreKeysUnique wait_entry (db 10)

@@ -7,12 +7,12 @@ use Rattle.numbers.specs.Spids.{is_spid_character}
 use Rattle.numbers.specs.Texts.{spid_text}
 use Rattle.numbers.specs.Subjects.{Subject, Number, Block}
 use Rattle.numbers.specs.Routings.{Routing}
-use Rattle.meaning.specs.declared.words.Action.{Action}
-use Rattle.meaning.specs.declared.words.Action.TheVariants.{Create, Delete, Modify}
-use Rattle.meaning.specs.declared.words.Side.{Side}
-use Rattle.meaning.specs.declared.words.Side.TheVariants.{OldProvider, NewProvider}
-use Rattle.meaning.specs.Changes.{action_of}
-use Rattle.meaning.specs.Statuses.{Send, Create as CreateSend, Delete as DeleteSend, Modify as ModifySend, Status, Pending, Conflict, CancelPending, Sending, Active, PartialFailure, Failed, DisconnectPending, Old, Canceled}
+use Rattle.model.specs.declared.words.Action.{Action}
+use Rattle.model.specs.declared.words.Action.TheVariants.{Create, Delete, Modify}
+use Rattle.model.specs.declared.words.Side.{Side}
+use Rattle.model.specs.declared.words.Side.TheVariants.{OldProvider, NewProvider}
+use Rattle.model.specs.Changes.{action_of}
+use Rattle.model.specs.Statuses.{Send, Create as CreateSend, Delete as DeleteSend, Modify as ModifySend, Status, Pending, Conflict, CancelPending, Sending, Active, PartialFailure, Failed, DisconnectPending, Old, Canceled}
 
 -- a whole number that a column holds
 abbrev pub number_in : Value → Option ℕ

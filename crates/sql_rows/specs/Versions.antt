@@ -4,8 +4,8 @@ use Rattle.sqlite.specs.declared.types.Value.TheVariants.{Null, Int, Text}
 use Rattle.sqlite.specs.Order.{Row, column}
 use Rattle.sqlite.specs.Values.{or_null}
 use Rattle.numbers.specs.Routings.{Routing}
-use Rattle.meaning.specs.Statuses.{Send, Create, Delete, Modify, Status, Pending, Conflict, CancelPending, Sending, Active, PartialFailure, Failed, DisconnectPending, Old, Canceled}
-use Rattle.meaning.specs.Content.{VersionRow, subject_if}
+use Rattle.model.specs.Statuses.{Send, Create, Delete, Modify, Status, Pending, Conflict, CancelPending, Sending, Active, PartialFailure, Failed, DisconnectPending, Old, Canceled}
+use Rattle.model.specs.Content.{VersionRow, subject_if}
 use Rattle.sql_rows.specs.Values.{number_in, subject_in, spid_in, minute_in, found_in, routing_in, or_null_in, status_in, bool_in, set_number_in, number_value, subject_value, spid_value, bool_value, lrn_value, cic_value, status_word, sends_word, release_value, by_value, found_value}
 
 -- what a query shows of a version: its id, and its row. `held` is the number of the set that it

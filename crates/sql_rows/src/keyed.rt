@@ -1,22 +1,22 @@
 //! Rows with their keys, as a query shows them.
 ghost use Rattle.std.specs.Prelude.{◌≡◌, ◌<◌, option_map};
-ghost use Rattle.version.specs.Views.{windows_of};
+ghost use Rattle.version.specs.Abstraction.{windows_of};
 ghost use Rattle.sql_rows.specs.Content.{windows_in};
 
+use crate::from_row::FromRow;
 use crate::reading::{
     action_at, block_at, bool_at, code_at, lrn_at, minute_at, number_at, number_or_null_at,
     only_at, routing_at, set_number_at, spid_at, subject_at, window_at,
 };
-use crate::stored::Stored;
 use delivery::Broadcast;
 use numbers::{BlockId, CodeId, Lrn, Minute, Routing, Spid, Subject};
 use settle::{BlockRow, BroadcastKey, WaitKey};
 use sqlite::Row;
 use windows::{WindowSet, Windows};
 
-impl Stored for Spid {
+impl FromRow for Spid {
     ghost use Rattle.std.specs.Prelude.{ℕ};
-    ghost use Rattle.settle.specs.Views.{spid_of};
+    ghost use Rattle.settle.specs.Abstraction.{spid_of};
     ghost use Rattle.sql_rows.specs.Content.{carrier_in};
 
     ghost Seen = { ℕ × Unit {0} };
@@ -37,9 +37,9 @@ pub struct KeyedLrn {
     pub owner: Spid,
 }
 
-impl Stored for KeyedLrn {
+impl FromRow for KeyedLrn {
     ghost use Rattle.std.specs.Prelude.{ℕ};
-    ghost use Rattle.settle.specs.Views.{lrn_of, spid_of};
+    ghost use Rattle.settle.specs.Abstraction.{lrn_of, spid_of};
     ghost use Rattle.sql_rows.specs.Content.{lrn_row_in};
 
     ghost Seen = { ℕ × ℕ };
@@ -63,9 +63,9 @@ pub struct KeyedCode {
     pub owner: Spid,
 }
 
-impl Stored for KeyedCode {
+impl FromRow for KeyedCode {
     ghost use Rattle.std.specs.Prelude.{ℕ};
-    ghost use Rattle.settle.specs.Views.{code_of, spid_of};
+    ghost use Rattle.settle.specs.Abstraction.{code_of, spid_of};
     ghost use Rattle.sql_rows.specs.Content.{code_row_in};
 
     ghost Seen = { ℕ × ℕ };
@@ -89,13 +89,13 @@ pub struct KeyedBlock {
     pub row: BlockRow,
 }
 
-impl Stored for KeyedBlock {
+impl FromRow for KeyedBlock {
     ghost use Rattle.std.specs.Prelude.{ℕ};
-    ghost use Rattle.meaning.specs.Content.{BlockRow as BlockSeen};
-    ghost use Rattle.settle.specs.Views.{block_of, block_row_of};
+    ghost use Rattle.model.specs.Content.{BlockRow as BlockModel};
+    ghost use Rattle.settle.specs.Abstraction.{block_of, block_row_of};
     ghost use Rattle.sql_rows.specs.Content.{block_row_in};
 
-    ghost Seen = { ℕ × BlockSeen };
+    ghost Seen = { ℕ × BlockModel };
 
     ghost seen = { λ b. (block_of b.block, block_row_of b.row) };
 
@@ -119,12 +119,12 @@ pub struct KeyedBroadcast {
     pub broadcast: Broadcast,
 }
 
-impl Stored for KeyedBroadcast {
-    ghost use Rattle.meaning.specs.Content.{BroadcastKey as KeySeen, BroadcastRow as BroadcastSeen};
-    ghost use Rattle.settle.specs.Views.{broadcast_key_of, broadcast_row_of};
+impl FromRow for KeyedBroadcast {
+    ghost use Rattle.model.specs.Content.{BroadcastKey as KeyModel, BroadcastRow as BroadcastModel};
+    ghost use Rattle.settle.specs.Abstraction.{broadcast_key_of, broadcast_row_of};
     ghost use Rattle.sql_rows.specs.Content.{broadcast_in};
 
-    ghost Seen = { KeySeen × BroadcastSeen };
+    ghost Seen = { KeyModel × BroadcastModel };
 
     ghost seen = { λ b. (broadcast_key_of b.key, broadcast_row_of b.broadcast) };
 
@@ -155,14 +155,14 @@ pub struct KeyedWait {
     pub subject: Subject,
 }
 
-impl Stored for KeyedWait {
-    ghost use Rattle.meaning.specs.Content.{WaitKey as KeySeen};
-    ghost use Rattle.numbers.specs.Subjects.{Subject as SubjectSeen};
-    ghost use Rattle.numbers.specs.Views.{subject_of};
-    ghost use Rattle.settle.specs.Views.{wait_key_of};
+impl FromRow for KeyedWait {
+    ghost use Rattle.model.specs.Content.{WaitKey as KeyModel};
+    ghost use Rattle.numbers.specs.Subjects.{Subject as SubjectModel};
+    ghost use Rattle.numbers.specs.Abstraction.{subject_of};
+    ghost use Rattle.settle.specs.Abstraction.{wait_key_of};
     ghost use Rattle.sql_rows.specs.Content.{wait_in};
 
-    ghost Seen = { KeySeen × SubjectSeen };
+    ghost Seen = { KeyModel × SubjectModel };
 
     ghost seen = { λ w. (wait_key_of w.key, subject_of w.subject) };
 
@@ -188,13 +188,13 @@ pub struct KeyedRouting {
     pub routing: Routing,
 }
 
-impl Stored for KeyedRouting {
+impl FromRow for KeyedRouting {
     ghost use Rattle.std.specs.Prelude.{ℕ};
-    ghost use Rattle.numbers.specs.Routings.{Routing as RoutingSeen};
-    ghost use Rattle.numbers.specs.Views.{routing_of};
+    ghost use Rattle.numbers.specs.Routings.{Routing as RoutingModel};
+    ghost use Rattle.numbers.specs.Abstraction.{routing_of};
     ghost use Rattle.sql_rows.specs.Content.{next_row_in};
 
-    ghost Seen = { ℕ × RoutingSeen };
+    ghost Seen = { ℕ × RoutingModel };
 
     ghost seen = { λ r. (r.id, routing_of r.routing) };
 
@@ -215,13 +215,13 @@ pub struct KeyedSet {
     pub set: WindowSet,
 }
 
-impl Stored for KeyedSet {
+impl FromRow for KeyedSet {
     ghost use Rattle.std.specs.Prelude.{ℕ};
-    ghost use Rattle.meaning.specs.Windows.{Windows as WindowsSeen};
-    ghost use Rattle.version.specs.Views.{windows_of};
+    ghost use Rattle.model.specs.Windows.{Windows as WindowsModel};
+    ghost use Rattle.version.specs.Abstraction.{windows_of};
     ghost use Rattle.sql_rows.specs.Content.{set_in};
 
-    ghost Seen = { ℕ × WindowsSeen };
+    ghost Seen = { ℕ × WindowsModel };
 
     ghost seen = { λ s. (s.set.number, windows_of s.set.windows) };
 
@@ -252,12 +252,12 @@ pub struct KeyedClock {
     pub row: StoredClock,
 }
 
-impl Stored for KeyedClock {
+impl FromRow for KeyedClock {
     ghost use Rattle.std.specs.Prelude.{ℕ};
-    ghost use Rattle.sql_rows.specs.Clocks.{StoredClock as ClockSeen, clock_of};
+    ghost use Rattle.sql_rows.specs.Clocks.{StoredClock as ClockModel, clock_of};
     ghost use Rattle.sql_rows.specs.Content.{clock_in};
 
-    ghost Seen = { ℕ × ClockSeen };
+    ghost Seen = { ℕ × ClockModel };
 
     ghost seen = { λ c. (c.number, clock_of c.row) };
 
@@ -284,13 +284,13 @@ pub struct OldClock {
     pub windows: Windows,
 }
 
-impl Stored for OldClock {
+impl FromRow for OldClock {
     ghost use Rattle.std.specs.Prelude.{ℕ};
-    ghost use Rattle.meaning.specs.Content.{ClockRow as ClockSeen};
+    ghost use Rattle.model.specs.Content.{ClockRow as ClockModel};
     ghost use Rattle.sql_rows.specs.Clocks.{old_clock_of};
     ghost use Rattle.sql_rows.specs.Content.{old_clock_in};
 
-    ghost Seen = { ℕ × ClockSeen };
+    ghost Seen = { ℕ × ClockModel };
 
     ghost seen = { λ c. (c.number, old_clock_of c) };
 

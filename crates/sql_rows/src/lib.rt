@@ -3,26 +3,26 @@
 #![tactic(auto)]
 
 mod fault;
+mod from_row;
 mod keyed;
-mod moving;
+mod migration;
 mod params;
 mod reading;
 mod statement;
-mod stored;
 mod values;
 mod version_row;
 
 pub use fault::Fault;
+pub use from_row::{FromRow, all, sole};
 pub use keyed::{
     KeyedBlock, KeyedBroadcast, KeyedClock, KeyedCode, KeyedLrn, KeyedRouting, KeyedSet, KeyedWait,
     OldClock, StoredClock,
 };
-pub use moving::{Form, NewTable, OldTable, index_text};
+pub use migration::{NewTable, OldTable, SchemaVersion, index_text};
 pub use params::{
     block_params, broadcast_key, broadcast_params, clock_params, fits_block, is_set_number,
     next_params, set_params, wait_key, wait_params,
 };
 pub use statement::{Query, Table};
-pub use stored::{Stored, all, sole};
 pub use values::{minute, number, spid_bytes, subject, text, truth};
 pub use version_row::{OldVersion, fits, version_params};

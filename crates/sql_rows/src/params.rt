@@ -2,11 +2,11 @@
 ghost use Rattle.std.specs.Prelude.{◌≡◌, ◌<◌, ◌≤◌, map, IfSome, IsTrue};
 ghost use Rattle.sqlite.specs.Value.{owned};
 ghost use Rattle.numbers.specs.Texts.{spid_text};
-ghost use Rattle.numbers.specs.Views.{subject_of};
-ghost use Rattle.settle.specs.Views.{block_row_of, broadcast_key_of, broadcast_row_of, wait_key_of};
+ghost use Rattle.numbers.specs.Abstraction.{subject_of};
+ghost use Rattle.settle.specs.Abstraction.{block_row_of, broadcast_key_of, broadcast_row_of, wait_key_of};
 ghost use Rattle.sql_rows.specs.Content.{block_params, broadcast_params, wait_params, clock_params, set_params, next_params, wait_key_params, broadcast_key_params};
-ghost use Rattle.numbers.specs.Views.{routing_of};
-ghost use Rattle.version.specs.Views.{windows_of};
+ghost use Rattle.numbers.specs.Abstraction.{routing_of};
+ghost use Rattle.version.specs.Abstraction.{windows_of};
 ghost use Rattle.sql_rows.specs.Clocks.{clock_of};
 
 use crate::keyed::StoredClock;

@@ -2,14 +2,14 @@
 ghost use Rattle.std.specs.Prelude.{◌≡◌, ◌<◌, ◌+◌, ◌*◌, option_map, IfSome};
 ghost use Rattle.sqlite.specs.Order.{column};
 ghost use Rattle.sqlite.specs.Ops.{is_null};
-ghost use Rattle.numbers.specs.Views.{subject_of, routing_of, minute_of};
+ghost use Rattle.numbers.specs.Abstraction.{subject_of, routing_of, minute_of};
 ghost use Rattle.numbers.specs.Spids.{is_spid_character};
-ghost use Rattle.settle.specs.Views.{spid_of, lrn_of, code_of, block_of};
-ghost use Rattle.meaning.specs.Views.{send_of, status_of};
+ghost use Rattle.settle.specs.Abstraction.{spid_of, lrn_of, code_of, block_of};
+ghost use Rattle.model.specs.Abstraction.{send_of, status_of};
 ghost use Rattle.sql_rows.specs.Values.{number_in, minute_in, lrn_in, code_from, code_in, block_from, block_in, cic_in, bool_in, subject_from, subject_in, spid_from, spid_in, found_in, is_int, only_in, window_in, set_number_in, or_null_in, is_word, action_in, send_in, side_in, status_in, routing_in};
 
 use crate::values::{not_found, subject_number};
-use meaning::{Action, Send, Side, Status};
+use model::{Action, Send, Side, Status};
 use numbers::{BlockId, Cic, CodeId, Lrn, Minute, Routing, Spid, Subject, Tn};
 use sqlite::Row;
 use sqlite::types::ValueRef;

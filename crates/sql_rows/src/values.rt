@@ -4,11 +4,11 @@ ghost use Rattle.sqlite.specs.declared.types.Value.TheVariants.{Int, Text};
 ghost use Rattle.sqlite.specs.Value.{owned};
 ghost use Rattle.sqlite.specs.Values.{or_null};
 ghost use Rattle.numbers.specs.Texts.{spid_text};
-ghost use Rattle.numbers.specs.Views.{subject_of, routing_of, minute_of};
-ghost use Rattle.meaning.specs.Views.{status_of};
+ghost use Rattle.numbers.specs.Abstraction.{subject_of, routing_of, minute_of};
+ghost use Rattle.model.specs.Abstraction.{status_of};
 ghost use Rattle.sql_rows.specs.Values.{number_value, subject_number, subject_value, bool_value, lrn_value, cic_of, cic_value, status_word, action_word, sends_word, release_value, by_value, found_value};
 
-use meaning::{Action, Side, Status};
+use model::{Action, Side, Status};
 use numbers::{Cic, Minute, Routing, Subject};
 use sqlite::types::ValueRef;
 use windows::Window;

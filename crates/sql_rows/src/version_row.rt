@@ -2,29 +2,29 @@
 ghost use Rattle.std.specs.Prelude.{◌≡◌, ◌<◌, map, option_map, Some, IsTrue};
 ghost use Rattle.sqlite.specs.Value.{owned};
 ghost use Rattle.numbers.specs.Texts.{spid_text};
-ghost use Rattle.meaning.specs.Views.{status_of};
-ghost use Rattle.version.specs.Views.{routings_of};
+ghost use Rattle.model.specs.Abstraction.{status_of};
+ghost use Rattle.version.specs.Abstraction.{routings_of};
 ghost use Rattle.sql_rows.specs.Versions.{version_with, version_entry, version_row, version_params, bare, is_routed_while_modified};
 
+use crate::from_row::FromRow;
 use crate::params::is_set_number;
 use crate::reading::{
     bool_at, found_at, minute_at, minute_or_null_at, number_at, routing_at, set_number_at, spid_at,
     status_at, subject_at,
 };
-use crate::stored::Stored;
 use crate::values::{
     cancelled_by, cic, found, lrn, minute, minute_or_null, number, release, sends, status, subject,
     truth,
 };
-use meaning::Status;
+use model::Status;
 use settle::{NumberedRow, VersionRow};
 use sqlite::Row;
 use sqlite::types::ValueRef;
 use version::Version;
 
-impl Stored for NumberedRow {
+impl FromRow for NumberedRow {
     ghost use Rattle.std.specs.Prelude.{ℕ};
-    ghost use Rattle.meaning.specs.Content.{VersionRow as Seen};
+    ghost use Rattle.model.specs.Content.{VersionRow as Seen};
     ghost use Rattle.sql_rows.specs.Versions.{version_in};
 
     ghost Seen = { ℕ × Seen };
@@ -44,9 +44,9 @@ pub struct OldVersion {
     pub version: NumberedRow,
 }
 
-impl Stored for OldVersion {
+impl FromRow for OldVersion {
     ghost use Rattle.std.specs.Prelude.{ℕ};
-    ghost use Rattle.meaning.specs.Content.{VersionRow as Seen};
+    ghost use Rattle.model.specs.Content.{VersionRow as Seen};
     ghost use Rattle.sql_rows.specs.Versions.{old_version_in};
 
     ghost Seen = { ℕ × Seen };

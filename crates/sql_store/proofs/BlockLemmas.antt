@@ -13,8 +13,8 @@ use Rattle.sqlite_rules.proofs.ListLemmas.{contains_had, some_has}
 use Rattle.numbers.specs.Digits.{block_of}
 use Rattle.numbers.specs.Subjects.{Subject, Number, Block}
 use Rattle.numbers.specs.declared.tn.Tn.{Tn}
-use Rattle.meaning.specs.Content.{Content, VersionRow}
-use Rattle.settle.specs.Reads.{AreInBlock, IsInBlock, IsTold}
+use Rattle.model.specs.Content.{Content, VersionRow}
+use Rattle.settle.specs.Reads.{AreInBlock, IsInBlock, Reflects}
 use Rattle.settle.specs.declared.rows.NumberedRow.{NumberedRow}
 use Rattle.numbers.specs.Routings.{Routing}
 use Rattle.std.specs.FinMap.{get}
@@ -29,7 +29,7 @@ use Rattle.sql_rows.proofs.Listed.{from_mapped, has_mapped}
 use Rattle.sql_rows.proofs.Picked.{Picks}
 use Rattle.sql_rows.proofs.QueriesListed.{IsAmong, in_force_picked, open_picked, version_seen}
 use Rattle.version.specs.declared.in_use.NumberInUse.{NumberInUse}
-use Rattle.sql_store.specs.Blocks.{AreNumbers, Stands, is_listed, number_by, number_if, number_in_use, number_of_tn, query_by, subject_by}
+use Rattle.sql_store.specs.Blocks.{AreNumbers, HasVersionInRole, is_listed, number_by, number_if, number_in_use, number_of_tn, query_by, subject_by}
 use Rattle.sql_store.specs.declared.blocks.Role.{Role}
 use Rattle.sql_store.specs.declared.blocks.Role.TheVariants.{InForce, Open}
 use Rattle.sql_store.proofs.ListLemmas.{all_there, sorted_map}
@@ -103,7 +103,8 @@ module _ (db : Trees) (standing : Role) where
   same_subject n v InForce = refl
   same_subject n v Open = refl
 
-  stands_whole : (n : ℕ) → Stands (bare_in db) standing n → Stands (content_in db) standing n
+  stands_whole : (n : ℕ) → HasVersionInRole (bare_in db) standing n
+      → HasVersionInRole (content_in db) standing n
   stands_whole n s = (
     s.0,
     rerouted (get (nexts_in (db 16)) s.0) s.1,
@@ -111,7 +112,8 @@ module _ (db : Trees) (standing : Role) where
     same_subject (get (nexts_in (db 16)) s.0) s.1 standing ∙ s.3,
   )
 
-  stands_bare : (n : ℕ) → Stands (content_in db) standing n → Stands (bare_in db) standing n
+  stands_bare : (n : ℕ) → HasVersionInRole (content_in db) standing n
+      → HasVersionInRole (bare_in db) standing n
   stands_bare n s = let b = bare-of db s.0 s.1 s.2 in (
     s.0,
     b.0,
@@ -129,7 +131,7 @@ module _ (db : Trees) (standing : Role) where
 
 -- ---- both columns
 
-told_by : (b : Bool) (So : Type 0) → (b ≡ true → So) → (So → b ≡ true) → IsTold b So
+told_by : (b : Bool) (So : Type 0) → (b ≡ true → So) → (So → b ≡ true) → Reflects b So
 told_by true So says back = says refl
 told_by false So says back = λ so. true≢false (sym (back so))
 
@@ -141,11 +143,12 @@ module _ (c : Content) (block : ℕ) (standing : Role) (listed : List Tn)
       refl)
 
   listed_told : (tn : Tn) → block_of tn.number ≡ block
-      → IsTold (is_listed listed tn) (Stands c standing tn.number)
-  listed_told tn own = told_by (is_listed listed tn) (Stands c standing tn.number)
+      → Reflects (is_listed listed tn) (HasVersionInRole c standing tn.number)
+  listed_told tn own = told_by (is_listed listed tn) (HasVersionInRole c standing tn.number)
       (λ e.
       let t = some_has (λ (t : Tn). t.number == tn.number) listed e in
-      subst (Stands c standing) (equal_number t.0.number tn.number t.2) (are.only t.0 t.1).1)
+      subst (HasVersionInRole c standing) (equal_number t.0.number tn.number t.2)
+      (are.only t.0 t.1).1)
       (λ stands. let t = are.each tn.number own stands in
       has_any (λ (t : Tn). t.number == tn.number) listed t.0 t.1 (number_equal t.0.number tn.number
       t.2))

@@ -6,20 +6,20 @@ use Rattle.std.specs.List.Sorted.{IsPermutation, IsStrictlySortedBy}
 use Rattle.std.proofs.lemmas.List.Sorted.{IsPermutation-sym}
 use Rattle.std.proofs.lemmas.Map.Keys.{sorted_from_all_adjacent}
 use Rattle.delivery.specs.declared.broadcast.Broadcast.{Broadcast}
-use Rattle.meaning.specs.Content.{BroadcastKey as KeySeen, BroadcastRow, Content, broadcast_cmp}
+use Rattle.model.specs.Content.{BroadcastKey as KeyModel, BroadcastRow, Content, broadcast_cmp}
 use Rattle.settle.specs.Reads.{AreOpenBroadcasts}
-use Rattle.settle.specs.Views.{broadcast_key_of, broadcast_row_of}
+use Rattle.settle.specs.Abstraction.{broadcast_key_of, broadcast_row_of}
 use Rattle.settle.specs.declared.rows.BroadcastKey.{BroadcastKey}
 use Rattle.sql_rows.specs.declared.keyed.KeyedBroadcast.{KeyedBroadcast}
 use Rattle.sql_rows.proofs.DueLemmas.{has_permuted}
 use Rattle.sql_rows.proofs.Listed.{from_mapped, has_mapped}
-use Rattle.meaning.proofs.KeyOrders.{broadcast_exact, broadcast_total}
+use Rattle.model.proofs.KeyOrders.{broadcast_exact, broadcast_total}
 use Rattle.sql_rows.proofs.Picked.{Picks}
 use Rattle.sql_rows.proofs.QueriesListed.{broadcast_seen}
 use Rattle.sql_store.specs.Lists.{pair_of}
 use Rattle.sql_store.proofs.ListLemmas.{entries_are}
 
-abbrev pub pair_seen : BroadcastKey × Broadcast → KeySeen × BroadcastRow
+abbrev pub pair_seen : BroadcastKey × Broadcast → KeyModel × BroadcastRow
 pair_seen p = (broadcast_key_of p.0, broadcast_row_of p.1)
 
 abbrev pub Rises : List (BroadcastKey × Broadcast) → Type 0

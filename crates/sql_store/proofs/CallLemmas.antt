@@ -1,7 +1,7 @@
 -- What calls leave of the connection, whatever they answer.
 use Rattle.std.proofs.Common.{◌≡◌, ◌⊎◌, inl, inr, ℕ, List, [], Bool, true, false, Option, Some, None, refl, sym, ap, subst, ◌∙◌, IsTrue, true≢false, Result, Ok, Err, arith}
 pub use Rattle.sql_store.specs.Store.{clean_if_open}
-use Rattle.meaning.specs.Content.{Content}
+use Rattle.model.specs.Content.{Content}
 use Rattle.sqlite.specs.Effect.{Database}
 use Rattle.sqlite.specs.Steps.{FailsToCommit}
 use Rattle.sqlite.specs.Order.{Row}
@@ -29,17 +29,18 @@ use Rattle.sql_rows.proofs.TableLemmas.{removed_shaped}
 use Rattle.sql_rows.proofs.PutLemmas.{Became}
 use Rattle.sql_rows.proofs.StatementLemmas.{Selects, query_is, query_plain, query_selects, query_unlisted}
 use Rattle.sql_store.proofs.Showing.{ShowsNone, never_shows, understood_none}
-use Rattle.sql_store.specs.Store.{CommitLeaves, settled, content_at, IsOurs, IsSame, Looked, Turned, IsInside, Stepped, Kept, Makes, Goes, Writes}
+use Rattle.sql_store.specs.Store.{CommitLeaves, settled, content_at, HasStoreTables, IsSame, HasQueried, HasCommitted, IsInTransaction, Stepped, HasCommittedNothing, AppliesInTransaction, IsTransactionProgress, WritesInTransaction}
 
 module _ (sql : List ℕ) (params : Row) (old new : State) where
   pub shown_open : (rows : List Row) → Shown sql params old new rows → IsTrue old.is_open
   unfolding Shown
-  shown_open rows h = go h.0.returning h.2
+  shown_open rows h = by_cases h.0.returning h.2
     where
-      go : (o : Option _) → ShowsRows old new sql h.0 (timed params h.0.formats h.1.now) rows o
+      by_cases : (o : Option _) → ShowsRows old new sql h.0 (timed params h.0.formats h.1.now) rows
+          o
           → IsTrue old.is_open
-      go None it = it.3.0.was_open
-      go (Some what) it = it.1.shown.was_open
+      by_cases None it = it.3.0.was_open
+      by_cases (Some what) it = it.1.shown.was_open
 
   pub shown_same : (rows : List Row) → IsPlain (understood old.now.schema sql)
       → Shown sql params old new rows → IsUnchanged old new
@@ -62,26 +63,26 @@ module _ (sql : List ℕ) (params : Row) (old new : State) where
   unfolding FailsToQuery IsNotRun
   fails_as e (inl (inl unrun)) = inl unrun.1
   fails_as e (inl (inr fails)) = inr fails.3
-  fails_as e (inr h) = go h.0.returning h.2
+  fails_as e (inr h) = by_cases h.0.returning h.2
     where
-      go : (o : Option _) → FailsToShow old new sql h.0 (timed params h.0.formats h.1.now) e o
+      by_cases : (o : Option _) → FailsToShow old new sql h.0 (timed params h.0.formats h.1.now) e o
           → IsUnchanged old new ⊎ IsRolledBack old new
-      go None it = inl it.3
-      go (Some what) (inl it) = inl it.1
-      go (Some what) (inr it) = inr it.3
+      by_cases None it = inl it.3
+      by_cases (Some what) (inl it) = inl it.1
+      by_cases (Some what) (inr it) = inr it.3
 
   pub fails_open : (e : Error) → IsTrue new.is_open → FailsToQuery sql params old new e
       → IsTrue old.is_open
   unfolding FailsToQuery IsNotRun
   fails_open e is_open (inl (inl unrun)) = unrun.1.0.was_open
   fails_open e is_open (inl (inr fails)) = fails.3.was_open is_open
-  fails_open e is_open (inr h) = go h.0.returning h.2
+  fails_open e is_open (inr h) = by_cases h.0.returning h.2
     where
-      go : (o : Option _) → FailsToShow old new sql h.0 (timed params h.0.formats h.1.now) e o
+      by_cases : (o : Option _) → FailsToShow old new sql h.0 (timed params h.0.formats h.1.now) e o
           → IsTrue old.is_open
-      go None it = it.3.0.was_open
-      go (Some what) (inl it) = it.1.0.was_open
-      go (Some what) (inr it) = it.3.was_open is_open
+      by_cases None it = it.3.0.was_open
+      by_cases (Some what) (inl it) = it.1.0.was_open
+      by_cases (Some what) (inr it) = it.3.was_open is_open
 
   pub fails_same : (e : Error) → IsPlain (understood old.now.schema sql)
       → FailsToQuery sql params old new e → IsUnchanged old new ⊎ IsRolledBack old new
@@ -92,7 +93,7 @@ module _ (sql : List ℕ) (params : Row) (old new : State) where
       inl (subst (FailsToShow old new sql h.0 (timed params h.0.formats h.1.now) e)
       (subst IsPlain h.1.is plain).0 h.2).3
 
-  same_of : IsTrue new.is_open → IsOurs old → IsUnchanged old new ⊎ IsRolledBack old new
+  same_of : IsTrue new.is_open → HasStoreTables old → IsUnchanged old new ⊎ IsRolledBack old new
       → IsSame old new
   same_of is_open ours (inl it) = record {
     was_open = it.0.was_open;
@@ -105,7 +106,7 @@ module _ (sql : List ℕ) (params : Row) (old new : State) where
     committed = (it.undone is_open).1;
   }
 
-  module _ (ours : IsTrue old.is_open → IsOurs old) (plain : IsTrue old.is_open
+  module _ (ours : IsTrue old.is_open → HasStoreTables old) (plain : IsTrue old.is_open
       → IsPlain (understood old.now.schema sql)) where
     -- a query leaves the store as it was, if it is open afterwards
     pub query_leaves : (rows : List Row) → IsTrue new.is_open → Shown sql params old new rows
@@ -126,14 +127,14 @@ module _ (sql : List ℕ) (params : Row) (old new : State) where
 -- ---- queries
 
 module _ (query : Query) (params : Row) (old new : State) (ours : IsTrue old.is_open
-    → IsOurs old) where
+    → HasStoreTables old) where
   plain : IsTrue old.is_open → IsPlain (understood old.now.schema (query_text query))
   plain was = subst (λ k. IsPlain (understood k (query_text query))) (sym (ours was).schema)
       (query_plain query)
 
   pub looked_ok : (rows : List Row) → (IsTrue new.is_open → HasCleanDisk new)
       → (HasCleanDisk new → Shown (query_text query) params old new rows)
-      → Survives old new (CommitsShowing (query_text query) params old) → Looked old new true
+      → Survives old new (CommitsShowing (query_text query) params old) → HasQueried old new true
   looked_ok rows clean shown survives = record {
     same = λ up. query_leaves (query_text query) params old new ours plain rows up
         (shown (clean up));
@@ -147,7 +148,7 @@ module _ (query : Query) (params : Row) (old new : State) (ours : IsTrue old.is_
 
   pub looked_err : (e : Error) → (IsTrue new.is_open → HasCleanDisk new)
       → (HasCleanDisk new → FailsToQuery (query_text query) params old new e)
-      → Survives old new (CommitsShowing (query_text query) params old) → Looked old new false
+      → Survives old new (CommitsShowing (query_text query) params old) → HasQueried old new false
   looked_err e clean fails survives = record {
     same = λ up. query_err_leaves (query_text query) params old new ours plain e up
         (fails (clean up));
@@ -165,8 +166,8 @@ module _ (query : Query) (params : Row) (old new : State) (ours : IsTrue old.is_
       (query_plain query) (query_unlisted query) rows shown).answer Null
 
 -- what was read is ours still
-pub looked_ours : (old new : State) (answered : Bool) → (IsTrue old.is_open → IsOurs old)
-    → Looked old new answered → IsTrue new.is_open → IsOurs new
+pub looked_ours : (old new : State) (answered : Bool) → (IsTrue old.is_open → HasStoreTables old)
+    → HasQueried old new answered → IsTrue new.is_open → HasStoreTables new
 looked_ours old new answered ours looked up =
     let same = looked.same up in
     let our = ours same.was_open in
@@ -179,8 +180,8 @@ looked_ours old new answered ours looked up =
     }
 
 -- two reads, one after the other
-pub looked_then : (a b d : State) (answered : Bool) → Looked a b true → Looked b d answered
-    → Looked a d answered
+pub looked_then : (a b d : State) (answered : Bool) → HasQueried a b true → HasQueried b d answered
+    → HasQueried a d answered
 looked_then a b d answered one two = record {
   same = λ up.
       let later = two.same up in
@@ -200,7 +201,7 @@ looked_then a b d answered one two = record {
 
 -- an execution in a transaction keeps the last commit
 inside_keeps : (sql : List ℕ) (params : Row) (old new : State) (r : Result ℕ Error)
-    → IsTrue new.is_open → ExecutesInside 0 sql params old new r → Kept old new
+    → IsTrue new.is_open → ExecutesInside 0 sql params old new r → HasCommittedNothing old new
 inside_keeps sql params old new (Ok n) up h = record {
   was_open = h.1.was_open;
   committed = h.1.committed_is;
@@ -219,22 +220,24 @@ inside_keeps sql params old new (Err e) up (inr it) = record {
 }
 
 same_keeps : {S : Type 0} (g : Ghosts S) (old new : Held S) → new ≡ old
-    → IsTrue (state g new).is_open → Kept (state g old) (state g new)
-same_keeps g old new e up = subst (λ h. IsTrue (state g h).is_open → Kept (state g old) (state g h))
+    → IsTrue (state g new).is_open → HasCommittedNothing (state g old) (state g new)
+same_keeps g old new e up =
+    subst (λ h. IsTrue (state g h).is_open → HasCommittedNothing (state g old) (state g h))
     (sym e) (λ u. record { was_open = u; committed = refl }) up
 
 pub call_keeps : {S A : Type 0} (g : Ghosts S) (old new : Held S) (sql : List ℕ) (params : Row)
     (r : Result ℕ Error) → IsTrue (state g new).is_open → ((state g old).in_transaction ≡ false
     → A × (new ≡ old))
     → (IsTrue (state g old).in_transaction → ExecutesInside 0 sql params (state g old) (state g new)
-    r) → Kept (state g old) (state g new)
-call_keeps {A = A} g old new sql params r up ended runs = go (state g old).in_transaction ended runs
+    r) → HasCommittedNothing (state g old) (state g new)
+call_keeps {A = A} g old new sql params r up ended runs =
+    by_cases (state g old).in_transaction ended runs
   where
-    go : (b : Bool) → (b ≡ false → A × (new ≡ old))
+    by_cases : (b : Bool) → (b ≡ false → A × (new ≡ old))
         → (IsTrue b → ExecutesInside 0 sql params (state g old) (state g new) r)
-        → Kept (state g old) (state g new)
-    go true ended runs = inside_keeps sql params (state g old) (state g new) r up (runs refl)
-    go false ended runs = same_keeps g old new (ended refl).1 up
+        → HasCommittedNothing (state g old) (state g new)
+    by_cases true ended runs = inside_keeps sql params (state g old) (state g new) r up (runs refl)
+    by_cases false ended runs = same_keeps g old new (ended refl).1 up
 
 -- a statement in a transaction
 pub statement_writes : {S A : Type 0} (g : Ghosts S) (old new : Held S) (sql : List ℕ)
@@ -244,10 +247,10 @@ pub statement_writes : {S A : Type 0} (g : Ghosts S) (old new : Held S) (sql : L
     → (HasCleanDisk (state g new) → IsTrue (state g old).in_transaction
     → ExecutesInside 0 sql params (state g old) (state g new) r)
     → Survives (state g old) (state g new) (λ _. ⊥) → (IsTrue done → (count : ℕ) × (r ≡ Ok count))
-    → ((count : ℕ) → IsInside (state g old)
+    → ((count : ℕ) → IsInTransaction (state g old)
     → Executes sql params (state g old) (state g new) (Ok count)
     → Did (state g old).now (state g new).now)
-    → Writes (state g old) (state g new) done Did
+    → WritesInTransaction (state g old) (state g new) done Did
 statement_writes g old new sql params r done Did clean_of ended runs survives counts means =
     record {
       wrote = λ ok clean inside.
@@ -278,8 +281,9 @@ survives_still a = record {
 }
 
 module _ (a b c : State) where
-  pub kept_then : (IsTrue b.is_open → Kept a b) → (IsTrue c.is_open → Kept b c) → IsTrue c.is_open
-      → Kept a c
+  pub kept_then : (IsTrue b.is_open → HasCommittedNothing a b)
+      → (IsTrue c.is_open → HasCommittedNothing b c) → IsTrue c.is_open
+      → HasCommittedNothing a c
   kept_then first two up = let k = two up in let j = first k.was_open in record {
     was_open = j.was_open;
     committed = k.committed ∙ j.committed;
@@ -292,8 +296,9 @@ module _ (a b c : State) where
   pub earlier : Survives b c (λ _. ⊥) → HasCleanDisk c → HasCleanDisk b
   earlier two clean = omega (arith, clean, two.clean)
 
-  pub makes_then : (done : Bool) (f g : Content → Content) → Makes a b true f → Makes b c done g
-      → Makes a c done (λ m. g (f m))
+  pub makes_then : (done : Bool) (f g : Content → Content) → AppliesInTransaction a b true f
+      → AppliesInTransaction b c done g
+      → AppliesInTransaction a c done (λ m. g (f m))
   makes_then done f g first two = record {
     made = λ ok clean inside.
         let one = first.made refl (earlier two.survives clean) inside in
@@ -309,11 +314,11 @@ module _ (a b c : State) where
 
   -- two statements that make together this of the content
   pub two_made : (done : Bool) (First Second : Database → Database → Type 0) (change : Content
-      → Content) → Writes a b true First → Writes b c done Second
+      → Content) → WritesInTransaction a b true First → WritesInTransaction b c done Second
       → (AreShaped a.now.trees → First a.now b.now → (b.now.schema ≡ the_schema)
       × AreShaped b.now.trees)
       → (AreShaped a.now.trees → First a.now b.now → Second b.now c.now
-      → Became c.now (change (content_at a))) → Makes a c done change
+      → Became c.now (change (content_at a))) → AppliesInTransaction a c done change
   two_made done First Second change first two between means = record {
     made = λ ok clean inside.
         let one = first.wrote refl (earlier two.survives clean) inside in
@@ -340,7 +345,8 @@ module _ (a b c : State) where
   }
 
   pub two_stop : (First Second : Database → Database → Type 0) (change : Content → Content)
-      → Writes a b true First → Writes b c false Second → Makes a c false change
+      → WritesInTransaction a b true First → WritesInTransaction b c false Second
+      → AppliesInTransaction a c false change
   two_stop First Second change first two = record {
     made = λ no. absurd (true≢false (sym no));
     kept = kept_then first.kept two.kept;
@@ -348,8 +354,9 @@ module _ (a b c : State) where
   }
 
   -- one more of many
-  pub goes_then : (f left next whole : Content → Content) → Goes a b left whole → Makes b c true f
-      → ((m : Content) → next (f m) ≡ left m) → Goes a c next whole
+  pub goes_then : (f left next whole : Content → Content) → IsTransactionProgress a b left whole
+      → AppliesInTransaction b c true f
+      → ((m : Content) → next (f m) ≡ left m) → IsTransactionProgress a c next whole
   goes_then f left next whole first two same = record {
     inside = λ clean inside. (two.made refl clean (first.inside (earlier two.survives clean)
         inside)).inside;
@@ -365,8 +372,9 @@ module _ (a b c : State) where
 
 module _ (a b c : State) (t : Table) (key params : Row) where
   -- a row put in the place of another
-  pub replaces : (done : Bool) → Writes a b true (Removed t key)
-      → Writes b c done (AddedBy t params) → Writes a c done (Replaced t key params)
+  pub replaces : (done : Bool) → WritesInTransaction a b true (Removed t key)
+      → WritesInTransaction b c done (AddedBy t params)
+      → WritesInTransaction a c done (Replaced t key params)
   replaces done first two = record {
     wrote = λ ok clean inside.
         let one = first.wrote refl (earlier a b c two.survives clean) inside in
@@ -388,8 +396,9 @@ module _ (a b c : State) (t : Table) (key params : Row) where
 
 module _ (a b : State) where
   -- what failed made nothing
-  pub writes_nothing : (Did Would : Database → Database → Type 0) → Writes a b false Did
-      → Writes a b false Would
+  pub writes_nothing : (Did Would : Database → Database → Type 0)
+      → WritesInTransaction a b false Did
+      → WritesInTransaction a b false Would
   writes_nothing Did Would it = record {
     wrote = λ bad. absurd (true≢false (sym bad));
     kept = it.kept;
@@ -397,7 +406,8 @@ module _ (a b : State) where
   }
 
   pub writes_as : (done : Bool) (Did Would : Database → Database → Type 0)
-      → (Did a.now b.now → Would a.now b.now) → Writes a b done Did → Writes a b done Would
+      → (Did a.now b.now → Would a.now b.now) → WritesInTransaction a b done Did
+      → WritesInTransaction a b done Would
   writes_as done Did Would means it = record {
     wrote = λ ok clean inside. let w = it.wrote ok clean inside in record {
       is_open = w.is_open;
@@ -411,9 +421,10 @@ module _ (a b : State) where
 
   -- what was made of the tables, as a change of the content
   pub makes : (done : Bool) (Did : Database → Database → Type 0) (change : Content → Content)
-      → Writes a b done Did
-      → (IsInside a → Did a.now b.now → (b.now.schema ≡ the_schema) × AreShaped b.now.trees
-      × (content_in b.now.trees ≡ change (content_in a.now.trees))) → Makes a b done change
+      → WritesInTransaction a b done Did
+      → (IsInTransaction a → Did a.now b.now → (b.now.schema ≡ the_schema) × AreShaped b.now.trees
+      × (content_in b.now.trees ≡ change (content_in a.now.trees)))
+      → AppliesInTransaction a b done change
   makes done Did change it means = record {
     made = λ ok clean inside.
         let w = it.wrote ok clean inside in
@@ -427,15 +438,17 @@ module _ (a b : State) where
     survives = it.survives;
   }
 
-  pub stops : (f g : Content → Content) → Makes a b false f → Makes a b false g
+  pub stops : (f g : Content → Content) → AppliesInTransaction a b false f
+      → AppliesInTransaction a b false g
   stops f g it = record {
     made = λ no. absurd (true≢false (sym no));
     kept = it.kept;
     survives = it.survives;
   }
 
-  pub gone : (left whole change : Content → Content) → Goes a b left whole
-      → ((m : Content) → left m ≡ m) → ((m : Content) → whole m ≡ change m) → Makes a b true change
+  pub gone : (left whole change : Content → Content) → IsTransactionProgress a b left whole
+      → ((m : Content) → left m ≡ m) → ((m : Content) → whole m ≡ change m)
+      → AppliesInTransaction a b true change
   gone left whole change it none same = record {
     made = λ ok clean inside. record {
       inside = it.inside clean inside;
@@ -447,7 +460,7 @@ module _ (a b : State) where
   }
 
   pub alike : (done : Bool) (f g : Content → Content) → ((m : Content) → f m ≡ g m)
-      → Makes a b done f → Makes a b done g
+      → AppliesInTransaction a b done f → AppliesInTransaction a b done g
   alike done f g same it = record {
     made = λ ok clean inside. let s = it.made ok clean inside in record {
       inside = s.inside;
@@ -464,15 +477,17 @@ module _ (a b : State) where
 pub record Begun (old new : State) (done : Bool) (change : Content → Content) : Type 0 where
   pub made : IsTrue done → HasCleanDisk new → IsTrue old.is_open
       → Stepped old new (change (content_at old))
-  pub kept : IsTrue new.is_open → Kept old new
+  pub kept : IsTrue new.is_open → HasCommittedNothing old new
   pub survives : Survives old new (λ _. ⊥)
 
 -- `transaction` does nothing to the store
 pub begun : {S : Type 0} (g : Ghosts S) (old mid : Held S) (new : State) (done : Bool)
     (change : Content → Content) → mid ≡ record old { in_transaction = true }
-    → Makes (state g mid) new done change
-    → (IsTrue (state g old).is_open → IsOurs (state g old)) → Begun (state g old) new done change
-begun g old mid new done change e makes ours = subst (λ h. Makes (state g h) new done change
+    → AppliesInTransaction (state g mid) new done change
+    → (IsTrue (state g old).is_open → HasStoreTables (state g old))
+    → Begun (state g old) new done change
+begun g old mid new done change e makes ours =
+    subst (λ h. AppliesInTransaction (state g h) new done change
     → Begun (state g old) new done change) (sym e) (λ m. record {
       made = λ ok clean was.
           let our = ours was in
@@ -488,7 +503,7 @@ begun g old mid new done change e makes ours = subst (λ h. Makes (state g h) ne
     }) makes
 
 module _ (old mid new : State) (change : Content → Content) (Becomes : Content → Content
-    → Type 0) (ours : IsTrue old.is_open → IsOurs old) (clean_of : IsTrue new.is_open
+    → Type 0) (ours : IsTrue old.is_open → HasStoreTables old) (clean_of : IsTrue new.is_open
     → HasCleanDisk new) where
   undone : (done : Bool) → Begun old mid done change → IsRolledBack mid new → IsTrue new.is_open
       → IsSame old new
@@ -500,7 +515,7 @@ module _ (old mid new : State) (change : Content → Content) (Becomes : Content
         committed = (r.undone up).1 ∙ k.committed;
       }
 
-  ours_again : IsSame old new → IsOurs new
+  ours_again : IsSame old new → HasStoreTables new
   ours_again same =
       let our = ours same.was_open in
       record {
@@ -515,7 +530,7 @@ module _ (old mid new : State) (change : Content → Content) (Becomes : Content
   unturned : (done : Bool) (P : Trees → Type 0) → done ≡ false
       → (IsTrue new.is_open → IsSame old new) → Survives old new P
       → (HasCleanDisk new → (db : Trees) → P db → IsTrue old.is_open
-      → Becomes (content_at old) (content_in db)) → Turned old new done Becomes
+      → Becomes (content_at old) (content_in db)) → HasCommitted old new done Becomes
   unturned done P fails same survives after = record {
     becomes = λ ok. absurd (true≢false (sym ok ∙ fails));
     same = λ _. same;
@@ -528,7 +543,7 @@ module _ (old mid new : State) (change : Content → Content) (Becomes : Content
 
   -- it was given up
   pub rolled_back : Begun old mid false change → (HasCleanDisk new → IsRolledBack mid new)
-      → Survives mid new (λ _. ⊥) → Turned old new false Becomes
+      → Survives mid new (λ _. ⊥) → HasCommitted old new false Becomes
   rolled_back b r survives =
       unturned false (λ _. ⊥) refl (λ up. undone false b (r (clean_of up)) up)
       (survives_then old mid new _ _ _ (λ clean db bad. bad) (λ clean db bad. bad) b.survives
@@ -552,20 +567,21 @@ module _ (old mid new : State) (change : Content → Content) (Becomes : Content
 
     -- it did not commit
     pub uncommitted : (e : Error) → (HasCleanDisk new → FailsToCommit mid new e)
-        → Turned old new false Becomes
-    uncommitted e fails = unturned false _ refl (λ up. go up (fails (clean_of up))) all_survives
+        → HasCommitted old new false Becomes
+    uncommitted e fails =
+        unturned false _ refl (λ up. by_cases up (fails (clean_of up))) all_survives
         (λ clean db h. h)
       where
-        go : IsTrue new.is_open → FailsToCommit mid new e → IsSame old new
-        go up (inl it) = undone true b it.3 up
-        go up (inr it) =
+        by_cases : IsTrue new.is_open → FailsToCommit mid new e → IsSame old new
+        by_cases up (inl it) = undone true b it.3 up
+        by_cases up (inr it) =
             let k = b.kept it.2.0.was_open in
             absurd (true≢false (let inside : mid.in_transaction ≡ true =
             (b.made refl (early (clean_of up)) k.was_open).inside.inside in sym inside ∙ it.1))
 
     -- it committed
     pub committed : (HasCleanDisk new → Shows mid new mid.now mid.now false)
-        → Turned old new true Becomes
+        → HasCommitted old new true Becomes
     committed ok = record {
       becomes = λ _ up. let s = ok (clean_of up) in
           after (clean_of up) new.now.trees (ap (λ (d : Database). d.trees) s.now_is)
@@ -588,7 +604,7 @@ module _ (old mid new : State) (change : Content → Content) (Becomes : Content
 
 -- ---- a read, and then a commit
 
-module _ (a b d : State) (Turns Becomes : Content → Content → Type 0) (one : Looked a b true)
+module _ (a b d : State) (Turns Becomes : Content → Content → Type 0) (one : HasQueried a b true)
     (means : IsTrue b.is_open → (after : Content) → Turns (content_at b) after
     → Becomes (content_at b) after) where
   from_first : IsTrue b.is_open → (after : Content) → Turns (content_at b) after
@@ -597,7 +613,7 @@ module _ (a b d : State) (Turns Becomes : Content → Content → Type 0) (one :
       subst (λ (db : Database). Becomes (content_in db.trees) after) (one.same was).now
       (means was after h)
 
-  pub looked_turned : (done : Bool) → Turned b d done Turns → Turned a d done Becomes
+  pub looked_turned : (done : Bool) → HasCommitted b d done Turns → HasCommitted a d done Becomes
   looked_turned done two = record {
     becomes = λ ok up. from_first (two.was_open up) (content_at d) (two.becomes ok up);
     same = λ no up.
@@ -618,7 +634,7 @@ module _ (a b d : State) (Turns Becomes : Content → Content → Type 0) (one :
   }
 
   -- the read was answered, so that the connection was open
-  pub read_leaves : (done : Bool) → Turned b d done Turns → CommitLeaves a d Becomes
+  pub read_leaves : (done : Bool) → HasCommitted b d done Turns → CommitLeaves a d Becomes
   read_leaves done two clean db may =
       let up = one.stays refl (two.honest clean) in
       elim (two.crash.crash clean db may) [
@@ -631,7 +647,7 @@ module _ (a b d : State) (Turns Becomes : Content → Content → Type 0) (one :
 
 -- a read that failed: nothing is committed
 pub looked_unturned : (a b : State) (Becomes : Content → Content → Type 0)
-    → (IsTrue a.is_open → IsOurs a) → Looked a b false → Turned a b false Becomes
+    → (IsTrue a.is_open → HasStoreTables a) → HasQueried a b false → HasCommitted a b false Becomes
 looked_unturned a b Becomes ours one = record {
   becomes = λ no. absurd (true≢false (sym no));
   same = λ _. one.same;
@@ -643,7 +659,7 @@ looked_unturned a b Becomes ours one = record {
 }
 
 -- nor may a crash leave more
-pub unread_leaves : (a b : State) (Becomes : Content → Content → Type 0) → Looked a b false
+pub unread_leaves : (a b : State) (Becomes : Content → Content → Type 0) → HasQueried a b false
     → CommitLeaves a b Becomes
 unread_leaves a b Becomes one clean db may =
     elim (one.survives.crash clean db may) [ inl was ↦ inl was | inr none ↦ absurd none ]

@@ -6,26 +6,26 @@ use Rattle.std.specs.Ordering.{nat_cmp, eq_by_cmp, is_eq}
 use Rattle.std.specs.Cmp.{IsTotalOrder, nat_cmp_total}
 use Rattle.std.specs.FinMap.{FinMap, get, insert, remove, get-insert, get-remove}
 use Rattle.std.proofs.lemmas.Bool.Decides.{nat_tests}
-use Rattle.numbers.specs.Views.{subject_of}
+use Rattle.numbers.specs.Abstraction.{subject_of}
 use Rattle.numbers.specs.declared.block_id.BlockId.{BlockId}
 use Rattle.numbers.specs.declared.code_id.CodeId.{CodeId}
 use Rattle.numbers.specs.declared.lrn.Lrn.{Lrn}
 use Rattle.numbers.specs.declared.spid.Spid.{Spid}
-use Rattle.settle.specs.declared.rows.BlockRow.{BlockRow as BlockCode}
-use Rattle.settle.specs.declared.rows.ClockRow.{ClockRow as ClockCode}
-use Rattle.settle.specs.declared.rows.ClockMove.{ClockMove as MoveCode}
-use Rattle.windows.specs.declared.window.WindowSet.{WindowSet as SetCode}
-use Rattle.meaning.specs.Windows.{WindowSet, Windows}
-use Rattle.version.specs.Views.{set_of, windows_of}
+use Rattle.settle.specs.declared.rows.BlockRow.{BlockRow as BlockImpl}
+use Rattle.settle.specs.declared.rows.ClockRow.{ClockRow as ClockImpl}
+use Rattle.settle.specs.declared.rows.ClockMove.{ClockMove as MoveImpl}
+use Rattle.windows.specs.declared.window.WindowSet.{WindowSet as SetImpl}
+use Rattle.model.specs.Windows.{WindowSet, Windows}
+use Rattle.version.specs.Abstraction.{set_of, windows_of}
 use Rattle.sql_rows.specs.Clocks.{clock_row}
-use Rattle.meaning.specs.Content.{Content, ClockRow, BroadcastKey, WaitKey, broadcast_cmp, empty_content, wait_cmp}
-use Rattle.settle.specs.Changes.{IsChanged, changes_of, clock_after, clock_move_of, put_rows, put_row, take_rows, same_broadcast, same_wait}
+use Rattle.model.specs.Content.{Content, ClockRow, BroadcastKey, WaitKey, broadcast_cmp, empty_content, wait_cmp}
+use Rattle.settle.specs.Changes.{AppliesChanges, changes_of, clock_after, clock_move_of, put_rows, put_row, delete_rows, same_broadcast, same_wait}
 use Rattle.settle.specs.Lists.{items_of}
-use Rattle.settle.specs.Views.{spid_of, lrn_of, code_of, block_of, block_row_of, clock_row_of, broadcast_row_of, broadcast_key_of, wait_key_of}
+use Rattle.settle.specs.Abstraction.{spid_of, lrn_of, code_of, block_of, block_row_of, clock_row_of, broadcast_row_of, broadcast_key_of, wait_key_of}
 use Rattle.settle.specs.declared.changes.Changes.{Changes}
 use Rattle.sql_rows.proofs.Orders.{broadcast_tie, wait_tie}
-use Rattle.meaning.proofs.KeyOrders.{broadcast_total, wait_total}
-use Rattle.sql_store.specs.Changes.{all_made, go_by_clock, if_some, singles, lists, made, with_carrier, with_lrn, with_code, with_block, clock_made, with_version, without_version, with_broadcast, without_broadcast, with_wait, without_wait}
+use Rattle.model.proofs.KeyOrders.{broadcast_total, wait_total}
+use Rattle.sql_store.specs.Changes.{all_made, go_by_clock, if_some, singles, lists, with_changes, with_carrier, with_lrn, with_code, with_block, clock_made, with_version, without_version, with_broadcast, without_broadcast, with_wait, without_wait}
 use Rattle.numbers.proofs.Small.{grouped}
 
 -- ---- a part of the content that a change leaves
@@ -46,7 +46,7 @@ ClockKeeps part = (c : Content) (sets : FinMap nat_cmp Windows) (clock : Option 
     → part (record c { sets = sets; clock = clock }) ≡ part c
 
 clock_keeps : {A : Type 0} (part : Content → A) → ClockKeeps part
-    → (moved : Option MoveCode) (set : Option SetCode) (row : Option ClockCode) (c : Content)
+    → (moved : Option MoveImpl) (set : Option SetImpl) (row : Option ClockImpl) (c : Content)
     → part (clock_made moved set row c) ≡ part c
 clock_keeps part same None None row c = refl
 clock_keeps part same (Some m) None None c = refl
@@ -91,11 +91,11 @@ module _ {K V : Type 0} (R : K → K → Ordering) (o : IsTotalOrder R) (same : 
     all_taken : {X : Type 0} (key : X → K) (change : X → Content → Content)
         → ((x : X) (c : Content) → table (change x c) ≡ remove (table c) (key x))
         → (xs : List X) (c : Content) (k : K) → get (table (all_made change xs c)) k
-        ≡ take_rows same (map key xs) k (get (table c) k)
+        ≡ delete_rows same (map key xs) k (get (table c) k)
     all_taken key change is [] c k = refl
     all_taken key change is (x ∷ xs) c k =
         all_taken key change is xs (change x c) k
-        ∙ ap (take_rows same (map key xs) k) (ap (λ m. get m k) (is x c)
+        ∙ ap (delete_rows same (map key xs) k) (ap (λ m. get m k) (is x c)
         ∙ get-remove o (table c) (key x) k
         ∙ ap (λ b. cond b None (get (table c) k)) (ties (key x) k)
         ∙ if_cond _ None (get (table c) k))
@@ -110,34 +110,35 @@ module _ {K V : Type 0} (same : K → K → Bool) (k : K) where
   over : (ps : List (K × V)) (x y : Option V) → hit ps ≡ true
       → put_rows same ps k x ≡ put_rows same ps k y
   over [] x y h = absurd cc
-  over (p ∷ ps) x y h = go (same p.0 k) h (λ e. over ps x y e)
+  over (p ∷ ps) x y h = by_cases (same p.0 k) h (λ e. over ps x y e)
     where
-      go : (b : Bool) → (if b then true else hit ps) ≡ true
+      by_cases : (b : Bool) → (if b then true else hit ps) ≡ true
           → (hit ps ≡ true → put_rows same ps k x ≡ put_rows same ps k y)
           → put_rows same ps k (if b then Some p.1 else x) ≡ put_rows same ps k (if b then Some p.1
           else y)
-      go true e more = refl
-      go false e more = more e
+      by_cases true e more = refl
+      by_cases false e more = more e
 
   missed : (ps : List (K × V)) (x : Option V) → hit ps ≡ false
-      → take_rows same (map (λ p. p.0) ps) k x ≡ x
+      → delete_rows same (map (λ p. p.0) ps) k x ≡ x
   missed [] x h = refl
-  missed (p ∷ ps) x h = go (same p.0 k) h (λ e. missed ps x e)
+  missed (p ∷ ps) x h = by_cases (same p.0 k) h (λ e. missed ps x e)
     where
-      go : (b : Bool) → (if b then true else hit ps) ≡ false
-          → (hit ps ≡ false → take_rows same (map (λ p. p.0) ps) k x ≡ x)
-          → take_rows same (map (λ p. p.0) ps) k (if b then None else x) ≡ x
-      go true e more = absurd cc
-      go false e more = more e
+      by_cases : (b : Bool) → (if b then true else hit ps) ≡ false
+          → (hit ps ≡ false → delete_rows same (map (λ p. p.0) ps) k x ≡ x)
+          → delete_rows same (map (λ p. p.0) ps) k (if b then None else x) ≡ x
+      by_cases true e more = absurd cc
+      by_cases false e more = more e
 
   put_again : (ps : List (K × V)) (x : Option V)
-      → put_rows same ps k (take_rows same (map (λ p. p.0) ps) k x) ≡ put_rows same ps k x
-  put_again ps x = go (hit ps) refl
+      → put_rows same ps k (delete_rows same (map (λ p. p.0) ps) k x) ≡ put_rows same ps k x
+  put_again ps x = by_cases (hit ps) refl
     where
-      go : (b : Bool) → hit ps ≡ b → put_rows same ps k (take_rows same (map (λ p. p.0) ps) k x)
+      by_cases : (b : Bool) → hit ps ≡ b
+          → put_rows same ps k (delete_rows same (map (λ p. p.0) ps) k x)
           ≡ put_rows same ps k x
-      go true e = over ps _ _ e
-      go false e = ap (put_rows same ps k) (missed ps x e)
+      by_cases true e = over ps _ _ e
+      by_cases false e = ap (put_rows same ps k) (missed ps x e)
 
 pairs_map : {K V : Type 0} (ps : List (K × V)) → map (λ (p : K × V). (p.0, p.1)) ps ≡ ps
 pairs_map [] = refl
@@ -197,7 +198,7 @@ put_lrn o c = record c { lrns = put_some (λ e. lrn_of e.0) (λ e. spid_of e.1) 
 abbrev put_code : Option (CodeId × Spid) → Content → Content
 put_code o c = record c { codes = put_some (λ e. code_of e.0) (λ e. spid_of e.1) o c.codes }
 
-abbrev put_block : Option (BlockId × BlockCode) → Content → Content
+abbrev put_block : Option (BlockId × BlockImpl) → Content → Content
 put_block o c = record c {
   blocks = put_some (λ e. block_of e.0) (λ e. block_row_of e.1) o c.blocks;
 }
@@ -211,7 +212,7 @@ if_some_is change put none some (Some x) c = some x c
 abbrev unit_pair : ℕ → ℕ × Unit {0}
 unit_pair k = (k, tt)
 
-module _ (ch : Changes) (row : Option ClockCode) (c : Content) where
+module _ (ch : Changes) (row : Option ClockImpl) (c : Content) where
   -- the content before the clock's row and the sets are written
   abbrev before : Content
   before =
@@ -243,14 +244,14 @@ module _ (ch : Changes) (row : Option ClockCode) (c : Content) where
     blocks = m.blocks;
   }
 
-  registry_made : registry (made ch row c) ≡ registry registered
+  registry_made : registry (with_changes ch row c) ≡ registry registered
   registry_made =
       ap registry (lists_keep ch (singles ch row c))
       ∙ clock_keeps registry (λ c sets clock. refl) ch.clock ch.set row before
       ∙ ap registry before_is
 
   carriers_left : (k : ℕ)
-      → get (made ch row c).carriers k ≡ put_row ◌==◌
+      → get (with_changes ch row c).carriers k ≡ put_row ◌==◌
       (option_map unit_pair (option_map spid_of ch.carrier)) k (get c.carriers k)
   carriers_left k =
       ap (λ (m : Content). get m.carriers k) registry_made
@@ -263,7 +264,8 @@ module _ (ch : Changes) (row : Option ClockCode) (c : Content) where
       twice (Some x) = refl
 
   lrns_left : (k : ℕ)
-      → get (made ch row c).lrns k ≡ put_row ◌==◌ (option_map (λ e. (lrn_of e.0, spid_of e.1))
+      → get (with_changes ch row c).lrns k ≡ put_row ◌==◌
+      (option_map (λ e. (lrn_of e.0, spid_of e.1))
       ch.lrn) k (get c.lrns k)
   lrns_left k =
       ap (λ (m : Content). get m.lrns k) registry_made
@@ -271,7 +273,8 @@ module _ (ch : Changes) (row : Option ClockCode) (c : Content) where
       c.lrns k
 
   codes_left : (k : ℕ)
-      → get (made ch row c).codes k ≡ put_row ◌==◌ (option_map (λ e. (code_of e.0, spid_of e.1))
+      → get (with_changes ch row c).codes k ≡ put_row ◌==◌
+      (option_map (λ e. (code_of e.0, spid_of e.1))
       ch.code) k (get c.codes k)
   codes_left k =
       ap (λ (m : Content). get m.codes k) registry_made
@@ -279,7 +282,7 @@ module _ (ch : Changes) (row : Option ClockCode) (c : Content) where
       ch.code c.codes k
 
   blocks_left : (k : ℕ)
-      → get (made ch row c).blocks k ≡ put_row ◌==◌
+      → get (with_changes ch row c).blocks k ≡ put_row ◌==◌
       (option_map (λ e. (block_of e.0, block_row_of e.1)) ch.block) k (get c.blocks k)
   blocks_left k =
       ap (λ (m : Content). get m.blocks k) registry_made
@@ -300,26 +303,27 @@ module _ (ch : Changes) (row : Option ClockCode) (c : Content) where
 
   clock_left : (IsTrue (go_by_clock ch) → option_map clock_row_of row ≡ c.clock)
       → ((r : ClockRow) → c.clock ≡ Some r → get c.sets r.present.number ≡ Some r.present.windows)
-      → (made ch row c).clock ≡ clock_after (option_map clock_move_of ch.clock)
+      → (with_changes ch row c).clock ≡ clock_after (option_map clock_move_of ch.clock)
       (option_map set_of ch.set) c.clock
   clock_left is joins =
       ap (λ (m : Content). m.clock) (lists_keep ch (singles ch row c))
-      ∙ go ch.clock ch.set row before (ap (λ (m : Content). m.clock) before_is)
+      ∙ by_cases ch.clock ch.set row before (ap (λ (m : Content). m.clock) before_is)
       (ap (λ (m : Content). m.sets) before_is) is
     where
-      go : (moved : Option MoveCode) (set : Option SetCode) (row : Option ClockCode) (m : Content)
+      by_cases : (moved : Option MoveImpl) (set : Option SetImpl) (row : Option ClockImpl)
+          (m : Content)
           → m.clock ≡ c.clock → m.sets ≡ c.sets → (IsTrue (is_some moved || is_some set)
           → option_map clock_row_of row ≡ c.clock)
           → (clock_made moved set row m).clock ≡ clock_after (option_map clock_move_of moved)
           (option_map set_of set) c.clock
-      go None None row m same sets is = same
-      go (Some t) None None m same sets is =
+      by_cases None None row m same sets is = same
+      by_cases (Some t) None None m same sets is =
           same ∙ sym (is refl) ∙ ap (option_map (λ (r : ClockRow). record r {
             minute =
                 t.minute.number;
             next_id = t.next_id;
           })) (is refl)
-      go (Some t) None (Some r) m same sets is =
+      by_cases (Some t) None (Some r) m same sets is =
           ap (λ (s : FinMap nat_cmp Windows). option_map (clock_row t.minute.number t.next_id
           r.present.number) (get s r.present.number)) sets
           ∙ ap (option_map (clock_row t.minute.number t.next_id r.present.number))
@@ -329,40 +333,42 @@ module _ (ch : Changes) (row : Option ClockCode) (c : Content) where
             next_id =
                 t.next_id;
           })) (is refl)
-      go (Some t) (Some s) row m same sets is = refl
-      go None (Some s) (Some r) m same sets is =
+      by_cases (Some t) (Some s) row m same sets is = refl
+      by_cases None (Some s) (Some r) m same sets is =
           ap (option_map (λ (r : ClockRow). record r { present = set_of s })) (is refl)
-      go None (Some s) None m same sets is =
+      by_cases None (Some s) None m same sets is =
           same ∙ sym (is refl) ∙ ap (option_map (λ (r : ClockRow). record r { present = set_of s }))
           (is refl)
 
   sets_left : (k : ℕ)
-      → get (made ch row c).sets k ≡ put_row ◌==◌
+      → get (with_changes ch row c).sets k ≡ put_row ◌==◌
       (option_map (λ (s : WindowSet). (s.number, s.windows)) (option_map set_of ch.set)) k
       (get c.sets k)
   sets_left k =
       ap (λ (m : Content). get m.sets k) (lists_keep ch (singles ch row c))
-      ∙ go ch.clock ch.set row before
+      ∙ by_cases ch.clock ch.set row before
       ∙ ap (λ (m : Content). put_row ◌==◌ (option_map (λ (s : WindowSet). (s.number, s.windows))
       (option_map set_of ch.set)) k (get m.sets k)) before_is
     where
-      at : (s : SetCode) (m : FinMap nat_cmp Windows)
+      at : (s : SetImpl) (m : FinMap nat_cmp Windows)
           → get (insert m s.number (windows_of s.windows)) k ≡ (if s.number == k
           then Some (windows_of s.windows) else get m k)
       at s m = put_at nat_cmp nat_cmp_total ◌==◌ number_ties m s.number (windows_of s.windows) k
 
-      go : (moved : Option MoveCode) (set : Option SetCode) (row : Option ClockCode) (m : Content)
+      by_cases : (moved : Option MoveImpl) (set : Option SetImpl) (row : Option ClockImpl)
+          (m : Content)
           → get (clock_made moved set row m).sets k ≡ put_row ◌==◌
           (option_map (λ (s : WindowSet). (s.number, s.windows)) (option_map set_of set)) k
           (get m.sets k)
-      go None None row m = refl
-      go (Some t) None None m = refl
-      go (Some t) None (Some r) m = refl
-      go (Some t) (Some s) row m = at s m.sets
-      go None (Some s) (Some r) m = at s m.sets
-      go None (Some s) None m = at s m.sets
+      by_cases None None row m = refl
+      by_cases (Some t) None None m = refl
+      by_cases (Some t) None (Some r) m = refl
+      by_cases (Some t) (Some s) row m = at s m.sets
+      by_cases None (Some s) (Some r) m = at s m.sets
+      by_cases None (Some s) None m = at s m.sets
 
-  versions_left : (k : ℕ) → get (made ch row c).versions k ≡ put_rows ◌==◌ (items_of ch.versions) k
+  versions_left : (k : ℕ) → get (with_changes ch row c).versions k ≡ put_rows ◌==◌
+      (items_of ch.versions) k
       (get c.versions k)
   versions_left k =
       let ps = items_of ch.versions in
@@ -383,8 +389,8 @@ module _ (ch : Changes) (row : Option ClockCode) (c : Content) where
       ∙ put_again ◌==◌ k ps _
       ∙ ap (λ (m : Content). put_rows ◌==◌ ps k (get m.versions k)) singles_keep
 
-  broadcasts_left : (k : BroadcastKey) → get (made ch row c).broadcasts k
-      ≡ take_rows same_broadcast (map broadcast_key_of (items_of ch.taken_broadcasts)) k
+  broadcasts_left : (k : BroadcastKey) → get (with_changes ch row c).broadcasts k
+      ≡ delete_rows same_broadcast (map broadcast_key_of (items_of ch.taken_broadcasts)) k
       (put_rows same_broadcast (map (λ e. (broadcast_key_of e.0, broadcast_row_of e.1))
       (items_of ch.broadcasts)) k (get c.broadcasts k))
   broadcasts_left k =
@@ -394,7 +400,7 @@ module _ (ch : Changes) (row : Option ClockCode) (c : Content) where
       ∙ all_taken broadcast_cmp broadcast_total same_broadcast broadcast_ties (λ m. m.broadcasts)
       broadcast_key_of (λ k. without_broadcast (broadcast_key_of k)) (λ x c. refl)
       (items_of ch.taken_broadcasts) _ k
-      ∙ ap (take_rows same_broadcast (map broadcast_key_of (items_of ch.taken_broadcasts)) k)
+      ∙ ap (delete_rows same_broadcast (map broadcast_key_of (items_of ch.taken_broadcasts)) k)
       (ap (λ m. get m k) (keeps_all (λ m. m.broadcasts) (λ e. with_wait (wait_key_of e.0)
       (subject_of e.1)) (λ e c. refl) ch.waits.items _)
       ∙ all_put broadcast_cmp broadcast_total same_broadcast broadcast_ties (λ m. m.broadcasts)
@@ -408,14 +414,14 @@ module _ (ch : Changes) (row : Option ClockCode) (c : Content) where
       (λ e c. refl) (items_of ch.versions) _ ∙ ap (λ (m : Content). m.broadcasts) singles_keep))
 
   waits_left : (k : WaitKey)
-      → get (made ch row c).waits k ≡ take_rows same_wait
+      → get (with_changes ch row c).waits k ≡ delete_rows same_wait
       (map wait_key_of (items_of ch.taken_waits)) k
       (put_rows same_wait (map (λ e. (wait_key_of e.0, subject_of e.1)) ch.waits.items) k
       (get c.waits k))
   waits_left k =
       all_taken wait_cmp wait_total same_wait wait_ties (λ m. m.waits) wait_key_of
       (λ k. without_wait (wait_key_of k)) (λ x c. refl) (items_of ch.taken_waits) _ k
-      ∙ ap (take_rows same_wait (map wait_key_of (items_of ch.taken_waits)) k)
+      ∙ ap (delete_rows same_wait (map wait_key_of (items_of ch.taken_waits)) k)
       (ap (λ m. get m k) (keeps_all (λ m. m.waits) (λ k. without_broadcast (broadcast_key_of k))
       (λ k c. refl) (items_of ch.taken_broadcasts) _)
       ∙ all_put wait_cmp wait_total same_wait wait_ties (λ m. m.waits) (λ e. wait_key_of e.0)
@@ -430,7 +436,7 @@ module _ (ch : Changes) (row : Option ClockCode) (c : Content) where
 
   pub changed : (IsTrue (go_by_clock ch) → option_map clock_row_of row ≡ c.clock)
       → ((r : ClockRow) → c.clock ≡ Some r → get c.sets r.present.number ≡ Some r.present.windows)
-      → IsChanged (changes_of ch) c (made ch row c)
+      → AppliesChanges (changes_of ch) c (with_changes ch row c)
   changed is joins = record {
     carriers = carriers_left;
     lrns = lrns_left;

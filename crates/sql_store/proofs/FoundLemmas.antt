@@ -19,12 +19,12 @@ use Rattle.sqlite_store.specs.Listing.{all_shapes, all_reals, listed_from}
 use Rattle.sqlite_pool.specs.File.{in_use, version_in}
 use Rattle.sqlite_store.proofs.ListingLemmas.{all_ordered}
 use Rattle.sql_rows.specs.Shaped.{AreShaped}
-use Rattle.sql_rows.specs.Moving.{schema_of}
+use Rattle.sql_rows.specs.Migration.{schema_of}
 use Rattle.sql_rows.specs.Tables.{the_schema}
-use Rattle.sql_rows.specs.declared.moving.Form.{Form}
-use Rattle.sql_rows.specs.declared.moving.Form.TheVariants.{First, Modify}
+use Rattle.sql_rows.specs.declared.migration.SchemaVersion.{SchemaVersion}
+use Rattle.sql_rows.specs.declared.migration.SchemaVersion.TheVariants.{First, Modify}
 use Rattle.sql_rows.specs.declared.statement.Table.TheVariants.{Carrier, Lrn, Code, Block, OldVersion, Broadcast, Wait, OldClock, NextRouting, WindowSet, Version, Clock}
-use Rattle.sql_store.specs.Moving.{AreOldShaped}
+use Rattle.sql_store.specs.Migration.{AreOldShaped}
 use Rattle.sql_store.specs.Opened.{WasOpened}
 use Rattle.sql_store.specs.Store.{AreShaped-prop}
 use Rattle.sql_store.proofs.OpeningLemmas.{AreOldShaped-prop}
@@ -48,7 +48,7 @@ module _ (db : Trees) (none : IsEmpty db) where
   empty_shaped Version = empty_at 18 (omega arith)
   empty_shaped Clock = empty_at 21 (omega arith)
 
-  empty_old_shaped : (f : Form) → AreOldShaped f db
+  empty_old_shaped : (f : SchemaVersion) → AreOldShaped f db
   empty_old_shaped First = (
     empty_at 0 (omega arith),
     (
@@ -117,7 +117,7 @@ module _ (image : Image) (v : View) where
       (λ w same listed ordered. subst AreShaped same (shaped_by_laws w listed ordered
       (subst (IsSound the_schema) (sym same) sound)))
 
-  old_shaped_in : (f : Form) → AreFoundIn image v.trees → IsSound (schema_of f) v.trees
+  old_shaped_in : (f : SchemaVersion) → AreFoundIn image v.trees → IsSound (schema_of f) v.trees
       → AreOldShaped f v.trees
   old_shaped_in f found sound = by_laws (AreOldShaped f v.trees) (AreOldShaped-prop f v.trees) found
       (λ none. empty_old_shaped v.trees none f) (λ w same listed ordered. subst (AreOldShaped f)

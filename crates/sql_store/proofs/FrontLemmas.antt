@@ -19,10 +19,10 @@ use Rattle.sqlite_rules.specs.Lists.{Has}
 use Rattle.sqlite_rules.proofs.ListLemmas.{has_filtered, has_kept}
 use Rattle.numbers.specs.Subjects.{Subject}
 use Rattle.numbers.specs.declared.spid.Spid.{Spid}
-use Rattle.meaning.specs.Content.{WaitKey}
+use Rattle.model.specs.Content.{WaitKey}
 use Rattle.sql_rows.specs.Content.{content_in, wait_in, wait_shown, wait_entry}
 use Rattle.sql_rows.specs.Found.{IsListAnswer}
-use Rattle.sql_rows.specs.Once.{AreKeysOnce}
+use Rattle.sql_rows.specs.Once.{HasUniqueKeys}
 use Rattle.sql_rows.specs.Statements.{query_of, query_test}
 use Rattle.sql_rows.specs.Values.{spid_in, spid_value}
 use Rattle.sql_rows.specs.declared.keyed.KeyedWait.{KeyedWait}
@@ -33,7 +33,7 @@ use Rattle.sql_rows.proofs.KeyTests.{column_passes, equal_spids}
 use Rattle.sql_rows.proofs.Listed.{from_mapped, has_mapped, read_as, read_from}
 use Rattle.sql_rows.proofs.Lookups.{entry_from, entry_of}
 use Rattle.sql_rows.proofs.Orders.{same_number, same_wait}
-use Rattle.meaning.proofs.KeyOrders.{wait_total}
+use Rattle.model.proofs.KeyOrders.{wait_total}
 use Rattle.sql_rows.proofs.Picked.{Says}
 use Rattle.sql_rows.proofs.QueriesListed.{wait_seen}
 use Rattle.sql_rows.proofs.QueryLemmas.{passes, picked, map_twice}
@@ -156,7 +156,7 @@ same_key a b c m d t i = record { carrier = c i; minute = m i; id = d i; attempt
 
 -- ---- the first of what waits
 
-module _ (db : Trees) (once : AreKeysOnce db) (s : Spid) (n : ℕ) where
+module _ (db : Trees) (once : HasUniqueKeys db) (s : Spid) (n : ℕ) where
   abbrev given : Row
   given = spid_value s.number ∷ Int (pos n) ∷ []
 

@@ -13,6 +13,6 @@ pub mod MappedLemmas
 pub mod RoutedLemmas
 pub mod BlockLemmas
 pub mod WholeLemmas
-pub mod MovingLemmas
+pub mod MigrationLemmas
 pub mod ThroughLemmas
 pub mod FrontLemmas

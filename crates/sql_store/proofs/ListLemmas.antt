@@ -11,18 +11,18 @@ use Rattle.std.proofs.lemmas.List.Elements.{All-from_recursion, recursion_from_A
 use Rattle.std.proofs.lemmas.List.Kept.{IsStrictlySortedBy-filter}
 use Rattle.sqlite_rules.specs.Lists.{Has}
 use Rattle.sqlite_rules.proofs.ListLemmas.{all_from, all_has, contains_had, has_filtered, has_kept}
-use Rattle.numbers.specs.Views.{key_of, subject_of}
+use Rattle.numbers.specs.Abstraction.{key_of, subject_of}
 use Rattle.numbers.specs.Subjects.{Subject}
 use Rattle.numbers.specs.declared.spid.Spid.{Spid}
-use Rattle.numbers.specs.declared.ported.Subject.{Subject as SubjectCode}
+use Rattle.numbers.specs.declared.ported.Subject.{Subject as SubjectImpl}
 use Rattle.numbers.proofs.SubjectKeys.{subject_key-exact}
 use Rattle.delivery.specs.declared.download.DownloadKey.{DownloadKey}
-use Rattle.meaning.specs.Content.{Content, WaitKey}
-use Rattle.settle.specs.Views.{spid_of}
-use Rattle.settle.specs.Reads.{AreAwaited, AreCarriers, AreWaitsAbout, IsAwaitedBy, IsWaiting, download_cmp}
+use Rattle.model.specs.Content.{Content, WaitKey}
+use Rattle.settle.specs.Abstraction.{spid_of}
+use Rattle.settle.specs.Reads.{AreWaitingSubjects, AreCarriers, AreWaitsAbout, IsAwaitedBy, IsWaiting, download_cmp}
 use Rattle.sql_rows.specs.declared.keyed.KeyedWait.{KeyedWait}
 use Rattle.sql_rows.proofs.Listed.{from_mapped, has_mapped}
-use Rattle.meaning.proofs.KeyOrders.{both_equal}
+use Rattle.model.proofs.KeyOrders.{both_equal}
 use Rattle.sql_rows.proofs.Picked.{Picks}
 use Rattle.sql_rows.proofs.QueriesListed.{carrier_seen, wait_seen}
 use Rattle.sql_rows.proofs.QueryLemmas.{map_twice}
@@ -143,15 +143,15 @@ about_are c spid s found items picks rises only each = record {
   rises = rises;
 }
 
-abbrev pub subject_in_wait : KeyedWait → SubjectCode
+abbrev pub subject_in_wait : KeyedWait → SubjectImpl
 subject_in_wait w = w.subject
 
-pub awaited_are : (c : Content) (spid : ℕ) (found : List KeyedWait) (items : List SubjectCode)
+pub awaited_are : (c : Content) (spid : ℕ) (found : List KeyedWait) (items : List SubjectImpl)
     → Picks wait_seen c.waits (λ k v. k.carrier ≡ spid) found
     → IsStrictlySortedBy (on key_of nat_cmp) items
-    → ((x : SubjectCode) → Has items x → Has (map subject_in_wait found) x)
-    → ((x : SubjectCode) → Has (map subject_in_wait found) x → (y : SubjectCode) × Has items y
-    × (on key_of nat_cmp x y ≡ Equal)) → AreAwaited c spid items
+    → ((x : SubjectImpl) → Has items x → Has (map subject_in_wait found) x)
+    → ((x : SubjectImpl) → Has (map subject_in_wait found) x → (y : SubjectImpl) × Has items y
+    × (on key_of nat_cmp x y ≡ Equal)) → AreWaitingSubjects c spid items
 awaited_are c spid found items picks rises only each = record {
   each = λ s awaited.
       let w = picks.each (key_at spid awaited.0 awaited.1 awaited.2) s awaited.3 refl in

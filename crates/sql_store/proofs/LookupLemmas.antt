@@ -8,23 +8,23 @@ use Rattle.sqlite_value.specs.declared.value.ValueRef.{ValueRef}
 use Rattle.sqlite.specs.Value.{owned}
 use Rattle.sqlite.specs.Values.{bound, bound_value}
 use Rattle.sqlite.specs.Tree.{Trees}
-use Rattle.numbers.specs.Views.{routing_of, subject_of}
+use Rattle.numbers.specs.Abstraction.{routing_of, subject_of}
 use Rattle.numbers.specs.Routings.{Routing}
-use Rattle.numbers.specs.declared.ported.Routing.{Routing as RoutingCode}
-use Rattle.meaning.specs.Windows.{Windows}
-use Rattle.windows.specs.declared.window.Windows.{Windows as WindowsCode}
-use Rattle.settle.specs.declared.rows.ClockRow.{ClockRow as ClockCode}
-use Rattle.version.specs.Views.{windows_of}
+use Rattle.numbers.specs.declared.ported.Routing.{Routing as RoutingImpl}
+use Rattle.model.specs.Windows.{Windows}
+use Rattle.windows.specs.declared.window.Windows.{Windows as WindowsImpl}
+use Rattle.settle.specs.declared.rows.ClockRow.{ClockRow as ClockImpl}
+use Rattle.version.specs.Abstraction.{windows_of}
 use Rattle.sql_rows.specs.Clocks.{StoredClock, clock_of, clock_row, with_windows}
-use Rattle.sql_rows.specs.declared.keyed.StoredClock.{StoredClock as StoredCode}
+use Rattle.sql_rows.specs.declared.keyed.StoredClock.{StoredClock as StoredImpl}
 use Rattle.sql_rows.specs.declared.keyed.KeyedSet.{KeyedSet}
 use Rattle.sql_rows.specs.declared.keyed.KeyedRouting.{KeyedRouting}
 use Rattle.sql_rows.specs.declared.statement.Query.{Query}
-use Rattle.sql_store.specs.Found.{IsVersionFound, version_seen}
+use Rattle.sql_store.specs.Found.{IsVersionFound, version_model}
 use Rattle.numbers.specs.declared.spid.Spid.{Spid}
-use Rattle.numbers.specs.declared.ported.Subject.{Subject as SubjectCode}
-use Rattle.meaning.specs.Content.{BroadcastKey, BlockRow, ClockRow, BroadcastRow, VersionRow}
-use Rattle.settle.specs.Views.{spid_of, lrn_of, code_of, block_of, block_row_of, clock_row_of, broadcast_row_of, broadcast_key_of}
+use Rattle.numbers.specs.declared.ported.Subject.{Subject as SubjectImpl}
+use Rattle.model.specs.Content.{BroadcastKey, BlockRow, ClockRow, BroadcastRow, VersionRow}
+use Rattle.settle.specs.Abstraction.{spid_of, lrn_of, code_of, block_of, block_row_of, clock_row_of, broadcast_row_of, broadcast_key_of}
 use Rattle.settle.specs.Reads.{IsInForce, IsOpen, IsLeastDue}
 use Rattle.settle.specs.declared.rows.NumberedRow.{NumberedRow}
 use Rattle.sql_rows.specs.Shaped.{AreShaped}
@@ -168,11 +168,11 @@ module _ (db : Trees) (r : ValueRef) where
       → option_map (λ (x : NumberedRow). x.row) o ≡ get (content_in db).versions n
   version_by n o h =
       let got : get (bare_in db).versions n ≡ option_map (λ (x : NumberedRow). x.row) h.0 =
-      version_found db n (option_map version_seen h.0) h.1
-      ∙ sym (twice version_seen (λ (x : NumberedRow). x.row) (λ (x : NumberedRow). refl) h.0) in
+      version_found db n (option_map version_model h.0) h.1
+      ∙ sym (twice version_model (λ (x : NumberedRow). x.row) (λ (x : NumberedRow). refl) h.0) in
       sym (version_whole db n h.0 o h.2 got (λ v e. version_own db n (v.id, v.row)
       (subst (λ b. IsSoleAnswer VersionNumbered version_in db (Int (pos n) ∷ [])
-      (option_map version_seen b)) e h.1)))
+      (option_map version_model b)) e h.1)))
 
   pub version_is : (n : ℕ) → owned r ≡ Int (pos n) → (found o : Option NumberedRow) → found ≡ o
       → IsVersionFound VersionNumbered db (bound (r ∷ [])) found
@@ -181,14 +181,14 @@ module _ (db : Trees) (r : ValueRef) where
       ∙ version_by n found (found_by VersionNumbered (Int (pos n)) refl is found h)
 
   module _ (shaped : AreShaped db) where
-    pub in_force_is : (s : SubjectCode) → owned r ≡ subject_value (subject_of s)
+    pub in_force_is : (s : SubjectImpl) → owned r ≡ subject_value (subject_of s)
         → (o : Option NumberedRow) → IsVersionFound VersionInForce db (bound (r ∷ [])) o
         → IsInForce (content_in db) (subject_of s) o
     in_force_is s is o h = let f =
         found_by VersionInForce (subject_value (subject_of s)) refl is o h in
         in_force_whole db (subject_of s) f.0 o f.2 (in_force_found db shaped s f.0 f.1)
 
-    pub open_is : (s : SubjectCode) → owned r ≡ subject_value (subject_of s)
+    pub open_is : (s : SubjectImpl) → owned r ≡ subject_value (subject_of s)
         → (o : Option NumberedRow) → IsVersionFound VersionOpen db (bound (r ∷ [])) o
         → IsOpen (content_in db) (subject_of s) o
     open_is s is o h = let f = found_by VersionOpen (subject_value (subject_of s)) refl is o h in
@@ -201,22 +201,22 @@ module _ (db : Trees) (r : ValueRef) where
 
 -- ---- the clock's row, of two tables
 
-abbrev pub clock_with : StoredCode → WindowsCode → ClockCode
+abbrev pub clock_with : StoredImpl → WindowsImpl → ClockImpl
 clock_with c w = record {
   minute = c.minute;
   next_id = c.next_id;
   present = record { number = c.present; windows = w };
 }
 
-pub no_clock : (db : Trees) (stored : Option StoredCode) → stored ≡ None
+pub no_clock : (db : Trees) (stored : Option StoredImpl) → stored ≡ None
     → option_map clock_of stored ≡ get (clocks_in (db 21)) 0
     → ◌≡◌ {A = Option ClockRow} None (content_in db).clock
 no_clock db stored none is =
     ap (λ o. option_and_then (with_windows (sets_in (db 17))) (option_map clock_of o)) (sym none)
     ∙ ap (option_and_then (with_windows (sets_in (db 17)))) is
 
-pub the_clock : (db : Trees) (stored : Option StoredCode) (c : StoredCode)
-    (found : Option WindowsCode) (w : WindowsCode) → stored ≡ Some c
+pub the_clock : (db : Trees) (stored : Option StoredImpl) (c : StoredImpl)
+    (found : Option WindowsImpl) (w : WindowsImpl) → stored ≡ Some c
     → option_map clock_of stored ≡ get (clocks_in (db 21)) 0 → found ≡ Some w
     → option_map windows_of found ≡ get (content_in db).sets c.present
     → Some (clock_row_of (clock_with c w)) ≡ (content_in db).clock
@@ -228,19 +228,19 @@ the_clock db stored c found w some is there has =
 
 -- ---- a row that sends a modify
 
-pub routed_next : (db : Trees) (v : NumberedRow) (n : Option RoutingCode) (put : RoutingCode)
+pub routed_next : (db : Trees) (v : NumberedRow) (n : Option RoutingImpl) (put : RoutingImpl)
     (w : VersionRow) → is_some (next_of v.row.status) ≡ true → n ≡ Some put
     → option_map routing_of n ≡ get (nexts_in (db 16)) v.id → w ≡ modified_to (routing_of put) v.row
     → w ≡ rerouted (get (nexts_in (db 16)) v.id) v.row
-routed_next db v n put w sends some is made = go (next_of v.row.status) refl sends
+routed_next db v n put w sends some is made = by_cases (next_of v.row.status) refl sends
   where
-    go : (o : Option Routing) → next_of v.row.status ≡ o → is_some o ≡ true
+    by_cases : (o : Option Routing) → next_of v.row.status ≡ o → is_some o ≡ true
         → w ≡ rerouted (get (nexts_in (db 16)) v.id) v.row
-    go None e h = absurd (true≢false (sym h))
-    go (Some own) e h = made ∙ sym (rerouted-put (routing_of put) own v.row e)
+    by_cases None e h = absurd (true≢false (sym h))
+    by_cases (Some own) e h = made ∙ sym (rerouted-put (routing_of put) own v.row e)
         ∙ ap (λ o. rerouted o v.row) (ap (option_map routing_of) (sym some) ∙ is)
 
-pub unrouted_next : (db : Trees) (v : NumberedRow) (n : Option RoutingCode) → n ≡ None
+pub unrouted_next : (db : Trees) (v : NumberedRow) (n : Option RoutingImpl) → n ≡ None
     → option_map routing_of n ≡ get (nexts_in (db 16)) v.id
     → v.row ≡ rerouted (get (nexts_in (db 16)) v.id) v.row
 unrouted_next db v n none is =

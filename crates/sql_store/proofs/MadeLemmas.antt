@@ -7,12 +7,12 @@ use Rattle.sqlite.specs.Values.{bound, bound_value}
 use Rattle.sqlite.specs.Order.{Row}
 use Rattle.sqlite.specs.Effect.{Database}
 use Rattle.sqlite.specs.State.{State}
-use Rattle.meaning.specs.Content.{Content}
+use Rattle.model.specs.Content.{Content}
 use Rattle.sql_rows.specs.Shaped.{AreShaped}
 use Rattle.sql_rows.specs.Written.{Removed, Replaced}
 use Rattle.sql_rows.specs.declared.statement.Table.{Table}
 use Rattle.sql_rows.proofs.PutLemmas.{Became}
-use Rattle.sql_store.specs.Store.{content_at, Makes, Writes}
+use Rattle.sql_store.specs.Store.{content_at, AppliesInTransaction, WritesInTransaction}
 use Rattle.sql_store.proofs.CallLemmas.{makes}
 
 pub two_bound : (r s : ValueRef) (v w : Value) → bound_value v ≡ v → bound_value w ≡ w → owned r ≡ v
@@ -23,7 +23,7 @@ two_bound r s v w plain also one two = ap (λ x. bound_value x ∷ bound_value (
 
 module _ (a b : State) where
   pub failed : (Did : Database → Database → Type 0) (change : Content → Content)
-      → Writes a b false Did → Makes a b false change
+      → WritesInTransaction a b false Did → AppliesInTransaction a b false change
   failed Did change it = record {
     made = λ bad. absurd (true≢false (sym bad));
     kept = it.kept;
@@ -31,17 +31,19 @@ module _ (a b : State) where
   }
 
   pub put_made : (t : Table) (key given_key row given : Row) (change : Content → Content)
-      → given_key ≡ key → given ≡ row → Writes a b true (Replaced t given_key given)
+      → given_key ≡ key → given ≡ row → WritesInTransaction a b true (Replaced t given_key given)
       → (AreShaped a.now.trees → Replaced t key row a.now b.now
-      → Became b.now (change (content_at a))) → Makes a b true change
+      → Became b.now (change (content_at a))) → AppliesInTransaction a b true change
   put_made t key given_key row given change is also it means =
-      makes a b true (Replaced t key row) change (subst₂ (λ k r. Writes a b true (Replaced t k r))
+      makes a b true (Replaced t key row) change
+      (subst₂ (λ k r. WritesInTransaction a b true (Replaced t k r))
       is also it) (λ inside did. let m = means inside.shaped did in (m.schema, m.shaped, m.is))
 
   pub take_made : (t : Table) (key given_key : Row) (change : Content → Content) → given_key ≡ key
-      → Writes a b true (Removed t given_key)
+      → WritesInTransaction a b true (Removed t given_key)
       → (AreShaped a.now.trees → Removed t key a.now b.now → Became b.now (change (content_at a)))
-      → Makes a b true change
+      → AppliesInTransaction a b true change
   take_made t key given_key change is it means =
-      makes a b true (Removed t key) change (subst (λ k. Writes a b true (Removed t k)) is it)
+      makes a b true (Removed t key) change (subst (λ k. WritesInTransaction a b true (Removed t k))
+      is it)
       (λ inside did. let m = means inside.shaped did in (m.schema, m.shaped, m.is))

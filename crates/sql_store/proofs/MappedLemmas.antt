@@ -18,11 +18,11 @@ module _ {X Y : Type 0} (h : X → Option Y) where
   pub from_filter_mapped : (xs : List X) (y : Y) → Has (filter_map h xs) y → (x : X) × Has xs x
       × (h x ≡ Some y)
   from_filter_mapped [] y at = absurd at
-  from_filter_mapped (z ∷ zs) y at = go (h z) refl at (from_filter_mapped zs y)
+  from_filter_mapped (z ∷ zs) y at = by_cases (h z) refl at (from_filter_mapped zs y)
     where
-      go : (o : Option Y) → h z ≡ o → Has (cons_option o (filter_map h zs)) y
+      by_cases : (o : Option Y) → h z ≡ o → Has (cons_option o (filter_map h zs)) y
           → (Has (filter_map h zs) y → (x : X) × Has zs x × (h x ≡ Some y))
           → (x : X) × Has (z ∷ zs) x × (h x ≡ Some y)
-      go None is at more = let x = more at in (x.0, inr x.1, x.2)
-      go (Some w) is (inl same) more = (z, inl refl, is ∙ ap Some (sym same))
-      go (Some w) is (inr at) more = let x = more at in (x.0, inr x.1, x.2)
+      by_cases None is at more = let x = more at in (x.0, inr x.1, x.2)
+      by_cases (Some w) is (inl same) more = (z, inl refl, is ∙ ap Some (sym same))
+      by_cases (Some w) is (inr at) more = let x = more at in (x.0, inr x.1, x.2)

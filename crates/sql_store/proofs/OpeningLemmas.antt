@@ -13,8 +13,8 @@ use Rattle.sqlite_catalog.specs.Listing.{AreListed, IsIndexRow, IsTableRow, IsVi
 use Rattle.sqlite_schema.specs.declared.schema.Index.{Index}
 use Rattle.sqlite_schema.specs.declared.schema.Table.{Table}
 use Rattle.sqlite_schema.specs.declared.schema.View.{View as Stored}
-use Rattle.meaning.specs.Content.{empty_content}
-use Rattle.meaning.specs.Windows.{Windows}
+use Rattle.model.specs.Content.{empty_content}
+use Rattle.model.specs.Windows.{Windows}
 use Rattle.settle.specs.declared.store.StoreFault.{StoreFault}
 use Rattle.settle.specs.declared.store.StoreFault.TheVariants as told
 use Rattle.sql_rows.specs.Content.{content_in}
@@ -38,11 +38,11 @@ use Rattle.sql_rows.specs.Tables.{no_schema, the_schema}
 use Rattle.sqlite.specs.Schema.{Schema}
 use Rattle.sql_rows.specs.Shaped.{AreShaped}
 use Rattle.sql_rows.specs.declared.statement.Table.TheVariants.{Carrier, Lrn, Code, Block, OldVersion, Broadcast, Wait, OldClock, NextRouting, WindowSet, Version, Clock}
-use Rattle.sql_rows.specs.Moving.{schema_of}
-use Rattle.sql_rows.specs.declared.moving.Form.{Form}
-use Rattle.sql_rows.specs.declared.moving.Form.TheVariants.{First, Modify}
-use Rattle.sql_store.specs.Moving.{AreOldShaped, IsMovedFrom, IsOfForm, of_earlier, of_none, of_ours}
-use Rattle.sql_store.specs.Store.{IsOurs}
+use Rattle.sql_rows.specs.Migration.{schema_of}
+use Rattle.sql_rows.specs.declared.migration.SchemaVersion.{SchemaVersion}
+use Rattle.sql_rows.specs.declared.migration.SchemaVersion.TheVariants.{First, Modify}
+use Rattle.sql_store.specs.Migration.{AreOldShaped, IsMovedFrom, HasSchemaVersion, of_earlier, of_none, of_ours}
+use Rattle.sql_store.specs.Store.{HasStoreTables}
 
 -- the laws of a store that is not broken give the shape of each table
 each_shaped : (v : View) → IsOrdered v.shape v.trees → (ts : List Table)
@@ -80,11 +80,12 @@ shaped_by_laws v listed ordered sound = shaped (tables_shaped the_schema v liste
     shaped l Version = l.1.1.1.1.1.1.1.1.1.1.0
     shaped l Clock = l.1.1.1.1.1.1.1.1.1.1.1.0
 
-pub old_shaped_by_laws : (f : Form) (v : View) → IsListed (v.trees catalog_tree) v.shape v.reals
+pub old_shaped_by_laws : (f : SchemaVersion) (v : View)
+    → IsListed (v.trees catalog_tree) v.shape v.reals
     → IsOrdered v.shape v.trees → IsSound (schema_of f) v.trees → AreOldShaped f v.trees
 old_shaped_by_laws f = tables_shaped (schema_of f)
 
-pub AreOldShaped-prop : (f : Form) (db : Trees) → IsProp (AreOldShaped f db)
+pub AreOldShaped-prop : (f : SchemaVersion) (db : Trees) → IsProp (AreOldShaped f db)
 AreOldShaped-prop f db = AllByRecursion-prop (λ (t : Table). IsShaped AsTable (db t.tree))
     (λ t. IsShaped-prop AsTable (db t.tree)) (schema_of f).tables
 
@@ -106,7 +107,7 @@ module _ (s : State) (was : WasOpened s) where
   pub sound_as : (k : Schema) → s.now.schema ≡ k → IsSound k s.now.trees
   sound_as k has = subst (λ k. IsSound k s.now.trees) has (was.live was.opens.is_open).0
 
-  pub opened_form : (f : Form) → s.now.schema ≡ schema_of f → IsOfForm f s
+  pub opened_form : (f : SchemaVersion) → s.now.schema ≡ schema_of f → HasSchemaVersion f s
   opened_form f has = record {
     schema = has;
     shaped = was.old_shaped f (sound_as (schema_of f) has);
@@ -114,7 +115,7 @@ module _ (s : State) (was : WasOpened s) where
     same_trees = ap (λ (d : Database). d.trees) was.opens.clean;
   }
 
-  pub opened_ours : s.now.schema ≡ the_schema → IsOurs s
+  pub opened_ours : s.now.schema ≡ the_schema → HasStoreTables s
   opened_ours has = record {
     schema = has;
     shaped = was.shaped (sound_as the_schema has);
@@ -188,7 +189,7 @@ module _ (w : Windows) (db now : Trees) where
     known = of_none refl;
   }
     where
-      never : (f : Form) → length no_schema.tables ≡ length (schema_of f).tables → ⊥
+      never : (f : SchemaVersion) → length no_schema.tables ≡ length (schema_of f).tables → ⊥
       never First same = omega (arith, same)
       never Modify same = omega (arith, same)
 
@@ -204,11 +205,11 @@ module _ (w : Windows) (db now : Trees) where
     known = of_ours refl;
   }
     where
-      never : (f : Form) → length the_schema.tables ≡ length (schema_of f).tables → ⊥
+      never : (f : SchemaVersion) → length the_schema.tables ≡ length (schema_of f).tables → ⊥
       never First same = omega (arith, same)
       never Modify same = omega (arith, same)
 
-  pub taken_moved : (f : Form) → IsSound (schema_of f) db → IsMovedFrom f w db now
+  pub taken_moved : (f : SchemaVersion) → IsSound (schema_of f) db → IsMovedFrom f w db now
       → IsTakenAs w db now
   taken_moved f sound it = record {
     new = λ none. absurd (no_table f (as_many db (schema_of f) no_schema sound none));
@@ -221,15 +222,16 @@ module _ (w : Windows) (db now : Trees) where
     known = of_earlier f refl;
   }
     where
-      no_table : (f : Form) → length (schema_of f).tables ≡ length no_schema.tables → ⊥
+      no_table : (f : SchemaVersion) → length (schema_of f).tables ≡ length no_schema.tables → ⊥
       no_table First same = omega (arith, same)
       no_table Modify same = omega (arith, same)
 
-      not_ours : (f : Form) → length (schema_of f).tables ≡ length the_schema.tables → ⊥
+      not_ours : (f : SchemaVersion) → length (schema_of f).tables ≡ length the_schema.tables → ⊥
       not_ours First same = omega (arith, same)
       not_ours Modify same = omega (arith, same)
 
-      same_form : (f g : Form) → length (schema_of f).tables ≡ length (schema_of g).tables → f ≡ g
+      same_form : (f g : SchemaVersion) → length (schema_of f).tables ≡ length (schema_of g).tables
+          → f ≡ g
       same_form First First same = refl
       same_form Modify Modify same = refl
       same_form First Modify same = absurd (omega (arith, same))

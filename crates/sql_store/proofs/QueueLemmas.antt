@@ -13,8 +13,8 @@ use Rattle.std.proofs.lemmas.List.Kept.{IsStrictlySortedBy-filter}
 use Rattle.numbers.specs.Subjects.{Subject}
 use Rattle.delivery.specs.declared.download.Download.{Download}
 use Rattle.delivery.specs.declared.download.DownloadKey.{DownloadKey}
-use Rattle.meaning.specs.Content.{Content, WaitKey}
-use Rattle.settle.specs.Reads.{AreFirst, Waits, download_cmp}
+use Rattle.model.specs.Content.{Content, WaitKey}
+use Rattle.settle.specs.Reads.{AreFirst, IsWaitingDownload, download_cmp}
 use Rattle.sql_rows.specs.declared.keyed.KeyedWait.{KeyedWait}
 use Rattle.sql_rows.proofs.Listed.{from_mapped, has_mapped}
 use Rattle.sql_rows.proofs.Picked.{Picks}
@@ -247,7 +247,7 @@ first_are c spid many Left waits downloads queued first enough = record {
           ]
         ]
   ];
-  only = all_there (Waits c spid) downloads (λ d has.
+  only = all_there (IsWaitingDownload c spid) downloads (λ d has.
       let told = all_had d has in (
         told.0,
         (queued.only (key_in d) (has_taken first.passed waits (key_in d) (passed d has)), told.1),

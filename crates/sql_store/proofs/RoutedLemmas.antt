@@ -15,9 +15,9 @@ use Rattle.sqlite_rules.specs.Lists.{Has}
 use Rattle.sqlite_rules.proofs.ListLemmas.{contains_had}
 use Rattle.numbers.specs.Routings.{Routing}
 use Rattle.numbers.specs.Subjects.{Subject}
-use Rattle.numbers.specs.Views.{key_of, routing_of, subject_of}
+use Rattle.numbers.specs.Abstraction.{key_of, routing_of, subject_of}
 use Rattle.delivery.specs.declared.mirror.RoutedRow.{RoutedRow}
-use Rattle.meaning.specs.Content.{VersionRow, subject_if}
+use Rattle.model.specs.Content.{VersionRow, subject_if}
 use Rattle.settle.specs.Reads.{AreInForce, IsRouted}
 use Rattle.settle.specs.declared.rows.NumberedRow.{NumberedRow}
 use Rattle.sql_rows.specs.Content.{bare_in, content_in, nexts_in}
@@ -31,7 +31,7 @@ use Rattle.sql_rows.proofs.Lookups.{entry_from}
 use Rattle.sql_rows.proofs.Orders.{same_number}
 use Rattle.sql_rows.proofs.Picked.{Picks}
 use Rattle.sql_rows.proofs.QueriesListed.{IsAmong, version_seen}
-use Rattle.sql_store.specs.Routed.{routed_in, routed_seen}
+use Rattle.sql_store.specs.Routed.{routed_in, routed_model}
 use Rattle.sql_store.proofs.ListLemmas.{all_had, all_there}
 use Rattle.sql_store.proofs.MappedLemmas.{from_filter_mapped, has_filter_mapped}
 
@@ -92,7 +92,7 @@ in_row v = routed_in v.row
 
 bare_routed : (db : Trees) (found : List NumberedRow) (rows items : List RoutedRow)
     → Picks version_seen (bare_in db).versions (λ id v. IsAmong 0 9223372036854775807 v.holds) found
-    → map routed_seen rows ≡ filter_map in_row found → IsPermutation rows items → Rises items
+    → map routed_model rows ≡ filter_map in_row found → IsPermutation rows items → Rises items
     → AreInForce (bare_in db) items
 bare_routed db found rows items picks are same rises = record {
   each = λ s routing routed.
@@ -106,7 +106,7 @@ bare_routed db found rows items picks are same rises = record {
       let told : in_row x.0 ≡ Some (s, routing) = ap (λ (e : ℕ × VersionRow). routed_in e.1) x.2
       ∙ routes routed.1 s routing routed.3 routed.4 in
       let at = has_filter_mapped in_row found x.0 (s, routing) x.1 told in
-      let r = from_mapped routed_seen rows (s, routing) (subst (λ l. Has l (s, routing)) (sym are)
+      let r = from_mapped routed_model rows (s, routing) (subst (λ l. Has l (s, routing)) (sym are)
       at) in (
         r.0,
         contains_had items r.0 (has_permuted rows items r.0 same r.1),
@@ -116,8 +116,8 @@ bare_routed db found rows items picks are same rises = record {
   only = all_there (λ (r : RoutedRow). IsRouted (bare_in db) (subject_of r.subject)
       (routing_of r.routing)) items (λ r at.
       let before = has_permuted items rows r (IsPermutation-sym rows items same) at in
-      let x = from_filter_mapped in_row found (routed_seen r) (subst (λ l. Has l (routed_seen r))
-      are (has_mapped routed_seen rows r before)) in
+      let x = from_filter_mapped in_row found (routed_model r) (subst (λ l. Has l (routed_model r))
+      are (has_mapped routed_model rows r before)) in
       let told = routes_from x.0.row (subject_of r.subject) (routing_of r.routing) x.2 in
       (x.0.id, x.0.row, (picks.only x.0 x.1).0, told.0, told.1));
   rises = λ once. rises;
@@ -126,7 +126,7 @@ bare_routed db found rows items picks are same rises = record {
 -- a row that sends a modify is in force with the routing that it has
 pub routed_are : (db : Trees) (found : List NumberedRow) (rows items : List RoutedRow)
     → Picks version_seen (bare_in db).versions (λ id v. IsAmong 0 9223372036854775807 v.holds) found
-    → map routed_seen rows ≡ filter_map in_row found → IsPermutation rows items → Rises items
+    → map routed_model rows ≡ filter_map in_row found → IsPermutation rows items → Rises items
     → AreInForce (content_in db) items
 routed_are db found rows items picks are same rises =
     let bare = bare_routed db found rows items picks are same rises in

@@ -48,18 +48,18 @@ shown_none schema p is = planned_none p _ _ (meant schema _ p.statement _ is)
 compiled_none : (schema : Schema) (text : List ℕ) → Selects (first text)
     → ShowsNone (compiled schema text)
 unfolding compiled
-compiled_none schema text selects = go (first text) selects
+compiled_none schema text selects = by_cases (first text) selects
   where
-    go : (r : Checked Parsed) → Selects r
+    by_cases : (r : Checked Parsed) → Selects r
         → ShowsNone
         (and_then r (λ p. and_then (planned schema p) (λ plan. Ok (with_command p plan))))
-    go (Ok p) is = shown_none schema p is
-    go (Err e) is = tt
+    by_cases (Ok p) is = shown_none schema p is
+    by_cases (Err e) is = tt
 
 pub understood_none : (schema : Schema) (text : List ℕ) → Selects (first text)
     → ShowsNone (understood schema text)
 unfolding understood
-understood_none schema text selects = go (reads_listing schema text)
+understood_none schema text selects = by_cases (reads_listing schema text)
   where
     chosen : (b : Bool) (c : Compiled) → ShowsNone (Ok c)
         → ShowsNone (if b then Ok c else Err NoSuchTable)
@@ -70,10 +70,11 @@ understood_none schema text selects = go (reads_listing schema text)
     listed (Ok c) none = chosen (is_select c.command) c none
     listed (Err e) none = tt
 
-    go : (b : Bool) → ShowsNone (if b then if_select (compiled listing_schema text)
+    by_cases : (b : Bool) → ShowsNone (if b then if_select (compiled listing_schema text)
         else compiled schema text)
-    go true = listed (compiled listing_schema text) (compiled_none listing_schema text selects)
-    go false = compiled_none schema text selects
+    by_cases true =
+        listed (compiled listing_schema text) (compiled_none listing_schema text selects)
+    by_cases false = compiled_none schema text selects
 
 pub never_shows : (text : List ℕ) (params : Row) (s : State) (db : Trees) → Selects (first text)
     → ¬ CommitsShowing text params s db

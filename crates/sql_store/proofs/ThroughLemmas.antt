@@ -13,21 +13,21 @@ use Rattle.sqlite.proofs.Callers.{begun_plain, unchanged_then}
 use Rattle.sql_rows.specs.Found.{AreRead}
 use Rattle.sql_rows.specs.declared.fault.Fault.{Fault}
 use Rattle.sql_store.specs.Through.{HasReadAll, ReadsOn, TellsNone, Unmoved}
-use Rattle.sql_rows.specs.Moving.{IsTableOf}
+use Rattle.sql_rows.specs.Migration.{IsTableOf}
 use Rattle.sql_rows.specs.Statements.{all_text}
-use Rattle.sql_rows.specs.declared.moving.Form.{Form}
+use Rattle.sql_rows.specs.declared.migration.SchemaVersion.{SchemaVersion}
 use Rattle.sql_rows.specs.declared.statement.Query.TheVariants.{All}
 use Rattle.sql_rows.specs.declared.statement.Table.{Table}
-use Rattle.sql_rows.proofs.MovingLemmas.{old_query_plain}
+use Rattle.sql_rows.proofs.MigrationLemmas.{old_query_plain}
 use Rattle.sql_rows.proofs.StatementLemmas.{query_plain}
-use Rattle.meaning.specs.Content.{VersionRow}
+use Rattle.model.specs.Content.{VersionRow}
 use Rattle.sql_rows.specs.Versions.{old_version_in}
 use Rattle.sql_rows.specs.declared.statement.Table.TheVariants.{OldVersion as OldTable}
 use Rattle.sql_rows.specs.declared.version_row.OldVersion.{OldVersion}
-use Rattle.sql_store.specs.Moving.{AreIdsOf, HasIds, IsOfForm}
-use Rattle.sql_store.specs.Store.{IsOurs, IsSame, Looked}
+use Rattle.sql_store.specs.Migration.{AreIdsOf, HasIds, HasSchemaVersion}
+use Rattle.sql_store.specs.Store.{HasStoreTables, IsSame, HasQueried}
 use Rattle.sql_store.specs.Whole.{IsRead}
-use Rattle.sql_store.proofs.MovingLemmas.{old_answers}
+use Rattle.sql_store.proofs.MigrationLemmas.{old_answers}
 use Rattle.sql_store.proofs.CallLemmas.{answers, both_survive, earlier, shown_open, shown_same, survives_still}
 
 -- a query that begins was asked of a connection that was open
@@ -260,7 +260,7 @@ pub table_looked : {X R : Type 0} (read : Row → Option X) (P : R → List X �
     → (IsTrue new.is_open → HasCleanDisk new)
     → (HasCleanDisk new → IfOk r (λ a. HasReadAll read sql old new (P a)))
     → (HasCleanDisk new → OnErr r (IsUnchanged old new ⊎ IsRolledBack old new))
-    → Survives old new (λ _. ⊥) → Looked old new (is_ok r)
+    → Survives old new (λ _. ⊥) → HasQueried old new (is_ok r)
 table_looked read P sql old new (Ok a) plain settled clean_of all err survives = record {
   same = λ up. same_left old new settled up (inl (unchanged (clean_of up)));
   stays = λ ok clean. (unchanged clean).0.is_open;
@@ -279,18 +279,19 @@ table_looked read P sql old new (Err e) plain settled clean_of all err survives 
 }
 
 module _ {X : Type 0} (read : Row → Option X) (table : Table) (old new : State) where
-  pub ours_plain : (IsTrue old.is_open → IsOurs old) → IsTrue old.is_open
+  pub ours_plain : (IsTrue old.is_open → HasStoreTables old) → IsTrue old.is_open
       → IsPlain (understood old.now.schema (all_text table))
   ours_plain ours was = subst (λ k. IsPlain (understood k (all_text table))) (sym (ours was).schema)
       (query_plain (All table))
 
-  pub old_plain : (f : Form) → IsTableOf table f → (IsTrue old.is_open → IsOfForm f old)
+  pub old_plain : (f : SchemaVersion) → IsTableOf table f
+      → (IsTrue old.is_open → HasSchemaVersion f old)
       → IsTrue old.is_open → IsPlain (understood old.now.schema (all_text table))
   old_plain f has ours was =
       subst (λ k. IsPlain (understood k (all_text table))) (sym (ours was).schema)
       (old_query_plain f table has)
 
-  pub ours_read : (IsTrue old.is_open → IsOurs old) → (r : Result Bool Fault)
+  pub ours_read : (IsTrue old.is_open → HasStoreTables old) → (r : Result Bool Fault)
       → IfOk r (λ blank. HasReadAll read (all_text table) old new (TellsNone blank))
       → IfOk r (IsRead table read old.now.trees)
   ours_read ours (Err e) it = tt
@@ -305,7 +306,8 @@ module _ {X : Type 0} (read : Row → Option X) (table : Table) (old new : State
     none,
   )
 
-  pub old_read : (f : Form) → IsTableOf table f → (IsTrue old.is_open → IsOfForm f old)
+  pub old_read : (f : SchemaVersion) → IsTableOf table f
+      → (IsTrue old.is_open → HasSchemaVersion f old)
       → (r : Result Bool Fault)
       → IfOk r (λ blank. HasReadAll read (all_text table) old new (TellsNone blank))
       → OnOk r (IsRead table read old.now.trees false)
@@ -333,7 +335,7 @@ more_ids ids seen x more is (xs, same, own) = (
   is ∙ ap (λ l. l ++ x.version.id ∷ []) own ∙ sym (map-append _ xs (x ∷ [])),
 )
 
-pub ids_read : (f : Form) (old new : State) → (IsTrue old.is_open → IsOfForm f old)
+pub ids_read : (f : SchemaVersion) (old new : State) → (IsTrue old.is_open → HasSchemaVersion f old)
     → {R : Type 0} (items : R → List ℕ) (r : Result R Fault)
     → IfOk r (λ ids. HasReadAll old_version_in (all_text OldTable) old new (AreIdsOf (items ids)))
     → IfOk r (λ ids. HasIds (items ids) old.now.trees)

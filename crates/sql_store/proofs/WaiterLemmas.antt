@@ -10,16 +10,16 @@ use Rattle.sqlite_rules.specs.Lists.{Has}
 use Rattle.sqlite_rules.proofs.ListLemmas.{some_has}
 use Rattle.numbers.specs.Subjects.{Subject}
 use Rattle.numbers.specs.declared.spid.Spid.{Spid}
-use Rattle.meaning.specs.Content.{Content, WaitKey, wait_cmp}
-use Rattle.settle.specs.Views.{spid_of}
+use Rattle.model.specs.Content.{Content, WaitKey, wait_cmp}
+use Rattle.settle.specs.Abstraction.{spid_of}
 use Rattle.settle.specs.Reads.{AreCarriers, AreWaiters, is_last_wait}
 use Rattle.sql_rows.specs.Content.{content_in, wait_in, wait_shown}
 use Rattle.sql_rows.specs.declared.keyed.KeyedWait.{KeyedWait}
 use Rattle.sql_rows.proofs.Inversions.{number_small, wait_reads}
 use Rattle.sql_rows.proofs.Lookups.{entry_from}
 use Rattle.sql_rows.proofs.Orders.{same_wait}
-use Rattle.meaning.proofs.Lists.{filter-map, all-map}
-use Rattle.meaning.proofs.KeyOrders.{wait_total}
+use Rattle.model.proofs.Lists.{filter-map, all-map}
+use Rattle.model.proofs.KeyOrders.{wait_total}
 use Rattle.sql_rows.proofs.Picked.{Picks}
 use Rattle.sql_rows.proofs.QueriesListed.{wait_seen}
 use Rattle.sql_store.specs.Lists.{is_waiting}
@@ -99,11 +99,11 @@ last_is c wait waiters are = all-map spid_of (λ k. k == wait.carrier) waiters
 pub no_great_wait : (db : Trees) (k : WaitKey)
     → (nat_lt k.id 9223372036854775808 && nat_lt k.attempt 9223372036854775808) ≡ false
     → get (content_in db).waits k ≡ None
-no_great_wait db k great = go (get (content_in db).waits k) refl
+no_great_wait db k great = by_cases (get (content_in db).waits k) refl
   where
-    go : (o : Option Subject) → get (content_in db).waits k ≡ o → o ≡ None
-    go None e = refl
-    go (Some s) e =
+    by_cases : (o : Option Subject) → get (content_in db).waits k ≡ o → o ≡ None
+    by_cases None e = refl
+    by_cases (Some s) e =
         let f = entry_from wait_cmp wait_total wait_in wait_shown same_wait (db 10) k s e in
         let r = wait_reads f.row (k, s) f.reads in
         absurd (true≢false

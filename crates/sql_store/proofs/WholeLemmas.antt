@@ -11,7 +11,7 @@ use Rattle.sqlite.specs.Tree.{Trees}
 use Rattle.sqlite_rules.specs.Lists.{Has}
 use Rattle.sqlite_rules.proofs.ListLemmas.{has_kept}
 use Rattle.std.specs.Prelude.{option_and_then, option_map}
-use Rattle.meaning.specs.Content.{ClockRow, VersionRow, empty_content}
+use Rattle.model.specs.Content.{ClockRow, VersionRow, empty_content}
 use Rattle.numbers.specs.Routings.{Routing}
 use Rattle.sql_rows.specs.Over.{over}
 use Rattle.sql_rows.proofs.Over.{get-over}
@@ -19,7 +19,7 @@ use Rattle.sql_rows.specs.Clocks.{StoredClock, with_windows}
 use Rattle.sql_rows.specs.Content.{block_row_in, block_shown, broadcast_entry, broadcast_in, broadcast_shown, carrier_in, carrier_shown, clock_in, clock_shown, next_entry, next_row_in, next_shown, set_in, set_shown, old_clock_in, old_clock_shown, nexts_in, content_in, lrn_row_in, code_row_in, owner_shown, wait_entry, wait_in, wait_shown}
 use Rattle.sql_rows.specs.Found.{AreRead, IsListAnswer}
 use Rattle.sql_rows.specs.declared.statement.Query.TheVariants.{All}
-use Rattle.sql_store.specs.Moving.{AreMovedRead}
+use Rattle.sql_store.specs.Migration.{AreMovedRead}
 use Rattle.sql_rows.specs.Statements.{shown_by}
 use Rattle.sql_rows.specs.Versions.{rerouted, old_shown_of, old_version_in, shown_of, version_in}
 use Rattle.sql_rows.specs.declared.statement.Table.TheVariants.{Carrier, Lrn, Code, Block, Version, Broadcast, Wait, Clock, NextRouting, WindowSet, OldVersion, OldClock}

@@ -6,7 +6,7 @@ use Rattle.sqlite_rules.specs.Lists.{Has}
 use Rattle.numbers.specs.Digits.{block_of}
 use Rattle.numbers.specs.Subjects.{Subject, Number, Block}
 use Rattle.numbers.specs.declared.tn.Tn.{Tn}
-use Rattle.meaning.specs.Content.{Content, VersionRow}
+use Rattle.model.specs.Content.{Content, VersionRow}
 use Rattle.version.specs.declared.in_use.NumberInUse.{NumberInUse}
 use Rattle.sql_store.specs.declared.blocks.Role.{Role}
 use Rattle.sql_store.specs.declared.blocks.Role.TheVariants.{InForce, Open}
@@ -34,14 +34,15 @@ abbrev pub number_by : Role → VersionRow → Option ℕ
 number_by by v = option_and_then number_if (subject_by by v)
 
 -- a version of the number is in force, or open
-abbrev pub Stands : Content → Role → (number : ℕ) → Type 0
-Stands c by n = (id : ℕ) × (row : VersionRow) × (get c.versions id ≡ Some row)
+abbrev pub HasVersionInRole : Content → Role → (number : ℕ) → Type 0
+HasVersionInRole c by n = (id : ℕ) × (row : VersionRow) × (get c.versions id ≡ Some row)
     × (subject_by by row ≡ Some (Number n))
 
 -- the numbers of the block of which it is so
 pub record AreNumbers (c : Content) (by : Role) (block : ℕ) (tns : List Tn) : Type 0 where
-  pub each : (n : ℕ) → block_of n ≡ block → Stands c by n → (tn : Tn) × Has tns tn × (tn.number ≡ n)
-  pub only : (tn : Tn) → Has tns tn → (block_of tn.number ≡ block) × Stands c by tn.number
+  pub each : (n : ℕ) → block_of n ≡ block → HasVersionInRole c by n → (tn : Tn) × Has tns tn
+      × (tn.number ≡ n)
+  pub only : (tn : Tn) → Has tns tn → (block_of tn.number ≡ block) × HasVersionInRole c by tn.number
 
 -- ---- numbers in use
 

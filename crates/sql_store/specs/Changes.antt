@@ -2,17 +2,17 @@
 use Rattle.std.specs.Prelude.{◌≡◌, ◌||◌, Bool, IsTrue, ℕ, List, [], ◌∷◌, Option, Some, None, is_some, option_map}
 use Rattle.std.specs.FinMap.{insert, remove}
 use Rattle.numbers.specs.Subjects.{Subject}
-use Rattle.meaning.specs.Content.{Content, BlockRow, VersionRow, BroadcastRow, BroadcastKey, WaitKey}
-use Rattle.meaning.specs.Windows.{Windows}
-use Rattle.numbers.specs.Views.{subject_of}
+use Rattle.model.specs.Content.{Content, BlockRow, VersionRow, BroadcastRow, BroadcastKey, WaitKey}
+use Rattle.model.specs.Windows.{Windows}
+use Rattle.numbers.specs.Abstraction.{subject_of}
 use Rattle.settle.specs.declared.changes.Changes.{Changes}
-use Rattle.settle.specs.Changes.{IsChanged, changes_of}
+use Rattle.settle.specs.Changes.{AppliesChanges, changes_of}
 use Rattle.settle.specs.Lists.{items_of}
-use Rattle.settle.specs.Views.{spid_of, lrn_of, code_of, block_of, block_row_of, clock_row_of, broadcast_row_of, broadcast_key_of, wait_key_of}
+use Rattle.settle.specs.Abstraction.{spid_of, lrn_of, code_of, block_of, block_row_of, clock_row_of, broadcast_row_of, broadcast_key_of, wait_key_of}
 use Rattle.settle.specs.declared.rows.ClockRow.{ClockRow}
 use Rattle.settle.specs.declared.rows.ClockMove.{ClockMove}
 use Rattle.windows.specs.declared.window.WindowSet.{WindowSet}
-use Rattle.version.specs.Views.{windows_of}
+use Rattle.version.specs.Abstraction.{windows_of}
 use Rattle.sql_rows.specs.Clocks.{StoredClock, clock_row, with_windows}
 use Rattle.sql_rows.specs.Content.{stored_clock}
 
@@ -102,8 +102,8 @@ lists ch c =
     (all_made (λ e. with_broadcast (broadcast_key_of e.0) (broadcast_row_of e.1))
     (items_of ch.broadcasts) (replaced (items_of ch.versions) c))))
 
-abbrev pub made : Changes → Option ClockRow → Content → Content
-made ch row c = lists ch (singles ch row c)
+abbrev pub with_changes : Changes → Option ClockRow → Content → Content
+with_changes ch row c = lists ch (singles ch row c)
 
 -- they move the clock, or set the windows anew
 abbrev pub go_by_clock : Changes → Bool
@@ -112,4 +112,4 @@ go_by_clock ch = is_some ch.clock || is_some ch.set
 -- the changes, where this is the clock's row before them if they go by it
 abbrev pub IsChangedOver : Changes → Option ClockRow → Content → Content → Type 0
 IsChangedOver ch row old new = (IsTrue (go_by_clock ch) → option_map clock_row_of row ≡ old.clock)
-    → IsChanged (changes_of ch) old new
+    → AppliesChanges (changes_of ch) old new

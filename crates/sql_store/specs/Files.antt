@@ -2,7 +2,7 @@
 use Rattle.std.specs.Prelude.{◌≢◌}
 use Rattle.sqlite.specs.Store.{Ghosts}
 use Rattle.sqlite.specs.Tree.{Trees}
-use Rattle.meaning.specs.Windows.{Windows}
+use Rattle.model.specs.Windows.{Windows}
 use Rattle.sql_store.specs.Opened.{IsRefusedAs}
 use Rattle.sql_store.specs.declared.file.Unopened.{Unopened}
 use Rattle.sql_store.specs.declared.file.Unopened.TheVariants.{Files, Database}

@@ -11,5 +11,5 @@ pub mod Found
 pub mod Opened
 pub mod Files
 pub mod Through
-pub mod Moving
+pub mod Migration
 pub mod Faults

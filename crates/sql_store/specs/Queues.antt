@@ -9,10 +9,10 @@ use Rattle.sqlite_rules.specs.Lists.{Has}
 use Rattle.delivery.specs.declared.download.Download.{Download}
 use Rattle.delivery.specs.declared.download.DownloadKey.{DownloadKey}
 use Rattle.numbers.specs.Subjects.{Subject}
-use Rattle.numbers.specs.Views.{subject_of}
-use Rattle.settle.specs.Views.{wait_key_of}
+use Rattle.numbers.specs.Abstraction.{subject_of}
+use Rattle.settle.specs.Abstraction.{wait_key_of}
 use Rattle.sql_rows.specs.declared.keyed.KeyedWait.{KeyedWait}
-use Rattle.meaning.specs.Content.{Content, BroadcastRow, WaitKey}
+use Rattle.model.specs.Content.{Content, BroadcastRow, WaitKey}
 use Rattle.settle.specs.Reads.{IsToldBy, download_cmp}
 
 abbrev pub key_in : Download → DownloadKey

@@ -2,12 +2,12 @@
 use Rattle.std.specs.Prelude.{Option, option_and_then, option_map}
 use Rattle.numbers.specs.Routings.{Routing}
 use Rattle.numbers.specs.Subjects.{Subject}
-use Rattle.numbers.specs.Views.{routing_of, subject_of}
+use Rattle.numbers.specs.Abstraction.{routing_of, subject_of}
 use Rattle.delivery.specs.declared.mirror.RoutedRow.{RoutedRow}
-use Rattle.meaning.specs.Content.{VersionRow}
+use Rattle.model.specs.Content.{VersionRow}
 
-abbrev pub routed_seen : RoutedRow → Subject × Routing
-routed_seen r = (subject_of r.subject, routing_of r.routing)
+abbrev pub routed_model : RoutedRow → Subject × Routing
+routed_model r = (subject_of r.subject, routing_of r.routing)
 
 -- what is in force, and where it is routed
 abbrev pub routed_in : VersionRow → Option (Subject × Routing)

@@ -14,7 +14,7 @@ use Rattle.sqlite.specs.Tree.{Trees}
 use Rattle.sqlite_trees.specs.declared.store.Shape.TheVariants.{Table as AsTable}
 use Rattle.sqlite.specs.State.{State, HasCleanDisk, Survives}
 use Rattle.sqlite.specs.Held.{Held, state}
-use Rattle.meaning.specs.Content.{Content}
+use Rattle.model.specs.Content.{Content}
 use Rattle.sql_rows.specs.Tables.{the_schema}
 use Rattle.sql_rows.specs.Shaped.{AreShaped}
 use Rattle.sql_rows.specs.Content.{content_in, next_entry, next_params, stored}
@@ -26,13 +26,13 @@ use Rattle.sqlite.specs.declared.types.Value.TheVariants.{Int}
 -- ---- between calls
 
 -- the tables are ours, and nothing is pending
-pub record IsOurs (s : State) : Type 0 where
+pub record HasStoreTables (s : State) : Type 0 where
   pub schema : s.now.schema ≡ the_schema
   pub shaped : AreShaped s.now.trees
   pub same_schema : s.now.schema ≡ s.committed.schema
   pub same_trees : s.now.trees ≡ s.committed.trees
 
-pub settled : (s : State) → IsOurs s → s.now ≡ s.committed
+pub settled : (s : State) → HasStoreTables s → s.now ≡ s.committed
 settled s ours i = record { schema = ours.same_schema i; trees = ours.same_trees i }
 
 Schema-set : IsSet Schema
@@ -41,8 +41,8 @@ Schema-set = Coded-set the_row.coded
 pub AreShaped-prop : (db : Trees) → IsProp (AreShaped db)
 AreShaped-prop db = Π_prop (λ t. IsShaped-prop AsTable _)
 
-IsOurs-prop : (s : State) → IsProp (IsOurs s)
-IsOurs-prop s a b i = record {
+HasStoreTables-prop : (s : State) → IsProp (HasStoreTables s)
+HasStoreTables-prop s a b i = record {
   schema = Schema-set _ _ a.schema b.schema i;
   shaped = AreShaped-prop s.now.trees a.shaped b.shaped i;
   same_schema = Schema-set _ _ a.same_schema b.same_schema i;
@@ -50,8 +50,8 @@ IsOurs-prop s a b i = record {
 }
 
 -- a ghost field wants a proposition
-pub ours_if_open : (s : State) → IsProp (IsTrue s.is_open → IsOurs s)
-ours_if_open s = Π_prop (λ _. IsOurs-prop s)
+pub ours_if_open : (s : State) → IsProp (IsTrue s.is_open → HasStoreTables s)
+ours_if_open s = Π_prop (λ _. HasStoreTables-prop s)
 
 -- the content of the tables
 abbrev pub content_at : State → Content
@@ -64,21 +64,21 @@ pub record IsSame (old new : State) : Type 0 where
   pub committed : new.committed ≡ old.committed
 
 -- a call read, and answered or not: a connection that is shut answers none
-pub record Looked (old new : State) (answered : Bool) : Type 0 where
+pub record HasQueried (old new : State) (answered : Bool) : Type 0 where
   pub same : IsTrue new.is_open → IsSame old new
   pub honest : HasCleanDisk new → HasCleanDisk old
   pub stays : IsTrue answered → HasCleanDisk new → IsTrue new.is_open
   pub survives : Survives old new (λ _. ⊥)
 
 -- a call committed this, or nothing
-pub record Turned (old new : State) (done : Bool) (Becomes : Content → Content
+pub record HasCommitted (old new : State) (done : Bool) (Becomes : Content → Content
     → Type 0) : Type 0 where
   pub becomes : IsTrue done → IsTrue new.is_open → Becomes (content_at old) (content_at new)
   pub same : IsTrue (not done) → IsTrue new.is_open → IsSame old new
   pub was_open : IsTrue new.is_open → IsTrue old.is_open
   pub honest : HasCleanDisk new → HasCleanDisk old
   pub stays : IsTrue done → IsTrue old.is_open → HasCleanDisk new → IsTrue new.is_open
-  pub ours : IsTrue new.is_open → IsOurs new
+  pub ours : IsTrue new.is_open → HasStoreTables new
   pub crash : Survives old new (λ db. IsTrue old.is_open → Becomes (content_at old) (content_in db))
 
 -- a crash leaves what it could leave before, or what the call made, also of a connection that is
@@ -90,7 +90,7 @@ CommitLeaves old new Becomes = HasCleanDisk new → (db : Trees) → new.may_lea
 -- ---- in a transaction
 
 -- the tables are ours while a transaction writes them
-pub record IsInside (s : State) : Type 0 where
+pub record IsInTransaction (s : State) : Type 0 where
   pub is_open : IsTrue s.is_open
   pub inside : IsTrue s.in_transaction
   pub schema : s.now.schema ≡ the_schema
@@ -98,12 +98,12 @@ pub record IsInside (s : State) : Type 0 where
 
 -- statements were made, and the tables are this content now
 pub record Stepped (old new : State) (content : Content) : Type 0 where
-  pub inside : IsInside new
+  pub inside : IsInTransaction new
   pub committed : new.committed ≡ old.committed
   pub is : content_at new ≡ content
 
 -- nothing was committed, however it went
-pub record Kept (old new : State) : Type 0 where
+pub record HasCommittedNothing (old new : State) : Type 0 where
   pub was_open : IsTrue old.is_open
   pub committed : new.committed ≡ old.committed
 
@@ -115,10 +115,10 @@ pub record Wrote (old new : State) (Did : Database → Database → Type 0) : Ty
   pub did : Did old.now new.now
 
 -- a call in a transaction makes this of the tables, where it does not fail
-pub record Writes (old new : State) (done : Bool) (Did : Database → Database
+pub record WritesInTransaction (old new : State) (done : Bool) (Did : Database → Database
     → Type 0) : Type 0 where
-  pub wrote : IsTrue done → HasCleanDisk new → IsInside old → Wrote old new Did
-  pub kept : IsTrue new.is_open → Kept old new
+  pub wrote : IsTrue done → HasCleanDisk new → IsInTransaction old → Wrote old new Did
+  pub kept : IsTrue new.is_open → HasCommittedNothing old new
   pub survives : Survives old new (λ _. ⊥)
 
 -- the routing that a version sends was put, or what stood there was taken away
@@ -128,18 +128,19 @@ IsNextPut id (Some r) old new = Replaced NextRouting (Int (pos id) ∷ []) (next
     × (next_entry (stored (next_params id r)) ≡ Some (id, r))
 
 -- a call in a transaction makes this change of the content, where it does not fail
-pub record Makes (old new : State) (done : Bool) (change : Content → Content) : Type 0 where
-  pub made : IsTrue done → HasCleanDisk new → IsInside old
+pub record AppliesInTransaction (old new : State) (done : Bool) (change : Content
+    → Content) : Type 0 where
+  pub made : IsTrue done → HasCleanDisk new → IsInTransaction old
       → Stepped old new (change (content_at old))
-  pub kept : IsTrue new.is_open → Kept old new
+  pub kept : IsTrue new.is_open → HasCommittedNothing old new
   pub survives : Survives old new (λ _. ⊥)
 
 -- calls so far, and those that are left, make together this change
-pub record Goes (old new : State) (left whole : Content → Content) : Type 0 where
-  pub inside : HasCleanDisk new → IsInside old → IsInside new
-  pub committed : HasCleanDisk new → IsInside old → new.committed ≡ old.committed
-  pub is : HasCleanDisk new → IsInside old → left (content_at new) ≡ whole (content_at old)
-  pub kept : IsTrue new.is_open → Kept old new
+pub record IsTransactionProgress (old new : State) (left whole : Content → Content) : Type 0 where
+  pub inside : HasCleanDisk new → IsInTransaction old → IsInTransaction new
+  pub committed : HasCleanDisk new → IsInTransaction old → new.committed ≡ old.committed
+  pub is : HasCleanDisk new → IsInTransaction old → left (content_at new) ≡ whole (content_at old)
+  pub kept : IsTrue new.is_open → HasCommittedNothing old new
   pub survives : Survives old new (λ _. ⊥)
 
 -- ---- a crash

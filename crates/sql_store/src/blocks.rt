@@ -3,9 +3,9 @@ ghost use Rattle.std.specs.Prelude.{◌≡◌, ◌++◌, false, IsTrue, IfOk, is
 ghost use Rattle.std.specs.List.{filter_map};
 ghost use Rattle.sqlite.specs.Held.{state};
 ghost use Rattle.settle.specs.Reads.{AreInBlock};
-ghost use Rattle.settle.specs.Views.{block_of};
+ghost use Rattle.settle.specs.Abstraction.{block_of};
 ghost use Rattle.sql_store.specs.Blocks.{AreNumbers, is_listed, number_by, number_in_use, number_of_tn, query_by};
-ghost use Rattle.sql_store.specs.Store.{IsOurs, Looked, content_at};
+ghost use Rattle.sql_store.specs.Store.{HasStoreTables, HasQueried, content_at};
 
 use crate::order::put_in_order;
 use crate::select::find_all;
@@ -66,12 +66,13 @@ fn numbers<S: Alter>(
     standing: Role,
     block: BlockId,
 ) -> Result<Vec<Tn>, Fault>
-    requires ours { IsTrue (state S.Store conn.old).is_open → IsOurs (state S.Store conn.old) }
+    requires ours { IsTrue (state S.Store conn.old).is_open
+        → HasStoreTables (state S.Store conn.old) }
     requires idle { conn.old.in_transaction ≡ false }
     ensures value { IsTrue (state S.Store conn.new).is_open
         → IfOk result (λ tns. AreNumbers (content_at (state S.Store conn.old)) standing
         (block_of block) tns.items) }
-    ensures looked { Looked (state S.Store conn.old) (state S.Store conn.new) (is_ok result) }
+    ensures queried { HasQueried (state S.Store conn.old) (state S.Store conn.new) (is_ok result) }
     ensures idle { conn.new.in_transaction ≡ false }
 {
     let first = u64::from(block.number) * 1000;
@@ -122,12 +123,13 @@ pub(crate) fn in_block<S: Alter>(
     conn: &mut Connection<S>,
     block: BlockId,
 ) -> Result<Vec<NumberInUse>, Fault>
-    requires ours { IsTrue (state S.Store conn.old).is_open → IsOurs (state S.Store conn.old) }
+    requires ours { IsTrue (state S.Store conn.old).is_open
+        → HasStoreTables (state S.Store conn.old) }
     requires idle { conn.old.in_transaction ≡ false }
     ensures value { IsTrue (state S.Store conn.new).is_open
         → IfOk result (λ numbers. AreInBlock (content_at (state S.Store conn.old))
         (block_of block) numbers.items) }
-    ensures looked { Looked (state S.Store conn.old) (state S.Store conn.new) (is_ok result) }
+    ensures queried { HasQueried (state S.Store conn.old) (state S.Store conn.new) (is_ok result) }
     ensures idle { conn.new.in_transaction ≡ false }
 {
     let in_force = numbers(conn, Role::InForce, block)?;

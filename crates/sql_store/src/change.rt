@@ -3,7 +3,7 @@ ghost use Rattle.std.specs.Prelude.{◌≡◌, is_ok};
 ghost use Rattle.sqlite.specs.Held.{state};
 ghost use Rattle.sqlite.specs.Values.{bound};
 ghost use Rattle.sql_rows.specs.Written.{Removed, AddedBy, Replaced};
-ghost use Rattle.sql_store.specs.Store.{Writes};
+ghost use Rattle.sql_store.specs.Store.{WritesInTransaction};
 
 use sql_rows::{Fault, Table};
 use sqlite::types::ValueRef;
@@ -16,8 +16,8 @@ pub(crate) fn take<S: Alter>(
     key: &[ValueRef<'_>],
 ) -> Result<(), Fault>
     ensures same_reference { tx.new.conn.ghost_name ≡ tx.old.conn.ghost_name }
-    ensures writes { Writes (state S.Store tx.old.conn.now) (state S.Store tx.new.conn.now)
-        (is_ok result) (Removed table (bound key.now)) }
+    ensures writes { WritesInTransaction (state S.Store tx.old.conn.now)
+        (state S.Store tx.new.conn.now) (is_ok result) (Removed table (bound key.now)) }
 {
     tx.execute(table.delete_text(), key)?;
     Ok(())
@@ -30,8 +30,8 @@ fn insert<S: Alter>(
     row: &[ValueRef<'_>],
 ) -> Result<(), Fault>
     ensures same_reference { tx.new.conn.ghost_name ≡ tx.old.conn.ghost_name }
-    ensures writes { Writes (state S.Store tx.old.conn.now) (state S.Store tx.new.conn.now)
-        (is_ok result) (AddedBy table (bound row.now)) }
+    ensures writes { WritesInTransaction (state S.Store tx.old.conn.now)
+        (state S.Store tx.new.conn.now) (is_ok result) (AddedBy table (bound row.now)) }
 {
     tx.execute(table.insert_text(), row)?;
     Ok(())
@@ -45,7 +45,8 @@ pub(crate) fn replace<S: Alter>(
     row: &[ValueRef<'_>],
 ) -> Result<(), Fault>
     ensures same_reference { tx.new.conn.ghost_name ≡ tx.old.conn.ghost_name }
-    ensures writes { Writes (state S.Store tx.old.conn.now) (state S.Store tx.new.conn.now)
+    ensures writes { WritesInTransaction (state S.Store tx.old.conn.now)
+        (state S.Store tx.new.conn.now)
         (is_ok result) (Replaced table (bound key.now) (bound row.now)) }
 {
     take(tx, table, key)?;

@@ -1,16 +1,16 @@
 //! A commit.
 ghost use Rattle.std.specs.Prelude.{◌≡◌, false, IsTrue, is_ok};
 ghost use Rattle.sqlite.specs.Held.{state};
-ghost use Rattle.numbers.specs.Views.{subject_of};
-ghost use Rattle.settle.specs.Views.{spid_of, lrn_of, code_of, block_of, block_row_of, broadcast_row_of, broadcast_key_of, wait_key_of};
-ghost use Rattle.settle.specs.Changes.{changes_of, IsChanged};
-ghost use Rattle.sql_store.specs.Store.{CommitLeaves, IsOurs, Makes, Turned};
-ghost use Rattle.sql_store.specs.Changes.{singles, lists, made, all_made, if_some, with_carrier, with_lrn, with_code, with_block, clock_made, IsChangedOver, with_version, without_version, with_broadcast, without_broadcast, with_wait, without_wait};
+ghost use Rattle.numbers.specs.Abstraction.{subject_of};
+ghost use Rattle.settle.specs.Abstraction.{spid_of, lrn_of, code_of, block_of, block_row_of, broadcast_row_of, broadcast_key_of, wait_key_of};
+ghost use Rattle.settle.specs.Changes.{changes_of, AppliesChanges};
+ghost use Rattle.sql_store.specs.Store.{CommitLeaves, HasStoreTables, AppliesInTransaction, HasCommitted};
+ghost use Rattle.sql_store.specs.Changes.{singles, lists, with_changes, all_made, if_some, with_carrier, with_lrn, with_code, with_block, clock_made, IsChangedOver, with_version, without_version, with_broadcast, without_broadcast, with_wait, without_wait};
 
 use crate::lookups::clock;
 use crate::rows::{
-    put_block, put_broadcast, put_carrier, put_clock, put_code, put_lrn, put_set, put_version,
-    put_wait, take_broadcast, take_version, take_wait,
+    delete_broadcast, delete_version, delete_wait, put_block, put_broadcast, put_carrier,
+    put_clock, put_code, put_lrn, put_set, put_version, put_wait,
 };
 use delivery::Broadcast;
 use numbers::{BlockId, CodeId, Lrn, Spid, Subject};
@@ -25,11 +25,12 @@ fn clear_versions<S: Alter>(
     rows: &[(u64, VersionRow)],
 ) -> Result<(), Fault>
     ensures same_reference { tx.new.conn.ghost_name ≡ tx.old.conn.ghost_name }
-    ensures makes { Makes (state S.Store tx.old.conn.now) (state S.Store tx.new.conn.now)
+    ensures applies { AppliesInTransaction (state S.Store tx.old.conn.now)
+        (state S.Store tx.new.conn.now)
         (is_ok result) (all_made (λ p. without_version p.0) rows.now) }
 {
     for row in rows {
-        take_version(tx, row.0)?;
+        delete_version(tx, row.0)?;
     }
     Ok(())
 }
@@ -39,7 +40,8 @@ fn put_versions<S: Alter>(
     rows: &[(u64, VersionRow)],
 ) -> Result<(), Fault>
     ensures same_reference { tx.new.conn.ghost_name ≡ tx.old.conn.ghost_name }
-    ensures makes { Makes (state S.Store tx.old.conn.now) (state S.Store tx.new.conn.now)
+    ensures applies { AppliesInTransaction (state S.Store tx.old.conn.now)
+        (state S.Store tx.new.conn.now)
         (is_ok result) (all_made (λ p. with_version p.0 p.1) rows.now) }
 {
     for row in rows {
@@ -53,8 +55,8 @@ fn put_broadcasts<S: Alter>(
     rows: &[(BroadcastKey, Broadcast)],
 ) -> Result<(), Fault>
     ensures same_reference { tx.new.conn.ghost_name ≡ tx.old.conn.ghost_name }
-    ensures makes { Makes (state S.Store tx.old.conn.now) (state S.Store tx.new.conn.now)
-        (is_ok result)
+    ensures applies { AppliesInTransaction (state S.Store tx.old.conn.now)
+        (state S.Store tx.new.conn.now) (is_ok result)
         (all_made (λ p. with_broadcast (broadcast_key_of p.0) (broadcast_row_of p.1)) rows.now) }
 {
     for row in rows {
@@ -68,7 +70,8 @@ fn put_waits<S: Alter>(
     rows: &[(WaitKey, Subject)],
 ) -> Result<(), Fault>
     ensures same_reference { tx.new.conn.ghost_name ≡ tx.old.conn.ghost_name }
-    ensures makes { Makes (state S.Store tx.old.conn.now) (state S.Store tx.new.conn.now)
+    ensures applies { AppliesInTransaction (state S.Store tx.old.conn.now)
+        (state S.Store tx.new.conn.now)
         (is_ok result) (all_made (λ p. with_wait (wait_key_of p.0) (subject_of p.1)) rows.now) }
 {
     for row in rows {
@@ -82,29 +85,32 @@ fn take_broadcasts<S: Alter>(
     keys: &[BroadcastKey],
 ) -> Result<(), Fault>
     ensures same_reference { tx.new.conn.ghost_name ≡ tx.old.conn.ghost_name }
-    ensures makes { Makes (state S.Store tx.old.conn.now) (state S.Store tx.new.conn.now)
+    ensures applies { AppliesInTransaction (state S.Store tx.old.conn.now)
+        (state S.Store tx.new.conn.now)
         (is_ok result) (all_made (λ k. without_broadcast (broadcast_key_of k)) keys.now) }
 {
     for key in keys {
-        take_broadcast(tx, *key)?;
+        delete_broadcast(tx, *key)?;
     }
     Ok(())
 }
 
 fn take_waits<S: Alter>(tx: &mut Transaction<'_, S>, keys: &[WaitKey]) -> Result<(), Fault>
     ensures same_reference { tx.new.conn.ghost_name ≡ tx.old.conn.ghost_name }
-    ensures makes { Makes (state S.Store tx.old.conn.now) (state S.Store tx.new.conn.now)
+    ensures applies { AppliesInTransaction (state S.Store tx.old.conn.now)
+        (state S.Store tx.new.conn.now)
         (is_ok result) (all_made (λ k. without_wait (wait_key_of k)) keys.now) }
 {
     for key in keys {
-        take_wait(tx, *key)?;
+        delete_wait(tx, *key)?;
     }
     Ok(())
 }
 
 fn register<S: Alter>(tx: &mut Transaction<'_, S>, carrier: Option<Spid>) -> Result<(), Fault>
     ensures same_reference { tx.new.conn.ghost_name ≡ tx.old.conn.ghost_name }
-    ensures makes { Makes (state S.Store tx.old.conn.now) (state S.Store tx.new.conn.now)
+    ensures applies { AppliesInTransaction (state S.Store tx.old.conn.now)
+        (state S.Store tx.new.conn.now)
         (is_ok result) (if_some (λ k. with_carrier (spid_of k)) carrier) }
 {
     match carrier {
@@ -118,7 +124,8 @@ fn assign_lrn<S: Alter>(
     owned: Option<(Lrn, Spid)>,
 ) -> Result<(), Fault>
     ensures same_reference { tx.new.conn.ghost_name ≡ tx.old.conn.ghost_name }
-    ensures makes { Makes (state S.Store tx.old.conn.now) (state S.Store tx.new.conn.now)
+    ensures applies { AppliesInTransaction (state S.Store tx.old.conn.now)
+        (state S.Store tx.new.conn.now)
         (is_ok result) (if_some (λ e. with_lrn (lrn_of e.0) (spid_of e.1)) owned) }
 {
     match owned {
@@ -132,7 +139,8 @@ fn open_code<S: Alter>(
     opened: Option<(CodeId, Spid)>,
 ) -> Result<(), Fault>
     ensures same_reference { tx.new.conn.ghost_name ≡ tx.old.conn.ghost_name }
-    ensures makes { Makes (state S.Store tx.old.conn.now) (state S.Store tx.new.conn.now)
+    ensures applies { AppliesInTransaction (state S.Store tx.old.conn.now)
+        (state S.Store tx.new.conn.now)
         (is_ok result) (if_some (λ e. with_code (code_of e.0) (spid_of e.1)) opened) }
 {
     match opened {
@@ -146,7 +154,8 @@ fn donate<S: Alter>(
     donated: Option<(BlockId, BlockRow)>,
 ) -> Result<(), Fault>
     ensures same_reference { tx.new.conn.ghost_name ≡ tx.old.conn.ghost_name }
-    ensures makes { Makes (state S.Store tx.old.conn.now) (state S.Store tx.new.conn.now)
+    ensures applies { AppliesInTransaction (state S.Store tx.old.conn.now)
+        (state S.Store tx.new.conn.now)
         (is_ok result) (if_some (λ e. with_block (block_of e.0) (block_row_of e.1)) donated) }
 {
     match donated {
@@ -164,8 +173,8 @@ fn set_clock<S: Alter>(
     row: Option<ClockRow>,
 ) -> Result<(), Fault>
     ensures same_reference { tx.new.conn.ghost_name ≡ tx.old.conn.ghost_name }
-    ensures makes { Makes (state S.Store tx.old.conn.now) (state S.Store tx.new.conn.now)
-        (is_ok result) (clock_made moved set row) }
+    ensures applies { AppliesInTransaction (state S.Store tx.old.conn.now)
+        (state S.Store tx.new.conn.now) (is_ok result) (clock_made moved set row) }
 {
     match (moved, set, row) {
         (None, None, _) => Ok(()),
@@ -207,8 +216,8 @@ fn write_singles<S: Alter>(
     row: Option<ClockRow>,
 ) -> Result<(), Fault>
     ensures same_reference { tx.new.conn.ghost_name ≡ tx.old.conn.ghost_name }
-    ensures makes { Makes (state S.Store tx.old.conn.now) (state S.Store tx.new.conn.now)
-        (is_ok result) (singles changes.now row) }
+    ensures applies { AppliesInTransaction (state S.Store tx.old.conn.now)
+        (state S.Store tx.new.conn.now) (is_ok result) (singles changes.now row) }
 {
     register(tx, changes.carrier)?;
     assign_lrn(tx, changes.lrn)?;
@@ -221,8 +230,8 @@ fn write_singles<S: Alter>(
 // All others. What is taken away is taken last.
 fn write_lists<S: Alter>(tx: &mut Transaction<'_, S>, changes: &Changes) -> Result<(), Fault>
     ensures same_reference { tx.new.conn.ghost_name ≡ tx.old.conn.ghost_name }
-    ensures makes { Makes (state S.Store tx.old.conn.now) (state S.Store tx.new.conn.now)
-        (is_ok result) (lists changes.now) }
+    ensures applies { AppliesInTransaction (state S.Store tx.old.conn.now)
+        (state S.Store tx.new.conn.now) (is_ok result) (lists changes.now) }
 {
     clear_versions(tx, changes.versions.as_slice())?;
     put_versions(tx, changes.versions.as_slice())?;
@@ -240,8 +249,8 @@ fn write<S: Alter>(
     row: Option<ClockRow>,
 ) -> Result<(), Fault>
     ensures same_reference { tx.new.conn.ghost_name ≡ tx.old.conn.ghost_name }
-    ensures makes { Makes (state S.Store tx.old.conn.now) (state S.Store tx.new.conn.now)
-        (is_ok result) (made changes.now row) }
+    ensures applies { AppliesInTransaction (state S.Store tx.old.conn.now)
+        (state S.Store tx.new.conn.now) (is_ok result) (with_changes changes.now row) }
 {
     write_singles(tx, changes, row)?;
     write_lists(tx, changes)?;
@@ -255,10 +264,11 @@ fn commit_over<S: Alter>(
     changes: &Changes,
     row: Option<ClockRow>,
 ) -> Result<(), Fault>
-    requires ours { IsTrue (state S.Store conn.old).is_open → IsOurs (state S.Store conn.old) }
+    requires ours { IsTrue (state S.Store conn.old).is_open
+        → HasStoreTables (state S.Store conn.old) }
     requires idle { conn.old.in_transaction ≡ false }
-    ensures turned { Turned (state S.Store conn.old) (state S.Store conn.new) (is_ok result)
-        (IsChangedOver changes.now row) }
+    ensures committed { HasCommitted (state S.Store conn.old) (state S.Store conn.new)
+        (is_ok result) (IsChangedOver changes.now row) }
     ensures idle { conn.new.in_transaction ≡ false }
 {
     let mut tx = conn.transaction();
@@ -270,12 +280,13 @@ fn commit_over<S: Alter>(
 /// Makes all changes in one transaction, or none. The clock's row is read first: a connection that
 /// is shut answers no look-up, and nothing is written to it.
 pub(crate) fn commit<S: Alter>(conn: &mut Connection<S>, changes: &Changes) -> Result<(), Fault>
-    requires ours { IsTrue (state S.Store conn.old).is_open → IsOurs (state S.Store conn.old) }
+    requires ours { IsTrue (state S.Store conn.old).is_open
+        → HasStoreTables (state S.Store conn.old) }
     requires idle { conn.old.in_transaction ≡ false }
-    ensures turned { Turned (state S.Store conn.old) (state S.Store conn.new) (is_ok result)
-        (IsChanged (changes_of changes.now)) }
+    ensures committed { HasCommitted (state S.Store conn.old) (state S.Store conn.new)
+        (is_ok result) (AppliesChanges (changes_of changes.now)) }
     ensures left { CommitLeaves (state S.Store conn.old) (state S.Store conn.new)
-        (IsChanged (changes_of changes.now)) }
+        (AppliesChanges (changes_of changes.now)) }
     ensures idle { conn.new.in_transaction ≡ false }
 {
     let row = clock(conn)?;

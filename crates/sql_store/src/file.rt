@@ -1,6 +1,6 @@
 //! A store over the file at a path.
 ghost use Rattle.std.specs.Prelude.{◌≡◌, [], IsTrue, IfErr, IfOk};
-ghost use Rattle.meaning.specs.Content.{empty_content};
+ghost use Rattle.model.specs.Content.{empty_content};
 ghost use Rattle.sql_rows.specs.Content.{content_in};
 ghost use Rattle.sqlite.specs.Closing.{IsCopied};
 ghost use Rattle.sqlite.specs.Files.{HoldsDatabase, IsClosed, file_state, over_files};
@@ -10,7 +10,7 @@ ghost use Rattle.sqlite.specs.WalFiles.{image_at};
 ghost use Rattle.sqlite.specs.WalReads.{AreClean};
 ghost use Rattle.sql_store.specs.Files.{IsRefusedAt};
 ghost use Rattle.sql_store.specs.Opened.{IsTakenAs};
-ghost use Rattle.version.specs.Views.{windows_of};
+ghost use Rattle.version.specs.Abstraction.{windows_of};
 
 use crate::SqlStore;
 use crate::file_fault::FileFault;

@@ -8,7 +8,7 @@ mod file;
 mod file_fault;
 mod lists;
 mod lookups;
-mod moving;
+mod migration;
 mod once;
 mod opening;
 mod order;

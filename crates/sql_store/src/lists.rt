@@ -2,14 +2,14 @@
 ghost use Rattle.std.specs.Prelude.{◌≡◌, ◌==◌, false, IsTrue, IfOk, filter, is_ok, map};
 ghost use Rattle.std.specs.List.{list_all};
 ghost use Rattle.sqlite.specs.Held.{state};
-ghost use Rattle.numbers.specs.Views.{subject_of};
+ghost use Rattle.numbers.specs.Abstraction.{subject_of};
 ghost use Rattle.settle.specs.Lists.{items_of};
-ghost use Rattle.settle.specs.Views.{broadcast_key_of, spid_of, wait_key_of};
+ghost use Rattle.settle.specs.Abstraction.{broadcast_key_of, spid_of, wait_key_of};
 ghost use Rattle.std.specs.List.Sorted.{IsPermutation, IsStrictlySortedBy};
-ghost use Rattle.meaning.specs.Content.{broadcast_cmp};
-ghost use Rattle.settle.specs.Reads.{AreAwaited, AreCarriers, AreOpenBroadcasts, AreWaiters, AreWaitsAbout, is_last_wait};
+ghost use Rattle.model.specs.Content.{broadcast_cmp};
+ghost use Rattle.settle.specs.Reads.{AreWaitingSubjects, AreCarriers, AreOpenBroadcasts, AreWaiters, AreWaitsAbout, is_last_wait};
 ghost use Rattle.sql_store.specs.Lists.{download_of, is_waiting, pair_of};
-ghost use Rattle.sql_store.specs.Store.{IsOurs, Looked, content_at};
+ghost use Rattle.sql_store.specs.Store.{HasStoreTables, HasQueried, content_at};
 
 use crate::order::put_in_order;
 use crate::select::find_all;
@@ -24,12 +24,13 @@ use std::alloc::Global;
 
 /// All carriers, rising.
 pub(crate) fn carriers<S: Alter>(conn: &mut Connection<S>) -> Result<Vec<Spid>, Fault>
-    requires ours { IsTrue (state S.Store conn.old).is_open → IsOurs (state S.Store conn.old) }
+    requires ours { IsTrue (state S.Store conn.old).is_open
+        → HasStoreTables (state S.Store conn.old) }
     requires idle { conn.old.in_transaction ≡ false }
     ensures value { IsTrue (state S.Store conn.new).is_open
         → IfOk result (λ carriers. AreCarriers (content_at (state S.Store conn.old))
         carriers.items) }
-    ensures looked { Looked (state S.Store conn.old) (state S.Store conn.new) (is_ok result) }
+    ensures queried { HasQueried (state S.Store conn.old) (state S.Store conn.new) (is_ok result) }
     ensures idle { conn.new.in_transaction ≡ false }
 {
     let mut carriers: Vec<Spid> = find_all(conn, Query::All(Table::Carrier), &[])?;
@@ -67,12 +68,13 @@ pub(crate) fn waits_about<S: Alter>(
     spid: Spid,
     of: Subject,
 ) -> Result<Few<DownloadKey>, Fault>
-    requires ours { IsTrue (state S.Store conn.old).is_open → IsOurs (state S.Store conn.old) }
+    requires ours { IsTrue (state S.Store conn.old).is_open
+        → HasStoreTables (state S.Store conn.old) }
     requires idle { conn.old.in_transaction ≡ false }
     ensures value { IsTrue (state S.Store conn.new).is_open
         → IfOk result (λ downloads. AreWaitsAbout (content_at (state S.Store conn.old))
         (spid_of spid) (subject_of of) (items_of downloads)) }
-    ensures looked { Looked (state S.Store conn.old) (state S.Store conn.new) (is_ok result) }
+    ensures queried { HasQueried (state S.Store conn.old) (state S.Store conn.new) (is_ok result) }
     ensures idle { conn.new.in_transaction ≡ false }
 {
     let bytes = spid_bytes(spid.number);
@@ -85,12 +87,14 @@ pub(crate) fn waits_about<S: Alter>(
 
 /// The subjects of which a download waits for a carrier, each once, rising.
 pub(crate) fn waits<S: Alter>(conn: &mut Connection<S>, spid: Spid) -> Result<Vec<Subject>, Fault>
-    requires ours { IsTrue (state S.Store conn.old).is_open → IsOurs (state S.Store conn.old) }
+    requires ours { IsTrue (state S.Store conn.old).is_open
+        → HasStoreTables (state S.Store conn.old) }
     requires idle { conn.old.in_transaction ≡ false }
     ensures value { IsTrue (state S.Store conn.new).is_open
-        → IfOk result (λ subjects. AreAwaited (content_at (state S.Store conn.old)) (spid_of spid)
+        → IfOk result (λ subjects. AreWaitingSubjects (content_at (state S.Store conn.old))
+        (spid_of spid)
         subjects.items) }
-    ensures looked { Looked (state S.Store conn.old) (state S.Store conn.new) (is_ok result) }
+    ensures queried { HasQueried (state S.Store conn.old) (state S.Store conn.new) (is_ok result) }
     ensures idle { conn.new.in_transaction ≡ false }
 {
     let bytes = spid_bytes(spid.number);
@@ -130,12 +134,13 @@ pub(crate) fn waiters<S: Alter>(
     minute: Minute,
     key: BroadcastKey,
 ) -> Result<Vec<Spid>, Fault>
-    requires ours { IsTrue (state S.Store conn.old).is_open → IsOurs (state S.Store conn.old) }
+    requires ours { IsTrue (state S.Store conn.old).is_open
+        → HasStoreTables (state S.Store conn.old) }
     requires idle { conn.old.in_transaction ≡ false }
     ensures value { IsTrue (state S.Store conn.new).is_open
         → IfOk result (λ carriers. AreWaiters (content_at (state S.Store conn.old)) minute.number
         key.id key.attempt carriers.items) }
-    ensures looked { Looked (state S.Store conn.old) (state S.Store conn.new) (is_ok result) }
+    ensures queried { HasQueried (state S.Store conn.old) (state S.Store conn.new) (is_ok result) }
     ensures idle { conn.new.in_transaction ≡ false }
 {
     let carriers = carriers(conn)?;
@@ -156,12 +161,13 @@ fn are_all(carriers: &[Spid], carrier: Spid) -> bool
 
 /// Whether the download is the last of its broadcast: no other registered carrier waits for that.
 pub(crate) fn is_last_wait<S: Alter>(conn: &mut Connection<S>, wait: WaitKey) -> Result<bool, Fault>
-    requires ours { IsTrue (state S.Store conn.old).is_open → IsOurs (state S.Store conn.old) }
+    requires ours { IsTrue (state S.Store conn.old).is_open
+        → HasStoreTables (state S.Store conn.old) }
     requires idle { conn.old.in_transaction ≡ false }
     ensures value { IsTrue (state S.Store conn.new).is_open
         → IfOk result (λ last. last ≡ is_last_wait (content_at (state S.Store conn.old))
         (wait_key_of wait)) }
-    ensures looked { Looked (state S.Store conn.old) (state S.Store conn.new) (is_ok result) }
+    ensures queried { HasQueried (state S.Store conn.old) (state S.Store conn.new) (is_ok result) }
     ensures idle { conn.new.in_transaction ≡ false }
 {
     let key = BroadcastKey {
@@ -209,12 +215,13 @@ fn put_in_order_by_key(broadcasts: &mut Vec<(BroadcastKey, Broadcast)>)
 pub(crate) fn open_broadcasts<S: Alter>(
     conn: &mut Connection<S>,
 ) -> Result<Vec<(BroadcastKey, Broadcast)>, Fault>
-    requires ours { IsTrue (state S.Store conn.old).is_open → IsOurs (state S.Store conn.old) }
+    requires ours { IsTrue (state S.Store conn.old).is_open
+        → HasStoreTables (state S.Store conn.old) }
     requires idle { conn.old.in_transaction ≡ false }
     ensures value { IsTrue (state S.Store conn.new).is_open
         → IfOk result (λ broadcasts. AreOpenBroadcasts (content_at (state S.Store conn.old))
         broadcasts.items) }
-    ensures looked { Looked (state S.Store conn.old) (state S.Store conn.new) (is_ok result) }
+    ensures queried { HasQueried (state S.Store conn.old) (state S.Store conn.new) (is_ok result) }
     ensures idle { conn.new.in_transaction ≡ false }
 {
     let found: Vec<KeyedBroadcast> = find_all(conn, Query::BroadcastsByOpen, &[truth(true)])?;

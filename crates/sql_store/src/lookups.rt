@@ -4,20 +4,20 @@ ghost use Rattle.std.specs.FinMap.{get};
 ghost use Rattle.sqlite.specs.Held.{state};
 ghost use Rattle.sqlite.specs.State.{HasCleanDisk};
 ghost use Rattle.sqlite.specs.Values.{bound};
-ghost use Rattle.numbers.specs.Views.{routing_of, subject_of};
-ghost use Rattle.meaning.specs.Views.{status_of};
-ghost use Rattle.version.specs.Views.{windows_of};
+ghost use Rattle.numbers.specs.Abstraction.{routing_of, subject_of};
+ghost use Rattle.model.specs.Abstraction.{status_of};
+ghost use Rattle.version.specs.Abstraction.{windows_of};
 ghost use Rattle.sql_rows.specs.Clocks.{clock_of};
 ghost use Rattle.sql_rows.specs.Content.{IsRoutedAs, clocks_in, nexts_in};
 ghost use Rattle.sql_rows.specs.Versions.{modified_to, next_of};
 ghost use Rattle.sql_store.specs.Found.{IsVersionFound};
-ghost use Rattle.settle.specs.Views.{spid_of, lrn_of, code_of, block_of, block_row_of, clock_row_of, broadcast_row_of, broadcast_key_of};
+ghost use Rattle.settle.specs.Abstraction.{spid_of, lrn_of, code_of, block_of, block_row_of, clock_row_of, broadcast_row_of, broadcast_key_of};
 ghost use Rattle.settle.specs.Reads.{IsInForce, IsOpen, IsLeastDue};
-ghost use Rattle.sql_store.specs.Store.{IsOurs, Looked, content_at};
+ghost use Rattle.sql_store.specs.Store.{HasStoreTables, HasQueried, content_at};
 
 use crate::select::find;
 use delivery::Broadcast;
-use meaning::{Send, Status};
+use model::{Send, Status};
 use numbers::{BlockId, CodeId, Lrn, Minute, Routing, Spid, Subject};
 use settle::{BlockRow, BroadcastKey, ClockRow, NumberedRow, VersionRow};
 use sql_rows::{
@@ -31,12 +31,13 @@ use windows::{WindowSet, Windows};
 
 /// Whether a carrier is registered.
 pub(crate) fn carrier<S: Alter>(conn: &mut Connection<S>, spid: Spid) -> Result<bool, Fault>
-    requires ours { IsTrue (state S.Store conn.old).is_open → IsOurs (state S.Store conn.old) }
+    requires ours { IsTrue (state S.Store conn.old).is_open
+        → HasStoreTables (state S.Store conn.old) }
     requires idle { conn.old.in_transaction ≡ false }
     ensures value { IsTrue (state S.Store conn.new).is_open
         → IfOk result (λ found. found ≡ is_some (get (content_at (state S.Store
         conn.old)).carriers (spid_of spid))) }
-    ensures looked { Looked (state S.Store conn.old) (state S.Store conn.new) (is_ok result) }
+    ensures queried { HasQueried (state S.Store conn.old) (state S.Store conn.new) (is_ok result) }
     ensures idle { conn.new.in_transaction ≡ false }
 {
     let bytes = spid_bytes(spid.number);
@@ -46,12 +47,13 @@ pub(crate) fn carrier<S: Alter>(conn: &mut Connection<S>, spid: Spid) -> Result<
 
 /// Who registered a routing number.
 pub(crate) fn lrn<S: Alter>(conn: &mut Connection<S>, lrn: Lrn) -> Result<Option<Spid>, Fault>
-    requires ours { IsTrue (state S.Store conn.old).is_open → IsOurs (state S.Store conn.old) }
+    requires ours { IsTrue (state S.Store conn.old).is_open
+        → HasStoreTables (state S.Store conn.old) }
     requires idle { conn.old.in_transaction ≡ false }
     ensures value { IsTrue (state S.Store conn.new).is_open
         → IfOk result (λ o. option_map spid_of o ≡ get (content_at (state S.Store conn.old)).lrns
         (lrn_of lrn)) }
-    ensures looked { Looked (state S.Store conn.old) (state S.Store conn.new) (is_ok result) }
+    ensures queried { HasQueried (state S.Store conn.old) (state S.Store conn.new) (is_ok result) }
     ensures idle { conn.new.in_transaction ≡ false }
 {
     let found: Option<KeyedLrn> = find(conn, Query::LrnNumbered, &[number(lrn.number)])?;
@@ -63,12 +65,13 @@ pub(crate) fn lrn<S: Alter>(conn: &mut Connection<S>, lrn: Lrn) -> Result<Option
 
 /// For whom a code was opened.
 pub(crate) fn code<S: Alter>(conn: &mut Connection<S>, code: CodeId) -> Result<Option<Spid>, Fault>
-    requires ours { IsTrue (state S.Store conn.old).is_open → IsOurs (state S.Store conn.old) }
+    requires ours { IsTrue (state S.Store conn.old).is_open
+        → HasStoreTables (state S.Store conn.old) }
     requires idle { conn.old.in_transaction ≡ false }
     ensures value { IsTrue (state S.Store conn.new).is_open
         → IfOk result (λ o. option_map spid_of o ≡ get (content_at (state S.Store conn.old)).codes
         (code_of code)) }
-    ensures looked { Looked (state S.Store conn.old) (state S.Store conn.new) (is_ok result) }
+    ensures queried { HasQueried (state S.Store conn.old) (state S.Store conn.new) (is_ok result) }
     ensures idle { conn.new.in_transaction ≡ false }
 {
     let found: Option<KeyedCode> = find(
@@ -87,12 +90,13 @@ pub(crate) fn block<S: Alter>(
     conn: &mut Connection<S>,
     block: BlockId,
 ) -> Result<Option<BlockRow>, Fault>
-    requires ours { IsTrue (state S.Store conn.old).is_open → IsOurs (state S.Store conn.old) }
+    requires ours { IsTrue (state S.Store conn.old).is_open
+        → HasStoreTables (state S.Store conn.old) }
     requires idle { conn.old.in_transaction ≡ false }
     ensures value { IsTrue (state S.Store conn.new).is_open
         → IfOk result (λ o. option_map block_row_of o ≡ get (content_at (state S.Store
         conn.old)).blocks (block_of block)) }
-    ensures looked { Looked (state S.Store conn.old) (state S.Store conn.new) (is_ok result) }
+    ensures queried { HasQueried (state S.Store conn.old) (state S.Store conn.new) (is_ok result) }
     ensures idle { conn.new.in_transaction ≡ false }
 {
     let found: Option<KeyedBlock> = find(
@@ -111,12 +115,13 @@ pub(crate) fn window_set<S: Alter>(
     conn: &mut Connection<S>,
     of: u16,
 ) -> Result<Option<Windows>, Fault>
-    requires ours { IsTrue (state S.Store conn.old).is_open → IsOurs (state S.Store conn.old) }
+    requires ours { IsTrue (state S.Store conn.old).is_open
+        → HasStoreTables (state S.Store conn.old) }
     requires idle { conn.old.in_transaction ≡ false }
     ensures value { IsTrue (state S.Store conn.new).is_open
         → IfOk result (λ o. option_map windows_of o ≡ get (content_at (state S.Store
         conn.old)).sets of) }
-    ensures looked { Looked (state S.Store conn.old) (state S.Store conn.new) (is_ok result) }
+    ensures queried { HasQueried (state S.Store conn.old) (state S.Store conn.new) (is_ok result) }
     ensures idle { conn.new.in_transaction ≡ false }
 {
     let params = [number(u64::from(of))];
@@ -129,12 +134,13 @@ pub(crate) fn window_set<S: Alter>(
 
 // The clock's row as it is stored.
 fn stored_clock<S: Alter>(conn: &mut Connection<S>) -> Result<Option<StoredClock>, Fault>
-    requires ours { IsTrue (state S.Store conn.old).is_open → IsOurs (state S.Store conn.old) }
+    requires ours { IsTrue (state S.Store conn.old).is_open
+        → HasStoreTables (state S.Store conn.old) }
     requires idle { conn.old.in_transaction ≡ false }
     ensures value { IsTrue (state S.Store conn.new).is_open
         → IfOk result (λ o. option_map clock_of o
         ≡ get (clocks_in ((state S.Store conn.old).now.trees 21)) 0) }
-    ensures looked { Looked (state S.Store conn.old) (state S.Store conn.new) (is_ok result) }
+    ensures queried { HasQueried (state S.Store conn.old) (state S.Store conn.new) (is_ok result) }
     ensures idle { conn.new.in_transaction ≡ false }
 {
     let found: Option<KeyedClock> = find(conn, Query::ClockNumbered, &[number(0)])?;
@@ -146,12 +152,13 @@ fn stored_clock<S: Alter>(conn: &mut Connection<S>) -> Result<Option<StoredClock
 
 /// The clock's row, if it was written. The windows are those of the set of its number.
 pub(crate) fn clock<S: Alter>(conn: &mut Connection<S>) -> Result<Option<ClockRow>, Fault>
-    requires ours { IsTrue (state S.Store conn.old).is_open → IsOurs (state S.Store conn.old) }
+    requires ours { IsTrue (state S.Store conn.old).is_open
+        → HasStoreTables (state S.Store conn.old) }
     requires idle { conn.old.in_transaction ≡ false }
     ensures value { IsTrue (state S.Store conn.new).is_open
         → IfOk result (λ o. option_map clock_row_of o ≡ (content_at (state S.Store
         conn.old)).clock) }
-    ensures looked { Looked (state S.Store conn.old) (state S.Store conn.new) (is_ok result) }
+    ensures queried { HasQueried (state S.Store conn.old) (state S.Store conn.new) (is_ok result) }
     ensures idle { conn.new.in_transaction ≡ false }
 {
     let stored = stored_clock(conn)?;
@@ -174,12 +181,13 @@ pub(crate) fn clock<S: Alter>(conn: &mut Connection<S>) -> Result<Option<ClockRo
 
 // The routing that the version with this id sends.
 fn next_routing<S: Alter>(conn: &mut Connection<S>, id: u64) -> Result<Option<Routing>, Fault>
-    requires ours { IsTrue (state S.Store conn.old).is_open → IsOurs (state S.Store conn.old) }
+    requires ours { IsTrue (state S.Store conn.old).is_open
+        → HasStoreTables (state S.Store conn.old) }
     requires idle { conn.old.in_transaction ≡ false }
     ensures value { IsTrue (state S.Store conn.new).is_open
         → IfOk result (λ o. option_map routing_of o
         ≡ get (nexts_in ((state S.Store conn.old).now.trees 16)) id) }
-    ensures looked { Looked (state S.Store conn.old) (state S.Store conn.new) (is_ok result) }
+    ensures queried { HasQueried (state S.Store conn.old) (state S.Store conn.new) (is_ok result) }
     ensures idle { conn.new.in_transaction ≡ false }
 {
     if id >= 9_223_372_036_854_775_808 {
@@ -216,13 +224,14 @@ fn modified_to(row: &VersionRow, routing: Routing) -> VersionRow
 
 // The row with the routing that it sends, which has a table of its own.
 fn whole<S: Alter>(conn: &mut Connection<S>, found: NumberedRow) -> Result<NumberedRow, Fault>
-    requires ours { IsTrue (state S.Store conn.old).is_open → IsOurs (state S.Store conn.old) }
+    requires ours { IsTrue (state S.Store conn.old).is_open
+        → HasStoreTables (state S.Store conn.old) }
     requires idle { conn.old.in_transaction ≡ false }
     requires open { HasCleanDisk (state S.Store conn.old)
         → IsTrue (state S.Store conn.old).is_open }
     ensures value { IsTrue (state S.Store conn.new).is_open
         → IfOk result (IsRoutedAs (state S.Store conn.old).now.trees found) }
-    ensures looked { Looked (state S.Store conn.old) (state S.Store conn.new) (is_ok result) }
+    ensures queried { HasQueried (state S.Store conn.old) (state S.Store conn.new) (is_ok result) }
     ensures idle { conn.new.in_transaction ≡ false }
 {
     if !is_modified(found.row.version.status) {
@@ -244,12 +253,13 @@ fn find_whole<S: Alter>(
     query: Query,
     params: &[ValueRef<'_>],
 ) -> Result<Option<NumberedRow>, Fault>
-    requires ours { IsTrue (state S.Store conn.old).is_open → IsOurs (state S.Store conn.old) }
+    requires ours { IsTrue (state S.Store conn.old).is_open
+        → HasStoreTables (state S.Store conn.old) }
     requires idle { conn.old.in_transaction ≡ false }
     ensures value { IsTrue (state S.Store conn.new).is_open
         → IfOk result (IsVersionFound query (state S.Store conn.old).now.trees
         (bound params.now)) }
-    ensures looked { Looked (state S.Store conn.old) (state S.Store conn.new) (is_ok result) }
+    ensures queried { HasQueried (state S.Store conn.old) (state S.Store conn.new) (is_ok result) }
     ensures idle { conn.new.in_transaction ≡ false }
 {
     let found: Option<NumberedRow> = find(conn, query, params)?;
@@ -267,11 +277,12 @@ pub(crate) fn version<S: Alter>(
     conn: &mut Connection<S>,
     id: u64,
 ) -> Result<Option<VersionRow>, Fault>
-    requires ours { IsTrue (state S.Store conn.old).is_open → IsOurs (state S.Store conn.old) }
+    requires ours { IsTrue (state S.Store conn.old).is_open
+        → HasStoreTables (state S.Store conn.old) }
     requires idle { conn.old.in_transaction ≡ false }
     ensures value { IsTrue (state S.Store conn.new).is_open
         → IfOk result (λ o. o ≡ get (content_at (state S.Store conn.old)).versions id) }
-    ensures looked { Looked (state S.Store conn.old) (state S.Store conn.new) (is_ok result) }
+    ensures queried { HasQueried (state S.Store conn.old) (state S.Store conn.new) (is_ok result) }
     ensures idle { conn.new.in_transaction ≡ false }
 {
     if id >= 9_223_372_036_854_775_808 {
@@ -291,11 +302,12 @@ pub(crate) fn version_in_force<S: Alter>(
     conn: &mut Connection<S>,
     of: Subject,
 ) -> Result<Option<NumberedRow>, Fault>
-    requires ours { IsTrue (state S.Store conn.old).is_open → IsOurs (state S.Store conn.old) }
+    requires ours { IsTrue (state S.Store conn.old).is_open
+        → HasStoreTables (state S.Store conn.old) }
     requires idle { conn.old.in_transaction ≡ false }
     ensures value { IsTrue (state S.Store conn.new).is_open
         → IfOk result (IsInForce (content_at (state S.Store conn.old)) (subject_of of)) }
-    ensures looked { Looked (state S.Store conn.old) (state S.Store conn.new) (is_ok result) }
+    ensures queried { HasQueried (state S.Store conn.old) (state S.Store conn.new) (is_ok result) }
     ensures idle { conn.new.in_transaction ≡ false }
 {
     let found = find_whole(conn, Query::VersionInForce, &[subject(of)])?;
@@ -307,11 +319,12 @@ pub(crate) fn open_version<S: Alter>(
     conn: &mut Connection<S>,
     of: Subject,
 ) -> Result<Option<NumberedRow>, Fault>
-    requires ours { IsTrue (state S.Store conn.old).is_open → IsOurs (state S.Store conn.old) }
+    requires ours { IsTrue (state S.Store conn.old).is_open
+        → HasStoreTables (state S.Store conn.old) }
     requires idle { conn.old.in_transaction ≡ false }
     ensures value { IsTrue (state S.Store conn.new).is_open
         → IfOk result (IsOpen (content_at (state S.Store conn.old)) (subject_of of)) }
-    ensures looked { Looked (state S.Store conn.old) (state S.Store conn.new) (is_ok result) }
+    ensures queried { HasQueried (state S.Store conn.old) (state S.Store conn.new) (is_ok result) }
     ensures idle { conn.new.in_transaction ≡ false }
 {
     let found = find_whole(conn, Query::VersionOpen, &[subject(of)])?;
@@ -323,11 +336,12 @@ pub(crate) fn least_due<S: Alter>(
     conn: &mut Connection<S>,
     now: Minute,
 ) -> Result<Option<NumberedRow>, Fault>
-    requires ours { IsTrue (state S.Store conn.old).is_open → IsOurs (state S.Store conn.old) }
+    requires ours { IsTrue (state S.Store conn.old).is_open
+        → HasStoreTables (state S.Store conn.old) }
     requires idle { conn.old.in_transaction ≡ false }
     ensures value { IsTrue (state S.Store conn.new).is_open
         → IfOk result (IsLeastDue (content_at (state S.Store conn.old)) now.number) }
-    ensures looked { Looked (state S.Store conn.old) (state S.Store conn.new) (is_ok result) }
+    ensures queried { HasQueried (state S.Store conn.old) (state S.Store conn.new) (is_ok result) }
     ensures idle { conn.new.in_transaction ≡ false }
 {
     let found = find_whole(conn, Query::VersionDue, &[minute(now)])?;
@@ -339,12 +353,13 @@ pub(crate) fn broadcast<S: Alter>(
     conn: &mut Connection<S>,
     key: BroadcastKey,
 ) -> Result<Option<Broadcast>, Fault>
-    requires ours { IsTrue (state S.Store conn.old).is_open → IsOurs (state S.Store conn.old) }
+    requires ours { IsTrue (state S.Store conn.old).is_open
+        → HasStoreTables (state S.Store conn.old) }
     requires idle { conn.old.in_transaction ≡ false }
     ensures value { IsTrue (state S.Store conn.new).is_open
         → IfOk result (λ o. option_map broadcast_row_of o ≡ get (content_at (state S.Store
         conn.old)).broadcasts (broadcast_key_of key)) }
-    ensures looked { Looked (state S.Store conn.old) (state S.Store conn.new) (is_ok result) }
+    ensures queried { HasQueried (state S.Store conn.old) (state S.Store conn.new) (is_ok result) }
     ensures idle { conn.new.in_transaction ≡ false }
 {
     if key.id >= 9_223_372_036_854_775_808 || key.attempt >= 9_223_372_036_854_775_808 {

@@ -1,17 +1,17 @@
 //! That no key stands twice, by the database's own rules.
 ghost use Rattle.std.specs.Prelude.{IsTrue};
 ghost use Rattle.sqlite.specs.Held.{state};
-ghost use Rattle.sql_rows.specs.Once.{AreKeysOnce};
-ghost use Rattle.sql_store.specs.Store.{IsOurs};
+ghost use Rattle.sql_rows.specs.Once.{HasUniqueKeys};
+ghost use Rattle.sql_store.specs.Store.{HasStoreTables};
 
 use sqlite::{Alter, Connection};
 
 /// It does nothing: the rules of the schema keep it so. A list that is read by other columns than
 /// those of the key rests on it.
-pub(crate) fn keys_once<S: Alter>(conn: &Connection<S>)
-    requires { IsTrue (state S.Store conn.now).is_open → IsOurs (state S.Store conn.now) }
+pub(crate) fn keys_are_unique<S: Alter>(conn: &Connection<S>)
+    requires { IsTrue (state S.Store conn.now).is_open → HasStoreTables (state S.Store conn.now) }
     ensures { IsTrue (state S.Store conn.now).is_open
-        → AreKeysOnce (state S.Store conn.now).now.trees }
+        → HasUniqueKeys (state S.Store conn.now).now.trees }
 {
     let _schema = conn.schema();
 }

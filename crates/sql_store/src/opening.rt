@@ -6,25 +6,25 @@ ghost use Rattle.sqlite.specs.Steps.{over_memory};
 ghost use Rattle.sqlite.specs.Tree.{Trees};
 ghost use Rattle.sqlite_catalog.specs.Listing.{IsSound};
 ghost use Rattle.sqlite_trees.specs.View.{IsClean, doubt};
-ghost use Rattle.meaning.specs.Content.{empty_content};
+ghost use Rattle.model.specs.Content.{empty_content};
 ghost use Rattle.sql_rows.specs.Content.{content_in};
-ghost use Rattle.sql_rows.specs.Faults.{fault_of, told_of};
+ghost use Rattle.sql_rows.specs.Faults.{fault_of, store_fault_of};
 ghost use Rattle.sql_rows.specs.Tables.{no_schema, the_schema};
-ghost use Rattle.sql_rows.specs.Moving.{schema_of};
-ghost use Rattle.sql_store.specs.Moving.{IsMovedFrom, WereOtherWindows};
-ghost use Rattle.sql_store.specs.Opened.{HadOtherWindows, IsRefusedAs, IsTakenAs, MayLeave, WasOpened};
+ghost use Rattle.sql_rows.specs.Migration.{schema_of};
+ghost use Rattle.sql_store.specs.Migration.{IsMovedFrom, WereOtherWindows};
+ghost use Rattle.sql_store.specs.Opened.{HadOtherWindows, IsRefusedAs, IsTakenAs, IsCrashStateOfOpen, WasOpened};
 ghost use Rattle.sql_store.specs.Refusal.{IsCleanYet, StandsYet, may_leave_of, trees_of};
-ghost use Rattle.version.specs.Views.{windows_of};
+ghost use Rattle.version.specs.Abstraction.{windows_of};
 ghost use Rattle.sql_store.specs.Whole.{IsWhole, ReadsAll};
 
 use crate::SqlStore;
 use crate::file_fault::FileFault;
-use crate::moving::migrate;
+use crate::migration::migrate;
 use crate::refused::Refused;
-use crate::schema::{form_of, is_ours};
+use crate::schema::{is_ours, schema_version_of};
 use crate::whole::read_all;
 use settle::StoreFault;
-use sql_rows::{Fault, Form};
+use sql_rows::{Fault, SchemaVersion};
 use sqlite::{Alter, Connection, Error, MemStore};
 use sqlite_schema::schema::Schema;
 use std::alloc::Global;
@@ -87,7 +87,7 @@ fn is_blank(schema: &Schema) -> bool
 
 // What the store answers for an error of the database: want of memory alone is told as such.
 pub(crate) fn fault_of(error: Error) -> StoreFault
-    ensures { result ≡ told_of (fault_of error) }
+    ensures { result ≡ store_fault_of (fault_of error) }
 {
     StoreFault::from(Fault::from(error))
 }
@@ -193,7 +193,7 @@ impl<S: Alter + Drop> SqlStore<S> {
     fn moved(
         alloc: Global,
         mut conn: Connection<S>,
-        form: Form,
+        form: SchemaVersion,
         windows: &Windows,
     ) -> Result<SqlStore<S>, (FileFault, S)>
         requires opened { HasCleanDisk (state S.Store conn) → WasOpened (state S.Store conn) }
@@ -276,7 +276,7 @@ impl<S: Alter + Drop> SqlStore<S> {
             → IsRefusedAs S.Store (windows_of windows.now) (state S.Store conn).now.trees
             e.0 e.1) }
     {
-        if let Some(form) = form_of(conn.schema()) {
+        if let Some(form) = schema_version_of(conn.schema()) {
             return match SqlStore::moved(alloc, conn, form, windows) {
                 Ok(it) => Ok(it),
                 Err((fault, store)) => Err((fault, Refused::Store(store))),
@@ -328,7 +328,7 @@ impl<S: Alter + Drop> SqlStore<S> {
         ensures crash { IfErr result (λ e. ¬ IsSound no_schema (state S.Store conn).committed.trees
             → IsCleanYet S.Store e.1 → (db : Trees) → may_leave_of S.Store e.1 db
             → (state S.Store conn).may_leave db
-            ⊎ MayLeave (windows_of windows.now) (state S.Store conn).committed.trees db) }
+            ⊎ IsCrashStateOfOpen (windows_of windows.now) (state S.Store conn).committed.trees db) }
         ensures differ { IfErr result (λ e. e.0 ≡ FileFault.WindowsDiffer
             → StandsYet S.Store e.1 → HadOtherWindows (windows_of windows.now)
             (state S.Store conn).committed.trees) }

@@ -3,9 +3,9 @@ ghost use Rattle.std.specs.Prelude.{◌≡◌, ◌<◌, ◌++◌, false, IsTrue,
 ghost use Rattle.sqlite.specs.Held.{state};
 ghost use Rattle.sqlite.specs.State.{HasCleanDisk};
 ghost use Rattle.settle.specs.Reads.{AreFirst};
-ghost use Rattle.settle.specs.Views.{spid_of};
+ghost use Rattle.settle.specs.Abstraction.{spid_of};
 ghost use Rattle.sql_store.specs.Queues.{AreFirstTold, AreQueued, IsNext};
-ghost use Rattle.sql_store.specs.Store.{IsOurs, Looked, content_at};
+ghost use Rattle.sql_store.specs.Store.{HasStoreTables, HasQueried, content_at};
 
 use crate::lists::downloads_of;
 use crate::lookups::broadcast;
@@ -20,12 +20,13 @@ use std::alloc::Global;
 
 // All that waits for a carrier, in the order of its queue.
 fn queue<S: Alter>(conn: &mut Connection<S>, spid: Spid) -> Result<Vec<DownloadKey>, Fault>
-    requires ours { IsTrue (state S.Store conn.old).is_open → IsOurs (state S.Store conn.old) }
+    requires ours { IsTrue (state S.Store conn.old).is_open
+        → HasStoreTables (state S.Store conn.old) }
     requires idle { conn.old.in_transaction ≡ false }
     ensures value { IsTrue (state S.Store conn.new).is_open
         → IfOk result (λ waits. AreQueued (content_at (state S.Store conn.old)) (spid_of spid) ⊥
         waits.items) }
-    ensures looked { Looked (state S.Store conn.old) (state S.Store conn.new) (is_ok result) }
+    ensures queried { HasQueried (state S.Store conn.old) (state S.Store conn.new) (is_ok result) }
     ensures idle { conn.new.in_transaction ≡ false }
 {
     let bytes = spid_bytes(spid.number);
@@ -42,13 +43,14 @@ fn page<S: Alter>(
     spid: Spid,
     many: u64,
 ) -> Result<(Vec<DownloadKey>, bool), Fault>
-    requires ours { IsTrue (state S.Store conn.old).is_open → IsOurs (state S.Store conn.old) }
+    requires ours { IsTrue (state S.Store conn.old).is_open
+        → HasStoreTables (state S.Store conn.old) }
     requires idle { conn.old.in_transaction ≡ false }
     requires few { many < 9223372036854775808 }
     ensures value { IsTrue (state S.Store conn.new).is_open
         → IfOk result (λ page. AreQueued (content_at (state S.Store conn.old)) (spid_of spid)
         (page.1 ≡ false) page.0.items) }
-    ensures looked { Looked (state S.Store conn.old) (state S.Store conn.new) (is_ok result) }
+    ensures queried { HasQueried (state S.Store conn.old) (state S.Store conn.new) (is_ok result) }
     ensures idle { conn.new.in_transaction ≡ false }
 {
     let bytes = spid_bytes(spid.number);
@@ -62,11 +64,12 @@ fn page<S: Alter>(
 
 // What waits, as its broadcast's row tells it, or nothing where it has none.
 fn next<S: Alter>(conn: &mut Connection<S>, wait: DownloadKey) -> Result<Option<Download>, Fault>
-    requires ours { IsTrue (state S.Store conn.old).is_open → IsOurs (state S.Store conn.old) }
+    requires ours { IsTrue (state S.Store conn.old).is_open
+        → HasStoreTables (state S.Store conn.old) }
     requires idle { conn.old.in_transaction ≡ false }
     ensures value { IsTrue (state S.Store conn.new).is_open
         → IfOk result (IsNext (content_at (state S.Store conn.old)) wait) }
-    ensures looked { Looked (state S.Store conn.old) (state S.Store conn.new) (is_ok result) }
+    ensures queried { HasQueried (state S.Store conn.old) (state S.Store conn.new) (is_ok result) }
     ensures idle { conn.new.in_transaction ≡ false }
 {
     let key = BroadcastKey {
@@ -104,14 +107,15 @@ fn first_told<S: Alter>(
     waits: &[DownloadKey],
     many: usize,
 ) -> Result<Vec<Download>, Fault>
-    requires ours { IsTrue (state S.Store conn.old).is_open → IsOurs (state S.Store conn.old) }
+    requires ours { IsTrue (state S.Store conn.old).is_open
+        → HasStoreTables (state S.Store conn.old) }
     requires open { HasCleanDisk (state S.Store conn.old)
         → IsTrue (state S.Store conn.old).is_open }
     requires idle { conn.old.in_transaction ≡ false }
     ensures value { IsTrue (state S.Store conn.new).is_open
         → IfOk result (λ downloads. AreFirstTold (content_at (state S.Store conn.old)) many
         waits.now downloads.items) }
-    ensures looked { Looked (state S.Store conn.old) (state S.Store conn.new) (is_ok result) }
+    ensures queried { HasQueried (state S.Store conn.old) (state S.Store conn.new) (is_ok result) }
     ensures idle { conn.new.in_transaction ≡ false }
 {
     let mut downloads = Vec::new(alloc);
@@ -132,13 +136,14 @@ fn first_page<S: Alter>(
     spid: Spid,
     many: usize,
 ) -> Result<Option<Vec<Download>>, Fault>
-    requires ours { IsTrue (state S.Store conn.old).is_open → IsOurs (state S.Store conn.old) }
+    requires ours { IsTrue (state S.Store conn.old).is_open
+        → HasStoreTables (state S.Store conn.old) }
     requires idle { conn.old.in_transaction ≡ false }
     requires few { many < 9223372036854775808 }
     ensures value { IsTrue (state S.Store conn.new).is_open
         → IfOk result (λ found. IfSome found (λ downloads. AreFirst (content_at (state S.Store
         conn.old)) (spid_of spid) many downloads.items)) }
-    ensures looked { Looked (state S.Store conn.old) (state S.Store conn.new) (is_ok result) }
+    ensures queried { HasQueried (state S.Store conn.old) (state S.Store conn.new) (is_ok result) }
     ensures idle { conn.new.in_transaction ≡ false }
 {
     let (waits, is_all) = page(conn, spid, many as u64)?;
@@ -156,12 +161,13 @@ fn first_of_all<S: Alter>(
     spid: Spid,
     many: usize,
 ) -> Result<Vec<Download>, Fault>
-    requires ours { IsTrue (state S.Store conn.old).is_open → IsOurs (state S.Store conn.old) }
+    requires ours { IsTrue (state S.Store conn.old).is_open
+        → HasStoreTables (state S.Store conn.old) }
     requires idle { conn.old.in_transaction ≡ false }
     ensures value { IsTrue (state S.Store conn.new).is_open
         → IfOk result (λ downloads. AreFirst (content_at (state S.Store conn.old)) (spid_of spid)
         many downloads.items) }
-    ensures looked { Looked (state S.Store conn.old) (state S.Store conn.new) (is_ok result) }
+    ensures queried { HasQueried (state S.Store conn.old) (state S.Store conn.new) (is_ok result) }
     ensures idle { conn.new.in_transaction ≡ false }
 {
     let waits = queue(conn, spid)?;
@@ -177,12 +183,13 @@ pub(crate) fn front<S: Alter>(
     spid: Spid,
     many: usize,
 ) -> Result<Vec<Download>, Fault>
-    requires ours { IsTrue (state S.Store conn.old).is_open → IsOurs (state S.Store conn.old) }
+    requires ours { IsTrue (state S.Store conn.old).is_open
+        → HasStoreTables (state S.Store conn.old) }
     requires idle { conn.old.in_transaction ≡ false }
     ensures value { IsTrue (state S.Store conn.new).is_open
         → IfOk result (λ downloads. AreFirst (content_at (state S.Store conn.old)) (spid_of spid)
         many downloads.items) }
-    ensures looked { Looked (state S.Store conn.old) (state S.Store conn.new) (is_ok result) }
+    ensures queried { HasQueried (state S.Store conn.old) (state S.Store conn.new) (is_ok result) }
     ensures idle { conn.new.in_transaction ≡ false }
 {
     if many >= 9_223_372_036_854_775_808 {

@@ -4,10 +4,10 @@ ghost use Rattle.std.specs.List.{filter_map};
 ghost use Rattle.std.specs.List.Sorted.{IsPermutation, IsStrictlySortedBy};
 ghost use Rattle.std.specs.Ordering.{nat_cmp, on};
 ghost use Rattle.sqlite.specs.Held.{state};
-ghost use Rattle.numbers.specs.Views.{key_of};
+ghost use Rattle.numbers.specs.Abstraction.{key_of};
 ghost use Rattle.settle.specs.Reads.{AreInForce};
-ghost use Rattle.sql_store.specs.Routed.{routed_in, routed_seen};
-ghost use Rattle.sql_store.specs.Store.{IsOurs, Looked, content_at};
+ghost use Rattle.sql_store.specs.Routed.{routed_in, routed_model};
+ghost use Rattle.sql_store.specs.Store.{HasStoreTables, HasQueried, content_at};
 
 use crate::select::find_all;
 use delivery::RoutedRow;
@@ -21,7 +21,7 @@ const HIGHEST: u64 = 9_223_372_036_854_775_807;
 
 // Where the version's subject is routed, if the version is in force.
 fn routed(row: &VersionRow) -> Option<RoutedRow>
-    ensures { option_map routed_seen result ≡ routed_in row.now }
+    ensures { option_map routed_model result ≡ routed_in row.now }
 {
     Some(RoutedRow {
         subject: row.holds()?,
@@ -31,7 +31,7 @@ fn routed(row: &VersionRow) -> Option<RoutedRow>
 
 fn routed_rows(alloc: Global, found: &[NumberedRow]) -> Result<Vec<RoutedRow>, Fault>
     ensures { IfOk result (λ rows.
-        map routed_seen rows.items ≡ filter_map (λ v. routed_in v.row) found.now) }
+        map routed_model rows.items ≡ filter_map (λ v. routed_in v.row) found.now) }
 {
     let mut rows = Vec::new(alloc);
     for version in found {
@@ -64,11 +64,12 @@ fn rise(rows: &[RoutedRow]) -> bool
 
 /// Everything in force that has a routing, by subject.
 pub(crate) fn in_force<S: Alter>(conn: &mut Connection<S>) -> Result<Vec<RoutedRow>, Fault>
-    requires ours { IsTrue (state S.Store conn.old).is_open → IsOurs (state S.Store conn.old) }
+    requires ours { IsTrue (state S.Store conn.old).is_open
+        → HasStoreTables (state S.Store conn.old) }
     requires idle { conn.old.in_transaction ≡ false }
     ensures value { IsTrue (state S.Store conn.new).is_open
         → IfOk result (λ rows. AreInForce (content_at (state S.Store conn.old)) rows.items) }
-    ensures looked { Looked (state S.Store conn.old) (state S.Store conn.new) (is_ok result) }
+    ensures queried { HasQueried (state S.Store conn.old) (state S.Store conn.new) (is_ok result) }
     ensures idle { conn.new.in_transaction ≡ false }
 {
     let params = [number(0), number(HIGHEST)];

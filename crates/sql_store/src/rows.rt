@@ -1,18 +1,18 @@
 //! A row of each table put or taken away.
 ghost use Rattle.std.specs.Prelude.{◌≡◌, ◌<◌, Some, None, is_ok};
 ghost use Rattle.sqlite.specs.Held.{state};
-ghost use Rattle.numbers.specs.Views.{routing_of, subject_of};
-ghost use Rattle.settle.specs.Views.{spid_of, lrn_of, code_of, block_of, block_row_of, broadcast_row_of, broadcast_key_of, wait_key_of};
-ghost use Rattle.sql_store.specs.Store.{IsNextPut, Makes, Writes};
-ghost use Rattle.meaning.specs.Views.{status_of};
-ghost use Rattle.version.specs.Views.{windows_of};
+ghost use Rattle.numbers.specs.Abstraction.{routing_of, subject_of};
+ghost use Rattle.settle.specs.Abstraction.{spid_of, lrn_of, code_of, block_of, block_row_of, broadcast_row_of, broadcast_key_of, wait_key_of};
+ghost use Rattle.sql_store.specs.Store.{IsNextPut, AppliesInTransaction, WritesInTransaction};
+ghost use Rattle.model.specs.Abstraction.{status_of};
+ghost use Rattle.version.specs.Abstraction.{windows_of};
 ghost use Rattle.sql_rows.specs.Clocks.{clock_of};
 ghost use Rattle.sql_rows.specs.Versions.{next_of};
 ghost use Rattle.sql_store.specs.Changes.{with_carrier, with_lrn, with_code, with_block, with_clock, with_set, with_version, without_version, with_broadcast, without_broadcast, with_wait, without_wait};
 
 use crate::change::{replace, take};
 use delivery::Broadcast;
-use meaning::Status;
+use model::Status;
 use numbers::{BlockId, CodeId, Lrn, Routing, Spid, Subject};
 use settle::{BlockRow, BroadcastKey, VersionRow, WaitKey};
 use sql_rows::{
@@ -26,8 +26,8 @@ use windows::{WindowSet, Windows};
 /// Registers a carrier.
 pub(crate) fn put_carrier<S: Alter>(tx: &mut Transaction<'_, S>, spid: Spid) -> Result<(), Fault>
     ensures same_reference { tx.new.conn.ghost_name ≡ tx.old.conn.ghost_name }
-    ensures makes { Makes (state S.Store tx.old.conn.now) (state S.Store tx.new.conn.now)
-        (is_ok result) (with_carrier (spid_of spid)) }
+    ensures applies { AppliesInTransaction (state S.Store tx.old.conn.now)
+        (state S.Store tx.new.conn.now) (is_ok result) (with_carrier (spid_of spid)) }
 {
     let bytes = spid_bytes(spid.number);
     replace(tx, Table::Carrier, &[text(&bytes)], &[text(&bytes)])?;
@@ -41,8 +41,8 @@ pub(crate) fn put_lrn<S: Alter>(
     owner: Spid,
 ) -> Result<(), Fault>
     ensures same_reference { tx.new.conn.ghost_name ≡ tx.old.conn.ghost_name }
-    ensures makes { Makes (state S.Store tx.old.conn.now) (state S.Store tx.new.conn.now)
-        (is_ok result) (with_lrn (lrn_of lrn) (spid_of owner)) }
+    ensures applies { AppliesInTransaction (state S.Store tx.old.conn.now)
+        (state S.Store tx.new.conn.now) (is_ok result) (with_lrn (lrn_of lrn) (spid_of owner)) }
 {
     let bytes = spid_bytes(owner.number);
     let key = number(lrn.number);
@@ -57,8 +57,8 @@ pub(crate) fn put_code<S: Alter>(
     owner: Spid,
 ) -> Result<(), Fault>
     ensures same_reference { tx.new.conn.ghost_name ≡ tx.old.conn.ghost_name }
-    ensures makes { Makes (state S.Store tx.old.conn.now) (state S.Store tx.new.conn.now)
-        (is_ok result) (with_code (code_of code) (spid_of owner)) }
+    ensures applies { AppliesInTransaction (state S.Store tx.old.conn.now)
+        (state S.Store tx.new.conn.now) (is_ok result) (with_code (code_of code) (spid_of owner)) }
 {
     let bytes = spid_bytes(owner.number);
     let key = number(u64::from(code.number));
@@ -73,7 +73,8 @@ pub(crate) fn put_block<S: Alter>(
     row: &BlockRow,
 ) -> Result<(), Fault>
     ensures same_reference { tx.new.conn.ghost_name ≡ tx.old.conn.ghost_name }
-    ensures makes { Makes (state S.Store tx.old.conn.now) (state S.Store tx.new.conn.now)
+    ensures applies { AppliesInTransaction (state S.Store tx.old.conn.now)
+        (state S.Store tx.new.conn.now)
         (is_ok result) (with_block (block_of block) (block_row_of row.now)) }
 {
     if !fits_block(row) {
@@ -92,8 +93,8 @@ pub(crate) fn put_clock<S: Alter>(
     row: &StoredClock,
 ) -> Result<(), Fault>
     ensures same_reference { tx.new.conn.ghost_name ≡ tx.old.conn.ghost_name }
-    ensures makes { Makes (state S.Store tx.old.conn.now) (state S.Store tx.new.conn.now)
-        (is_ok result) (with_clock (clock_of row.now)) }
+    ensures applies { AppliesInTransaction (state S.Store tx.old.conn.now)
+        (state S.Store tx.new.conn.now) (is_ok result) (with_clock (clock_of row.now)) }
 {
     if row.next_id >= 9_223_372_036_854_775_808 || !is_set_number(row.present) {
         return Err(Fault::Device);
@@ -109,7 +110,8 @@ pub(crate) fn put_set<S: Alter>(
     windows: &Windows,
 ) -> Result<(), Fault>
     ensures same_reference { tx.new.conn.ghost_name ≡ tx.old.conn.ghost_name }
-    ensures makes { Makes (state S.Store tx.old.conn.now) (state S.Store tx.new.conn.now)
+    ensures applies { AppliesInTransaction (state S.Store tx.old.conn.now)
+        (state S.Store tx.new.conn.now)
         (is_ok result) (with_set (clock_of row.now) (windows_of windows.now)) }
 {
     if row.next_id >= 9_223_372_036_854_775_808 || !is_set_number(row.present) {
@@ -132,19 +134,19 @@ fn put_routing<S: Alter>(
 ) -> Result<(), Fault>
     requires { id < 9223372036854775808 }
     ensures same_reference { tx.new.conn.ghost_name ≡ tx.old.conn.ghost_name }
-    ensures writes { Writes (state S.Store tx.old.conn.now) (state S.Store tx.new.conn.now)
-        (is_ok result) (IsNextPut id (Some (routing_of routing))) }
+    ensures writes { WritesInTransaction (state S.Store tx.old.conn.now)
+        (state S.Store tx.new.conn.now) (is_ok result) (IsNextPut id (Some (routing_of routing))) }
 {
     let params = next_params(id, routing);
     replace(tx, Table::NextRouting, &[number(id)], &params)?;
     Ok(())
 }
 
-fn take_routing<S: Alter>(tx: &mut Transaction<'_, S>, id: u64) -> Result<(), Fault>
+fn delete_routing<S: Alter>(tx: &mut Transaction<'_, S>, id: u64) -> Result<(), Fault>
     requires { id < 9223372036854775808 }
     ensures same_reference { tx.new.conn.ghost_name ≡ tx.old.conn.ghost_name }
-    ensures writes { Writes (state S.Store tx.old.conn.now) (state S.Store tx.new.conn.now)
-        (is_ok result) (IsNextPut id None) }
+    ensures writes { WritesInTransaction (state S.Store tx.old.conn.now)
+        (state S.Store tx.new.conn.now) (is_ok result) (IsNextPut id None) }
 {
     take(tx, Table::NextRouting, &[number(id)])?;
     Ok(())
@@ -154,12 +156,12 @@ fn take_routing<S: Alter>(tx: &mut Transaction<'_, S>, id: u64) -> Result<(), Fa
 fn put_next<S: Alter>(tx: &mut Transaction<'_, S>, id: u64, status: Status) -> Result<(), Fault>
     requires { id < 9223372036854775808 }
     ensures same_reference { tx.new.conn.ghost_name ≡ tx.old.conn.ghost_name }
-    ensures writes { Writes (state S.Store tx.old.conn.now) (state S.Store tx.new.conn.now)
-        (is_ok result) (IsNextPut id (next_of (status_of status))) }
+    ensures writes { WritesInTransaction (state S.Store tx.old.conn.now)
+        (state S.Store tx.new.conn.now) (is_ok result) (IsNextPut id (next_of (status_of status))) }
 {
     match status {
         Status::SendingModify { cic, lrn } => put_routing(tx, id, Routing { lrn, cic }),
-        _ => take_routing(tx, id),
+        _ => delete_routing(tx, id),
     }
 }
 
@@ -170,8 +172,8 @@ pub(crate) fn put_version<S: Alter>(
     row: &VersionRow,
 ) -> Result<(), Fault>
     ensures same_reference { tx.new.conn.ghost_name ≡ tx.old.conn.ghost_name }
-    ensures makes { Makes (state S.Store tx.old.conn.now) (state S.Store tx.new.conn.now)
-        (is_ok result) (with_version id row.now) }
+    ensures applies { AppliesInTransaction (state S.Store tx.old.conn.now)
+        (state S.Store tx.new.conn.now) (is_ok result) (with_version id row.now) }
 {
     if !fits(id, row) {
         return Err(Fault::Device);
@@ -185,16 +187,16 @@ pub(crate) fn put_version<S: Alter>(
 }
 
 /// Takes a version's row away, and the routing that it sends.
-pub(crate) fn take_version<S: Alter>(tx: &mut Transaction<'_, S>, id: u64) -> Result<(), Fault>
+pub(crate) fn delete_version<S: Alter>(tx: &mut Transaction<'_, S>, id: u64) -> Result<(), Fault>
     ensures same_reference { tx.new.conn.ghost_name ≡ tx.old.conn.ghost_name }
-    ensures makes { Makes (state S.Store tx.old.conn.now) (state S.Store tx.new.conn.now)
-        (is_ok result) (without_version id) }
+    ensures applies { AppliesInTransaction (state S.Store tx.old.conn.now)
+        (state S.Store tx.new.conn.now) (is_ok result) (without_version id) }
 {
     if id >= 9_223_372_036_854_775_808 {
         return Err(Fault::Device);
     }
     take(tx, Table::Version, &[number(id)])?;
-    take_routing(tx, id)?;
+    delete_routing(tx, id)?;
     Ok(())
 }
 
@@ -205,7 +207,8 @@ pub(crate) fn put_broadcast<S: Alter>(
     broadcast: &Broadcast,
 ) -> Result<(), Fault>
     ensures same_reference { tx.new.conn.ghost_name ≡ tx.old.conn.ghost_name }
-    ensures makes { Makes (state S.Store tx.old.conn.now) (state S.Store tx.new.conn.now)
+    ensures applies { AppliesInTransaction (state S.Store tx.old.conn.now)
+        (state S.Store tx.new.conn.now)
         (is_ok result) (with_broadcast (broadcast_key_of key) (broadcast_row_of broadcast.now)) }
 {
     if key.id >= 9_223_372_036_854_775_808 || key.attempt >= 9_223_372_036_854_775_808 {
@@ -218,13 +221,13 @@ pub(crate) fn put_broadcast<S: Alter>(
 }
 
 /// Takes a broadcast's row away.
-pub(crate) fn take_broadcast<S: Alter>(
+pub(crate) fn delete_broadcast<S: Alter>(
     tx: &mut Transaction<'_, S>,
     key: BroadcastKey,
 ) -> Result<(), Fault>
     ensures same_reference { tx.new.conn.ghost_name ≡ tx.old.conn.ghost_name }
-    ensures makes { Makes (state S.Store tx.old.conn.now) (state S.Store tx.new.conn.now)
-        (is_ok result) (without_broadcast (broadcast_key_of key)) }
+    ensures applies { AppliesInTransaction (state S.Store tx.old.conn.now)
+        (state S.Store tx.new.conn.now) (is_ok result) (without_broadcast (broadcast_key_of key)) }
 {
     if key.id >= 9_223_372_036_854_775_808 || key.attempt >= 9_223_372_036_854_775_808 {
         return Err(Fault::Device);
@@ -240,7 +243,8 @@ pub(crate) fn put_wait<S: Alter>(
     of: Subject,
 ) -> Result<(), Fault>
     ensures same_reference { tx.new.conn.ghost_name ≡ tx.old.conn.ghost_name }
-    ensures makes { Makes (state S.Store tx.old.conn.now) (state S.Store tx.new.conn.now)
+    ensures applies { AppliesInTransaction (state S.Store tx.old.conn.now)
+        (state S.Store tx.new.conn.now)
         (is_ok result) (with_wait (wait_key_of key) (subject_of of)) }
 {
     if key.id >= 9_223_372_036_854_775_808 || key.attempt >= 9_223_372_036_854_775_808 {
@@ -254,10 +258,10 @@ pub(crate) fn put_wait<S: Alter>(
 }
 
 /// Takes a download away that waited.
-pub(crate) fn take_wait<S: Alter>(tx: &mut Transaction<'_, S>, key: WaitKey) -> Result<(), Fault>
+pub(crate) fn delete_wait<S: Alter>(tx: &mut Transaction<'_, S>, key: WaitKey) -> Result<(), Fault>
     ensures same_reference { tx.new.conn.ghost_name ≡ tx.old.conn.ghost_name }
-    ensures makes { Makes (state S.Store tx.old.conn.now) (state S.Store tx.new.conn.now)
-        (is_ok result) (without_wait (wait_key_of key)) }
+    ensures applies { AppliesInTransaction (state S.Store tx.old.conn.now)
+        (state S.Store tx.new.conn.now) (is_ok result) (without_wait (wait_key_of key)) }
 {
     if key.id >= 9_223_372_036_854_775_808 || key.attempt >= 9_223_372_036_854_775_808 {
         return Err(Fault::Device);

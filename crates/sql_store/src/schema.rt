@@ -5,10 +5,10 @@
 ghost use Rattle.std.specs.Prelude.{◌≡◌, map, ◌++◌, IsTrue, IfSome};
 ghost use Rattle.sqlite_value.specs.Keys.{plain};
 ghost use Rattle.sql_rows.specs.Tables.{a_table, the_schema};
-ghost use Rattle.sql_rows.specs.Moving.{schema_of};
+ghost use Rattle.sql_rows.specs.Migration.{schema_of};
 ghost use Rattle.sql_store.specs.Wanted.{column_of, table_of, index_of, tables_of, indexes_of, schema_by};
 
-use sql_rows::Form;
+use sql_rows::SchemaVersion;
 use sqlite_items::Items;
 use sqlite_schema::schema::{Column, Index, Kind, Schema, Table};
 use sqlite_value::keys::{Collation, Order};
@@ -451,13 +451,13 @@ pub(crate) fn is_ours(schema: &Schema) -> bool
 }
 
 /// The earlier form whose schema this is, if it is one's.
-pub(crate) fn form_of(schema: &Schema) -> Option<Form>
+pub(crate) fn schema_version_of(schema: &Schema) -> Option<SchemaVersion>
     ensures { IfSome result (λ f. schema.now ≡ schema_of f) }
 {
     if is_by(schema, &[FIRST]) {
-        Some(Form::First)
+        Some(SchemaVersion::First)
     } else if is_by(schema, &[FIRST, MODIFY]) {
-        Some(Form::Modify)
+        Some(SchemaVersion::Modify)
     } else {
         None
     }

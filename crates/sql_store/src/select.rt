@@ -5,12 +5,12 @@ ghost use Rattle.sqlite.specs.Values.{bound};
 ghost use Rattle.sqlite.specs.Query.{IsAnswer};
 ghost use Rattle.sqlite.specs.Program.{overlay};
 ghost use Rattle.sql_rows.specs.Statements.{query_of};
-ghost use Rattle.sql_store.specs.Store.{IsOurs, Looked};
+ghost use Rattle.sql_store.specs.Store.{HasStoreTables, HasQueried};
 ghost use Rattle.sql_rows.specs.Found.{IsListAnswer, IsSoleAnswer};
-ghost use Rattle.sql_rows.specs.Once.{AreKeysOnce};
+ghost use Rattle.sql_rows.specs.Once.{HasUniqueKeys};
 
-use crate::once::keys_once;
-use sql_rows::{Fault, Query, Stored, all, sole};
+use crate::once::keys_are_unique;
+use sql_rows::{Fault, FromRow, Query, all, sole};
 use sqlite::types::ValueRef;
 use sqlite::{Alter, Connection, Row};
 
@@ -20,13 +20,14 @@ pub(crate) fn select<S: Alter>(
     query: Query,
     params: &[ValueRef<'_>],
 ) -> Result<Vec<Row>, Fault>
-    requires ours { IsTrue (state S.Store conn.old).is_open → IsOurs (state S.Store conn.old) }
+    requires ours { IsTrue (state S.Store conn.old).is_open
+        → HasStoreTables (state S.Store conn.old) }
     requires idle { conn.old.in_transaction ≡ false }
     ensures value { IsTrue (state S.Store conn.new).is_open
         → IfOk result (λ rows.
         IsAnswer (query_of query) (overlay (state S.Store conn.old).now.trees []) (bound params.now)
         rows.items) }
-    ensures looked { Looked (state S.Store conn.old) (state S.Store conn.new) (is_ok result) }
+    ensures queried { HasQueried (state S.Store conn.old) (state S.Store conn.new) (is_ok result) }
     ensures idle { conn.new.in_transaction ≡ false }
 {
     let rows = conn.query_all(query.text(), params)?;
@@ -34,18 +35,19 @@ pub(crate) fn select<S: Alter>(
 }
 
 /// The only row that answers a query, if there is one.
-pub(crate) fn find<T: Stored, S: Alter>(
+pub(crate) fn find<T: FromRow, S: Alter>(
     conn: &mut Connection<S>,
     query: Query,
     params: &[ValueRef<'_>],
 ) -> Result<Option<T>, Fault>
-    requires ours { IsTrue (state S.Store conn.old).is_open → IsOurs (state S.Store conn.old) }
+    requires ours { IsTrue (state S.Store conn.old).is_open
+        → HasStoreTables (state S.Store conn.old) }
     requires idle { conn.old.in_transaction ≡ false }
     ensures value { IsTrue (state S.Store conn.new).is_open
         → IfOk result (λ o.
         IsSoleAnswer query T.seen_in (state S.Store conn.old).now.trees (bound params.now)
         (option_map T.seen o)) }
-    ensures looked { Looked (state S.Store conn.old) (state S.Store conn.new) (is_ok result) }
+    ensures queried { HasQueried (state S.Store conn.old) (state S.Store conn.new) (is_ok result) }
     ensures idle { conn.new.in_transaction ≡ false }
 {
     let rows = select(conn, query, params)?;
@@ -54,23 +56,24 @@ pub(crate) fn find<T: Stored, S: Alter>(
 }
 
 /// The rows that answer a query, each read: one that does not read is a fault of the device.
-pub(crate) fn find_all<T: Stored + Drop, S: Alter>(
+pub(crate) fn find_all<T: FromRow + Drop, S: Alter>(
     conn: &mut Connection<S>,
     query: Query,
     params: &[ValueRef<'_>],
 ) -> Result<Vec<T>, Fault>
-    requires ours { IsTrue (state S.Store conn.old).is_open → IsOurs (state S.Store conn.old) }
+    requires ours { IsTrue (state S.Store conn.old).is_open
+        → HasStoreTables (state S.Store conn.old) }
     requires idle { conn.old.in_transaction ≡ false }
     ensures value { IsTrue (state S.Store conn.new).is_open
         → IfOk result (λ items.
         IsListAnswer query T.seen_in (state S.Store conn.old).now.trees (bound params.now)
         (map T.seen items.items)) }
     ensures once { IsTrue (state S.Store conn.new).is_open
-        → AreKeysOnce (state S.Store conn.old).now.trees }
-    ensures looked { Looked (state S.Store conn.old) (state S.Store conn.new) (is_ok result) }
+        → HasUniqueKeys (state S.Store conn.old).now.trees }
+    ensures queried { HasQueried (state S.Store conn.old) (state S.Store conn.new) (is_ok result) }
     ensures idle { conn.new.in_transaction ≡ false }
 {
-    keys_once(conn);
+    keys_are_unique(conn);
     let rows = select(conn, query, params)?;
     let items = all(*rows.allocator(), rows.as_slice())?;
     Ok(items)

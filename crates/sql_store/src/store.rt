@@ -1,9 +1,9 @@
 //! The store over a database of SQL.
 ghost use Rattle.std.specs.Prelude.{◌≡◌, ◌≤◌, false, Err, IfOk, IsTrue, Ok, OnErr, is_ok};
 ghost use Rattle.sqlite.specs.Held.{state};
-ghost use Rattle.settle.specs.Owing.{Counts};
-ghost use Rattle.settle.specs.Reads.{HasRisen};
-ghost use Rattle.sql_store.specs.Store.{IsOurs, ours_if_open};
+ghost use Rattle.settle.specs.StoreContract.{CountsFailure};
+ghost use Rattle.settle.specs.Reads.{HasDeviceFailed};
+ghost use Rattle.sql_store.specs.Store.{HasStoreTables, ours_if_open};
 
 use crate::{blocks, commit, lists, lookups, queue, routed};
 use delivery::{Broadcast, Download, DownloadKey, RoutedRow};
@@ -25,7 +25,7 @@ use windows::Windows;
 pub struct SqlStore<S: Alter> {
     pub(crate) conn: Connection<S>,
     pub(crate) failures: u64,
-    ghost ours: { IsTrue (state S.Store conn).is_open → IsOurs (state S.Store conn) } by { ours_if_open _ },
+    ghost ours: { IsTrue (state S.Store conn).is_open → HasStoreTables (state S.Store conn) } by { ours_if_open _ },
     ghost idle: { conn.in_transaction ≡ false },
 }
 
@@ -35,9 +35,9 @@ fn counted<A>(failures: &mut u64, answer: Result<A, Fault>) -> Result<A, StoreFa
     ensures err { OnErr result (is_ok answer ≡ false) }
     ensures device { answer ≡ Err Fault.Device → result ≡ Err StoreFault.Storage }
     ensures memory { answer ≡ Err Fault.Memory → result ≡ Err StoreFault.NoMemory }
-    ensures counts { Counts result failures.old failures.new }
+    ensures counts { CountsFailure result failures.old failures.new }
     ensures rises { failures.old ≤ failures.new }
-    ensures storage { result ≡ Err StoreFault.Storage → HasRisen failures.old failures.new }
+    ensures storage { result ≡ Err StoreFault.Storage → HasDeviceFailed failures.old failures.new }
 {
     match answer {
         Ok(found) => Ok(found),
@@ -60,9 +60,9 @@ impl<S: Alter> Store for SqlStore<S> {
 
     ghost IsUsable = { λ s. IsTrue (state S.Store s.conn).is_open };
 
-    ghost IsHonest = { λ s. HasCleanDisk (state S.Store s.conn) };
+    ghost HasHonestDevice = { λ s. HasCleanDisk (state S.Store s.conn) };
 
-    ghost MayLeave = { λ s. left_by S.Store s.conn };
+    ghost IsCrashState = { λ s. left_by S.Store s.conn };
 
     ghost failed = { λ s. s.failures };
 

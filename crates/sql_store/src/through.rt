@@ -3,19 +3,19 @@ ghost use Rattle.std.specs.Prelude.{◌≡◌, ◌⊎◌, ℕ, false, [], List, 
 ghost use Rattle.sqlite.specs.Given.{HasGiven, IsPlain};
 ghost use Rattle.sqlite.specs.Held.{state};
 ghost use Rattle.sqlite.specs.Listing.{understood};
-ghost use Rattle.sqlite.specs.Order.{Row as RowSeen};
+ghost use Rattle.sqlite.specs.Order.{Row as RowModel};
 ghost use Rattle.sqlite.specs.State.{HasCleanDisk, IsRolledBack, IsUnchanged, Survives};
 ghost use Rattle.sql_rows.specs.Statements.{all_text};
 ghost use Rattle.sql_store.specs.Through.{HasReadAll, ReadsOn, TellsNone, Unmoved};
 
-use sql_rows::{Fault, Query, Stored, Table};
+use sql_rows::{Fault, FromRow, Query, Table};
 use sqlite::{Alter, Connection, Rows};
 
 /// The next row, read, if there is one: one that does not read is a fault of the device.
-pub(crate) fn next_read<T: Stored, S: Alter>(rows: &mut Rows<'_, S>) -> Result<Option<T>, Fault>
+pub(crate) fn next_read<T: FromRow, S: Alter>(rows: &mut Rows<'_, S>) -> Result<Option<T>, Fault>
     ensures same_reference { rows.new.conn.ghost_name ≡ rows.old.conn.ghost_name }
     ensures reads { HasCleanDisk (state S.Store rows.new.conn.now) → IfOk result (λ o.
-        (sql : List ℕ) (given : List RowSeen) → HasGiven S.Store sql [] rows.old.conn.now given
+        (sql : List ℕ) (given : List RowModel) → HasGiven S.Store sql [] rows.old.conn.now given
         → ReadsOn S.Store T.seen_in sql rows.old.conn.now rows.new.conn.now given
         (option_map T.seen o)) }
     ensures same { HasCleanDisk (state S.Store rows.new.conn.now) → OnOk result
@@ -39,7 +39,7 @@ pub(crate) fn next_read<T: Stored, S: Alter>(rows: &mut Rows<'_, S>) -> Result<O
 }
 
 // Reads the rows that are left, and tells whether there is none.
-fn read_rows<T: Stored + Drop, S: Alter>(rows: &mut Rows<'_, S>) -> Result<bool, Fault>
+fn read_rows<T: FromRow + Drop, S: Alter>(rows: &mut Rows<'_, S>) -> Result<bool, Fault>
     ensures same_reference { rows.new.conn.ghost_name ≡ rows.old.conn.ghost_name }
     ensures all { HasCleanDisk (state S.Store rows.new.conn.now) → IfOk result (λ blank.
         (sql : List ℕ) → IsPlain (understood (state S.Store rows.old.conn.now).now.schema sql)
@@ -65,7 +65,7 @@ fn read_rows<T: Stored + Drop, S: Alter>(rows: &mut Rows<'_, S>) -> Result<bool,
 }
 
 /// Reads every row of a table, and tells whether it has none.
-pub(crate) fn read_table<T: Stored + Drop, S: Alter>(
+pub(crate) fn read_table<T: FromRow + Drop, S: Alter>(
     conn: &mut Connection<S>,
     table: Table,
 ) -> Result<bool, Fault>

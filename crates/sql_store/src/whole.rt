@@ -2,25 +2,26 @@
 ghost use Rattle.std.specs.Prelude.{◌≡◌, false, IsTrue, IfOk, OnOk, is_ok};
 ghost use Rattle.std.specs.List.{list_all};
 ghost use Rattle.sqlite.specs.Held.{state};
-ghost use Rattle.sql_store.specs.Store.{IsOurs, Looked};
+ghost use Rattle.sql_store.specs.Store.{HasStoreTables, HasQueried};
 ghost use Rattle.sql_store.specs.Whole.{IsMoved, IsRead, ReadsAdded, ReadsAll, ReadsRegistry, ReadsVersions};
 
 use crate::through::read_table;
 use numbers::Spid;
 use settle::NumberedRow;
 use sql_rows::{
-    Fault, KeyedBlock, KeyedBroadcast, KeyedClock, KeyedCode, KeyedLrn, KeyedRouting, KeyedSet,
-    KeyedWait, OldClock, OldVersion, Stored, Table,
+    Fault, FromRow, KeyedBlock, KeyedBroadcast, KeyedClock, KeyedCode, KeyedLrn, KeyedRouting,
+    KeyedSet, KeyedWait, OldClock, OldVersion, Table,
 };
 use sqlite::{Alter, Connection};
 
 // Reads a table, and tells whether it has no row.
-fn read<T: Stored + Drop, S: Alter>(conn: &mut Connection<S>, table: Table) -> Result<bool, Fault>
-    requires ours { IsTrue (state S.Store conn.old).is_open → IsOurs (state S.Store conn.old) }
+fn read<T: FromRow + Drop, S: Alter>(conn: &mut Connection<S>, table: Table) -> Result<bool, Fault>
+    requires ours { IsTrue (state S.Store conn.old).is_open
+        → HasStoreTables (state S.Store conn.old) }
     requires idle { conn.old.in_transaction ≡ false }
     ensures value { IsTrue (state S.Store conn.new).is_open
         → IfOk result (IsRead table T.seen_in (state S.Store conn.old).now.trees) }
-    ensures looked { Looked (state S.Store conn.old) (state S.Store conn.new) (is_ok result) }
+    ensures queried { HasQueried (state S.Store conn.old) (state S.Store conn.new) (is_ok result) }
     ensures idle { conn.new.in_transaction ≡ false }
 {
     read_table::<T, S>(conn, table)
@@ -34,11 +35,12 @@ fn are_blank(tables: &[bool]) -> bool
 
 // Reads the tables of the registry, and tells whether they have no row.
 fn read_registry<S: Alter>(conn: &mut Connection<S>) -> Result<bool, Fault>
-    requires ours { IsTrue (state S.Store conn.old).is_open → IsOurs (state S.Store conn.old) }
+    requires ours { IsTrue (state S.Store conn.old).is_open
+        → HasStoreTables (state S.Store conn.old) }
     requires idle { conn.old.in_transaction ≡ false }
     ensures value { IsTrue (state S.Store conn.new).is_open
         → IfOk result (ReadsRegistry (state S.Store conn.old).now.trees) }
-    ensures looked { Looked (state S.Store conn.old) (state S.Store conn.new) (is_ok result) }
+    ensures queried { HasQueried (state S.Store conn.old) (state S.Store conn.new) (is_ok result) }
     ensures idle { conn.new.in_transaction ≡ false }
 {
     let carriers = read::<Spid, S>(conn, Table::Carrier)?;
@@ -51,11 +53,12 @@ fn read_registry<S: Alter>(conn: &mut Connection<S>) -> Result<bool, Fault>
 // Reads the tables of the versions, of what is sent and of the clock, and tells whether they have
 // no row.
 fn read_versions<S: Alter>(conn: &mut Connection<S>) -> Result<bool, Fault>
-    requires ours { IsTrue (state S.Store conn.old).is_open → IsOurs (state S.Store conn.old) }
+    requires ours { IsTrue (state S.Store conn.old).is_open
+        → HasStoreTables (state S.Store conn.old) }
     requires idle { conn.old.in_transaction ≡ false }
     ensures value { IsTrue (state S.Store conn.new).is_open
         → IfOk result (ReadsVersions (state S.Store conn.old).now.trees) }
-    ensures looked { Looked (state S.Store conn.old) (state S.Store conn.new) (is_ok result) }
+    ensures queried { HasQueried (state S.Store conn.old) (state S.Store conn.new) (is_ok result) }
     ensures idle { conn.new.in_transaction ≡ false }
 {
     let versions = read::<NumberedRow, S>(conn, Table::Version)?;
@@ -67,11 +70,12 @@ fn read_versions<S: Alter>(conn: &mut Connection<S>) -> Result<bool, Fault>
 
 // Reads the routings that versions send and the sets of windows, and tells whether there is none.
 fn read_added<S: Alter>(conn: &mut Connection<S>) -> Result<bool, Fault>
-    requires ours { IsTrue (state S.Store conn.old).is_open → IsOurs (state S.Store conn.old) }
+    requires ours { IsTrue (state S.Store conn.old).is_open
+        → HasStoreTables (state S.Store conn.old) }
     requires idle { conn.old.in_transaction ≡ false }
     ensures value { IsTrue (state S.Store conn.new).is_open
         → IfOk result (ReadsAdded (state S.Store conn.old).now.trees) }
-    ensures looked { Looked (state S.Store conn.old) (state S.Store conn.new) (is_ok result) }
+    ensures queried { HasQueried (state S.Store conn.old) (state S.Store conn.new) (is_ok result) }
     ensures idle { conn.new.in_transaction ≡ false }
 {
     let nexts = read::<KeyedRouting, S>(conn, Table::NextRouting)?;
@@ -81,11 +85,12 @@ fn read_added<S: Alter>(conn: &mut Connection<S>) -> Result<bool, Fault>
 
 // Sees that the tables of an earlier form have no row: one that stands there is a fault.
 fn see_moved<S: Alter>(conn: &mut Connection<S>) -> Result<(), Fault>
-    requires ours { IsTrue (state S.Store conn.old).is_open → IsOurs (state S.Store conn.old) }
+    requires ours { IsTrue (state S.Store conn.old).is_open
+        → HasStoreTables (state S.Store conn.old) }
     requires idle { conn.old.in_transaction ≡ false }
     ensures value { IsTrue (state S.Store conn.new).is_open
         → OnOk result (IsMoved (state S.Store conn.old).now.trees) }
-    ensures looked { Looked (state S.Store conn.old) (state S.Store conn.new) (is_ok result) }
+    ensures queried { HasQueried (state S.Store conn.old) (state S.Store conn.new) (is_ok result) }
     ensures idle { conn.new.in_transaction ≡ false }
 {
     let versions = read::<OldVersion, S>(conn, Table::OldVersion)?;
@@ -99,11 +104,12 @@ fn see_moved<S: Alter>(conn: &mut Connection<S>) -> Result<(), Fault>
 /// Reads every row once, and tells whether there is none. A row that does not read is a fault of
 /// the device, and so is one in a table of an earlier form.
 pub(crate) fn read_all<S: Alter>(conn: &mut Connection<S>) -> Result<bool, Fault>
-    requires ours { IsTrue (state S.Store conn.old).is_open → IsOurs (state S.Store conn.old) }
+    requires ours { IsTrue (state S.Store conn.old).is_open
+        → HasStoreTables (state S.Store conn.old) }
     requires idle { conn.old.in_transaction ≡ false }
     ensures value { IsTrue (state S.Store conn.new).is_open
         → IfOk result (ReadsAll (state S.Store conn.old).now.trees) }
-    ensures looked { Looked (state S.Store conn.old) (state S.Store conn.new) (is_ok result) }
+    ensures queried { HasQueried (state S.Store conn.old) (state S.Store conn.new) (is_ok result) }
     ensures idle { conn.new.in_transaction ≡ false }
 {
     let registry = read_registry(conn)?;

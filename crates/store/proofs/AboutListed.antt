@@ -13,20 +13,20 @@ use Rattle.std.specs.BTreeMap.Range.{entries_between, range_contains}
 use Rattle.std.specs.FinMap.{get}
 use Rattle.std.proofs.lemmas.List.{append-nil}
 use Rattle.numbers.specs.Subjects.{Subject, subject_key}
-use Rattle.numbers.specs.Views.{subject_of, key_of}
-use Rattle.numbers.specs.declared.ported.Subject.{Subject as SubjectCode}
+use Rattle.numbers.specs.Abstraction.{subject_of, key_of}
+use Rattle.numbers.specs.declared.ported.Subject.{Subject as SubjectImpl}
 use Rattle.numbers.specs.declared.spid.Spid.{Spid}
 use Rattle.numbers.proofs.SubjectKeys.{subject_key-exact}
-use Rattle.meaning.specs.Content.{Content, empty_content}
+use Rattle.model.specs.Content.{Content, empty_content}
 use Rattle.delivery.specs.declared.download.DownloadKey.{DownloadKey}
-use Rattle.settle.specs.Views.{spid_of}
+use Rattle.settle.specs.Abstraction.{spid_of}
 use Rattle.settle.specs.Reads.{AreWaitsAbout, IsWaiting, download_cmp as queue_cmp}
 use Rattle.store.specs.Lists.{is_subject}
 use Rattle.store.specs.Ranks.{rank_key}
 use Rattle.store.specs.WaitRows.{Download, row_key_of, row_key_in, row_in, Waiting, waiting_of, rows_of, about_of, waits_of, awaited, listed_about, is_for, download_in, IsDownload, SubjectDownload, subject_download_of, subject_download_cmp, key_about, AreAbout}
-use Rattle.store.specs.declared.keys.RowKey.{RowKey as RowKeyCode}
-use Rattle.store.specs.declared.keys.SubjectDownload.{SubjectDownload as SubjectDownloadCode}
-use Rattle.store.specs.declared.waiting.Waiting.{Waiting as WaitingCode}
+use Rattle.store.specs.declared.keys.RowKey.{RowKey as RowKeyImpl}
+use Rattle.store.specs.declared.keys.SubjectDownload.{SubjectDownload as SubjectDownloadImpl}
+use Rattle.store.specs.declared.waiting.Waiting.{Waiting as WaitingImpl}
 use Rattle.store.proofs.Maps.{get-seen, entry-of}
 use Rattle.store.proofs.Listed.{Among, contained, all-places, filter_map-filter, all-listed, listed-sorted, found-listed, equal_cmp}
 use Rattle.numbers.proofs.Small.{equal_number, tied}
@@ -45,7 +45,7 @@ is-subject s (Some t) e =
     ap (λ x. Some x) (subject_key-exact t s (equal_number (subject_key t) (subject_key s) e))
 
 -- an option of the code, compared
-pub compared : (r : Option SubjectCode) (s : SubjectCode) → option_eq (on key_of ◌==◌) r (Some s)
+pub compared : (r : Option SubjectImpl) (s : SubjectImpl) → option_eq (on key_of ◌==◌) r (Some s)
     ≡ is_subject (subject_of s) (option_map subject_of r)
 compared None s = refl
 compared (Some t) s = refl
@@ -62,13 +62,13 @@ IsAwaited o s = (w : Waiting) × (o ≡ Some w) × (w.0 ≡ s)
 
 awaited-is : (c : ℕ) (s : Subject) (o : Option Waiting) → awaited o c ≡ Some s → IsAwaited o s
 awaited-is c s None e = let f : None ≡ Some s = e in cc
-awaited-is c s (Some w) e = (w, refl, go (list_any (λ k. c == k) w.1) e)
+awaited-is c s (Some w) e = (w, refl, by_cases (list_any (λ k. c == k) w.1) e)
   where
-    go : (b : Bool) → cond b (Some w.0) None ≡ Some s → w.0 ≡ s
-    go true f = let g : Some w.0 ≡ Some s = f in cc
-    go false f = let g : None ≡ Some s = f in cc
+    by_cases : (b : Bool) → cond b (Some w.0) None ≡ Some s → w.0 ≡ s
+    by_cases true f = let g : Some w.0 ≡ Some s = f in cc
+    by_cases false f = let g : None ≡ Some s = f in cc
 
-module _ (rows : List (RowKeyCode × WaitingCode)) (carrier : Spid) (subject : SubjectCode) where
+module _ (rows : List (RowKeyImpl × WaitingImpl)) (carrier : Spid) (subject : SubjectImpl) where
   abbrev content : Content
   content = record empty_content { waits = waits_of (rows_of rows) }
 
@@ -79,7 +79,7 @@ module _ (rows : List (RowKeyCode × WaitingCode)) (carrier : Spid) (subject : S
       ≡ option_map waiting_of (row_in rows (row_key_in b))
   row-of b = get-seen row_key_of waiting_of download_total download_exact rows (row_key_in b)
 
-  listed-is : (k : SubjectDownloadCode) (d : DownloadKey)
+  listed-is : (k : SubjectDownloadImpl) (d : DownloadKey)
       → listed_about rows carrier subject k ≡ Some d → (rank_key k.rank ≡ key_of subject)
       × Waits k.minute.number k.id k.attempt × (download_in k ≡ d)
   listed-is k d e =
@@ -97,8 +97,8 @@ module _ (rows : List (RowKeyCode × WaitingCode)) (carrier : Spid) (subject : S
         r.2,
       )
 
-  pub about-are : (about : BTreeMap SubjectDownloadCode (Unit {0})) (lo hi : SubjectDownloadCode)
-      (found : List DownloadKey) (rest part : List (SubjectDownloadCode × Unit {0})) →
+  pub about-are : (about : BTreeMap SubjectDownloadImpl (Unit {0})) (lo hi : SubjectDownloadImpl)
+      (found : List DownloadKey) (rest part : List (SubjectDownloadImpl × Unit {0})) →
       AreAbout (rows_of rows) (about_of about)
       → tree.IsOrdered (on subject_download_of subject_download_cmp) about →
       subject_download_of lo ≡ record {
@@ -162,11 +162,11 @@ module _ (rows : List (RowKeyCode × WaitingCode)) (carrier : Spid) (subject : S
             about.entries ordered);
       }
     where
-      between : SubjectDownloadCode → Bool
+      between : SubjectDownloadImpl → Bool
       between k = range_contains (on subject_download_of subject_download_cmp) (Included lo)
           (Included hi) k
 
-      listed : SubjectDownloadCode → Option DownloadKey
+      listed : SubjectDownloadImpl → Option DownloadKey
       listed k = cond (between k) (listed_about rows carrier subject k) None
 
       all : found ≡ filter_map (λ e. listed e.0) about.entries
@@ -177,7 +177,7 @@ module _ (rows : List (RowKeyCode × WaitingCode)) (carrier : Spid) (subject : S
           ∙ filter_map-filter (λ e. listed_about rows carrier subject e.0) (λ e. between e.0)
           about.entries
 
-      within : (k : SubjectDownloadCode) (d : Download) → IsDownload d
+      within : (k : SubjectDownloadImpl) (d : Download) → IsDownload d
           → subject_download_of k ≡ key_about (subject_of subject) d → between k ≡ true
       within k d small same =
           (λ i. is_le (subject_download_cmp (low i) (same i)) && not
@@ -185,7 +185,7 @@ module _ (rows : List (RowKeyCode × WaitingCode)) (carrier : Spid) (subject : S
           ∙ true_both _ _ (from_first (key_of subject) d.minute d.id d.attempt)
           (to_last (key_of subject) d.minute d.id d.attempt small.0 small.1 small.2)
 
-      waits : (k : SubjectDownloadCode) (d : Download) → Waits d.minute d.id d.attempt
+      waits : (k : SubjectDownloadImpl) (d : Download) → Waits d.minute d.id d.attempt
           → subject_download_of k ≡ key_about (subject_of subject) d
           → listed_about rows carrier subject k ≡ Some (download_in k)
       waits k d is same =
@@ -208,7 +208,7 @@ module _ (rows : List (RowKeyCode × WaitingCode)) (carrier : Spid) (subject : S
           ∙ (λ i. if same_number (key_of subject) i && same_number (key_of subject) i
           then Some (download_in k) else None)
 
-      rise : (x y : SubjectDownloadCode) (a b : DownloadKey) → listed x ≡ Some a → listed y ≡ Some b
+      rise : (x y : SubjectDownloadImpl) (a b : DownloadKey) → listed x ≡ Some a → listed y ≡ Some b
           → on subject_download_of subject_download_cmp x y ≡ Less → queue_cmp a b ≡ Less
       rise x y a b p q less =
           let ra = listed-is x a (in_part (between x) (listed_about rows carrier subject x) a p) in

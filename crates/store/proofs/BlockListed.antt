@@ -16,15 +16,15 @@ use Rattle.std.proofs.lemmas.Bool.Decides.{nat_tests}
 use Rattle.numbers.specs.Digits.{block_of, number_in}
 use Rattle.numbers.specs.Subjects.{Subject, Number, Block, subject_key}
 use Rattle.numbers.specs.declared.tn.Tn.{Tn}
-use Rattle.meaning.specs.Content.{Content, VersionRow}
+use Rattle.model.specs.Content.{Content, VersionRow}
 use Rattle.version.specs.declared.in_use.NumberInUse.{NumberInUse}
-use Rattle.settle.specs.Reads.{Holds, Opens, IsTold, IsInBlock, AreInBlock}
+use Rattle.settle.specs.Reads.{HasRowInForce, HasOpenRow, Reflects, IsInBlock, AreInBlock}
 use Rattle.store.specs.Maps.{set, IsSet}
 use Rattle.store.specs.Tables.{content_of, AreIndexed, AreVersionsIndexed, HasVersion, SubjectVersion, subject_version, subject_version_of, subject_version_cmp}
 use Rattle.store.specs.BlockRows.{lowest, highest, tn_of, own_number, number_of, number_at, has_held, has_opened, only_held, and_open, with_number, marked, standings_of, AreStandings, number_told}
 use Rattle.store.specs.declared.blocks.Marks.{Marks}
 use Rattle.store.specs.declared.tables.Tables.{Tables}
-use Rattle.store.specs.declared.keys.SubjectVersion.{SubjectVersion as SubjectVersionCode}
+use Rattle.store.specs.declared.keys.SubjectVersion.{SubjectVersion as SubjectVersionImpl}
 use Rattle.store.proofs.Maps.{get-map_of, set_map_of, entry-of, get-set}
 use Rattle.store.proofs.Orders.{subject_version_total, subject_version_exact}
 use Rattle.store.proofs.Listed.{Among, contained, all-places, among-mapped}
@@ -47,59 +47,60 @@ module _ (mark : Option Marks → Marks) where
       → get (with_number mark o m) n ≡ cond (is_number n o) (Some (mark (get m n))) (get m n)
   with-get None m n = refl
   with-get (Some k) m n = get-set nat_cmp_total nat_cmp-IsAntisymmetric m k (Some (mark (get m k)))
-      n ∙ go (eq_by_cmp nat_cmp k n) refl
+      n ∙ by_cases (eq_by_cmp nat_cmp k n) refl
     where
-      go : (b : Bool) → eq_by_cmp nat_cmp k n ≡ b → cond b (Some (mark (get m k))) (get m n)
+      by_cases : (b : Bool) → eq_by_cmp nat_cmp k n ≡ b → cond b (Some (mark (get m k))) (get m n)
           ≡ cond b (Some (mark (get m n))) (get m n)
-      go true same =
+      by_cases true same =
           ap (λ q. Some (mark (get m q))) (nat_cmp-IsAntisymmetric k n (tied (nat_cmp k n) same))
-      go false other = refl
+      by_cases false other = refl
 
   module _ (column : VersionRow → Option Subject) (block : ℕ) (versions : FinMap nat_cmp VersionRow)
       (n : ℕ) where
-    abbrev names : SubjectVersionCode × Unit {0} → Bool
+    abbrev names : SubjectVersionImpl × Unit {0} → Bool
     names e = is_number n (number_at column block (get versions e.0.id))
 
     -- what a mark says of each number that is met
     met : (see : Option Marks → Bool) → ((o : Option Marks) → see (Some (mark o)) ≡ true)
-        → (es : List (SubjectVersionCode × Unit {0})) (m : FinMap nat_cmp Marks) →
+        → (es : List (SubjectVersionImpl × Unit {0})) (m : FinMap nat_cmp Marks) →
         see (get (marked mark column block versions es m) n) ≡ (see (get m n) || list_any names es)
     met see says [] m = sym (or_false (see (get m n)))
     met see says (e ∷ es) m =
         met see says es (with_number mark (number_at column block (get versions e.0.id)) m)
         ∙ ap (λ b. b || list_any names es)
-        (ap see (with-get (number_at column block (get versions e.0.id)) m n) ∙ go (names e))
+        (ap see (with-get (number_at column block (get versions e.0.id)) m n) ∙ by_cases (names e))
         ∙ or-assoc (see (get m n)) (names e) (list_any names es)
       where
-        go : (b : Bool) → see (cond b (Some (mark (get m n))) (get m n)) ≡ (see (get m n) || b)
-        go true = says (get m n) ∙ sym (or_true (see (get m n)))
-        go false = sym (or_false (see (get m n)))
+        by_cases : (b : Bool) → see (cond b (Some (mark (get m n))) (get m n))
+            ≡ (see (get m n) || b)
+        by_cases true = says (get m n) ∙ sym (or_true (see (get m n)))
+        by_cases false = sym (or_false (see (get m n)))
 
     -- what it leaves as it is
     kept : (see : Option Marks → Bool) → ((o : Option Marks) → see (Some (mark o)) ≡ see o)
-        → (es : List (SubjectVersionCode × Unit {0})) (m : FinMap nat_cmp Marks) →
+        → (es : List (SubjectVersionImpl × Unit {0})) (m : FinMap nat_cmp Marks) →
         see (get (marked mark column block versions es m) n) ≡ see (get m n)
     kept see says [] m = refl
     kept see says (e ∷ es) m =
         kept see says es (with_number mark (number_at column block (get versions e.0.id)) m)
-        ∙ ap see (with-get (number_at column block (get versions e.0.id)) m n) ∙ go (names e)
+        ∙ ap see (with-get (number_at column block (get versions e.0.id)) m n) ∙ by_cases (names e)
       where
-        go : (b : Bool) → see (cond b (Some (mark (get m n))) (get m n)) ≡ see (get m n)
-        go true = says (get m n)
-        go false = refl
+        by_cases : (b : Bool) → see (cond b (Some (mark (get m n))) (get m n)) ≡ see (get m n)
+        by_cases true = says (get m n)
+        by_cases false = refl
 
     -- what it says of none
     never : (see : Option Marks → Bool) → ((o : Option Marks) → see (Some (mark o)) ≡ false)
-        → (es : List (SubjectVersionCode × Unit {0})) (m : FinMap nat_cmp Marks) →
+        → (es : List (SubjectVersionImpl × Unit {0})) (m : FinMap nat_cmp Marks) →
         see (get m n) ≡ false → see (get (marked mark column block versions es m) n) ≡ false
     never see says [] m none = none
     never see says (e ∷ es) m none =
         never see says es (with_number mark (number_at column block (get versions e.0.id)) m)
-        (ap see (with-get (number_at column block (get versions e.0.id)) m n) ∙ go (names e))
+        (ap see (with-get (number_at column block (get versions e.0.id)) m n) ∙ by_cases (names e))
       where
-        go : (b : Bool) → see (cond b (Some (mark (get m n))) (get m n)) ≡ false
-        go true = says (get m n)
-        go false = none
+        by_cases : (b : Bool) → see (cond b (Some (mark (get m n))) (get m n)) ≡ false
+        by_cases true = says (get m n)
+        by_cases false = none
 
 -- ---- the block's part of an index
 
@@ -122,13 +123,13 @@ to_last b n i own small = last (subject_key (Number (number_in b 999))) (subject
         → not (is_lt (ordering_then (nat_cmp x y) (nat_cmp 18446744073709551615 j))) ≡ true
     last x y j above fits = grind (arith, nat_tests)
 
-abbrev is_between : (lo hi : SubjectVersionCode) → SubjectVersionCode → Bool
+abbrev is_between : (lo hi : SubjectVersionImpl) → SubjectVersionImpl → Bool
 is_between lo hi k = range_contains (on subject_version_of subject_version_cmp) (Included lo)
     (Included hi) k
 
-module _ (block : ℕ) (lo hi : SubjectVersionCode) (low : subject_version_of lo ≡ lowest block)
+module _ (block : ℕ) (lo hi : SubjectVersionImpl) (low : subject_version_of lo ≡ lowest block)
     (high : subject_version_of hi ≡ highest block) where
-  within : (k : SubjectVersionCode) (n id : ℕ) → subject_version_of k ≡ record {
+  within : (k : SubjectVersionImpl) (n id : ℕ) → subject_version_of k ≡ record {
     subject = Number n;
     id = id;
   } → block_of n ≡ block → id < 18446744073709551616 → is_between lo hi k ≡ true
@@ -140,10 +141,10 @@ module _ (block : ℕ) (lo hi : SubjectVersionCode) (low : subject_version_of lo
   -- ---- what the part says of the number's rows
 
   module _ (column : VersionRow → Option Subject) (versions : FinMap nat_cmp VersionRow)
-      (index : BTreeMap SubjectVersionCode (Unit {0}))
+      (index : BTreeMap SubjectVersionImpl (Unit {0}))
       (indexed : AreVersionsIndexed subject_version_cmp subject_version_of
       (λ id row. option_map (subject_version id) (column row)) versions index)
-      (part : List (SubjectVersionCode × Unit {0})) (is_part : part ≡ entries_between
+      (part : List (SubjectVersionImpl × Unit {0})) (is_part : part ≡ entries_between
       (on subject_version_of subject_version_cmp) (Included lo) (Included hi) index.entries)
       (n : ℕ) where
     -- a row has the number in the column
@@ -151,44 +152,47 @@ module _ (block : ℕ) (lo hi : SubjectVersionCode) (low : subject_version_of lo
     Has = (id : ℕ) × (row : VersionRow) × (get versions id ≡ Some row)
         × (column row ≡ Some (Number n))
 
-    abbrev is_met : SubjectVersionCode × Unit {0} → Bool
+    abbrev is_met : SubjectVersionImpl × Unit {0} → Bool
     is_met e = is_number n (number_at column block (get versions e.0.id))
 
     own-is : (s : Subject) → is_number n (own_number block s) ≡ true → (block_of n ≡ block)
         × (s ≡ Number n)
     own-is (Block b) e = let f : false ≡ true = e in cc
-    own-is (Number k) e = go (block_of k == block) refl e
+    own-is (Number k) e = by_cases (block_of k == block) refl e
       where
-        go : (t : Bool) → (block_of k == block) ≡ t → is_number n (cond t (Some k) None) ≡ true
+        by_cases : (t : Bool) → (block_of k == block) ≡ t
+            → is_number n (cond t (Some k) None) ≡ true
             → (block_of n ≡ block) × (Number k ≡ Number n)
-        go true own same =
+        by_cases true own same =
             let number : k ≡ n = nat_cmp-IsAntisymmetric k n (tied (nat_cmp k n) same) in (
               ap block_of (sym number) ∙ equal_number (block_of k) block own,
               ap (λ q. Number q) number,
             )
-        go false own same = let f : false ≡ true = same in cc
+        by_cases false own same = let f : false ≡ true = same in cc
 
     number-is : (id : ℕ) (o : Option VersionRow) → get versions id ≡ o
         → is_number n (number_at column block o) ≡ true → (block_of n ≡ block) × Has
     number-is id None at e = let f : false ≡ true = e in cc
-    number-is id (Some row) at e = go (column row) refl e
+    number-is id (Some row) at e = by_cases (column row) refl e
       where
-        go : (o : Option Subject) → column row ≡ o → is_number n (number_of block o) ≡ true
+        by_cases : (o : Option Subject) → column row ≡ o → is_number n (number_of block o) ≡ true
             → (block_of n ≡ block) × Has
-        go None has f = let no : false ≡ true = f in cc
-        go (Some s) has f = let p = own-is s f in (p.0, (id, row, at, has ∙ ap (λ q. Some q) p.1))
+        by_cases None has f = let no : false ≡ true = f in cc
+        by_cases (Some s) has f = let p = own-is s f in
+            (p.0, (id, row, at, has ∙ ap (λ q. Some q) p.1))
 
-    met-from : (es : List (SubjectVersionCode × Unit {0})) → list_any is_met es ≡ true
+    met-from : (es : List (SubjectVersionImpl × Unit {0})) → list_any is_met es ≡ true
         → (block_of n ≡ block) × Has
     met-from [] e = let f : false ≡ true = e in cc
-    met-from (x ∷ xs) e = go (met-from xs) (is_met x) refl e
+    met-from (x ∷ xs) e = by_cases (met-from xs) (is_met x) refl e
       where
-        go : (list_any is_met xs ≡ true → (block_of n ≡ block) × Has) → (t : Bool) → is_met x ≡ t
+        by_cases : (list_any is_met xs ≡ true → (block_of n ≡ block) × Has) → (t : Bool)
+            → is_met x ≡ t
             → (t || list_any is_met xs) ≡ true → (block_of n ≡ block) × Has
-        go later true same f = number-is x.0.id (get versions x.0.id) refl same
-        go later false other f = later f
+        by_cases later true same f = number-is x.0.id (get versions x.0.id) refl same
+        by_cases later false other f = later f
 
-    among-met : (es : List (SubjectVersionCode × Unit {0})) (e : SubjectVersionCode × Unit {0})
+    among-met : (es : List (SubjectVersionImpl × Unit {0})) (e : SubjectVersionImpl × Unit {0})
         → Among e es → is_met e ≡ true → list_any is_met es ≡ true
     unfolding Among
     among-met [] e there is = absurd there
@@ -210,7 +214,7 @@ module _ (block : ℕ) (lo hi : SubjectVersionCode) (low : subject_version_of lo
         ∙ q.1 in
         let inside : Among e.0 part =
         subst (Among e.0) (sym is_part)
-        (filtered-among (λ (d : SubjectVersionCode × Unit {0}). is_between lo hi d.0) e.0
+        (filtered-among (λ (d : SubjectVersionImpl × Unit {0}). is_between lo hi d.0) e.0
         index.entries e.1 (within e.0.0 n has.0 same own there.0)) in
         let here : is_met e.0 ≡ true =
         ap (λ (v : SubjectVersion). is_number n (number_at column block (get versions v.id))) same
@@ -221,18 +225,18 @@ module _ (block : ℕ) (lo hi : SubjectVersionCode) (low : subject_version_of lo
         among-met part e.0 inside here
 
     -- a mark that was given to each number that was met tells whether a row has it
-    told : (b : Bool) → b ≡ list_any is_met part → IsTold b ((block_of n ≡ block) × Has)
+    told : (b : Bool) → b ≡ list_any is_met part → Reflects b ((block_of n ≡ block) × Has)
     told true is = met-from part (sym is)
     told false is = λ p. let f : false ≡ true = is ∙ has-met p.0 p.1 in cc
 
 -- ---- which versions stand
 
 module _ (t : Tables) (block : ℕ) (indexed : AreIndexed t)
-    (low high : SubjectVersionCode) (is_low : subject_version_of low ≡ lowest block)
+    (low high : SubjectVersionImpl) (is_low : subject_version_of low ≡ lowest block)
     (is_high : subject_version_of high ≡ highest block)
-    (first last : SubjectVersionCode) (is_first : subject_version_of first ≡ lowest block)
+    (first last : SubjectVersionImpl) (is_first : subject_version_of first ≡ lowest block)
     (is_last : subject_version_of last ≡ highest block)
-    (held opened : List (SubjectVersionCode × Unit {0}))
+    (held opened : List (SubjectVersionImpl × Unit {0}))
     (are_held : held ≡ entries_between (on subject_version_of subject_version_cmp) (Included low)
     (Included high) t.holds.entries)
     (are_opened : opened ≡ entries_between (on subject_version_of subject_version_cmp)
@@ -283,8 +287,8 @@ module _ (t : Tables) (block : ℕ) (indexed : AreIndexed t)
 
 -- a number passed
 pub marked-step : (mark : Option Marks → Marks) (column : VersionRow
-    → Option Subject) (block : ℕ) (versions : FinMap nat_cmp VersionRow) (e : SubjectVersionCode
-    × Unit {0}) (rest : List (SubjectVersionCode × Unit {0})) (old new : BTreeMap Tn Marks)
+    → Option Subject) (block : ℕ) (versions : FinMap nat_cmp VersionRow) (e : SubjectVersionImpl
+    × Unit {0}) (rest : List (SubjectVersionImpl × Unit {0})) (old new : BTreeMap Tn Marks)
     (tn : Tn) (standing : Marks) →
     Some (tn_of tn) ≡ number_at column block (get versions e.0.id)
     → standing ≡ mark (tree.get (on tn_of nat_cmp) old tn)
@@ -306,15 +310,16 @@ marked-step mark column block versions e rest old new tn standing is marks writt
 
 -- ---- the list
 
-narrowed : (P Q : Type 0) (b : Bool) → IsTold b (P × Q) → P → IsTold b Q
+narrowed : (P Q : Type 0) (b : Bool) → Reflects b (P × Q) → P → Reflects b Q
 narrowed P Q true is p = is.1
 narrowed P Q false is p = λ q. is (p, q)
 
-sure : (P : Type 0) (b : Bool) → IsTold b P → P → b ≡ true
+sure : (P : Type 0) (b : Bool) → Reflects b P → P → b ≡ true
 sure P true is p = refl
 sure P false is p = absurd (is p)
 
-own-of : (P Q R : Type 0) (a b : Bool) → (a || b) ≡ true → IsTold a (P × Q) → IsTold b (P × R) → P
+own-of : (P Q R : Type 0) (a b : Bool) → (a || b) ≡ true → Reflects a (P × Q) → Reflects b (P × R)
+    → P
 own-of P Q R true b e one other = one.0
 own-of P Q R false true e one other = other.0
 own-of P Q R false false e one other = let f : false ≡ true = e in cc
@@ -375,9 +380,10 @@ module _ (c : Content) (block : ℕ) (numbers : BTreeMap Tn Marks)
   in-block-is : (e : Tn × Marks) → Among e numbers.entries → IsInBlock c block (number_told e)
   in-block-is e there = record {
     own = own;
-    is_in_force = narrowed (block_of (tn_of e.0) ≡ block) (Holds c (Number (tn_of e.0)))
+    is_in_force = narrowed (block_of (tn_of e.0) ≡ block) (HasRowInForce c (Number (tn_of e.0)))
         e.1.is_in_force held own;
-    is_open = narrowed (block_of (tn_of e.0) ≡ block) (Opens c (Number (tn_of e.0))) e.1.is_open
+    is_open = narrowed (block_of (tn_of e.0) ≡ block) (HasOpenRow c (Number (tn_of e.0)))
+        e.1.is_open
         opened own;
     in_use = in_use;
   }
@@ -386,21 +392,23 @@ module _ (c : Content) (block : ℕ) (numbers : BTreeMap Tn Marks)
       found = get-map_of tn_of (λ (s : Marks). s) nat_cmp_total nat_cmp-IsAntisymmetric numbers
           e.0 ∙ ap (option_map (λ (s : Marks). s)) (own-value numbers.entries e ordered there)
 
-      held : IsTold e.1.is_in_force ((block_of (tn_of e.0) ≡ block) × Holds c (Number (tn_of e.0)))
-      held = subst (λ o. IsTold (has_held o) ((block_of (tn_of e.0) ≡ block)
-          × Holds c (Number (tn_of e.0)))) found (known.held (tn_of e.0))
+      held : Reflects e.1.is_in_force ((block_of (tn_of e.0) ≡ block)
+          × HasRowInForce c (Number (tn_of e.0)))
+      held = subst (λ o. Reflects (has_held o) ((block_of (tn_of e.0) ≡ block)
+          × HasRowInForce c (Number (tn_of e.0)))) found (known.held (tn_of e.0))
 
-      opened : IsTold e.1.is_open ((block_of (tn_of e.0) ≡ block) × Opens c (Number (tn_of e.0)))
-      opened = subst (λ o. IsTold (has_opened o) ((block_of (tn_of e.0) ≡ block)
-          × Opens c (Number (tn_of e.0)))) found (known.opened (tn_of e.0))
+      opened : Reflects e.1.is_open ((block_of (tn_of e.0) ≡ block)
+          × HasOpenRow c (Number (tn_of e.0)))
+      opened = subst (λ o. Reflects (has_opened o) ((block_of (tn_of e.0) ≡ block)
+          × HasOpenRow c (Number (tn_of e.0)))) found (known.opened (tn_of e.0))
 
       in_use : (e.1.is_in_force || e.1.is_open) ≡ true
       in_use = sym (subst (λ o. is_some o ≡ (has_held o || has_opened o)) found
           (known.in_use (tn_of e.0)))
 
       own : block_of (tn_of e.0) ≡ block
-      own = own-of (block_of (tn_of e.0) ≡ block) (Holds c (Number (tn_of e.0)))
-          (Opens c (Number (tn_of e.0))) e.1.is_in_force e.1.is_open in_use held opened
+      own = own-of (block_of (tn_of e.0) ≡ block) (HasRowInForce c (Number (tn_of e.0)))
+          (HasOpenRow c (Number (tn_of e.0))) e.1.is_in_force e.1.is_open in_use held opened
 
   pub in-block-are : (found : List NumberInUse) → found ≡ map number_told numbers.entries
       → AreInBlock c block found
@@ -424,11 +432,11 @@ module _ (c : Content) (block : ℕ) (numbers : BTreeMap Tn Marks)
         (sorted-told numbers.entries ordered);
   }
     where
-      stands : (n : ℕ) → block_of n ≡ block → Holds c (Number n) ⊎ Opens c (Number n)
+      stands : (n : ℕ) → block_of n ≡ block → HasRowInForce c (Number n) ⊎ HasOpenRow c (Number n)
           → (has_held (at n) || has_opened (at n)) ≡ true
       stands n own (inl holds) =
-          ap (λ b. b || has_opened (at n)) (sure ((block_of n ≡ block) × Holds c (Number n))
+          ap (λ b. b || has_opened (at n)) (sure ((block_of n ≡ block) × HasRowInForce c (Number n))
           (has_held (at n)) (known.held n) (own, holds))
       stands n own (inr opens) =
-          ap (λ b. has_held (at n) || b) (sure ((block_of n ≡ block) × Opens c (Number n))
+          ap (λ b. has_held (at n) || b) (sure ((block_of n ≡ block) × HasOpenRow c (Number n))
           (has_opened (at n)) (known.opened n) (own, opens)) ∙ or_true (has_held (at n))

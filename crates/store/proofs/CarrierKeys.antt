@@ -8,9 +8,9 @@ use Rattle.std.specs.Ordering.{on, is_le, is_lt, nat_cmp, ordering_then}
 use Rattle.std.specs.BTreeMap.Range.{range_contains}
 use Rattle.std.specs.FinMap.{nat_cmp-IsAntisymmetric}
 use Rattle.std.proofs.lemmas.Bool.Decides.{nat_tests}
-use Rattle.meaning.specs.Content.{wait_cmp}
-use Rattle.settle.specs.Views.{wait_key_of}
-use Rattle.settle.specs.declared.rows.WaitKey.{WaitKey as WaitKeyCode}
+use Rattle.model.specs.Content.{wait_cmp}
+use Rattle.settle.specs.Abstraction.{wait_key_of}
+use Rattle.settle.specs.declared.rows.WaitKey.{WaitKey as WaitKeyImpl}
 use Rattle.store.specs.QueueRows.{lowest, highest}
 use Rattle.numbers.proofs.Small.{true_both}
 
@@ -29,20 +29,20 @@ to_last c m i a p q r = grind (arith, nat_tests)
 own_carrier : (c k : ℕ) (x y : Ordering)
     → (is_le (ordering_then (nat_cmp c k) x) && not (is_lt (ordering_then (nat_cmp c k) y))) ≡ true
     → c ≡ k
-own_carrier c k x y e = go (nat_cmp c k) refl e
+own_carrier c k x y e = by_cases (nat_cmp c k) refl e
   where
-    go : (r : Ordering) → nat_cmp c k ≡ r
+    by_cases : (r : Ordering) → nat_cmp c k ≡ r
         → (is_le (ordering_then r x) && not (is_lt (ordering_then r y))) ≡ true → c ≡ k
-    go Equal same t = nat_cmp-IsAntisymmetric c k same
-    go Less same t = let f : false ≡ true = t in cc
-    go Greater same t = let f : false ≡ true = t in cc
+    by_cases Equal same t = nat_cmp-IsAntisymmetric c k same
+    by_cases Less same t = let f : false ≡ true = t in cc
+    by_cases Greater same t = let f : false ≡ true = t in cc
 
-abbrev pub is_between : (lo hi : WaitKeyCode) → WaitKeyCode → Bool
+abbrev pub is_between : (lo hi : WaitKeyImpl) → WaitKeyImpl → Bool
 is_between lo hi k = range_contains (on wait_key_of wait_cmp) (Included lo) (Included hi) k
 
-module _ (carrier : ℕ) (lo hi : WaitKeyCode) (low : wait_key_of lo ≡ lowest carrier)
+module _ (carrier : ℕ) (lo hi : WaitKeyImpl) (low : wait_key_of lo ≡ lowest carrier)
     (high : wait_key_of hi ≡ highest carrier) where
-  pub carrier-is : (k : WaitKeyCode) → is_between lo hi k ≡ true → carrier ≡ k.carrier.number
+  pub carrier-is : (k : WaitKeyImpl) → is_between lo hi k ≡ true → carrier ≡ k.carrier.number
   carrier-is k t =
       own_carrier carrier k.carrier.number (ordering_then (nat_cmp 0 k.minute.number)
       (ordering_then (nat_cmp 0 k.id) (nat_cmp 0 k.attempt)))
@@ -51,7 +51,7 @@ module _ (carrier : ℕ) (lo hi : WaitKeyCode) (low : wait_key_of lo ≡ lowest 
       (sym (λ i. is_le (wait_cmp (low i) (wait_key_of k)) && not
       (is_lt (wait_cmp (high i) (wait_key_of k)))) ∙ t)
 
-  pub within : (k : WaitKeyCode) (minute id attempt : ℕ) → wait_key_of k ≡ record {
+  pub within : (k : WaitKeyImpl) (minute id attempt : ℕ) → wait_key_of k ≡ record {
     carrier = carrier;
     minute = minute;
     id = id;

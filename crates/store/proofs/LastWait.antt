@@ -7,9 +7,9 @@ use Rattle.std.specs.List.{list_all, list_any}
 use Rattle.std.specs.Ordering.{on, nat_cmp}
 use Rattle.std.specs.BTreeMap as tree
 use Rattle.numbers.specs.declared.spid.Spid.{Spid}
-use Rattle.meaning.specs.Versions.{is_among}
+use Rattle.model.specs.Versions.{is_among}
 use Rattle.settle.specs.Reads.{is_last_wait}
-use Rattle.settle.specs.Views.{spid_of, wait_key_of}
+use Rattle.settle.specs.Abstraction.{spid_of, wait_key_of}
 use Rattle.settle.specs.declared.rows.WaitKey.{WaitKey}
 use Rattle.settle.proofs.Among.{among-filtered, among_keys}
 use Rattle.store.specs.Tables.{content_of, is_another}
@@ -24,33 +24,34 @@ use Rattle.numbers.proofs.Small.{or_right, same_number, numbers_turned, equal_nu
 passing : (p : ℕ → Bool) (xs : List ℕ) → list_any p xs ≡ true → (x : ℕ) × (is_among x xs ≡ true)
     × (p x ≡ true)
 passing p [] e = let no : false ≡ true = e in cc
-passing p (x ∷ xs) e = go (passing p xs) (p x) refl e
+passing p (x ∷ xs) e = by_cases (passing p xs) (p x) refl e
   where
-    go : (list_any p xs ≡ true → (k : ℕ) × (is_among k xs ≡ true) × (p k ≡ true)) → (b : Bool)
+    by_cases : (list_any p xs ≡ true → (k : ℕ) × (is_among k xs ≡ true) × (p k ≡ true)) → (b : Bool)
         → p x ≡ b → (b || list_any p xs) ≡ true → (k : ℕ) × (is_among k (x ∷ xs) ≡ true)
         × (p k ≡ true)
-    go later true is f = (x, ap (λ b. b || is_among x xs) (same_number x), is)
-    go later false is f = let more = later f in
+    by_cases later true is f = (x, ap (λ b. b || is_among x xs) (same_number x), is)
+    by_cases later false is f = let more = later f in
         (more.0, or_right (x == more.0) (is_among more.0 xs) more.1, more.2)
 
 -- a number among them passes
 passes : (p : ℕ → Bool) (xs : List ℕ) (k : ℕ) → is_among k xs ≡ true → p k ≡ true
     → list_any p xs ≡ true
 passes p [] k e is = e
-passes p (x ∷ xs) k e is = go (λ f. passes p xs k f is) (x == k) refl e
+passes p (x ∷ xs) k e is = by_cases (λ f. passes p xs k f is) (x == k) refl e
   where
-    go : (is_among k xs ≡ true → list_any p xs ≡ true) → (b : Bool) → (x == k) ≡ b
+    by_cases : (is_among k xs ≡ true → list_any p xs ≡ true) → (b : Bool) → (x == k) ≡ b
         → (b || is_among k xs) ≡ true → list_any p (x ∷ xs) ≡ true
-    go later true at f = ap (λ b. b || list_any p xs) (ap p (equal_number x k at) ∙ is)
-    go later false at f = or_right (p x) (list_any p xs) (later f)
+    by_cases later true at f = ap (λ b. b || list_any p xs) (ap p (equal_number x k at) ∙ is)
+    by_cases later false at f = or_right (p x) (list_any p xs) (later f)
 
 all-not : (p : ℕ → Bool) (xs : List ℕ) → list_all p xs ≡ not (list_any (λ x. not (p x)) xs)
 all-not p [] = refl
-all-not p (x ∷ xs) = ap (λ b. p x && b) (all-not p xs) ∙ go (p x) (list_any (λ y. not (p y)) xs)
+all-not p (x ∷ xs) =
+    ap (λ b. p x && b) (all-not p xs) ∙ by_cases (p x) (list_any (λ y. not (p y)) xs)
   where
-    go : (a b : Bool) → (a && not b) ≡ not (not a || b)
-    go true b = refl
-    go false b = refl
+    by_cases : (a b : Bool) → (a && not b) ≡ not (not a || b)
+    by_cases true b = refl
+    by_cases false b = refl
 
 any-seen : (p : ℕ → Bool) (q : Spid → Bool) → ((c : Spid) → p c.number ≡ q c) → (cs : List Spid)
     → list_any p (map spid_of cs) ≡ list_any q cs

@@ -5,7 +5,7 @@ use Rattle.std.specs.List.{list_any}
 use Rattle.std.proofs.lemmas.Bool.Decides.{nat_tests}
 use Rattle.numbers.specs.Subjects.{Subject}
 use Rattle.numbers.specs.declared.spid.Spid.{Spid}
-use Rattle.settle.specs.Views.{spid_of}
+use Rattle.settle.specs.Abstraction.{spid_of}
 use Rattle.store.specs.WaitRows.{IsAdded, IsWithout}
 use Rattle.numbers.proofs.Small.{or_swapped}
 
@@ -28,12 +28,13 @@ added s d ks k old e same = record {
   subject = same;
   same = same;
   each = λ c. ap (λ b. cond b (Some old) None) (any-more c d ks k e)
-      ∙ go (c == d) (list_any (λ x. c == x) (map spid_of ks));
+      ∙ by_cases (c == d) (list_any (λ x. c == x) (map spid_of ks));
 }
   where
-    go : (a b : Bool) → cond (a || b) (Some old) None ≡ cond a (Some s) (cond b (Some old) None)
-    go true b = ap (λ x. Some x) same
-    go false b = refl
+    by_cases : (a b : Bool)
+        → cond (a || b) (Some old) None ≡ cond a (Some s) (cond b (Some old) None)
+    by_cases true b = ap (λ x. Some x) same
+    by_cases false b = refl
 
 differs : (c d n : ℕ) → (c == d) ≡ true → (d == n) ≡ true → (c == n) ≡ true
 differs c d n p q = grind (arith, nat_tests)
@@ -48,29 +49,30 @@ other c d n p q = grind (arith, nat_tests)
 any-less : (c d : ℕ) (ks : List Spid)
     → list_any (λ x. c == x) (map spid_of (filter (λ (k : Spid). not (d == k.number)) ks))
     ≡ cond (c == d) false (list_any (λ x. c == x) (map spid_of ks))
-any-less c d [] = go (c == d)
+any-less c d [] = by_cases (c == d)
   where
-    go : (b : Bool) → false ≡ cond b false false
-    go true = refl
-    go false = refl
-any-less c d (k ∷ ks) = go (d == k.number) refl (c == d) refl (any-less c d ks)
+    by_cases : (b : Bool) → false ≡ cond b false false
+    by_cases true = refl
+    by_cases false = refl
+any-less c d (k ∷ ks) = by_cases (d == k.number) refl (c == d) refl (any-less c d ks)
   where
     rest : List ℕ
     rest = map spid_of (filter (λ (x : Spid). not (d == x.number)) ks)
 
-    go : (a : Bool) → (d == k.number) ≡ a → (b : Bool) → (c == d) ≡ b
+    by_cases : (a : Bool) → (d == k.number) ≡ a → (b : Bool) → (c == d) ≡ b
         → list_any (λ x. c == x) rest ≡ cond b false (list_any (λ x. c == x) (map spid_of ks)) →
         list_any (λ x. c == x)
         (map spid_of (cond (not a) (k ∷ filter (λ (x : Spid). not (d == x.number)) ks)
         (filter (λ (x : Spid). not (d == x.number)) ks))) ≡ cond b false
         ((c == k.number) || list_any (λ x. c == x) (map spid_of ks))
-    go true p true q later = later
-    go true p false q later =
+    by_cases true p true q later = later
+    by_cases true p false q later =
         later ∙ ap (λ b. b || list_any (λ x. c == x) (map spid_of ks))
         (sym (other c d k.number q p))
-    go false p true q later = ap (λ b. b || list_any (λ x. c == x) rest) (equals c d k.number q p)
+    by_cases false p true q later =
+        ap (λ b. b || list_any (λ x. c == x) rest) (equals c d k.number q p)
         ∙ later
-    go false p false q later = ap (λ b. (c == k.number) || b) later
+    by_cases false p false q later = ap (λ b. (c == k.number) || b) later
 
 pub without : (d : ℕ) (ks rest : List Spid) (s : Subject)
     → rest ≡ filter (λ (k : Spid). not (d == k.number)) ks
@@ -79,9 +81,10 @@ without d ks rest s e = record {
   same = refl;
   each = λ c. ap (λ xs. cond (list_any (λ x. c == x) (map spid_of xs)) (Some s) None) e
       ∙ ap (λ b. cond b (Some s) None) (any-less c d ks)
-      ∙ go (c == d) (list_any (λ x. c == x) (map spid_of ks));
+      ∙ by_cases (c == d) (list_any (λ x. c == x) (map spid_of ks));
 }
   where
-    go : (a b : Bool) → cond (cond a false b) (Some s) None ≡ cond a None (cond b (Some s) None)
-    go true b = refl
-    go false b = refl
+    by_cases : (a b : Bool)
+        → cond (cond a false b) (Some s) None ≡ cond a None (cond b (Some s) None)
+    by_cases true b = refl
+    by_cases false b = refl

@@ -6,17 +6,17 @@ use Rattle.std.specs.BTreeMap as tree
 use Rattle.std.specs.BTreeMap.{BTreeMap}
 use Rattle.std.specs.FinMap.{FinMap, get, empty, get-empty, from_entries}
 use Rattle.numbers.specs.Subjects.{Subject}
-use Rattle.meaning.specs.Content.{WaitKey, wait_cmp}
-use Rattle.settle.specs.Views.{wait_key_of}
-use Rattle.settle.specs.declared.rows.WaitKey.{WaitKey as WaitKeyCode}
+use Rattle.model.specs.Content.{WaitKey, wait_cmp}
+use Rattle.settle.specs.Abstraction.{wait_key_of}
+use Rattle.settle.specs.declared.rows.WaitKey.{WaitKey as WaitKeyImpl}
 use Rattle.store.specs.Maps.{set, seen_entries, IsSet}
 use Rattle.store.specs.WaitRows.{IsDownload, download_of}
 use Rattle.store.specs.QueueRows.{AreOrdered, order_of}
 use Rattle.store.proofs.Maps.{get-map_of, set_map_of, get-set, set-same}
-use Rattle.meaning.proofs.KeyOrders.{wait_total, wait_exact}
+use Rattle.model.proofs.KeyOrders.{wait_total, wait_exact}
 use Rattle.numbers.proofs.Small.{tied}
 
-pub none-ordered : (order : BTreeMap WaitKeyCode (Unit {0})) → order.entries ≡ []
+pub none-ordered : (order : BTreeMap WaitKeyImpl (Unit {0})) → order.entries ≡ []
     → AreOrdered empty (order_of order)
 none-ordered order none = record {
   same = λ k. ap is_some (nothing k) ∙ sym (ap is_some (get-empty wait_cmp k));
@@ -30,7 +30,7 @@ none-ordered order none = record {
         ∙ get-empty wait_cmp k
 
 -- one key written
-pub order-written : (old new : BTreeMap WaitKeyCode (Unit {0})) (key : WaitKeyCode)
+pub order-written : (old new : BTreeMap WaitKeyImpl (Unit {0})) (key : WaitKeyImpl)
     (v : Option (Unit {0})) → IsSet (on wait_key_of wait_cmp) old new key v →
     (q : WaitKey) → get (order_of new) q ≡ cond (eq_by_cmp wait_cmp (wait_key_of key) q)
     (option_map (λ u. u) v) (get (order_of old) q)
@@ -90,20 +90,21 @@ pub order-gone : (old mid new : FinMap wait_cmp (Unit {0})) (k : WaitKey) (v : O
     → ((q : WaitKey) → get mid q ≡ cond (eq_by_cmp wait_cmp k q) v (get old q)) →
     ((q : WaitKey) → get new q ≡ cond (eq_by_cmp wait_cmp k q) None (get mid q)) → (q : WaitKey)
     → get new q ≡ cond (eq_by_cmp wait_cmp k q) None (get old q)
-order-gone old mid new k v put taken q = taken q ∙ go (eq_by_cmp wait_cmp k q) refl
+order-gone old mid new k v put taken q = taken q ∙ by_cases (eq_by_cmp wait_cmp k q) refl
   where
-    go : (b : Bool) → eq_by_cmp wait_cmp k q ≡ b → cond b None (get mid q) ≡ cond b None (get old q)
-    go true t = refl
-    go false t = put q ∙ ap (λ b. cond b v (get old q)) t
+    by_cases : (b : Bool) → eq_by_cmp wait_cmp k q ≡ b
+        → cond b None (get mid q) ≡ cond b None (get old q)
+    by_cases true t = refl
+    by_cases false t = put q ∙ ap (λ b. cond b v (get old q)) t
 
 -- what the code found at a key
-pub order-at : (order : BTreeMap WaitKeyCode (Unit {0})) (key : WaitKeyCode) (v : Option (Unit {0}))
+pub order-at : (order : BTreeMap WaitKeyImpl (Unit {0})) (key : WaitKeyImpl) (v : Option (Unit {0}))
     → v ≡ tree.get (on wait_key_of wait_cmp) order key
     → is_some (get (order_of order) (wait_key_of key)) ≡ is_some v
 order-at order key v e =
     ap is_some (get-map_of wait_key_of (λ (u : Unit {0}). u) wait_total wait_exact order key
-    ∙ ap (option_map (λ u. u)) (sym e)) ∙ go v
+    ∙ ap (option_map (λ u. u)) (sym e)) ∙ by_cases v
   where
-    go : (o : Option (Unit {0})) → is_some (option_map (λ u. u) o) ≡ is_some o
-    go None = refl
-    go (Some u) = refl
+    by_cases : (o : Option (Unit {0})) → is_some (option_map (λ u. u) o) ≡ is_some o
+    by_cases None = refl
+    by_cases (Some u) = refl

@@ -8,13 +8,13 @@ use Rattle.std.specs.BTreeMap as tree
 use Rattle.std.specs.BTreeMap.{BTreeMap}
 use Rattle.std.specs.FinMap.{FinMap, IsAntisymmetric, nat_cmp-IsAntisymmetric}
 use Rattle.numbers.specs.Subjects.{Subject}
-use Rattle.meaning.specs.Content.{Content, wait_cmp}
+use Rattle.model.specs.Content.{Content, wait_cmp}
 use Rattle.store.specs.Maps.{map_of, set, IsSame, IsSet}
-use Rattle.store.specs.Places.{Place, IsPutAt, carriers, lrns, codes, blocks, broadcasts, sets}
+use Rattle.store.specs.TableLenses.{TableLens, IsPutAt, carriers, lrns, codes, blocks, broadcasts, sets}
 use Rattle.store.specs.Tables.{content_of, KeepIndexes, IsKept, IsKeptBelow}
 use Rattle.store.specs.declared.tables.Tables.{Tables}
 use Rattle.store.proofs.Maps.{same_map_of, set_map_of, still_there, back}
-use Rattle.meaning.proofs.KeyOrders.{broadcast_total, broadcast_exact}
+use Rattle.model.proofs.KeyOrders.{broadcast_total, broadcast_exact}
 use Rattle.store.proofs.Spare.{below-beside}
 use Rattle.store.proofs.Undone.{all-kept}
 
@@ -24,7 +24,7 @@ on-err (Err e) p = p
 
 -- the table is its map in the content, and nothing else changes with it
 pub record IsPlace {K X L Y : Type 0} {R : L → L
-    → Ordering} (place : Place K X L Y R) : Type 0 where
+    → Ordering} (place : TableLens K X L Y R) : Type 0 where
   pub total : IsTotalOrder R
   pub exact : IsAntisymmetric R
   pub seen : (t : Tables) → place.column (content_of t) ≡ map_of {R =
@@ -48,7 +48,7 @@ keeps-then a b c p q = (
   λ k had. q.2 k (p.2 k had),
 )
 
-module _ {K X L Y : Type 0} {R : L → L → Ordering} (place : Place K X L Y R)
+module _ {K X L Y : Type 0} {R : L → L → Ordering} (place : TableLens K X L Y R)
     (is : IsPlace place) where
   abbrev shown : BTreeMap K X → FinMap R Y
   shown m = map_of {R = R} place.key place.row m

@@ -15,18 +15,18 @@ use Rattle.std.specs.BTreeMap.Range.{entries_between}
 use Rattle.std.specs.FinMap.{FinMap, get}
 use Rattle.numbers.specs.Subjects.{Subject}
 use Rattle.numbers.specs.declared.spid.Spid.{Spid}
-use Rattle.meaning.specs.Content.{Content, BroadcastRow, WaitKey, wait_cmp, broadcast_cmp, empty_content}
+use Rattle.model.specs.Content.{Content, BroadcastRow, WaitKey, wait_cmp, broadcast_cmp, empty_content}
 use Rattle.delivery.specs.declared.broadcast.Broadcast.{Broadcast}
 use Rattle.delivery.specs.declared.download.Download.{Download}
-use Rattle.settle.specs.Reads.{AreFirst, IsBehind, IsQueued, Waits, queue_cmp}
-use Rattle.settle.specs.Views.{broadcast_key_of, broadcast_row_of, spid_of, wait_key_of}
-use Rattle.settle.specs.declared.rows.BroadcastKey.{BroadcastKey as BroadcastKeyCode}
-use Rattle.settle.specs.declared.rows.WaitKey.{WaitKey as WaitKeyCode}
+use Rattle.settle.specs.Reads.{AreFirst, IsBehind, IsQueued, IsWaitingDownload, queue_cmp}
+use Rattle.settle.specs.Abstraction.{broadcast_key_of, broadcast_row_of, spid_of, wait_key_of}
+use Rattle.settle.specs.declared.rows.BroadcastKey.{BroadcastKey as BroadcastKeyImpl}
+use Rattle.settle.specs.declared.rows.WaitKey.{WaitKey as WaitKeyImpl}
 use Rattle.store.specs.Maps.{map_of}
 use Rattle.store.specs.WaitRows.{IsDownload}
-use Rattle.store.specs.QueueRows.{AreOrdered, order_of, lowest, highest, told, download_told, broadcast_of}
+use Rattle.store.specs.QueueRows.{AreOrdered, order_of, lowest, highest, download_at, download_told, broadcast_of}
 use Rattle.store.proofs.Maps.{get-map_of, entry-of}
-use Rattle.meaning.proofs.KeyOrders.{wait_total, wait_exact, broadcast_total, broadcast_exact}
+use Rattle.model.proofs.KeyOrders.{wait_total, wait_exact, broadcast_total, broadcast_exact}
 use Rattle.store.proofs.Listed.{Among, contained, all-places, filter_map-filter, listed-sorted, found-listed, equal_cmp}
 use Rattle.store.proofs.CarrierKeys.{is_between, carrier-is, within}
 use Rattle.numbers.proofs.Small.{tied}
@@ -37,11 +37,11 @@ among-parts : {A : Type 0} (x : A) (xs ys : List A) → Among x (xs ++ ys) → A
 unfolding Among
 among-parts x [] ys is = inr is
 among-parts x (z ∷ zs) ys (inl e) = inl (inl e)
-among-parts x (z ∷ zs) ys (inr is) = go (among-parts x zs ys is)
+among-parts x (z ∷ zs) ys (inr is) = by_cases (among-parts x zs ys is)
   where
-    go : Among x zs ⊎ Among x ys → Among x (z ∷ zs) ⊎ Among x ys
-    go (inl there) = inl (inr there)
-    go (inr there) = inr there
+    by_cases : Among x zs ⊎ Among x ys → Among x (z ∷ zs) ⊎ Among x ys
+    by_cases (inl there) = inl (inr there)
+    by_cases (inr there) = inr there
 
 no-member : {A : Type 0} (x : A) → Among x [] → ⊥
 unfolding Among
@@ -82,12 +82,12 @@ module _ {K X A : Type 0} (F : K → Option A) (P : A → Type 0) where
       → AllByRecursion P (filter_map (λ e. F e.0) es)
   unfolding Among
   all-members [] each = tt
-  all-members (e ∷ es) each = go (all-members es (λ x there. each x (inr there))) (F e.0) refl
+  all-members (e ∷ es) each = by_cases (all-members es (λ x there. each x (inr there))) (F e.0) refl
     where
-      go : AllByRecursion P (filter_map (λ x. F x.0) es) → (o : Option A) → F e.0 ≡ o
+      by_cases : AllByRecursion P (filter_map (λ x. F x.0) es) → (o : Option A) → F e.0 ≡ o
           → AllByRecursion P (cons_option o (filter_map (λ x. F x.0) es))
-      go more None p = more
-      go more (Some a) p = (each e (inl refl) a p, more)
+      by_cases more None p = more
+      by_cases more (Some a) p = (each e (inl refl) a p, more)
 
 pub found-own : {K X : Type 0} (at : K → Bool) (es : List (K × X)) (e : K × X) → Among e es
     → at e.0 ≡ true → IsSome (lookup at es)
@@ -95,19 +95,19 @@ unfolding Among
 found-own at [] e there t = absurd there
 found-own at (x ∷ xs) e (inl same) t =
     ap (λ b. is_some (cond b (Some x.1) (lookup at xs))) (ap (λ z. at z.0) same ∙ t)
-found-own at (x ∷ xs) e (inr there) t = go (found-own at xs e there t) (at x.0)
+found-own at (x ∷ xs) e (inr there) t = by_cases (found-own at xs e there t) (at x.0)
   where
-    go : IsSome (lookup at xs) → (b : Bool) → IsSome (cond b (Some x.1) (lookup at xs))
-    go later true = refl
-    go later false = later
+    by_cases : IsSome (lookup at xs) → (b : Bool) → IsSome (cond b (Some x.1) (lookup at xs))
+    by_cases later true = refl
+    by_cases later false = later
 
 in_part : {A : Type 0} (b : Bool) (o : Option A) (d : A) → cond b o None ≡ Some d
     → (b ≡ true) × (o ≡ Some d)
 in_part true o d e = (refl, e)
 in_part false o d e = let f : None ≡ Some d = e in cc
 
-module _ (waits : FinMap wait_cmp Subject) (order : BTreeMap WaitKeyCode (Unit {0}))
-    (broadcasts : BTreeMap BroadcastKeyCode Broadcast) (carrier : Spid) (many : ℕ) where
+module _ (waits : FinMap wait_cmp Subject) (order : BTreeMap WaitKeyImpl (Unit {0}))
+    (broadcasts : BTreeMap BroadcastKeyImpl Broadcast) (carrier : Spid) (many : ℕ) where
   abbrev content : Content
   content = record empty_content {
     waits = waits;
@@ -122,53 +122,55 @@ module _ (waits : FinMap wait_cmp Subject) (order : BTreeMap WaitKeyCode (Unit {
     attempt = attempt;
   }
 
-  row-of : (k : WaitKeyCode) → get content.broadcasts (record { id = k.id; attempt = k.attempt })
+  row-of : (k : WaitKeyImpl) → get content.broadcasts (record { id = k.id; attempt = k.attempt })
       ≡ option_map broadcast_row_of (tree.get (on broadcast_key_of broadcast_cmp) broadcasts
       (broadcast_of k))
   row-of k = get-map_of broadcast_key_of broadcast_row_of broadcast_total broadcast_exact broadcasts
       (broadcast_of k)
 
-  told-is : (k : WaitKeyCode) (d : Download) → told broadcasts k ≡ Some d →
+  download_at-is : (k : WaitKeyImpl) (d : Download) → download_at broadcasts k ≡ Some d →
       (b : Broadcast) × (get content.broadcasts (record { id = k.id; attempt = k.attempt })
       ≡ Some (broadcast_row_of b)) × (download_told k b ≡ d)
-  told-is k d e = go (tree.get (on broadcast_key_of broadcast_cmp) broadcasts (broadcast_of k)) refl
+  download_at-is k d e =
+      by_cases (tree.get (on broadcast_key_of broadcast_cmp) broadcasts (broadcast_of k)) refl
       e
     where
-      go : (o : Option Broadcast) → tree.get (on broadcast_key_of broadcast_cmp) broadcasts
+      by_cases : (o : Option Broadcast) → tree.get (on broadcast_key_of broadcast_cmp) broadcasts
           (broadcast_of k) ≡ o → option_map (download_told k) o ≡ Some d →
           (b : Broadcast) × (get content.broadcasts (record { id = k.id; attempt = k.attempt })
           ≡ Some (broadcast_row_of b)) × (download_told k b ≡ d)
-      go None at f = let no : None ≡ Some d = f in cc
-      go (Some b) at f = (
+      by_cases None at f = let no : None ≡ Some d = f in cc
+      by_cases (Some b) at f = (
         b,
         row-of k ∙ ap (option_map broadcast_row_of) at,
         (let g : Some (download_told k b) ≡ Some d = f in cc),
       )
 
-  is-told : (k : WaitKeyCode) (row : BroadcastRow)
+  is-download_at : (k : WaitKeyImpl) (row : BroadcastRow)
       → get content.broadcasts (record { id = k.id; attempt = k.attempt }) ≡ Some row
-      → (b : Broadcast) × (told broadcasts k ≡ Some (download_told k b))
-  is-told k row e = go (tree.get (on broadcast_key_of broadcast_cmp) broadcasts (broadcast_of k))
+      → (b : Broadcast) × (download_at broadcasts k ≡ Some (download_told k b))
+  is-download_at k row e =
+      by_cases (tree.get (on broadcast_key_of broadcast_cmp) broadcasts (broadcast_of k))
       refl (sym (row-of k) ∙ e)
     where
-      go : (o : Option Broadcast) → tree.get (on broadcast_key_of broadcast_cmp) broadcasts
+      by_cases : (o : Option Broadcast) → tree.get (on broadcast_key_of broadcast_cmp) broadcasts
           (broadcast_of k) ≡ o → option_map broadcast_row_of o ≡ Some row →
-          (b : Broadcast) × (told broadcasts k ≡ Some (download_told k b))
-      go None at f = let no : None ≡ Some row = f in cc
-      go (Some b) at f = (b, ap (option_map (download_told k)) at)
+          (b : Broadcast) × (download_at broadcasts k ≡ Some (download_told k b))
+      by_cases None at f = let no : None ≡ Some row = f in cc
+      by_cases (Some b) at f = (b, ap (option_map (download_told k)) at)
 
-  module _ (lo hi : WaitKeyCode) (low : wait_key_of lo ≡ lowest carrier.number)
+  module _ (lo hi : WaitKeyImpl) (low : wait_key_of lo ≡ lowest carrier.number)
       (high : wait_key_of hi ≡ highest carrier.number)
       (indexed : AreOrdered waits (order_of order)) where
-    abbrev listed : WaitKeyCode → Option Download
-    listed k = cond (is_between lo hi k) (told broadcasts k) None
+    abbrev listed : WaitKeyImpl → Option Download
+    listed k = cond (is_between lo hi k) (download_at broadcasts k) None
 
     -- an entry of the index that is listed waits for the carrier
-    waits-is : (e : WaitKeyCode × Unit {0}) → Among e order.entries → (d : Download)
-        → listed e.0 ≡ Some d → Waits content carrier.number d
+    waits-is : (e : WaitKeyImpl × Unit {0}) → Among e order.entries → (d : Download)
+        → listed e.0 ≡ Some d → IsWaitingDownload content carrier.number d
     waits-is e there d is =
-        let p = in_part (is_between lo hi e.0) (told broadcasts e.0) d is in
-        let t = told-is e.0 d p.1 in
+        let p = in_part (is_between lo hi e.0) (download_at broadcasts e.0) d is in
+        let t = download_at-is e.0 d p.1 in
         let stands : is_some (get (order_of order) (wait_key_of e.0)) ≡ true =
         ap is_some (get-map_of wait_key_of (λ (u : Unit {0}). u) wait_total wait_exact order e.0)
         ∙ present (tree.get (on wait_key_of wait_cmp) order e.0)
@@ -181,7 +183,7 @@ module _ (waits : FinMap wait_cmp Subject) (order : BTreeMap WaitKeyCode (Unit {
           attempt = e.0.attempt;
         }))) (carrier-is carrier.number lo hi low high e.0 p.0)
         ∙ sym (indexed.same (wait_key_of e.0)) ∙ stands in
-        subst (Waits content carrier.number) t.2 (
+        subst (IsWaitingDownload content carrier.number) t.2 (
           broadcast_row_of t.0,
           (mine, t.1),
           record { subject = refl; action = refl; routing = refl },
@@ -192,16 +194,16 @@ module _ (waits : FinMap wait_cmp Subject) (order : BTreeMap WaitKeyCode (Unit {
         present (Some u) s = refl
         present None s = s
 
-        here : (k : WaitKeyCode) → is_at (on wait_key_of wait_cmp k) k ≡ true
+        here : (k : WaitKeyImpl) → is_at (on wait_key_of wait_cmp k) k ≡ true
         here k = (eq_by_cmp_equiv wait_total).refl (wait_key_of k)
 
-    rise : (x y : WaitKeyCode) (a b : Download) → listed x ≡ Some a → listed y ≡ Some b
+    rise : (x y : WaitKeyImpl) (a b : Download) → listed x ≡ Some a → listed y ≡ Some b
         → on wait_key_of wait_cmp x y ≡ Less → queue_cmp a b ≡ Less
     rise x y a b p q less =
-        let px = in_part (is_between lo hi x) (told broadcasts x) a p in
-        let py = in_part (is_between lo hi y) (told broadcasts y) b q in
-        let tx = told-is x a px.1 in
-        let ty = told-is y b py.1 in
+        let px = in_part (is_between lo hi x) (download_at broadcasts x) a p in
+        let py = in_part (is_between lo hi y) (download_at broadcasts y) b q in
+        let tx = download_at-is x a px.1 in
+        let ty = download_at-is y b py.1 in
         let c : nat_cmp x.carrier.number y.carrier.number ≡ Equal =
         equal_cmp x.carrier.number y.carrier.number
         (sym (carrier-is carrier.number lo hi low high x px.0) ∙ carrier-is carrier.number lo hi low
@@ -211,7 +213,7 @@ module _ (waits : FinMap wait_cmp Subject) (order : BTreeMap WaitKeyCode (Unit {
         ∙ less
 
     module _ (found later : List Download) (all : found ++ later
-        ≡ filter_map (λ (e : WaitKeyCode × Unit {0}). listed e.0) order.entries)
+        ≡ filter_map (λ (e : WaitKeyImpl × Unit {0}). listed e.0) order.entries)
         (ordered : tree.IsOrdered (on wait_key_of wait_cmp) order) where
       sorted : IsStrictlySortedBy queue_cmp (found ++ later)
       sorted = subst (IsStrictlySortedBy queue_cmp) (sym all)
@@ -234,13 +236,14 @@ module _ (waits : FinMap wait_cmp Subject) (order : BTreeMap WaitKeyCode (Unit {
           (λ k tie.
           let same : wait_key_of k ≡ own minute id attempt =
           sym (wait_exact (wait_key_of q.0) (wait_key_of k) (tied _ tie)) ∙ q.1 in
-          let t = is-told k row ((λ i. get content.broadcasts (record {
+          let t = is-download_at k row ((λ i. get content.broadcasts (record {
             id = (same i).id;
             attempt =
                 (same i).attempt;
           })) ∙ is.1) in (
             download_told k t.0,
-            ap (λ b. cond b (told broadcasts k) None) (within carrier.number lo hi low high k minute
+            ap (λ b. cond b (download_at broadcasts k) None) (within carrier.number lo hi low high k
+                minute
                 id attempt same small.0 small.1 small.2) ∙ t.1,
             (
               ap (λ (v : WaitKey). v.minute) same,
@@ -257,10 +260,11 @@ module _ (waits : FinMap wait_cmp Subject) (order : BTreeMap WaitKeyCode (Unit {
         each = λ minute id attempt row is.
             let m = listed-there minute id attempt row is in
             place minute id attempt m.0 m.2 (among-parts m.0 found later m.1) ends;
-        only = all-places (Waits content carrier.number) found
-            (all-front (Waits content carrier.number) found later
-            (subst (AllByRecursion (Waits content carrier.number)) (sym all)
-            (all-members listed (Waits content carrier.number) order.entries waits-is)));
+        only = all-places (IsWaitingDownload content carrier.number) found
+            (all-front (IsWaitingDownload content carrier.number) found later
+            (subst (AllByRecursion (IsWaitingDownload content carrier.number)) (sym all)
+            (all-members listed (IsWaitingDownload content carrier.number) order.entries
+            waits-is)));
         rises = sorted-front queue_cmp found later sorted;
         most = most;
       }
@@ -284,22 +288,24 @@ module _ (waits : FinMap wait_cmp Subject) (order : BTreeMap WaitKeyCode (Unit {
                   d sorted there))))
 
   -- the walk's own list is the listed part
-  pub walked : (lo hi : WaitKeyCode) (found : List Download) (rest part : List (WaitKeyCode
+  pub walked : (lo hi : WaitKeyImpl) (found : List Download) (rest part : List (WaitKeyImpl
       × Unit {0})) → wait_key_of lo ≡ lowest carrier.number
       → wait_key_of hi ≡ highest carrier.number →
       AreOrdered waits (order_of order) → tree.IsOrdered (on wait_key_of wait_cmp) order
       → part ≡ entries_between (on wait_key_of wait_cmp) (Included lo) (Included hi) order.entries →
-      found ++ filter_map (λ e. told broadcasts e.0) rest ≡ filter_map (λ e. told broadcasts e.0)
+      found ++ filter_map (λ e. download_at broadcasts e.0) rest
+      ≡ filter_map (λ e. download_at broadcasts e.0)
       part → (rest ≡ []) ⊎ (length found ≡ many) → length found ≤ many
       → AreFirst content (spid_of carrier) many found
   walked lo hi found rest part low high indexed ordered is_part so_far ends most =
-      front-are lo hi low high indexed found (filter_map (λ e. told broadcasts e.0) rest)
-      (so_far ∙ ap (filter_map (λ e. told broadcasts e.0)) is_part
-      ∙ filter_map-filter (λ e. told broadcasts e.0) (λ e. is_between lo hi e.0) order.entries)
+      front-are lo hi low high indexed found (filter_map (λ e. download_at broadcasts e.0) rest)
+      (so_far ∙ ap (filter_map (λ e. download_at broadcasts e.0)) is_part
+      ∙ filter_map-filter (λ e. download_at broadcasts e.0) (λ e. is_between lo hi e.0)
+      order.entries)
       ordered (over ends) most
     where
       over : (rest ≡ []) ⊎ (length found ≡ many)
-          → (filter_map (λ (e : WaitKeyCode × Unit {0}). told broadcasts e.0) rest ≡ [])
+          → (filter_map (λ (e : WaitKeyImpl × Unit {0}). download_at broadcasts e.0) rest ≡ [])
           ⊎ (length found ≡ many)
-      over (inl none) = inl (ap (filter_map (λ e. told broadcasts e.0)) none)
+      over (inl none) = inl (ap (filter_map (λ e. download_at broadcasts e.0)) none)
       over (inr full) = inr full

@@ -13,12 +13,12 @@ some : (n : ℕ) → (n == 0) ≡ false → 1 ≤ n
 some n e = grind (arith, nat_tests)
 
 pub key_ranked : (n : ℕ) → subject_key (ranked n) ≡ n
-key_ranked n = go (n % 1001 == 0) refl
+key_ranked n = by_cases (n % 1001 == 0) refl
   where
-    go : (b : Bool) → (n % 1001 == 0) ≡ b → subject_key (if b then Block (n / 1001)
+    by_cases : (b : Bool) → (n % 1001 == 0) ≡ b → subject_key (if b then Block (n / 1001)
         else Number (n / 1001 * 1000 + (n % 1001 - 1))) ≡ n
-    go true e = let f : n % 1001 ≡ 0 = none (n % 1001) e in omega (arith, f)
-    go false e = let f : 1 ≤ n % 1001 = some (n % 1001) e in omega (arith, f)
+    by_cases true e = let f : n % 1001 ≡ 0 = none (n % 1001) e in omega (arith, f)
+    by_cases false e = let f : 1 ≤ n % 1001 = some (n % 1001) e in omega (arith, f)
 
 pub ranked_key : (s : Subject) → ranked (subject_key s) ≡ s
 ranked_key s = subject_key-exact (ranked (subject_key s)) s (key_ranked (subject_key s))

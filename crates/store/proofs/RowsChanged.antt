@@ -7,11 +7,11 @@ use Rattle.std.proofs.lemmas.Cmp.{then_total, on_total}
 use Rattle.std.specs.FinMap.{FinMap, get, same_map, IsAntisymmetric, nat_cmp-IsAntisymmetric}
 use Rattle.numbers.specs.Subjects.{Subject, subject_key}
 use Rattle.numbers.proofs.SubjectKeys.{subject_key-exact}
-use Rattle.meaning.specs.Content.{WaitKey}
+use Rattle.model.specs.Content.{WaitKey}
 use Rattle.store.specs.Maps.{set}
 use Rattle.store.specs.WaitRows.{Download, download_cmp, download_of, Waiting, waits_of, awaited, SubjectDownload, subject_download_cmp, key_about, download_about, IsDownload, AreAbout, AboutIsNeeded}
 use Rattle.store.proofs.Maps.{get-set}
-use Rattle.meaning.proofs.KeyOrders.{both_equal, wait_total, wait_exact}
+use Rattle.model.proofs.KeyOrders.{both_equal, wait_total, wait_exact}
 use Rattle.store.proofs.RowsFlat.{download_total, download_exact, wait-ties, get-waits_of}
 use Rattle.numbers.proofs.Small.{tied}
 use Rattle.numbers.proofs.Small.{numbers_turned}
@@ -52,14 +52,15 @@ pub row-changed : (old new : FinMap download_cmp Waiting) (k : WaitKey) (w : Opt
 row-changed old new k w v row each =
     same_map wait_total wait_exact (waits_of new) (set (waits_of old) k v) (λ q.
     get-waits_of new q ∙ ap (λ o. awaited o q.carrier) (row (download_of q))
-    ∙ go q (eq_by_cmp download_cmp (download_of k) (download_of q)) refl
+    ∙ by_cases q (eq_by_cmp download_cmp (download_of k) (download_of q)) refl
     ∙ (λ i. cond (sym (wait-ties k (download_of q) q.carrier) i) v (sym (get-waits_of old q) i))
     ∙ sym (get-set wait_total wait_exact (waits_of old) k v q))
   where
-    go : (q : WaitKey) (b : Bool) → eq_by_cmp download_cmp (download_of k) (download_of q) ≡ b →
+    by_cases : (q : WaitKey) (b : Bool) → eq_by_cmp download_cmp (download_of k) (download_of q) ≡ b
+        →
         awaited (cond b w (get old (download_of q))) q.carrier
         ≡ cond ((k.carrier == q.carrier) && b) v (awaited (get old (download_of q)) q.carrier)
-    go q true t =
+    by_cases q true t =
         let d : download_of k ≡ download_of q =
         download_exact (download_of k) (download_of q) (tied _ t) in
         each q.carrier
@@ -69,7 +70,7 @@ row-changed old new k w v row each =
         last : (b : Bool) (x : Option Subject) → cond b v x ≡ cond (b && true) v x
         last true x = refl
         last false x = refl
-    go q false t = rest (k.carrier == q.carrier) (awaited (get old (download_of q)) q.carrier)
+    by_cases q false t = rest (k.carrier == q.carrier) (awaited (get old (download_of q)) q.carrier)
       where
         rest : (b : Bool) (x : Option Subject) → x ≡ cond (b && false) v x
         rest true x = refl
@@ -80,12 +81,12 @@ pub row-same : (old new : FinMap download_cmp Waiting) (d : Download) (w : Optio
     → IsRow old new d w → w ≡ get old d → waits_of new ≡ waits_of old
 row-same old new d w row same = same_map wait_total wait_exact (waits_of new) (waits_of old) (λ q.
     get-waits_of new q ∙ ap (λ o. awaited o q.carrier) (row (download_of q)
-    ∙ go q (eq_by_cmp download_cmp d (download_of q)) refl) ∙ sym (get-waits_of old q))
+    ∙ by_cases q (eq_by_cmp download_cmp d (download_of q)) refl) ∙ sym (get-waits_of old q))
   where
-    go : (q : WaitKey) (b : Bool) → eq_by_cmp download_cmp d (download_of q) ≡ b
+    by_cases : (q : WaitKey) (b : Bool) → eq_by_cmp download_cmp d (download_of q) ≡ b
         → cond b w (get old (download_of q)) ≡ get old (download_of q)
-    go q true t = same ∙ ap (get old) (download_exact d (download_of q) (tied _ t))
-    go q false t = refl
+    by_cases q true t = same ∙ ap (get old) (download_exact d (download_of q) (tied _ t))
+    by_cases q false t = refl
 
 -- ---- the index
 
@@ -136,11 +137,11 @@ agrees-kept old new about d was now row there same agrees = (
 away : (s : Subject) (d : Download) (k : SubjectDownload)
     → eq_by_cmp download_cmp d (download_about k) ≡ false
     → eq_by_cmp subject_download_cmp (key_about s d) k ≡ false
-away s d k t = go (eq_by_cmp subject_download_cmp (key_about s d) k) refl
+away s d k t = by_cases (eq_by_cmp subject_download_cmp (key_about s d) k) refl
   where
-    go : (b : Bool) → eq_by_cmp subject_download_cmp (key_about s d) k ≡ b → b ≡ false
-    go false e = refl
-    go true e =
+    by_cases : (b : Bool) → eq_by_cmp subject_download_cmp (key_about s d) k ≡ b → b ≡ false
+    by_cases false e = refl
+    by_cases true e =
         let same : key_about s d ≡ k = subject_download_exact (key_about s d) k (tied _ e) in
         let f : true ≡ false =
         sym (here d) ∙ ap (λ (x : SubjectDownload). eq_by_cmp download_cmp d (download_about x))

@@ -10,9 +10,9 @@ use Rattle.std.proofs.lemmas.Cmp.{then_total, on_total}
 use Rattle.std.specs.FinMap.{FinMap, get, get-entries, get-from_entries, entries, entries_sorted, find, is_sorted, IsAntisymmetric, nat_cmp-IsAntisymmetric}
 use Rattle.std.specs.FinMap.Entries.{below_all}
 use Rattle.numbers.specs.Subjects.{Subject}
-use Rattle.meaning.specs.Content.{WaitKey, wait_cmp}
+use Rattle.model.specs.Content.{WaitKey, wait_cmp}
 use Rattle.store.specs.WaitRows.{Download, download_cmp, download_of, wait_for, Waiting, waits_of_row, waits_of_rows, waits_of, awaited}
-use Rattle.meaning.proofs.KeyOrders.{both_equal, wait_total}
+use Rattle.model.proofs.KeyOrders.{both_equal, wait_total}
 use Rattle.numbers.proofs.Small.{tied, and_second, and_first, truth}
 
 pub download_total : IsTotalOrder download_cmp
@@ -44,35 +44,37 @@ find-row : (k : WaitKey) (d : Download) (s : Subject) (cs : List ℕ)
     (rest : List (WaitKey × Subject)) →
     find wait_cmp k (waits_of_row d (s, cs) ++ rest) ≡ cond (eq_by_cmp download_cmp (download_of k)
     d && list_any (λ c. k.carrier == c) cs) (Some s) (find wait_cmp k rest)
-find-row k d s [] rest = go (eq_by_cmp download_cmp (download_of k) d)
+find-row k d s [] rest = by_cases (eq_by_cmp download_cmp (download_of k) d)
   where
-    go : (b : Bool) → find wait_cmp k rest ≡ cond (b && false) (Some s) (find wait_cmp k rest)
-    go true = refl
-    go false = refl
+    by_cases : (b : Bool) → find wait_cmp k rest ≡ cond (b && false) (Some s) (find wait_cmp k rest)
+    by_cases true = refl
+    by_cases false = refl
 find-row k d s (c ∷ cs) rest =
     (λ i. cond (wait-ties k d c i) (Some s) (find-row k d s cs rest i))
-    ∙ go (k.carrier == c) (eq_by_cmp download_cmp (download_of k) d) (list_any (λ c. k.carrier == c)
+    ∙ by_cases (k.carrier == c) (eq_by_cmp download_cmp (download_of k) d)
+    (list_any (λ c. k.carrier == c)
     cs)
   where
-    go : (x b y : Bool) → cond (x && b) (Some s) (cond (b && y) (Some s) (find wait_cmp k rest))
+    by_cases : (x b y : Bool)
+        → cond (x && b) (Some s) (cond (b && y) (Some s) (find wait_cmp k rest))
         ≡ cond (b && (x || y)) (Some s) (find wait_cmp k rest)
-    go true true y = refl
-    go true false y = refl
-    go false true y = refl
-    go false false y = refl
+    by_cases true true y = refl
+    by_cases true false y = refl
+    by_cases false true y = refl
+    by_cases false false y = refl
 
 -- what ties with a key below all others is none of them
 below : (d : Download) (es : List (Download × Waiting)) → below_all download_cmp d es ≡ true
     → find download_cmp d es ≡ None
 below d [] is = refl
-below d (e ∷ es) is = go (download_cmp d e.0) (below d es) is
+below d (e ∷ es) is = by_cases (download_cmp d e.0) (below d es) is
   where
-    go : (r : Ordering) → (below_all download_cmp d es ≡ true → find download_cmp d es ≡ None)
+    by_cases : (r : Ordering) → (below_all download_cmp d es ≡ true → find download_cmp d es ≡ None)
         → (is_lt r && below_all download_cmp d es) ≡ true
         → cond (is_eq r) (Some e.1) (find download_cmp d es) ≡ None
-    go Less later more = later more
-    go Equal later more = let no : false ≡ true = more in cc
-    go Greater later more = let no : false ≡ true = more in cc
+    by_cases Less later more = later more
+    by_cases Equal later more = let no : false ≡ true = more in cc
+    by_cases Greater later more = let no : false ≡ true = more in cc
 
 find-rows : (k : WaitKey) (es : List (Download × Waiting)) → is_sorted download_cmp es ≡ true
     → find wait_cmp k (waits_of_rows es) ≡ awaited (find download_cmp (download_of k) es) k.carrier
@@ -80,7 +82,8 @@ unfolding waits_of_rows
 find-rows k [] is = refl
 find-rows k (e ∷ es) is =
     find-row k e.0 e.1.0 e.1.1 (waits_of_rows es)
-    ∙ go (find-rows k es (and_second (below_all download_cmp e.0 es) (is_sorted download_cmp es)
+    ∙ by_cases (find-rows k es (and_second (below_all download_cmp e.0 es)
+    (is_sorted download_cmp es)
     is)) (eq_by_cmp download_cmp (download_of k) e.0) refl
   where
     none : eq_by_cmp download_cmp (download_of k) e.0 ≡ true
@@ -97,13 +100,13 @@ find-rows k (e ∷ es) is =
     here later not true = refl
     here later not false = later ∙ ap (λ o. awaited o k.carrier) not
 
-    go : find wait_cmp k (waits_of_rows es) ≡ awaited (find download_cmp (download_of k) es)
+    by_cases : find wait_cmp k (waits_of_rows es) ≡ awaited (find download_cmp (download_of k) es)
         k.carrier → (b : Bool) → eq_by_cmp download_cmp (download_of k) e.0 ≡ b →
         cond (b && list_any (λ c. k.carrier == c) e.1.1) (Some e.1.0)
         (find wait_cmp k (waits_of_rows es))
         ≡ awaited (cond b (Some e.1) (find download_cmp (download_of k) es)) k.carrier
-    go later true tie = here later (none tie) (list_any (λ c. k.carrier == c) e.1.1)
-    go later false tie = later
+    by_cases later true tie = here later (none tie) (list_any (λ c. k.carrier == c) e.1.1)
+    by_cases later false tie = later
 
 pub get-waits_of : (m : FinMap download_cmp Waiting) (k : WaitKey)
     → get (waits_of m) k ≡ awaited (get m (download_of k)) k.carrier

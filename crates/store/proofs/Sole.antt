@@ -4,20 +4,20 @@ use Rattle.std.specs.Prelude.{is_some, option_map}
 use Rattle.std.specs.Ordering.{nat_cmp, on}
 use Rattle.std.specs.BTreeMap.{BTreeMap}
 use Rattle.std.specs.FinMap.{FinMap, get}
-use Rattle.numbers.specs.Views.{subject_of}
-use Rattle.meaning.specs.Content.{Content, VersionRow, broadcast_cmp}
+use Rattle.numbers.specs.Abstraction.{subject_of}
+use Rattle.model.specs.Content.{Content, VersionRow, broadcast_cmp}
 use Rattle.delivery.specs.declared.broadcast.Broadcast.{Broadcast}
-use Rattle.settle.specs.Changes.{Changes, IsChanged, changes_of, clock_move_of}
+use Rattle.settle.specs.Changes.{Changes, AppliesChanges, changes_of, clock_move_of}
 use Rattle.settle.specs.Lists.{items_of}
-use Rattle.settle.specs.Views.{spid_of, lrn_of, code_of, block_of, block_row_of, broadcast_key_of, broadcast_row_of, wait_key_of}
-use Rattle.settle.specs.declared.changes.Changes.{Changes as ChangesCode}
-use Rattle.settle.specs.declared.rows.BroadcastKey.{BroadcastKey as BroadcastKeyCode}
-use Rattle.version.specs.Views.{set_of}
+use Rattle.settle.specs.Abstraction.{spid_of, lrn_of, code_of, block_of, block_row_of, broadcast_key_of, broadcast_row_of, wait_key_of}
+use Rattle.settle.specs.declared.changes.Changes.{Changes as ChangesImpl}
+use Rattle.settle.specs.declared.rows.BroadcastKey.{BroadcastKey as BroadcastKeyImpl}
+use Rattle.version.specs.Abstraction.{set_of}
 use Rattle.store.specs.Maps.{IsSet, set}
-use Rattle.store.specs.Places.{broadcasts}
-use Rattle.store.specs.Steps.{PutsNoOthers}
-use Rattle.store.specs.Tables.{content_of, from_waits, with_version, AddNoSpare, AreIndexed, AreKeysOf, AreKeysTaken, AreLeftBy, AreNoKeys, AreUnneeded, HaveKeys, IsOneOf, KeepIndexes, KeepOtherVersions}
-use Rattle.store.specs.declared.guesses.Guesses.{Guesses}
+use Rattle.store.specs.TableLenses.{broadcasts}
+use Rattle.store.specs.UndoLog.{PutsNoOthers}
+use Rattle.store.specs.Tables.{content_of, from_waits, with_version, AddNoStale, AreIndexed, AreKeysOf, AreKeysTaken, AreLeftBy, AreNoKeys, AreUnneeded, HaveKeys, IsOneOf, KeepIndexes, KeepOtherVersions}
+use Rattle.store.specs.declared.hints.Hints.{Hints}
 use Rattle.store.specs.declared.keys.VersionKeys.{VersionKeys}
 use Rattle.store.specs.declared.tables.Tables.{Tables}
 use Rattle.store.proofs.Changed.{version_first, broadcast_first}
@@ -28,8 +28,8 @@ use Rattle.store.proofs.Undone.{indexed-kept, indexed-with_version}
 use Rattle.numbers.proofs.Small.{no_members}
 
 -- what such changes are
-sole-changes : (c : ChangesCode) → PutsNoOthers c
-    → (vs : List (ℕ × VersionRow)) (bs : List (BroadcastKeyCode × Broadcast))
+sole-changes : (c : ChangesImpl) → PutsNoOthers c
+    → (vs : List (ℕ × VersionRow)) (bs : List (BroadcastKeyImpl × Broadcast))
     → items_of c.versions ≡ vs → items_of c.broadcasts ≡ bs →
     changes_of c ≡ record (from_waits [] c) {
       versions = vs;
@@ -49,24 +49,25 @@ sole-changes c others vs bs versions sent = λ i. record {
   taken_waits = map wait_key_of (items_of c.taken_waits);
 }
 
-pub sole-version : (c : ChangesCode) (e : ℕ × VersionRow) (old new : Tables) → PutsNoOthers c
+pub sole-version : (c : ChangesImpl) (e : ℕ × VersionRow) (old new : Tables) → PutsNoOthers c
     → items_of c.versions ≡ e ∷ [] → items_of c.broadcasts ≡ []
     → content_of new ≡ with_version (content_of old) e.0 (Some e.1) →
-    (last : Content) → IsChanged (from_waits [] c) (content_of new) last
-    → IsChanged (changes_of c) (content_of old) last
+    (last : Content) → AppliesChanges (from_waits [] c) (content_of new) last
+    → AppliesChanges (changes_of c) (content_of old) last
 sole-version c e old new others one none put last was =
-    subst (λ (x : Changes). IsChanged x (content_of old) last)
+    subst (λ (x : Changes). AppliesChanges x (content_of old) last)
     (sym (sole-changes c others (e ∷ []) [] one none))
     (version_first (from_waits [] c) (content_of old) (content_of new) last e.0 e.1 put was)
 
-pub sole-broadcast : (c : ChangesCode) (e : BroadcastKeyCode × Broadcast) (old : Tables)
-    (m : BTreeMap BroadcastKeyCode Broadcast) → PutsNoOthers c → items_of c.versions ≡ []
+pub sole-broadcast : (c : ChangesImpl) (e : BroadcastKeyImpl × Broadcast) (old : Tables)
+    (m : BTreeMap BroadcastKeyImpl Broadcast) → PutsNoOthers c → items_of c.versions ≡ []
     → items_of c.broadcasts ≡ e ∷ [] →
     IsSet (on broadcast_key_of broadcast_cmp) old.broadcasts m e.0 (Some e.1) →
-    (last : Content) → IsChanged (from_waits [] c) (content_of (record old { broadcasts = m })) last
-    → IsChanged (changes_of c) (content_of old) last
+    (last : Content) → AppliesChanges (from_waits [] c) (content_of (record old { broadcasts = m }))
+    last
+    → AppliesChanges (changes_of c) (content_of old) last
 sole-broadcast c e old m others none one put last was =
-    subst (λ (x : Changes). IsChanged x (content_of old) last)
+    subst (λ (x : Changes). AppliesChanges x (content_of old) last)
     (sym (sole-changes c others [] (e ∷ []) none one))
     (broadcast_first (from_waits [] c) (content_of old) (content_of (record old { broadcasts = m }))
     last (broadcast_key_of e.0) (broadcast_row_of e.1) (put-shown broadcasts broadcasts-is old m e.0
@@ -100,23 +101,23 @@ sole-content old mid id row versions same put =
     ∙ ap (λ c. with_version c id (Some row)) same
 
 -- and the keys are taken away that the row before had and the row does not need
-pub sole-taken : (old put new : Tables) (versions : FinMap nat_cmp VersionRow) (guesses : Guesses)
+pub sole-taken : (old put new : Tables) (versions : FinMap nat_cmp VersionRow) (hints : Hints)
     (id : ℕ) (row : VersionRow) (standing keys taken : VersionKeys) → id < 18446744073709551616
     → ((r : VersionRow) → get (content_of old).versions id ≡ Some r → AreKeysOf id r standing)
     → (get (content_of old).versions id ≡ None → AreNoKeys standing) → AreKeysOf id row keys
     → AreUnneeded standing keys taken → content_of put ≡ content_of old → KeepIndexes old put
     → KeepOtherVersions keys put old → versions ≡ set (content_of put).versions id (Some row)
     → HaveKeys keys put → AreIndexed old
-    → AreKeysTaken taken (record put { versions = versions; guesses = guesses }) new
-    → AreIndexed new × AddNoSpare old new
-sole-taken old put new versions guesses id row standing keys taken small own without of left same
+    → AreKeysTaken taken (record put { versions = versions; hints = hints }) new
+    → AreIndexed new × AddNoStale old new
+sole-taken old put new versions hints id row standing keys taken small own without of left same
     keeps adds written there indexed is =
-    let mid = record put { versions = versions; guesses = guesses } in
+    let mid = record put { versions = versions; hints = hints } in
     let by = left-by old mid id row standing keys taken own without of left adds
     (sole-content old put id row versions same written) in (
       indexed-beside mid new taken is by.unneeded
           (sole-indexed old put id row keys versions small same keeps written of there indexed),
-      spares-after (IsOneOf taken) old mid mid new by.others (λ k spare. spare)
+      spares-after (IsOneOf taken) old mid mid new by.others (λ k stale. stale)
           (spares-same mid new is.content is.adds) (none-taken mid new taken is),
     )
 
@@ -124,13 +125,14 @@ sole-taken old put new versions guesses id row standing keys taken small own wit
 pub not-there : (old mid : Tables) (id : ℕ) → content_of mid ≡ content_of old
     → is_some (get (content_of mid).versions id) ≡ false → get (content_of old).versions id ≡ None
 not-there old mid id same none =
-    ap (λ (c : Content). get c.versions id) (sym same) ∙ go (get (content_of mid).versions id) none
+    ap (λ (c : Content). get c.versions id) (sym same) ∙ by_cases (get (content_of mid).versions id)
+    none
   where
-    go : (w : Option VersionRow) → is_some w ≡ false → w ≡ None
-    go None e = refl
-    go (Some r) e = let no : true ≡ false = e in cc
+    by_cases : (w : Option VersionRow) → is_some w ≡ false → w ≡ None
+    by_cases None e = refl
+    by_cases (Some r) e = let no : true ≡ false = e in cc
 
 -- so that no key is to be taken away
 pub sole-new : (id : ℕ) (keys : VersionKeys) (old new : Tables) → AreNoKeys keys
-    → AreLeftBy id keys old new → AddNoSpare old new
-sole-new id keys old new none left k spare = left.others k (no-key keys none k) spare
+    → AreLeftBy id keys old new → AddNoStale old new
+sole-new id keys old new none left k stale = left.others k (no-key keys none k) stale

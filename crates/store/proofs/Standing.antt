@@ -8,7 +8,7 @@ use Rattle.std.specs.Cmp.{IsTotalOrder}
 use Rattle.std.specs.BTreeMap as tree
 use Rattle.std.specs.BTreeMap.{BTreeMap, ContainsKey}
 use Rattle.std.specs.FinMap.{FinMap, get, IsAntisymmetric}
-use Rattle.meaning.specs.Content.{VersionRow}
+use Rattle.model.specs.Content.{VersionRow}
 use Rattle.store.specs.Maps.{map_of, Has, Keeps, KeepsOthers}
 use Rattle.store.specs.Tables.{content_of, subject_version_of, due_version_of, held_key, opened_key, due_key, AreIndexed, AreKeysOf, AreNoKeys, AreVersionsIndexed, HaveKeys}
 use Rattle.store.specs.declared.keys.VersionKeys.{VersionKeys}
@@ -32,11 +32,11 @@ module _ {K L : Type 0} {R : L → L → Ordering} (f : K → L) (o : IsTotalOrd
       → option_map f own ≡ key id row) → (get versions id ≡ None → own ≡ None)
       → Has (on f R) index own
   has-row_key key versions index id None indexed with without = tt
-  has-row_key key versions index id (Some q) indexed with without = go (get versions id) refl
+  has-row_key key versions index id (Some q) indexed with without = by_cases (get versions id) refl
     where
-      go : (r : Option VersionRow) → get versions id ≡ r → ContainsKey (on f R) index q
-      go None at = let no : Some q ≡ None = without at in cc
-      go (Some row) at = has-standing index q (indexed id row (f q) at (sym (with row at))).1
+      by_cases : (r : Option VersionRow) → get versions id ≡ r → ContainsKey (on f R) index q
+      by_cases None at = let no : Some q ≡ None = without at in cc
+      by_cases (Some row) at = has-standing index q (indexed id row (f q) at (sym (with row at))).1
 
   -- a key is there, as one that was put, or as the one that stood there
   pub has-either : (old new : BTreeMap K (Unit {0})) (own standing put : Option K)

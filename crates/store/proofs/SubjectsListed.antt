@@ -12,19 +12,19 @@ use Rattle.std.specs.BTreeMap.{BTreeMap, is_at}
 use Rattle.std.specs.BTreeMap.Range.{entries_between}
 use Rattle.std.specs.FinMap.{FinMap, get, empty, get-empty, nat_cmp-IsAntisymmetric}
 use Rattle.numbers.specs.Subjects.{Subject, subject_key}
-use Rattle.numbers.specs.Views.{subject_of, key_of}
-use Rattle.numbers.specs.declared.ported.Subject.{Subject as SubjectCode}
+use Rattle.numbers.specs.Abstraction.{subject_of, key_of}
+use Rattle.numbers.specs.declared.ported.Subject.{Subject as SubjectImpl}
 use Rattle.numbers.specs.declared.spid.Spid.{Spid}
 use Rattle.numbers.proofs.SubjectKeys.{subject_key-exact}
-use Rattle.meaning.specs.Content.{Content, WaitKey, wait_cmp, empty_content}
-use Rattle.settle.specs.Views.{spid_of, wait_key_of}
-use Rattle.settle.specs.Reads.{AreAwaited, IsAwaitedBy}
-use Rattle.settle.specs.declared.rows.WaitKey.{WaitKey as WaitKeyCode}
+use Rattle.model.specs.Content.{Content, WaitKey, wait_cmp, empty_content}
+use Rattle.settle.specs.Abstraction.{spid_of, wait_key_of}
+use Rattle.settle.specs.Reads.{AreWaitingSubjects, IsAwaitedBy}
+use Rattle.settle.specs.declared.rows.WaitKey.{WaitKey as WaitKeyImpl}
 use Rattle.store.specs.WaitRows.{IsDownload}
 use Rattle.store.specs.QueueRows.{AreOrdered, order_of, lowest, highest, gathered, with_subject, subjects_of}
 use Rattle.store.specs.Maps.{IsSet}
 use Rattle.store.proofs.Maps.{get-map_of, set_map_of, entry-of, get-set, get-set_here}
-use Rattle.meaning.proofs.KeyOrders.{wait_total, wait_exact}
+use Rattle.model.proofs.KeyOrders.{wait_total, wait_exact}
 use Rattle.store.proofs.Listed.{Among, contained, all-places}
 use Rattle.store.proofs.CarrierKeys.{is_between, carrier-is, within}
 use Rattle.store.proofs.QueueListed.{found-own}
@@ -40,46 +40,46 @@ with-keeps : (o : Option Subject) (m : Gathered) (k : ℕ) → is_some (get m k)
 with-keeps None m k is = is
 with-keeps (Some s) m k is =
     ap is_some (get-set nat_cmp_total nat_cmp-IsAntisymmetric m (subject_key s) (Some tt) k)
-    ∙ go (eq_by_cmp nat_cmp (subject_key s) k)
+    ∙ by_cases (eq_by_cmp nat_cmp (subject_key s) k)
   where
-    go : (b : Bool) → is_some (cond b (Some tt) (get m k)) ≡ true
-    go true = refl
-    go false = is
+    by_cases : (b : Bool) → is_some (cond b (Some tt) (get m k)) ≡ true
+    by_cases true = refl
+    by_cases false = is
 
 with-from : (o : Option Subject) (m : Gathered) (k : ℕ) → is_some (get (with_subject o m) k) ≡ true
     → (is_some (get m k) ≡ true) ⊎ ((s : Subject) × (o ≡ Some s) × (subject_key s ≡ k))
 with-from None m k is = inl is
 with-from (Some s) m k is =
-    go (eq_by_cmp nat_cmp (subject_key s) k) refl
+    by_cases (eq_by_cmp nat_cmp (subject_key s) k) refl
     (sym (ap is_some (get-set nat_cmp_total nat_cmp-IsAntisymmetric m (subject_key s) (Some tt) k))
     ∙ is)
   where
-    go : (b : Bool) → eq_by_cmp nat_cmp (subject_key s) k ≡ b
+    by_cases : (b : Bool) → eq_by_cmp nat_cmp (subject_key s) k ≡ b
         → is_some (cond b (Some tt) (get m k)) ≡ true → (is_some (get m k) ≡ true)
         ⊎ ((t : Subject) × (Some s ≡ Some t) × (subject_key t ≡ k))
-    go true same there = inr (
+    by_cases true same there = inr (
       s,
       refl,
       nat_cmp-IsAntisymmetric (subject_key s) k (tied (nat_cmp (subject_key s) k) same),
     )
-    go false same there = inl there
+    by_cases false same there = inl there
 
 module _ (waits : FinMap wait_cmp Subject) where
-  abbrev at : WaitKeyCode × Unit {0} → Option Subject
+  abbrev at : WaitKeyImpl × Unit {0} → Option Subject
   at e = get waits (wait_key_of e.0)
 
   -- one of these places has the subject with this key
-  abbrev IsPassed : List (WaitKeyCode × Unit {0}) → ℕ → Type 0
-  IsPassed es k = (e : WaitKeyCode × Unit {0}) × Among e es × (s : Subject) × (at e ≡ Some s)
+  abbrev IsPassed : List (WaitKeyImpl × Unit {0}) → ℕ → Type 0
+  IsPassed es k = (e : WaitKeyImpl × Unit {0}) × Among e es × (s : Subject) × (at e ≡ Some s)
       × (subject_key s ≡ k)
 
-  gathered-keeps : (es : List (WaitKeyCode × Unit {0})) (m : Gathered) (k : ℕ)
+  gathered-keeps : (es : List (WaitKeyImpl × Unit {0})) (m : Gathered) (k : ℕ)
       → is_some (get m k) ≡ true → is_some (get (gathered waits es m) k) ≡ true
   gathered-keeps [] m k is = is
   gathered-keeps (e ∷ es) m k is =
       gathered-keeps es (with_subject (at e) m) k (with-keeps (at e) m k is)
 
-  gathered-has : (es : List (WaitKeyCode × Unit {0})) (m : Gathered) (e : WaitKeyCode × Unit {0})
+  gathered-has : (es : List (WaitKeyImpl × Unit {0})) (m : Gathered) (e : WaitKeyImpl × Unit {0})
       → Among e es → (s : Subject) → at e ≡ Some s
       → is_some (get (gathered waits es m) (subject_key s)) ≡ true
   unfolding Among
@@ -90,21 +90,21 @@ module _ (waits : FinMap wait_cmp Subject) where
       ∙ ap is_some (get-set_here nat_cmp_total nat_cmp-IsAntisymmetric m (subject_key s) (Some tt)))
   gathered-has (x ∷ xs) m e (inr there) s is = gathered-has xs (with_subject (at x) m) e there s is
 
-  gathered-from : (es : List (WaitKeyCode × Unit {0})) (m : Gathered) (k : ℕ)
+  gathered-from : (es : List (WaitKeyImpl × Unit {0})) (m : Gathered) (k : ℕ)
       → is_some (get (gathered waits es m) k) ≡ true → (is_some (get m k) ≡ true) ⊎ IsPassed es k
   unfolding Among
   gathered-from [] m k is = inl is
-  gathered-from (x ∷ xs) m k is = go (gathered-from xs (with_subject (at x) m) k is)
+  gathered-from (x ∷ xs) m k is = by_cases (gathered-from xs (with_subject (at x) m) k is)
     where
       own : (is_some (get m k) ≡ true) ⊎ ((s : Subject) × (at x ≡ Some s) × (subject_key s ≡ k))
           → (is_some (get m k) ≡ true) ⊎ IsPassed (x ∷ xs) k
       own (inl there) = inl there
       own (inr p) = inr (x, inl refl, p.0, p.1, p.2)
 
-      go : (is_some (get (with_subject (at x) m) k) ≡ true) ⊎ IsPassed xs k
+      by_cases : (is_some (get (with_subject (at x) m) k) ≡ true) ⊎ IsPassed xs k
           → (is_some (get m k) ≡ true) ⊎ IsPassed (x ∷ xs) k
-      go (inl there) = own (with-from (at x) m k there)
-      go (inr p) = inr (p.0, inr p.1, p.2, p.3, p.4)
+      by_cases (inl there) = own (with-from (at x) m k there)
+      by_cases (inr p) = inr (p.0, inr p.1, p.2, p.3, p.4)
 
 -- ---- lists
 
@@ -112,16 +112,16 @@ among-filtered : {A : Type 0} (b : A → Bool) (x : A) (xs : List A) → Among x
     → Among x xs × (b x ≡ true)
 unfolding Among
 among-filtered b x [] is = absurd is
-among-filtered b x (y ∷ ys) is = go (among-filtered b x ys) (b y) refl is
+among-filtered b x (y ∷ ys) is = by_cases (among-filtered b x ys) (b y) refl is
   where
     later : Among x ys × (b x ≡ true) → Among x (y ∷ ys) × (b x ≡ true)
     later p = (inr p.0, p.1)
 
-    go : (Among x (filter b ys) → Among x ys × (b x ≡ true)) → (t : Bool) → b y ≡ t
+    by_cases : (Among x (filter b ys) → Among x ys × (b x ≡ true)) → (t : Bool) → b y ≡ t
         → Among x (cond t (y ∷ filter b ys) (filter b ys)) → Among x (y ∷ ys) × (b x ≡ true)
-    go more true e (inl same) = (inl same, sym (ap b same) ∙ e)
-    go more true e (inr there) = later (more there)
-    go more false e there = later (more there)
+    by_cases more true e (inl same) = (inl same, sym (ap b same) ∙ e)
+    by_cases more true e (inr there) = later (more there)
+    by_cases more false e there = later (more there)
 
 pub filtered-among : {A : Type 0} (b : A → Bool) (x : A) (xs : List A) → Among x xs → b x ≡ true
     → Among x (filter b xs)
@@ -129,24 +129,25 @@ unfolding Among
 filtered-among b x [] there t = absurd there
 filtered-among b x (y ∷ ys) (inl same) t =
     subst (λ c. Among x (cond c (y ∷ filter b ys) (filter b ys))) (sym (ap b same ∙ t)) (inl same)
-filtered-among b x (y ∷ ys) (inr there) t = go (filtered-among b x ys there t) (b y)
+filtered-among b x (y ∷ ys) (inr there) t = by_cases (filtered-among b x ys there t) (b y)
   where
-    go : Among x (filter b ys) → (c : Bool) → Among x (cond c (y ∷ filter b ys) (filter b ys))
-    go more true = inr more
-    go more false = more
+    by_cases : Among x (filter b ys) → (c : Bool) → Among x (cond c (y ∷ filter b ys) (filter b ys))
+    by_cases more true = inr more
+    by_cases more false = more
 
 -- an entry that a look-up finds
 pub found-entry : {K X : Type 0} (is_it : K → Bool) (es : List (K × X)) → IsSome (lookup is_it es)
     → (e : K × X) × Among e es × (is_it e.0 ≡ true)
 unfolding Among
 found-entry is_it [] there = let f : false ≡ true = there in cc
-found-entry {K} {X} is_it (e ∷ es) there = go (found-entry is_it es) (is_it e.0) refl there
+found-entry {K} {X} is_it (e ∷ es) there = by_cases (found-entry is_it es) (is_it e.0) refl there
   where
-    go : (IsSome (lookup is_it es) → (x : K × X) × Among x es × (is_it x.0 ≡ true)) → (t : Bool)
+    by_cases : (IsSome (lookup is_it es) → (x : K × X) × Among x es × (is_it x.0 ≡ true))
+        → (t : Bool)
         → is_it e.0 ≡ t → IsSome (cond t (Some e.1) (lookup is_it es)) → (x : K × X)
         × Among x (e ∷ es) × (is_it x.0 ≡ true)
-    go more true t it = (e, inl refl, t)
-    go more false t it = let p = more it in (p.0, inr p.1, p.2)
+    by_cases more true t it = (e, inl refl, t)
+    by_cases more false t it = let p = more it in (p.0, inr p.1, p.2)
 
 among-key : {K X : Type 0} (k : K) (es : List (K × X)) → Among k (keys_of es) → (e : K × X)
     × Among e es × (e.0 ≡ k)
@@ -169,27 +170,28 @@ all-of P (x ∷ xs) each = (each x (inl refl), all-of P xs (λ y there. each y (
 
 -- ---- the carrier's
 
-module _ (waits : FinMap wait_cmp Subject) (order : BTreeMap WaitKeyCode (Unit {0}))
-    (subjects : BTreeMap SubjectCode (Unit {0})) (carrier : Spid) (lo hi : WaitKeyCode)
+module _ (waits : FinMap wait_cmp Subject) (order : BTreeMap WaitKeyImpl (Unit {0}))
+    (subjects : BTreeMap SubjectImpl (Unit {0})) (carrier : Spid) (lo hi : WaitKeyImpl)
     (low : wait_key_of lo ≡ lowest carrier.number) (high : wait_key_of hi ≡ highest carrier.number)
     (indexed : AreOrdered waits (order_of order))
-    (part : List (WaitKeyCode × Unit {0})) (is_part : part ≡ entries_between
+    (part : List (WaitKeyImpl × Unit {0})) (is_part : part ≡ entries_between
     (on wait_key_of wait_cmp) (Included lo) (Included hi) order.entries)
     (all : subjects_of subjects ≡ gathered waits part empty) where
   abbrev content : Content
   content = record empty_content { waits = waits }
 
   -- a subject that was gathered is of a download of the carrier's
-  awaited : (x : SubjectCode) → is_some (get (subjects_of subjects) (key_of x)) ≡ true
+  awaited : (x : SubjectImpl) → is_some (get (subjects_of subjects) (key_of x)) ≡ true
       → IsAwaitedBy content carrier.number (subject_of x)
   awaited x there =
-      go (gathered-from waits part empty (key_of x) (ap (λ m. is_some (get m (key_of x))) (sym all)
+      by_cases (gathered-from waits part empty (key_of x) (ap (λ m. is_some (get m (key_of x)))
+      (sym all)
       ∙ there))
     where
       own : IsPassed waits part (key_of x) → IsAwaitedBy content carrier.number (subject_of x)
       own p =
           let e = p.0 in
-          let inside = among-filtered (λ (d : WaitKeyCode × Unit {0}). is_between lo hi d.0) e
+          let inside = among-filtered (λ (d : WaitKeyImpl × Unit {0}). is_between lo hi d.0) e
           order.entries (subst (Among e) is_part p.1) in
           let same : p.2 ≡ subject_of x = subject_key-exact p.2 (subject_of x) p.4 in (
             e.0.minute.number,
@@ -207,11 +209,11 @@ module _ (waits : FinMap wait_cmp Subject) (order : BTreeMap WaitKeyCode (Unit {
       none_at : Gathered
       none_at = empty
 
-      go : (is_some (get none_at (key_of x)) ≡ true) ⊎ IsPassed waits part (key_of x)
+      by_cases : (is_some (get none_at (key_of x)) ≡ true) ⊎ IsPassed waits part (key_of x)
           → IsAwaitedBy content carrier.number (subject_of x)
-      go (inl none) = let f : false ≡ true = sym (ap is_some (get-empty nat_cmp (key_of x)))
+      by_cases (inl none) = let f : false ≡ true = sym (ap is_some (get-empty nat_cmp (key_of x)))
           ∙ none in cc
-      go (inr p) = own p
+      by_cases (inr p) = own p
 
   -- the subject of each download of the carrier's was gathered
   gathered-there : (s : Subject) → IsAwaitedBy content carrier.number s
@@ -232,13 +234,14 @@ module _ (waits : FinMap wait_cmp Subject) (order : BTreeMap WaitKeyCode (Unit {
       sym (wait_exact (wait_key_of q.0) (wait_key_of e.0.0) (tied _ e.2)) ∙ q.1 in
       let there : Among e.0 part =
       subst (Among e.0) (sym is_part)
-      (filtered-among (λ (d : WaitKeyCode × Unit {0}). is_between lo hi d.0) e.0 order.entries e.1
+      (filtered-among (λ (d : WaitKeyImpl × Unit {0}). is_between lo hi d.0) e.0 order.entries e.1
       (within carrier.number lo hi low high e.0.0 is.0 is.1 is.2 same small.0 small.1 small.2)) in
       ap (λ m. is_some (get m (subject_key s))) all ∙ gathered-has waits part empty e.0 there s
       (ap (get waits) same ∙ is.3)
 
-  pub subjects-are : (found : List SubjectCode) → found ≡ tree.keys subjects
-      → tree.IsOrdered (on key_of nat_cmp) subjects → AreAwaited content (spid_of carrier) found
+  pub subjects-are : (found : List SubjectImpl) → found ≡ tree.keys subjects
+      → tree.IsOrdered (on key_of nat_cmp) subjects
+      → AreWaitingSubjects content (spid_of carrier) found
   subjects-are found is ordered = record {
     each = λ s waits_for.
         let q = entry-of key_of (λ (u : Unit {0}). u) nat_cmp_total nat_cmp-IsAntisymmetric subjects
@@ -256,7 +259,7 @@ module _ (waits : FinMap wait_cmp Subject) (order : BTreeMap WaitKeyCode (Unit {
     rises = subst (IsStrictlySortedBy (on key_of nat_cmp)) (sym is) ordered;
   }
     where
-      held : (x : SubjectCode) → Among x (tree.keys subjects)
+      held : (x : SubjectImpl) → Among x (tree.keys subjects)
           → is_some (get (subjects_of subjects) (key_of x)) ≡ true
       held x there =
           let e = among-key x subjects.entries there in
@@ -273,9 +276,9 @@ module _ (waits : FinMap wait_cmp Subject) (order : BTreeMap WaitKeyCode (Unit {
           present None s = s
 
 -- one place passed
-pub gathered-step : (waits : FinMap wait_cmp Subject) (e : WaitKeyCode × Unit {0})
-    (rest : List (WaitKeyCode × Unit {0})) (old new : BTreeMap SubjectCode (Unit {0}))
-    (x : SubjectCode) →
+pub gathered-step : (waits : FinMap wait_cmp Subject) (e : WaitKeyImpl × Unit {0})
+    (rest : List (WaitKeyImpl × Unit {0})) (old new : BTreeMap SubjectImpl (Unit {0}))
+    (x : SubjectImpl) →
     Some (subject_of x) ≡ get waits (wait_key_of e.0)
     → IsSet (on key_of nat_cmp) old new x (Some tt) → gathered waits rest (subjects_of new)
     ≡ gathered waits (e ∷ rest) (subjects_of old)

@@ -8,36 +8,36 @@ use Rattle.std.specs.BTreeMap.{BTreeMap, is_at}
 use Rattle.std.proofs.lemmas.Bool.Decides.{nat_tests}
 use Rattle.std.specs.FinMap.{FinMap, get, empty, get-empty, from_entries, same_map}
 use Rattle.numbers.specs.Subjects.{Subject}
-use Rattle.meaning.specs.Content.{WaitKey, wait_cmp}
+use Rattle.model.specs.Content.{WaitKey, wait_cmp}
 use Rattle.store.specs.Maps.{set, seen_entries, IsSet}
 use Rattle.store.specs.WaitRows.{Download, download_cmp, download_of, row_key_of, row_in, Waiting, waiting_of, rows_of, about_of, waits_of, awaited, subject_download_of, subject_download_cmp, SubjectDownload, IsFirst, IsAdded, IsWithout}
-use Rattle.store.specs.declared.keys.RowKey.{RowKey as RowKeyCode}
-use Rattle.store.specs.declared.keys.SubjectDownload.{SubjectDownload as SubjectDownloadCode}
-use Rattle.store.specs.declared.waiting.Waiting.{Waiting as WaitingCode}
+use Rattle.store.specs.declared.keys.RowKey.{RowKey as RowKeyImpl}
+use Rattle.store.specs.declared.keys.SubjectDownload.{SubjectDownload as SubjectDownloadImpl}
+use Rattle.store.specs.declared.waiting.Waiting.{Waiting as WaitingImpl}
 use Rattle.store.proofs.Maps.{get-seen, set_seen, set_map_of, get-set}
 use Rattle.store.proofs.Orders.{no_key}
-use Rattle.meaning.proofs.KeyOrders.{wait_total, wait_exact}
+use Rattle.model.proofs.KeyOrders.{wait_total, wait_exact}
 use Rattle.store.proofs.RowsFlat.{download_total, download_exact, get-waits_of}
 use Rattle.numbers.proofs.Small.{tied}
 use Rattle.store.proofs.RowsChanged.{IsRow, IsKey, Agrees, row-changed, subject_download_total, subject_download_exact}
 
 -- ---- no rows
 
-no_row : (rows : List (RowKeyCode × WaitingCode)) → rows ≡ [] → (d : Download) (w : Waiting)
+no_row : (rows : List (RowKeyImpl × WaitingImpl)) → rows ≡ [] → (d : Download) (w : Waiting)
     → get (rows_of rows) d ≡ Some w → ⊥
 no_row rows none d w at =
     let no : None ≡ Some w = sym (ap (λ es. get (rows_of es) d) none ∙ get-empty download_cmp d)
     ∙ at in
     cc
 
-pub none-agree : (rows : List (RowKeyCode × WaitingCode)) (about : BTreeMap SubjectDownloadCode
+pub none-agree : (rows : List (RowKeyImpl × WaitingImpl)) (about : BTreeMap SubjectDownloadImpl
     (Unit {0})) → rows ≡ [] → about.entries ≡ [] → Agrees (rows_of rows) (about_of about)
 none-agree rows about none empty_index = (
   λ d w at. absurd (no_row rows none d w at),
   λ k stands. absurd (no_key subject_download_cmp subject_download_of about empty_index k stands),
 )
 
-pub none-wait : (rows : List (RowKeyCode × WaitingCode)) → rows ≡ []
+pub none-wait : (rows : List (RowKeyImpl × WaitingImpl)) → rows ≡ []
     → waits_of (rows_of rows) ≡ empty
 none-wait rows none = same_map wait_total wait_exact (waits_of (rows_of rows)) empty (λ q.
     get-waits_of (rows_of rows) q
@@ -48,7 +48,7 @@ none-wait rows none = same_map wait_total wait_exact (waits_of (rows_of rows)) e
 -- ---- a look-up by a hash finds what one in the order of queues would
 
 -- how two keys of the code are compared
-abbrev pub same_key : RowKeyCode → RowKeyCode → Bool
+abbrev pub same_key : RowKeyImpl → RowKeyImpl → Bool
 same_key a b = (a.minute == b.minute) && ((a.id == b.id) && (a.attempt == b.attempt))
 
 by_numbers : (a b c d e f : ℕ)
@@ -56,22 +56,22 @@ by_numbers : (a b c d e f : ℕ)
     ≡ is_eq (ordering_then (nat_cmp a b) (ordering_then (nat_cmp c d) (nat_cmp e f)))
 by_numbers a b c d e f = grind (arith, nat_tests)
 
-same-at : (a b : RowKeyCode) → same_key a b ≡ is_at (on row_key_of download_cmp a) b
+same-at : (a b : RowKeyImpl) → same_key a b ≡ is_at (on row_key_of download_cmp a) b
 same-at a b = by_numbers a.minute b.minute a.id b.id a.attempt b.attempt
 
-pub hash-at : (rows : List (RowKeyCode × WaitingCode)) (b : RowKeyCode)
+pub hash-at : (rows : List (RowKeyImpl × WaitingImpl)) (b : RowKeyImpl)
     → lookup (same_key b) rows ≡ row_in rows b
 hash-at [] b = refl
 hash-at (e ∷ es) b = λ i. cond (same-at b e.0 i) (Some e.1) (hash-at es b i)
 
 -- one row put, or taken away, by a hash
-abbrev pub IsPut : (old new : List (RowKeyCode × WaitingCode)) → RowKeyCode → Option WaitingCode
+abbrev pub IsPut : (old new : List (RowKeyImpl × WaitingImpl)) → RowKeyImpl → Option WaitingImpl
     → Type 0
-IsPut old new key w = (q : RowKeyCode)
+IsPut old new key w = (q : RowKeyImpl)
     → lookup (same_key q) new ≡ cond (same_key key q) w (lookup (same_key q) old)
 
-by-order : (old new : List (RowKeyCode × WaitingCode)) (b : RowKeyCode) (w : Option WaitingCode)
-    → IsPut old new b w → (q : RowKeyCode)
+by-order : (old new : List (RowKeyImpl × WaitingImpl)) (b : RowKeyImpl) (w : Option WaitingImpl)
+    → IsPut old new b w → (q : RowKeyImpl)
     → row_in new q ≡ cond (is_at (on row_key_of download_cmp b) q) w (row_in old q)
 by-order old new b w is q =
     sym (hash-at new q) ∙ is q ∙ (λ i. cond (same-at b q i) w (hash-at old q i))
@@ -79,23 +79,23 @@ by-order old new b w is q =
 -- ---- a look-up
 
 -- the row of a download's broadcast
-pub row-at : (rows : List (RowKeyCode × WaitingCode)) (b : RowKeyCode) (k : WaitKey)
-    (w : Option WaitingCode) → row_key_of b ≡ download_of k → lookup (same_key b) rows ≡ w →
+pub row-at : (rows : List (RowKeyImpl × WaitingImpl)) (b : RowKeyImpl) (k : WaitKey)
+    (w : Option WaitingImpl) → row_key_of b ≡ download_of k → lookup (same_key b) rows ≡ w →
     get (rows_of rows) (download_of k) ≡ option_map waiting_of w
 row-at rows b k w e is =
     ap (get (rows_of rows)) (sym e) ∙ get-seen row_key_of waiting_of download_total download_exact
     rows b ∙ ap (option_map waiting_of) (sym (hash-at rows b) ∙ is)
 
-pub wait-at : (rows : List (RowKeyCode × WaitingCode)) (b : RowKeyCode) (k : WaitKey)
-    (w : Option WaitingCode) → row_key_of b ≡ download_of k → lookup (same_key b) rows ≡ w →
+pub wait-at : (rows : List (RowKeyImpl × WaitingImpl)) (b : RowKeyImpl) (k : WaitKey)
+    (w : Option WaitingImpl) → row_key_of b ≡ download_of k → lookup (same_key b) rows ≡ w →
     get (waits_of (rows_of rows)) k ≡ awaited (option_map waiting_of w) k.carrier
 wait-at rows b k w e is =
     get-waits_of (rows_of rows) k ∙ ap (λ o. awaited o k.carrier) (row-at rows b k w e is)
 
 -- ---- one row, or one key, of the code
 
-pub row-written : (old new : List (RowKeyCode × WaitingCode)) (b : RowKeyCode) (k : WaitKey)
-    (w : Option WaitingCode) → row_key_of b ≡ download_of k → IsPut old new b w →
+pub row-written : (old new : List (RowKeyImpl × WaitingImpl)) (b : RowKeyImpl) (k : WaitKey)
+    (w : Option WaitingImpl) → row_key_of b ≡ download_of k → IsPut old new b w →
     IsRow (rows_of old) (rows_of new) (download_of k) (option_map waiting_of w)
 row-written old new b k w e is q =
     ap (λ m. get m q) (set_seen row_key_of waiting_of download_total download_exact old new b w
@@ -103,7 +103,7 @@ row-written old new b k w e is q =
     ∙ get-set download_total download_exact (rows_of old) (row_key_of b) (option_map waiting_of w) q
     ∙ ap (λ d. cond (eq_by_cmp download_cmp d q) (option_map waiting_of w) (get (rows_of old) q)) e
 
-pub key-written : (old new : BTreeMap SubjectDownloadCode (Unit {0})) (key : SubjectDownloadCode)
+pub key-written : (old new : BTreeMap SubjectDownloadImpl (Unit {0})) (key : SubjectDownloadImpl)
     (k : SubjectDownload) (v : Option (Unit {0})) → subject_download_of key ≡ k
     → IsSet (on subject_download_of subject_download_cmp) old new key v →
     IsKey (about_of old) (about_of new) k (option_map (λ u. u) v)
@@ -118,16 +118,16 @@ key-written old new key k v e is q =
 -- a row written, and then taken away
 row-gone : (old mid new : FinMap download_cmp Waiting) (d : Download) (w : Option Waiting)
     → IsRow old mid d w → IsRow mid new d None → IsRow old new d None
-row-gone old mid new d w put taken q = taken q ∙ go (eq_by_cmp download_cmp d q) refl
+row-gone old mid new d w put taken q = taken q ∙ by_cases (eq_by_cmp download_cmp d q) refl
   where
-    go : (b : Bool) → eq_by_cmp download_cmp d q ≡ b
+    by_cases : (b : Bool) → eq_by_cmp download_cmp d q ≡ b
         → cond b None (get mid q) ≡ cond b None (get old q)
-    go true t = refl
-    go false t = put q ∙ ap (λ b. cond b w (get old q)) t
+    by_cases true t = refl
+    by_cases false t = put q ∙ ap (λ b. cond b w (get old q)) t
 
 -- a row that was written, and taken away
-pub row-taken : (old mid new : List (RowKeyCode × WaitingCode)) (b : RowKeyCode) (k : WaitKey)
-    (w : WaitingCode) → row_key_of b ≡ download_of k → IsPut old mid b (Some w)
+pub row-taken : (old mid new : List (RowKeyImpl × WaitingImpl)) (b : RowKeyImpl) (k : WaitKey)
+    (w : WaitingImpl) → row_key_of b ≡ download_of k → IsPut old mid b (Some w)
     → IsPut mid new b None → IsRow (rows_of old) (rows_of new) (download_of k) None
 row-taken old mid new b k w e put taken =
     row-gone (rows_of old) (rows_of mid) (rows_of new) (download_of k) (Some (waiting_of w))
@@ -190,8 +190,9 @@ gone-waits old new k was now there row without nobody = row-changed old new k No
 pub not-there : (m : FinMap wait_cmp Subject) (k : WaitKey) → get m k ≡ None → m ≡ set m k None
 not-there m k none =
     same_map wait_total wait_exact m (set m k None)
-    (λ q. sym (get-set wait_total wait_exact m k None q ∙ go q (eq_by_cmp wait_cmp k q) refl))
+    (λ q. sym (get-set wait_total wait_exact m k None q ∙ by_cases q (eq_by_cmp wait_cmp k q) refl))
   where
-    go : (q : WaitKey) (b : Bool) → eq_by_cmp wait_cmp k q ≡ b → cond b None (get m q) ≡ get m q
-    go q true t = sym none ∙ ap (get m) (wait_exact k q (tied _ t))
-    go q false t = refl
+    by_cases : (q : WaitKey) (b : Bool) → eq_by_cmp wait_cmp k q ≡ b
+        → cond b None (get m q) ≡ get m q
+    by_cases q true t = sym none ∙ ap (get m) (wait_exact k q (tied _ t))
+    by_cases q false t = refl

@@ -6,13 +6,13 @@ use Rattle.std.specs.FinMap.{FinMap, get}
 use Rattle.numbers.specs.Digits.{block_of, number_in}
 use Rattle.numbers.specs.Subjects.{Subject, Number, Block}
 use Rattle.numbers.specs.declared.tn.Tn.{Tn}
-use Rattle.meaning.specs.Content.{Content, VersionRow}
+use Rattle.model.specs.Content.{Content, VersionRow}
 use Rattle.version.specs.declared.in_use.NumberInUse.{NumberInUse}
-use Rattle.settle.specs.Reads.{Holds, Opens, IsTold}
+use Rattle.settle.specs.Reads.{HasRowInForce, HasOpenRow, Reflects}
 use Rattle.store.specs.Maps.{map_of, set}
 use Rattle.store.specs.Tables.{SubjectVersion}
 use Rattle.store.specs.declared.blocks.Marks.{Marks}
-use Rattle.store.specs.declared.keys.SubjectVersion.{SubjectVersion as SubjectVersionCode}
+use Rattle.store.specs.declared.keys.SubjectVersion.{SubjectVersion as SubjectVersionImpl}
 
 -- before and behind all versions of a block's numbers
 abbrev pub lowest : ℕ → SubjectVersion
@@ -73,7 +73,7 @@ with_number mark (Some n) m = set m n (Some (mark (get m n)))
 -- the numbers of the block that the rows of these keys have in the column, each with its mark,
 -- together with those that were there
 abbrev pub marked : (Option Marks → Marks) → (VersionRow → Option Subject) → ℕ
-    → FinMap nat_cmp VersionRow → List (SubjectVersionCode × Unit {0}) → FinMap nat_cmp Marks
+    → FinMap nat_cmp VersionRow → List (SubjectVersionImpl × Unit {0}) → FinMap nat_cmp Marks
     → FinMap nat_cmp Marks
 marked mark column block versions [] m = m
 marked mark column block versions (e ∷ es) m =
@@ -87,10 +87,10 @@ standings_of m = map_of tn_of (λ s. s) m
 -- of any other number
 pub record AreStandings (c : Content) (block : ℕ)
     (standings : FinMap nat_cmp Marks) : Type 0 where
-  pub held : (n : ℕ) → IsTold (has_held (get standings n)) ((block_of n ≡ block)
-      × Holds c (Number n))
-  pub opened : (n : ℕ) → IsTold (has_opened (get standings n)) ((block_of n ≡ block)
-      × Opens c (Number n))
+  pub held : (n : ℕ) → Reflects (has_held (get standings n)) ((block_of n ≡ block)
+      × HasRowInForce c (Number n))
+  pub opened : (n : ℕ) → Reflects (has_opened (get standings n)) ((block_of n ≡ block)
+      × HasOpenRow c (Number n))
   pub in_use : (n : ℕ)
       → is_some (get standings n) ≡ (has_held (get standings n) || has_opened (get standings n))
 

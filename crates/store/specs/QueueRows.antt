@@ -5,18 +5,18 @@ use Rattle.std.specs.BTreeMap as tree
 use Rattle.std.specs.BTreeMap.{BTreeMap}
 use Rattle.std.specs.FinMap.{FinMap, get}
 use Rattle.numbers.specs.Subjects.{Subject, subject_key}
-use Rattle.numbers.specs.Views.{key_of}
-use Rattle.numbers.specs.declared.ported.Subject.{Subject as SubjectCode}
-use Rattle.meaning.specs.Content.{WaitKey, wait_cmp, broadcast_cmp}
+use Rattle.numbers.specs.Abstraction.{key_of}
+use Rattle.numbers.specs.declared.ported.Subject.{Subject as SubjectImpl}
+use Rattle.model.specs.Content.{WaitKey, wait_cmp, broadcast_cmp}
 use Rattle.delivery.specs.declared.broadcast.Broadcast.{Broadcast}
 use Rattle.delivery.specs.declared.download.Download.{Download}
-use Rattle.settle.specs.Views.{broadcast_key_of, wait_key_of}
-use Rattle.settle.specs.declared.rows.BroadcastKey.{BroadcastKey as BroadcastKeyCode}
-use Rattle.settle.specs.declared.rows.WaitKey.{WaitKey as WaitKeyCode}
+use Rattle.settle.specs.Abstraction.{broadcast_key_of, wait_key_of}
+use Rattle.settle.specs.declared.rows.BroadcastKey.{BroadcastKey as BroadcastKeyImpl}
+use Rattle.settle.specs.declared.rows.WaitKey.{WaitKey as WaitKeyImpl}
 use Rattle.store.specs.Maps.{map_of, set}
 use Rattle.store.specs.WaitRows.{IsDownload, download_of}
 
-abbrev pub order_of : BTreeMap WaitKeyCode (Unit {0}) → FinMap wait_cmp (Unit {0})
+abbrev pub order_of : BTreeMap WaitKeyImpl (Unit {0}) → FinMap wait_cmp (Unit {0})
 order_of m = map_of wait_key_of (λ u. u) m
 
 -- the index has the keys of what waits and no others, and their numbers are those of the code
@@ -37,10 +37,10 @@ highest carrier = record {
   attempt = 18446744073709551615;
 }
 
-abbrev pub broadcast_of : WaitKeyCode → BroadcastKeyCode
+abbrev pub broadcast_of : WaitKeyImpl → BroadcastKeyImpl
 broadcast_of k = record { id = k.id; attempt = k.attempt }
 
-abbrev pub download_told : WaitKeyCode → Broadcast → Download
+abbrev pub download_told : WaitKeyImpl → Broadcast → Download
 download_told k b = record {
   id = k.id;
   attempt = k.attempt;
@@ -51,8 +51,8 @@ download_told k b = record {
 }
 
 -- a download as its broadcast tells it, if there is such a broadcast
-abbrev pub told : BTreeMap BroadcastKeyCode Broadcast → WaitKeyCode → Option Download
-told broadcasts k =
+abbrev pub download_at : BTreeMap BroadcastKeyImpl Broadcast → WaitKeyImpl → Option Download
+download_at broadcasts k =
     option_map (download_told k) (tree.get (on broadcast_key_of broadcast_cmp) broadcasts
     (broadcast_of k))
 
@@ -64,10 +64,10 @@ with_subject None m = m
 with_subject (Some s) m = set m (subject_key s) (Some tt)
 
 -- the keys of the subjects that wait at these places, together with those that were there
-abbrev pub gathered : FinMap wait_cmp Subject → List (WaitKeyCode × Unit {0})
+abbrev pub gathered : FinMap wait_cmp Subject → List (WaitKeyImpl × Unit {0})
     → FinMap nat_cmp (Unit {0}) → FinMap nat_cmp (Unit {0})
 gathered waits [] m = m
 gathered waits (e ∷ es) m = gathered waits es (with_subject (get waits (wait_key_of e.0)) m)
 
-abbrev pub subjects_of : BTreeMap SubjectCode (Unit {0}) → FinMap nat_cmp (Unit {0})
+abbrev pub subjects_of : BTreeMap SubjectImpl (Unit {0}) → FinMap nat_cmp (Unit {0})
 subjects_of m = map_of key_of (λ u. u) m

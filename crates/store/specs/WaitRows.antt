@@ -9,18 +9,18 @@ use Rattle.std.specs.FinMap.{FinMap, from_entries, entries, get, code}
 use mathlib.Core.Logic.{inl, inr}
 use Rattle.std.specs.Coded.{Coded, code_by, coded×, coded⊎, coded_ℕ}
 use Rattle.numbers.specs.Subjects.{Subject, Number, Block, subject_key}
-use Rattle.numbers.specs.Views.{subject_of, key_of}
-use Rattle.numbers.specs.declared.ported.Subject.{Subject as SubjectCode}
+use Rattle.numbers.specs.Abstraction.{subject_of, key_of}
+use Rattle.numbers.specs.declared.ported.Subject.{Subject as SubjectImpl}
 use Rattle.numbers.specs.declared.spid.Spid.{Spid}
-use Rattle.meaning.specs.Content.{WaitKey, wait_cmp}
-use Rattle.delivery.specs.declared.download.DownloadKey.{DownloadKey as DownloadKeyCode}
-use Rattle.settle.specs.Views.{spid_of}
+use Rattle.model.specs.Content.{WaitKey, wait_cmp}
+use Rattle.delivery.specs.declared.download.DownloadKey.{DownloadKey as DownloadKeyImpl}
+use Rattle.settle.specs.Abstraction.{spid_of}
 use Rattle.store.specs.Lists.{is_subject}
 use Rattle.store.specs.Maps.{map_of, seen_entries}
 use Rattle.store.specs.Ranks.{subject_at, rank_key}
-use Rattle.store.specs.declared.keys.RowKey.{RowKey as RowKeyCode}
-use Rattle.store.specs.declared.keys.SubjectDownload.{SubjectDownload as SubjectDownloadCode}
-use Rattle.store.specs.declared.waiting.Waiting.{Waiting as WaitingCode}
+use Rattle.store.specs.declared.keys.RowKey.{RowKey as RowKeyImpl}
+use Rattle.store.specs.declared.keys.SubjectDownload.{SubjectDownload as SubjectDownloadImpl}
+use Rattle.store.specs.declared.waiting.Waiting.{Waiting as WaitingImpl}
 
 -- a download without its carrier
 pub record Download : Type 0 where
@@ -61,17 +61,17 @@ awaited (Some w) carrier = cond (list_any (λ k. carrier == k) w.1) (Some w.0) N
 
 -- ---- the rows of the code
 
-abbrev pub row_key_of : RowKeyCode → Download
+abbrev pub row_key_of : RowKeyImpl → Download
 row_key_of k = record { minute = k.minute; id = k.id; attempt = k.attempt }
 
-abbrev pub waiting_of : WaitingCode → Waiting
+abbrev pub waiting_of : WaitingImpl → Waiting
 waiting_of w = (subject_of w.subject, map spid_of w.carriers.items)
 
-abbrev pub rows_of : List (RowKeyCode × WaitingCode) → FinMap download_cmp Waiting
+abbrev pub rows_of : List (RowKeyImpl × WaitingImpl) → FinMap download_cmp Waiting
 rows_of es = from_entries {R = download_cmp} (seen_entries row_key_of waiting_of es)
 
 -- the row at a key
-abbrev pub row_in : List (RowKeyCode × WaitingCode) → RowKeyCode → Option WaitingCode
+abbrev pub row_in : List (RowKeyImpl × WaitingImpl) → RowKeyImpl → Option WaitingImpl
 row_in es k = lookup (is_at (on row_key_of download_cmp k)) es
 
 -- ---- the index by subjects
@@ -89,7 +89,7 @@ subject_download_cmp a b =
     (ordering_then (nat_cmp a.minute b.minute) (ordering_then (nat_cmp a.id b.id)
     (nat_cmp a.attempt b.attempt)))
 
-abbrev pub subject_download_of : SubjectDownloadCode → SubjectDownload
+abbrev pub subject_download_of : SubjectDownloadImpl → SubjectDownload
 subject_download_of k = record {
   subject = subject_at k.rank;
   minute = k.minute.number;
@@ -97,7 +97,7 @@ subject_download_of k = record {
   attempt = k.attempt;
 }
 
-abbrev pub about_of : BTreeMap SubjectDownloadCode (Unit {0})
+abbrev pub about_of : BTreeMap SubjectDownloadImpl (Unit {0})
     → FinMap subject_download_cmp (Unit {0})
 about_of m = map_of subject_download_of (λ u. u) m
 
@@ -174,21 +174,21 @@ coded_waits = code coded_wait_key coded_subject
 
 -- ---- the index gone over
 
-abbrev pub download_in : SubjectDownloadCode → DownloadKeyCode
+abbrev pub download_in : SubjectDownloadImpl → DownloadKeyImpl
 download_in k = record { minute = k.minute; id = k.id; attempt = k.attempt }
 
 -- the broadcast waits for the carrier, under this subject
-abbrev pub row_key_in : DownloadKeyCode → RowKeyCode
+abbrev pub row_key_in : DownloadKeyImpl → RowKeyImpl
 row_key_in b = record { minute = b.minute.number; id = b.id; attempt = b.attempt }
 
-abbrev pub is_for : List (RowKeyCode × WaitingCode) → DownloadKeyCode → Spid → SubjectCode → Bool
+abbrev pub is_for : List (RowKeyImpl × WaitingImpl) → DownloadKeyImpl → Spid → SubjectImpl → Bool
 is_for rows b carrier subject =
     is_subject (subject_of subject) (awaited (option_map waiting_of (row_in rows (row_key_in b)))
     carrier.number)
 
 -- a broadcast of the index, if it is about the subject and waits for the carrier
-abbrev pub listed_about : List (RowKeyCode × WaitingCode) → Spid → SubjectCode → SubjectDownloadCode
-    → Option DownloadKeyCode
+abbrev pub listed_about : List (RowKeyImpl × WaitingImpl) → Spid → SubjectImpl → SubjectDownloadImpl
+    → Option DownloadKeyImpl
 listed_about rows carrier subject k =
     if (rank_key k.rank == key_of subject) && is_for rows (download_in k) carrier subject
     then Some (download_in k) else None

@@ -3,9 +3,9 @@ ghost use Rattle.std.specs.Prelude.{◌≡◌, IfOk, map, option_map};
 ghost use Rattle.std.specs.Ordering.{on, nat_cmp};
 ghost use Rattle.std.specs.BTreeMap.{IsOrdered};
 ghost use Rattle.std.specs.FinMap.{get};
-ghost use Rattle.numbers.specs.Views.{subject_of};
+ghost use Rattle.numbers.specs.Abstraction.{subject_of};
 ghost use Rattle.settle.specs.Reads.{AreInBlock};
-ghost use Rattle.settle.specs.Views.{block_of};
+ghost use Rattle.settle.specs.Abstraction.{block_of};
 ghost use Rattle.store.specs.Tables.{content_of, subject_version_of, AreIndexed};
 ghost use Rattle.store.specs.BlockRows.{lowest, highest, tn_of, own_number, held_number, opened_number, and_open, standings_of, AreStandings, number_told};
 

@@ -1,8 +1,8 @@
 //! A store whose device fails when it is told to.
 ghost use Rattle.std.specs.Prelude.{◌≡◌, ◌≤◌, ◌+◌, ◌-◌, ◌^◌, min, ℕ, Err, Some, OnOk, OnErr};
-ghost use Rattle.meaning.specs.Content.{Content};
-ghost use Rattle.settle.specs.Owing.{Counts};
-ghost use Rattle.settle.specs.Reads.{HasRisen};
+ghost use Rattle.model.specs.Content.{Content};
+ghost use Rattle.settle.specs.StoreContract.{CountsFailure};
+ghost use Rattle.settle.specs.Reads.{HasDeviceFailed};
 ghost use Rattle.store.specs.Countdown.{after_failing, one_fewer};
 
 use delivery::{Broadcast, Download, DownloadKey, RoutedRow};
@@ -66,7 +66,7 @@ impl<S: Store> Flaky<S> {
         ensures before { self.new.before ≡ self.old.before }
         ensures failing { self.new.failing ≡ self.old.failing }
         ensures rises { self.old.failures ≤ self.new.failures }
-        ensures risen { HasRisen self.old.failures self.new.failures }
+        ensures risen { HasDeviceFailed self.old.failures self.new.failures }
     {
         self.failures = self.failures.saturating_add(1);
         StoreFault::Storage
@@ -77,7 +77,7 @@ impl<S: Store> Flaky<S> {
         ensures same { self.new.store ≡ self.old.store }
         ensures rises { self.old.failures ≤ self.new.failures }
         ensures fault { OnErr result (result ≡ Err StoreFault.Storage) }
-        ensures risen { OnErr result (HasRisen self.old.failures self.new.failures) }
+        ensures risen { OnErr result (HasDeviceFailed self.old.failures self.new.failures) }
         ensures calm { OnOk result (self.new.failures ≡ self.old.failures) }
         ensures fails { OnErr result (self.old.before ≡ Some 0) }
         ensures next { OnErr result (self.new.before ≡ after_failing self.old.failing) }
@@ -106,9 +106,9 @@ impl<S: Store> Flaky<S> {
 // What the store below answered. Its failures are counted too.
 fn counted<A>(failures: &mut u64, answer: Result<A, StoreFault>) -> Result<A, StoreFault>
     ensures same { result ≡ answer }
-    ensures counts { Counts answer failures.old failures.new }
+    ensures counts { CountsFailure answer failures.old failures.new }
     ensures rises { failures.old ≤ failures.new }
-    ensures risen { answer ≡ Err StoreFault.Storage → HasRisen failures.old failures.new }
+    ensures risen { answer ≡ Err StoreFault.Storage → HasDeviceFailed failures.old failures.new }
 {
     match answer {
         Err(StoreFault::Storage) => {
@@ -124,9 +124,9 @@ impl<S: Store> Store for Flaky<S> {
 
     ghost IsUsable = { λ s. S.IsUsable s.store };
 
-    ghost IsHonest = { λ s. S.IsHonest s.store };
+    ghost HasHonestDevice = { λ s. S.HasHonestDevice s.store };
 
-    ghost MayLeave = { λ s. S.MayLeave s.store };
+    ghost IsCrashState = { λ s. S.IsCrashState s.store };
 
     ghost failed = { λ s. s.failures };
 

@@ -1,18 +1,18 @@
 //! The carriers' queues.
 ghost use Rattle.std.specs.Prelude.{◌≡◌, ◌==◌, ℕ, Some, None, IfSome, IfOk, OnOk, OnErr, is_some, option_map};
 ghost use Rattle.std.specs.List.{list_any};
-ghost use Rattle.numbers.specs.declared.spid.Spid.{Spid as SpidCode};
+ghost use Rattle.numbers.specs.declared.spid.Spid.{Spid as SpidImpl};
 ghost use Rattle.store.specs.WaitRows.{download_of, wait_for};
 ghost use Rattle.std.specs.FinMap.{get, empty};
-ghost use Rattle.numbers.specs.Views.{subject_of, key_of};
+ghost use Rattle.numbers.specs.Abstraction.{subject_of, key_of};
 ghost use Rattle.std.specs.Ordering.{on, nat_cmp};
 ghost use Rattle.std.specs.BTreeMap.{keys, IsOrdered};
-ghost use Rattle.meaning.specs.Content.{empty_content};
+ghost use Rattle.model.specs.Content.{empty_content};
 ghost use Rattle.settle.specs.Lists.{items_of};
-ghost use Rattle.settle.specs.Reads.{AreAwaited, AreFirst, AreWaitsAbout};
-ghost use Rattle.settle.specs.Views.{broadcast_row_of, broadcast_key_of, spid_of, wait_key_of};
+ghost use Rattle.settle.specs.Reads.{AreWaitingSubjects, AreFirst, AreWaitsAbout};
+ghost use Rattle.settle.specs.Abstraction.{broadcast_row_of, broadcast_key_of, spid_of, wait_key_of};
 ghost use Rattle.store.specs.Maps.{map_of, set};
-ghost use Rattle.store.specs.QueueRows.{lowest, highest, told};
+ghost use Rattle.store.specs.QueueRows.{lowest, highest, download_at};
 
 use crate::waits::Waits;
 use delivery::{Broadcast, Download, DownloadKey};
@@ -33,7 +33,7 @@ pub struct Queues {
 impl Model for Queues {
     ghost use Rattle.std.specs.FinMap.{FinMap};
     ghost use Rattle.numbers.specs.Subjects.{Subject};
-    ghost use Rattle.meaning.specs.Content.{wait_cmp};
+    ghost use Rattle.model.specs.Content.{wait_cmp};
     ghost use Rattle.store.specs.WaitRows.{coded_waits};
     ghost use Rattle.store.specs.QueueRows.{AreOrdered, order_of};
 
@@ -74,7 +74,7 @@ fn highest(carrier: Spid) -> WaitKey
 
 // The download as its broadcast tells it, if there is such a broadcast.
 fn told(broadcasts: &BTreeMap<BroadcastKey, Broadcast>, wait: WaitKey) -> Option<Download>
-    ensures { result ≡ told broadcasts.now wait }
+    ensures { result ≡ download_at broadcasts.now wait }
 {
     let broadcast = broadcasts.get(&BroadcastKey {
         id: wait.id,
@@ -124,7 +124,7 @@ impl Queues {
     pub fn carriers_of(&self, key: WaitKey) -> &[Spid]
         ensures { (carrier : ℕ)
             → is_some (get self.now (wait_for (download_of (wait_key_of key)) carrier))
-            ≡ list_any (λ (k : SpidCode). carrier == k.number) result.now }
+            ≡ list_any (λ (k : SpidImpl). carrier == k.number) result.now }
     {
         self.waits.carriers_of(key)
     }
@@ -178,7 +178,7 @@ impl Queues {
     /// The subjects of the carrier's downloads, each once, rising.
     pub fn subjects(&self, alloc: Global, carrier: Spid) -> Result<Vec<Subject>, AllocError>
         ensures { IfOk result (λ subjects.
-            AreAwaited (record empty_content { waits = self.now }) (spid_of carrier)
+            AreWaitingSubjects (record empty_content { waits = self.now }) (spid_of carrier)
             subjects.items) }
     {
         let mut subjects = BTreeMap::new(alloc);

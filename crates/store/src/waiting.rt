@@ -1,7 +1,7 @@
 //! For whom one broadcast waits.
 ghost use Rattle.std.specs.Prelude.{◌≡◌, ◌==◌, Some, IfOk, OnErr, not, filter, option_map};
 ghost use Rattle.std.specs.List.{list_any};
-ghost use Rattle.numbers.specs.Views.{subject_of};
+ghost use Rattle.numbers.specs.Abstraction.{subject_of};
 ghost use Rattle.numbers.specs.declared.spid.Spid.{Spid};
 ghost use Rattle.store.specs.WaitRows.{waiting_of, awaited, IsFirst, IsAdded, IsWithout};
 

@@ -2,12 +2,12 @@
 ghost use Rattle.std.specs.Prelude.{◌≡◌, ◌==◌, ℕ, Some, None, IfSome, IfOk, OnOk, OnErr, is_some, option_map};
 ghost use Rattle.std.specs.List.{list_any};
 ghost use Rattle.std.specs.FinMap.{get, empty};
-ghost use Rattle.numbers.specs.Views.{subject_of};
-ghost use Rattle.numbers.specs.declared.spid.Spid.{Spid as SpidCode};
-ghost use Rattle.meaning.specs.Content.{empty_content};
+ghost use Rattle.numbers.specs.Abstraction.{subject_of};
+ghost use Rattle.numbers.specs.declared.spid.Spid.{Spid as SpidImpl};
+ghost use Rattle.model.specs.Content.{empty_content};
 ghost use Rattle.settle.specs.Lists.{items_of};
 ghost use Rattle.settle.specs.Reads.{AreWaitsAbout};
-ghost use Rattle.settle.specs.Views.{spid_of, wait_key_of};
+ghost use Rattle.settle.specs.Abstraction.{spid_of, wait_key_of};
 ghost use Rattle.store.specs.Maps.{set};
 ghost use Rattle.store.specs.WaitRows.{row_key_of, download_of, wait_for, subject_download_of, key_about, is_for};
 
@@ -35,7 +35,7 @@ pub struct Waits {
 impl Model for Waits {
     ghost use Rattle.std.specs.FinMap.{FinMap};
     ghost use Rattle.numbers.specs.Subjects.{Subject};
-    ghost use Rattle.meaning.specs.Content.{wait_cmp};
+    ghost use Rattle.model.specs.Content.{wait_cmp};
     ghost use Rattle.store.specs.WaitRows.{AreAbout, AboutIsNeeded, waits_of, rows_of};
     ghost use Rattle.store.specs.WaitRows.{about_of, coded_waits};
 
@@ -116,7 +116,7 @@ impl Waits {
     pub fn carriers_of(&self, key: WaitKey) -> &[Spid]
         ensures { (carrier : ℕ)
             → is_some (get self.now (wait_for (download_of (wait_key_of key)) carrier))
-            ≡ list_any (λ (k : SpidCode). carrier == k.number) result.now }
+            ≡ list_any (λ (k : SpidImpl). carrier == k.number) result.now }
     {
         match self.rows.get(&broadcast_of(key)) {
             None => &[],

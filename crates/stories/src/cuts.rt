@@ -1,6 +1,6 @@
 //! The messages of a story, cut after each of their bytes.
+use crate::played_story::{PlayedStory, head_length};
 use crate::story::{Pieces, hear};
-use crate::tale::{Tale, head_length};
 use register::Register;
 use std::alloc::Global;
 use store::MemoryStore;
@@ -76,7 +76,7 @@ fn is_cut_so(
 fn first_wrong_place(
     alloc: Global,
     register: &mut Register<MemoryStore>,
-    tale: &Tale,
+    tale: &PlayedStory,
     message: usize,
 ) -> Option<usize> {
     let bytes = tale.message(message);
@@ -96,7 +96,7 @@ fn first_wrong_place(
 pub fn first_wrong_cut(
     alloc: Global,
     register: &mut Register<MemoryStore>,
-    tale: &Tale,
+    tale: &PlayedStory,
 ) -> Option<Cut> {
     for message in 0..tale.len() {
         if let Some(place) = first_wrong_place(alloc, register, tale, message) {
@@ -111,7 +111,7 @@ pub fn first_wrong_cut(
 }
 
 /// How many cuts there are.
-pub fn cuts_of(tale: &Tale) -> usize {
+pub fn cuts_of(tale: &PlayedStory) -> usize {
     let mut count = 0usize;
     for message in 0..tale.len() {
         count = count.saturating_add(tale.message(message).len().min(MOST_CUTS));
@@ -120,7 +120,7 @@ pub fn cuts_of(tale: &Tale) -> usize {
 }
 
 /// Whether the story has a message that is refused for its form.
-pub fn is_hostile(tale: &Tale) -> bool {
+pub fn is_hostile(tale: &PlayedStory) -> bool {
     for message in 0..tale.len() {
         let answer = tale.answer(message);
         if answer.starts_with(b"HTTP/1.1 400 ") || answer.starts_with(b"HTTP/1.1 413 ") {

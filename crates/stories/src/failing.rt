@@ -1,7 +1,7 @@
 //! Playing a story to a store that fails.
 use crate::fault::Fault;
+use crate::played_story::PlayedStory;
 use crate::story::new_register;
-use crate::tale::Tale;
 use register::{OpenFault, Register};
 use settle::Store;
 use sql_store::SqlStore;
@@ -51,7 +51,7 @@ enum Run {
 /// A story, and of each of its messages whether it asks anything of the store.
 #[derive(Drop)]
 pub struct Asking<'a> {
-    pub tale: &'a Tale,
+    pub tale: &'a PlayedStory,
     asks: Vec<bool>,
 }
 
@@ -67,7 +67,7 @@ fn present_in<S: Store>(store: &mut S, windows: &Windows) -> Windows {
 fn goes_on<S: Store>(
     alloc: Global,
     windows: &Windows,
-    tale: &Tale,
+    tale: &PlayedStory,
     store: S,
     places: Range<usize>,
 ) -> (bool, S) {
@@ -87,7 +87,7 @@ fn goes_on<S: Store>(
 fn meet<S: Store>(
     alloc: Global,
     register: &mut Register<S>,
-    tale: &Tale,
+    tale: &PlayedStory,
     first: usize,
 ) -> Option<usize> {
     if !tale.is_told_between(alloc, register, 0, first) {
@@ -275,7 +275,7 @@ fn met_once(place: usize, failures: u64) -> Run {
 fn asks_dead(
     alloc: Global,
     windows: &Windows,
-    tale: &Tale,
+    tale: &PlayedStory,
     store: MemoryStore,
     place: usize,
 ) -> (Option<bool>, MemoryStore) {
@@ -300,7 +300,7 @@ fn asks_dead(
 pub fn ask_dead<'a>(
     alloc: Global,
     windows: &Windows,
-    tale: &'a Tale,
+    tale: &'a PlayedStory,
 ) -> Result<Option<Asking<'a>>, Fault> {
     let mut asks = Vec::new(alloc);
     let mut store = new_register(alloc, windows)?.close();

@@ -14,17 +14,17 @@
 mod cuts;
 mod failing;
 mod fault;
+mod played_story;
 mod story;
-mod tale;
 
 use cuts::{cuts_of, first_wrong_cut, is_hostile};
 use failing::{Asking, Over, Played, ask_dead};
 use fault::Fault;
+use played_story::PlayedStory;
 use std::io::Write;
 use std::rt::{Env, Files};
 use std::{env, fs, io};
 use story::{new_register, play, play_stored};
-use tale::Tale;
 use windows::Windows;
 
 fn read_windows<T: Files + AllocGlobal>(rt: &T) -> Result<Windows, Fault> {
@@ -74,7 +74,7 @@ const STEP_OF_MEMORY: u64 = 7;
 
 impl Manner {
     // How many calls there are from one that fails to the next.
-    fn every(self, over: Over, tale: &Tale) -> u64 {
+    fn every(self, over: Over, tale: &PlayedStory) -> u64 {
         match over {
             Over::Memory if self == Manner::Short && tale.size() > FEW_BYTES => STEP_OF_MEMORY,
             Over::Database if self == Manner::Short && tale.len() > FEW_MESSAGES =>
@@ -122,7 +122,7 @@ fn tell_cuts<T: AllocGlobal + Print>(
     rt: &T,
     windows: &Windows,
     name: &str,
-    tale: &Tale,
+    tale: &PlayedStory,
     manner: Manner,
 ) -> Result<(), Fault> {
     if manner == Manner::Short && !is_hostile(tale) {
@@ -147,7 +147,7 @@ fn tell_messages<T: AllocGlobal + Print>(
     rt: &T,
     windows: &Windows,
     name: &str,
-    tale: &Tale,
+    tale: &PlayedStory,
     manner: Manner,
 ) -> Result<(), Fault> {
     tell_cuts(rt, windows, name, tale, manner)?;
@@ -181,7 +181,7 @@ fn tell<T: Files + AllocGlobal + Print>(
         out.write_all(&again)?;
     }
     tell_stored(rt, windows, name, &story, &heard)?;
-    let tale = Tale::of(rt.alloc(), windows, &story)?;
+    let tale = PlayedStory::of(rt.alloc(), windows, &story)?;
     if tale.heard != heard {
         writeln!(out, "story {name}, message by message")?;
         out.write_all(&tale.heard)?;

@@ -114,8 +114,8 @@ lacks_value wanted (b ∷ bs) h =
     at_next : (o : Option ℕ) → wanted_after wanted b ≡ o
         → option_map_or (λ next. is_value_rest next bs) o false ≡ true
         → ((next : ℕ) → is_value_rest next bs ≡ true → Lacks 59 bs) → Lacks 59 (b ∷ bs)
-    at_next None e k go = absurd (false≢true k)
-    at_next (Some next) e k go = true_both _ _ (some_at wanted b next e) (go next k)
+    at_next None e k by_cases = absurd (false≢true k)
+    at_next (Some next) e k by_cases = true_both _ _ (some_at wanted b next e) (by_cases next k)
 
 -- a parameter
 abbrev Formed : List ℕ → Option Cut → Type 0

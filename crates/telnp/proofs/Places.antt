@@ -3,7 +3,7 @@ use Rattle.std.proofs.Common.{◌≡◌, ℕ, ◌+◌, ◌≤◌, suc, Bool, tru
 use Rattle.std.specs.List.{insert, position, position_or_len}
 use Rattle.std.proofs.lemmas.Bool.Decides.{nat_tests}
 use Rattle.telnp.specs.Answer.{goes_before, placed}
-use Rattle.telnp.specs.Views.{part_text, part_texts}
+use Rattle.telnp.specs.Abstraction.{part_text, part_texts}
 use Rattle.telnp.specs.declared.part.Part.{Part}
 
 pub place-le : {X : Type 0} (P : X → Bool) (xs : List X) → position_or_len P xs ≤ length xs

@@ -4,5 +4,5 @@ pub mod Uri
 pub mod Faults
 pub mod Numbers
 pub mod Answer
-pub mod Views
+pub mod Abstraction
 pub mod Laws

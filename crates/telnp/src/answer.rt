@@ -2,14 +2,14 @@
 
 ghost use Rattle.std.specs.Prelude.{◌≡◌, ◌≤◌, ◌++◌, [], OnOk, IfOk, codes, length, option_map, position, string_bytes, string_capacity};
 ghost use Rattle.std.specs.List.{position_or_len};
-ghost use Rattle.numbers.specs.declared.cic.Cic.{Cic as CicSeen};
+ghost use Rattle.numbers.specs.declared.cic.Cic.{Cic as CicImpl};
 ghost use Rattle.numbers.specs.Texts.{lrn_text};
-ghost use Rattle.numbers.specs.Views.{routing_of};
+ghost use Rattle.numbers.specs.Abstraction.{routing_of};
 ghost use Rattle.telnp.specs.Answer.{goes_before, is_kept, kept, placed, all_placed, added_carrier, answer_parameters, Extends};
 ghost use Rattle.telnp.specs.Faults.{parts};
 ghost use Rattle.telnp.specs.Laws.{AnswersAreInOrder};
 ghost use Rattle.telnp.specs.Uri.{written};
-ghost use Rattle.telnp.specs.Views.{part_text, part_texts};
+ghost use Rattle.telnp.specs.Abstraction.{part_text, part_texts};
 
 use crate::parameter::name_of;
 use crate::parameters::has_name;
@@ -21,9 +21,9 @@ use std::alloc::{AllocError, Global};
 
 impl TelUri<'_> {
     ghost use Rattle.std.specs.Prelude.{◌≡◌, ◌≤◌, ◌++◌, OnOk, option_map, string_bytes, string_capacity};
-    ghost use Rattle.numbers.specs.Views.{routing_of};
+    ghost use Rattle.numbers.specs.Abstraction.{routing_of};
     ghost use Rattle.telnp.specs.Answer.{answer_text, Extends};
-    ghost use Rattle.telnp.specs.Views.{uri_of};
+    ghost use Rattle.telnp.specs.Abstraction.{uri_of};
 
     /// The text that answers a query by this URI, after a look-up that found a routing or none.
     ///
@@ -77,7 +77,7 @@ fn write_routing_number(lrn: Lrn, out: &mut String) -> Result<(), AllocError>
 fn write_carrier(cic: Option<Cic>, out: &mut String) -> Result<(), AllocError>
     ensures ok { OnOk result (string_bytes out.new
         ≡ string_bytes out.old
-        ++ written (added_carrier [] (option_map (λ (c : CicSeen). c.number) cic))) }
+        ++ written (added_carrier [] (option_map (λ (c : CicImpl). c.number) cic))) }
     ensures kept { Extends (string_bytes out.old) (string_bytes out.new) }
     ensures capacity { string_capacity out.old ≤ string_capacity out.new }
 {

@@ -4,7 +4,7 @@ ghost use Rattle.std.specs.Prelude.{◌≡◌};
 ghost use Rattle.std.specs.List.{list_all};
 ghost use Rattle.telnp.specs.Bytes.{is_name_byte};
 ghost use Rattle.telnp.specs.Grammar.{is_name, is_value, is_value_rest, wanted_after, wants_value, is_valued, is_parameter, parameter_of, name_of};
-ghost use Rattle.telnp.specs.Views.{parameter_seen};
+ghost use Rattle.telnp.specs.Abstraction.{parameter_model};
 
 use crate::bytes::{is_hex, is_name_byte, is_value_byte};
 use crate::text::{cut_at, same_name};
@@ -19,7 +19,7 @@ pub struct Parameter<'a> {
 
 /// The parameter of a text that holds no `;`.
 pub fn parameter_of(part: &str) -> Parameter<'_>
-    ensures { parameter_seen result ≡ parameter_of part.now }
+    ensures { parameter_model result ≡ parameter_of part.now }
 {
     match cut_at(part, '=') {
         None => Parameter {

@@ -76,11 +76,11 @@ pub struct Parameters<'a> {
 
 impl<'a> Iterator for Parameters<'a> {
     ghost use Rattle.std.specs.Iterator.{YieldsFirstBy, item_count};
-    ghost use Rattle.telnp.specs.Views.{parameter_seen, parameters_left};
+    ghost use Rattle.telnp.specs.Abstraction.{parameter_model, parameters_left};
 
     type Item = Parameter<'a>;
 
-    ghost next_gives = { YieldsFirstBy parameter_seen parameters_left };
+    ghost next_gives = { YieldsFirstBy parameter_model parameters_left };
 
     ghost remaining = { item_count parameters_left };
 

@@ -25,7 +25,7 @@ impl<'a> Part<'a> {
     ghost use Rattle.std.specs.Prelude.{◌≡◌, ◌≤◌, ◌++◌, OnOk, string_bytes, string_capacity};
     ghost use Rattle.telnp.specs.Answer.{goes_before, Extends};
     ghost use Rattle.telnp.specs.Grammar.{name_of};
-    ghost use Rattle.telnp.specs.Views.{part_text};
+    ghost use Rattle.telnp.specs.Abstraction.{part_text};
 
     // The parameter's name.
     fn name(&self) -> &str

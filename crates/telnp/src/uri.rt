@@ -30,7 +30,7 @@ impl<'a> TelUri<'a> {
     ghost use Rattle.telnp.specs.Grammar.{has_name, parameter_of};
     ghost use Rattle.telnp.specs.Numbers.{HasTn};
     ghost use Rattle.telnp.specs.Uri.{IsTelUri};
-    ghost use Rattle.telnp.specs.Views.{uri_of, parts_in, parameters_left};
+    ghost use Rattle.telnp.specs.Abstraction.{uri_of, parts_in, parameters_left};
 
     /// Reads a text, which takes no memory.
     ///

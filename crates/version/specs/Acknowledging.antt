@@ -1,13 +1,13 @@
 -- What an acknowledgement makes of its version.
 use Rattle.std.specs.Prelude.{ℕ, Bool, true, false, ◌&&◌, ◌==◌, if◌then◌else◌}
-use Rattle.meaning.specs.Statuses.{Status, Pending, Conflict, CancelPending, Sending, Active, PartialFailure, Failed, DisconnectPending, Old, Canceled}
-use Rattle.meaning.specs.Windows.{WindowSet}
-use Rattle.meaning.specs.Versions.{Version}
-use Rattle.meaning.specs.Changes.{completed}
-use Rattle.version.specs.declared.version.Version.{Version as VersionCode}
+use Rattle.model.specs.Statuses.{Status, Pending, Conflict, CancelPending, Sending, Active, PartialFailure, Failed, DisconnectPending, Old, Canceled}
+use Rattle.model.specs.Windows.{WindowSet}
+use Rattle.model.specs.Versions.{Version}
+use Rattle.model.specs.Changes.{completed}
+use Rattle.version.specs.declared.version.Version.{Version as VersionImpl}
 
 -- the last acknowledgement of the version's newest attempt
-abbrev pub completes : VersionCode → (attempt : ℕ) → (is_last : Bool) → Bool
+abbrev pub completes : VersionImpl → (attempt : ℕ) → (is_last : Bool) → Bool
 completes v attempt is_last = is_last && (v.attempt == attempt)
 
 abbrev pub is_sending : Status → Bool

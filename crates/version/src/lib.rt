@@ -15,7 +15,7 @@ mod modify;
 mod phase;
 mod version;
 
-pub use command::{Step, Told, VersionCommand};
+pub use command::{CommandFacts, Transition, VersionCommand};
 pub use create::{Create, CreateFacts, Created, Creator};
 pub use in_use::NumberInUse;
 pub use phase::Phase;

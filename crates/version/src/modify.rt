@@ -1,14 +1,14 @@
 //! A modify: the provider routes a ported number anew.
 ghost use Rattle.std.specs.Prelude.{◌≡◌, ◌&&◌, not, IfOk};
-ghost use Rattle.numbers.specs.Views.{routing_of, subject_of};
+ghost use Rattle.numbers.specs.Abstraction.{routing_of, subject_of};
 ghost use Rattle.delivery.specs.Refused.{refusal_in};
-ghost use Rattle.meaning.specs.Windows.{Windows};
-ghost use Rattle.meaning.specs.OnVersion.{is_number};
-ghost use Rattle.version.specs.Views.{seen_by, set_of};
-ghost use Rattle.version.specs.Commands.{modifying, own_refusal, Steps};
+ghost use Rattle.model.specs.Windows.{Windows};
+ghost use Rattle.model.specs.OnVersion.{is_number};
+ghost use Rattle.version.specs.Abstraction.{model_with_windows, set_of};
+ghost use Rattle.version.specs.Commands.{modifying, own_refusal, IsTransition};
 
-use crate::{Step, Told, Version};
-use meaning::{Refusal, Send, Status};
+use crate::{CommandFacts, Transition, Version};
+use model::{Refusal, Send, Status};
 use numbers::{Minute, Routing, Spid, Subject};
 use windows::WindowSet;
 
@@ -28,17 +28,19 @@ impl Version {
     pub(crate) fn modified(
         &self,
         caller: Spid,
-        told: Told,
+        told: CommandFacts,
         routing: Routing,
         minute: Minute,
         present: &WindowSet,
-    ) -> Result<Step, Refusal>
+    ) -> Result<Transition, Refusal>
         ensures refusal { (w held : Windows)
             → refusal_in result
             ≡ own_refusal w minute.number caller.number told
-            (modifying (routing_of routing)) (subject_of self.now.subject) (seen_by held self.now) }
+            (modifying (routing_of routing)) (subject_of self.now.subject)
+            (model_with_windows held self.now) }
         ensures step { IfOk result
-            (Steps (set_of present.now) caller.number minute.number (modifying (routing_of routing))
+            (IsTransition (set_of present.now) caller.number minute.number
+            (modifying (routing_of routing))
             self.now) }
     {
         if is_lrn_bad(self, told.is_lrn_good) {
@@ -56,7 +58,7 @@ impl Version {
         if self.is_sent_too_often() {
             return Err(Refusal::Full);
         }
-        Ok(Step {
+        Ok(Transition {
             version: self.sending(Send::Modify(routing), minute, present),
             sends: Some(Send::Modify(routing)),
         })

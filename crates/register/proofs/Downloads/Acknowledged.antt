@@ -3,35 +3,35 @@ use Rattle.std.proofs.Common.{◌≡◌, ℕ, Bool, true, false, not, ◌&&◌, 
 use Rattle.std.specs.Prelude.{◌==◌, find, filter, is_some, option_map, option_and_then, if◌then◌else◌}
 use Rattle.std.specs.FinMap.{get, keys}
 use Rattle.numbers.specs.Subjects.{Subject, Block, subject_eq}
-use Rattle.meaning.specs.Windows.{WindowSet}
-use Rattle.meaning.specs.Versions.{Version, Record, in_force, is_open, sends_create, is_among, unacknowledged, waiters, version_with, last_version}
-use Rattle.meaning.specs.Changes.{is_empty, acknowledged_by, retired, changed_at, of_id}
-use Rattle.meaning.specs.Laws.{IsQuiet}
-use Rattle.meaning.specs.History.{Acknowledges, donor_of, carriers}
-use Rattle.meaning.specs.Reading.{State, View, record_now, view_of, set_now, made_now}
-use Rattle.meaning.specs.Refusals.{Requests, refusal}
-use Rattle.meaning.specs.Machine.{IsHistory, Shown, accepted, answer_of}
-use Rattle.meaning.specs.Content.{Content, VersionRow, BroadcastRow, BlockRow, BroadcastKey, ClockRow, SameRows, Shows, row_of, of_subject, stored_broadcast, stored_wait, broadcast_with}
-use Rattle.meaning.proofs.Ids.{same_subject}
+use Rattle.model.specs.Windows.{WindowSet}
+use Rattle.model.specs.Versions.{Version, Record, in_force, is_open, sends_create, is_among, unacknowledged, waiters, version_with, last_version}
+use Rattle.model.specs.Changes.{is_empty, acknowledged_by, retired, changed_at, of_id}
+use Rattle.model.specs.Laws.{IsQuiet}
+use Rattle.model.specs.History.{AcknowledgementRequest, donor_of, carriers}
+use Rattle.model.specs.State.{State, View, record_now, view_of, set_now, made_now}
+use Rattle.model.specs.Refusals.{RequestFrom, refusal}
+use Rattle.model.specs.Machine.{IsHistory, Shown, accepted, answer_of}
+use Rattle.model.specs.Content.{Content, VersionRow, BroadcastRow, BlockRow, BroadcastKey, ClockRow, SameRows, RowsMatch, row_of, of_subject, stored_broadcast, stored_wait, broadcast_with}
+use Rattle.model.proofs.Ids.{same_subject}
 use Rattle.numbers.proofs.Small.{equal_number, and_both, same_truth}
-use Rattle.meaning.proofs.Entered.{entered-record, given_now, sound_now, entered-elsewhere, none_elsewhere, none_with}
-use Rattle.meaning.proofs.Shown.{some_is, own, others}
-use Rattle.meaning.proofs.Tended.{IsTended, tended_kept}
-use Rattle.meaning.proofs.KeptVersions.{version_now}
-use Rattle.meaning.proofs.Recipients.{AreKnown, broadcast_known}
-use Rattle.settle.specs.Changes.{Changes, IsChanged, AreOfVersion, ArePutsOf, AreKeysOf, put_rows, take_rows, same_broadcast}
+use Rattle.model.proofs.Entered.{entered-record, given_now, sound_now, entered-elsewhere, none_elsewhere, none_with}
+use Rattle.model.proofs.Shown.{some_is, own, others}
+use Rattle.model.proofs.Tended.{IsTended, tended_kept}
+use Rattle.model.proofs.KeptVersions.{version_now}
+use Rattle.model.proofs.Recipients.{AreKnown, broadcast_known}
+use Rattle.settle.specs.Changes.{Changes, AppliesChanges, AreOfVersion, ArePutsOf, AreKeysOf, put_rows, delete_rows, same_broadcast}
 use Rattle.settle.proofs.Aside.{lagging_aside}
 use Rattle.settle.specs.Reads.{is_last_wait}
 use Rattle.settle.specs.Settling.{IsSettled}
-use Rattle.register.specs.Answers.{Stands}
-use Rattle.register.specs.Settling.{LeavesOthers}
+use Rattle.register.specs.Refinement.{Refines}
+use Rattle.register.specs.Settling.{FramesOthers}
 use Rattle.register.proofs.EveryCall.Settled.{leaves_but, of_id_found, wait_subject}
 use Rattle.version.specs.Acknowledging.{is_sending, completed_if}
-use Rattle.register.specs.Acknowledging.{answered_row, own_rows, acknowledging}
+use Rattle.register.specs.Acknowledging.{answered_row, own_rows, acknowledgement_changes}
 use Rattle.register.proofs.Asking.Alone.{one_in_force}
 use Rattle.register.proofs.Records.Touched.{RegistryShows, touched-stands}
 use Rattle.register.proofs.OnVersions.OnVersion.{acknowledge-names, clock_same, shown_is}
-use Rattle.meaning.proofs.Shown.{same_broadcast_with}
+use Rattle.model.proofs.Shown.{same_broadcast_with}
 use Rattle.settle.proofs.Taking.{sends_create-open, retired_broadcasts, version_after, others_after}
 use Rattle.settle.proofs.KeptRows.{row_there, puts_of, the_replaced, replaced_row, put_last, none_apart, retired_apart, retired_shows}
 use Rattle.settle.proofs.Among.{among-filtered, among_keys}
@@ -40,7 +40,7 @@ use Rattle.register.proofs.Downloads.Answering.{last_is, acknowledged_one, left_
 
 -- ---- who waits for it
 
-module _ (st : State) (old : Content) (stands : Stands old st) (caller : ℕ) (s : Subject)
+module _ (st : State) (old : Content) (refines : Refines old st) (caller : ℕ) (s : Subject)
     (due : IsSettled old st s) (minute id attempt : ℕ) (is : IsAwaited st caller s minute id
     attempt) where
   abbrev waiting : ℕ → Bool
@@ -59,10 +59,10 @@ module _ (st : State) (old : Content) (stands : Stands old st) (caller : ℕ) (s
     attempt = attempt;
   }) ≡ Some t → is_among k (waiters is.broadcast) ≡ true
   same_wait-broadcast k t e =
-      let its : t ≡ s = wait_subject st old stands.represents s id is.version is.found k minute
+      let its : t ≡ s = wait_subject st old refines.represents s id is.version is.found k minute
       attempt t e in
       let other : IsAwaited st k s minute id attempt =
-      waiting-awaited st old stands k s due minute id attempt (e ∙ ap (λ u. Some u) its) in
+      waiting-awaited st old refines k s due minute id attempt (e ∙ ap (λ u. Some u) its) in
       let same_version : other.version ≡ is.version =
       some_is other.version is.version (sym other.found ∙ is.found) in
       let same_one : other.broadcast ≡ is.broadcast =
@@ -109,9 +109,10 @@ module _ (st : State) (old : Content) (stands : Stands old st) (caller : ℕ) (s
           (sym (among-filtered (λ d. not (is_among d is.broadcast.acknowledged)) k
           is.broadcast.recipients) ∙ e)).0 in
           let known : AreKnown (carriers st.history) is.broadcast =
-          broadcast_known st stands.represents.history s id attempt is.broadcast stored in
+          broadcast_known st refines.represents.history s id attempt is.broadcast stored in
           let carrier : is_among k (keys old.carriers) ≡ true =
-          among_keys old.carriers k ∙ stands.represents.carriers k ∙ known.recipients k recipient in
+          among_keys old.carriers k ∙ refines.represents.carriers k
+          ∙ known.recipients k recipient in
           let awaited : IsAwaited st k s minute id attempt =
           record {
             version = is.version;
@@ -122,7 +123,7 @@ module _ (st : State) (old : Content) (stands : Stands old st) (caller : ℕ) (s
             waits = ap (is_among k) (waiters_are caller is.broadcast is.waits) ∙ e;
           } in
           ap (λ b. b && waiting k) carrier
-          ∙ ap is_some (awaited-waiting st old stands k s due minute id attempt awaited)
+          ∙ ap is_some (awaited-waiting st old refines k s due minute id attempt awaited)
 
   pub last_left : is_last_wait old (record {
     carrier = caller;
@@ -140,7 +141,7 @@ module _ (st : State) (old : Content) (stands : Stands old st) (caller : ℕ) (s
     id = id;
     attempt = attempt;
   })) ≡ Some (row_was caller is.broadcast is.waits s)
-  shown_row = due.shows.broadcasts id attempt
+  shown_row = due.rows_match.broadcasts id attempt
       ∙ ap (λ o. option_and_then (stored_broadcast s)
       (option_and_then (λ (v : Version). find (λ b. b.attempt == attempt) v.broadcasts) o)) is.found
       ∙ ap (option_and_then (stored_broadcast s)) is.sent ∙ stored_before caller is.broadcast
@@ -177,10 +178,11 @@ record_after st caller id attempt s = record {
 }
 
 acknowledged-record : (st : State) (caller id attempt : ℕ) (s : Subject)
-    → record_now (accepted st (Requests caller (Acknowledges id attempt))) s ≡ record_after st
+    → record_now (accepted st (RequestFrom caller (AcknowledgementRequest id attempt))) s
+    ≡ record_after st
     caller id attempt s
 acknowledged-record st caller id attempt s =
-    entered-record st caller (Acknowledges id attempt) s [] refl refl
+    entered-record st caller (AcknowledgementRequest id attempt) s [] refl refl
 
 -- ---- rows put
 
@@ -193,7 +195,7 @@ last_put w minute s id k row true o before = put_last w minute s id row o k befo
 last_put w minute s id k row false None before = refl
 last_put w minute s id k row false (Some u) before = refl
 
-module _ (st : State) (old : Content) (stands : Stands old st) (s : Subject)
+module _ (st : State) (old : Content) (refines : Refines old st) (s : Subject)
     (due : IsSettled old st s) where
   -- rows of other subjects
   puts_apart : (takes_over : Bool) (id : ℕ) (v : Version)
@@ -205,29 +207,31 @@ module _ (st : State) (old : Content) (stands : Stands old st) (s : Subject)
       ≡ of_subject t (λ (y : VersionRow). y.subject) (get old.versions k)
   puts_apart takes_over id v found row x of_s t apart k =
       ap (of_subject t (λ (y : VersionRow). y.subject)) (last_put (set_now st) st.now s id k row x
-      (the_replaced takes_over (record_now st s)) (get old.versions k)) ∙ go x (id == k) refl
+      (the_replaced takes_over (record_now st s)) (get old.versions k)) ∙ by_cases x (id == k) refl
     where
       stay : of_subject t (λ (y : VersionRow). y.subject) (replaced_row (set_now st) st.now s
           (record_now st s) old takes_over k) ≡ of_subject t (λ (y : VersionRow). y.subject)
           (get old.versions k)
       stay = retired_apart (set_now st) st.now s (made_now st) (record_now st s)
-          old due.shows (given_now st stands.represents.history s) takes_over t apart k
+          old due.rows_match (given_now st refines.represents.history s) takes_over t apart k
 
-      go : (a b : Bool) → (id == k) ≡ b → of_subject t (λ (y : VersionRow). y.subject) (if a && b
+      by_cases : (a b : Bool) → (id == k) ≡ b
+          → of_subject t (λ (y : VersionRow). y.subject) (if a && b
           then Some row else replaced_row (set_now st) st.now s (record_now st s) old takes_over k)
           ≡ of_subject t (λ (y : VersionRow). y.subject) (get old.versions k)
-      go true true e = others s t (λ (y : VersionRow). y.subject) row of_s apart
+      by_cases true true e = others s t (λ (y : VersionRow). y.subject) row of_s apart
           ∙ sym (none_apart old s t apart id k (row_of s v)
-          (row_there (set_now st) s old (record_now st s) due.shows id v found) refl e)
-      go true false e = stay
-      go false b e = stay
+          (row_there (set_now st) s old (record_now st s) due.rows_match id v found) refl e)
+      by_cases true false e = stay
+      by_cases false b e = stay
 
 -- ---- other tables
 
 taken_hit : (s : Subject) (key here : BroadcastKey) (row : BroadcastRow)
     (before : Option BroadcastRow) (gone : Bool) → row.subject ≡ s → same_broadcast key here ≡ true
     →
-    of_subject s (λ (x : BroadcastRow). x.subject) (take_rows same_broadcast (if gone then key ∷ []
+    of_subject s (λ (x : BroadcastRow). x.subject) (delete_rows same_broadcast (if gone
+    then key ∷ []
     else []) here (put_rows same_broadcast (if gone then [] else (key, row) ∷ []) here before))
     ≡ (if gone then None else Some row)
 taken_hit s key here row before true of_s e =
@@ -238,14 +242,16 @@ taken_hit s key here row before false of_s e =
 
 taken_miss : (key here : BroadcastKey) (row : BroadcastRow) (before : Option BroadcastRow)
     (gone : Bool) → same_broadcast key here ≡ false →
-    take_rows same_broadcast (if gone then key ∷ [] else []) here (put_rows same_broadcast (if gone
+    delete_rows same_broadcast (if gone then key ∷ []
+    else []) here (put_rows same_broadcast (if gone
     then [] else (key, row) ∷ []) here before) ≡ before
 taken_miss key here row before true e = ap (λ b. if b then None else before) e
 taken_miss key here row before false e = ap (λ b. if b then Some row else before) e
 
 -- all but the versions' rows are of the one version
 one_version : (caller minute id attempt : ℕ) (last : Bool) (s : Subject) (row : BroadcastRow)
-    → row.subject ≡ s → AreOfVersion id s (acknowledging caller minute id attempt last [] row)
+    → row.subject ≡ s
+    → AreOfVersion id s (acknowledgement_changes caller minute id attempt last [] row)
 one_version caller minute id attempt last s row of_s = record {
   carrier = refl;
   lrn = refl;
@@ -273,7 +279,7 @@ one_version caller minute id attempt last s row of_s = record {
 
 -- ---- an acknowledgement
 
-module _ (st : State) (old new : Content) (stands : Stands old st) (caller : ℕ) (s : Subject)
+module _ (st : State) (old new : Content) (refines : Refines old st) (caller : ℕ) (s : Subject)
     (due : IsSettled old st s) (minute id attempt : ℕ) (is : IsAwaited st caller s minute id
     attempt) (last : Bool)
     (last_one : last ≡ is_last_wait old (record {
@@ -286,10 +292,10 @@ module _ (st : State) (old new : Content) (stands : Stands old st) (caller : ℕ
   change = acknowledged_by (set_now st) caller attempt st.now
 
   tended : IsTended (record_now st s).carriers is.version
-  tended = version_now tended_kept st stands.represents.history s id is.version is.found
+  tended = version_now tended_kept st refines.represents.history s id is.version is.found
 
   is_left : last ≡ is_empty (unacknowledged (acknowledged_one caller is.broadcast))
-  is_left = last_one ∙ last_left st old stands caller s due minute id attempt is
+  is_left = last_one ∙ last_left st old refines caller s due minute id attempt is
 
   abbrev completes : Bool
   completes = last && (is.version.attempt == attempt)
@@ -320,14 +326,16 @@ module _ (st : State) (old new : Content) (stands : Stands old st) (caller : ℕ
   hit : version_with id (record_after st caller id attempt s) ≡ Some (change is.version)
   hit = version_after (set_now st) (made_now st) s st.now id change
       (acknowledged_id (set_now st) caller attempt st.now) (record_now st s).versions is.version
-      (given_now st stands.represents.history s) (sound_now st stands.represents.history s) is.found
+      (given_now st refines.represents.history s) (sound_now st refines.represents.history s)
+      is.found
       opens
 
   miss : (k : ℕ) → (id == k) ≡ false → version_with k (record_after st caller id attempt s)
       ≡ option_map (retired (set_now st) takes_over st.now) (version_with k (record_now st s))
   miss k apart = others_after (set_now st) (made_now st) s st.now id change
       (acknowledged_id (set_now st) caller attempt st.now) (record_now st s).versions is.version
-      (given_now st stands.represents.history s) (sound_now st stands.represents.history s) is.found
+      (given_now st refines.represents.history s) (sound_now st refines.represents.history s)
+      is.found
       opens k apart
       ∙ ap (λ b. option_map (retired (set_now st) b st.now) (version_with k (record_now st s)))
       takes_over_is
@@ -336,13 +344,13 @@ module _ (st : State) (old new : Content) (stands : Stands old st) (caller : ℕ
   the_row = answered_row closes (row_was caller is.broadcast is.waits s)
 
   abbrev the_changes : List (ℕ × VersionRow) → Changes
-  the_changes versions = acknowledging caller minute id attempt last versions the_row
+  the_changes versions = acknowledgement_changes caller minute id attempt last versions the_row
 
   abbrev the_puts : List (ℕ × VersionRow)
   the_puts = puts_of (set_now st) st.now s (the_replaced takes_over (record_now st s)) ++ own_rows
       completes id (row_of s finished)
 
-  module _ (changed : IsChanged (the_changes the_puts) old new) where
+  module _ (changed : AppliesChanges (the_changes the_puts) old new) where
     version_at : (k : ℕ) (b : Bool) → (id == k) ≡ b
         → of_subject s (λ (x : VersionRow). x.subject) (get new.versions k) ≡ option_map (row_of s)
         (version_with k (record_after st caller id attempt s))
@@ -358,7 +366,7 @@ module _ (st : State) (old new : Content) (stands : Stands old st) (caller : ℕ
             old (b && sends_create is.version.status) k) ≡ Some (row_of s finished)
         mine f true g = own s (λ (y : VersionRow). y.subject) (row_of s finished) refl
         mine f false g =
-            due.shows.versions k ∙ ap (option_map (row_of s))
+            due.rows_match.versions k ∙ ap (option_map (row_of s))
             (ap (λ n. version_with n (record_now st s)) (sym (equal_number id k f)) ∙ is.found)
             ∙ sym (ap (λ b. Some
             (row_of s (completed_if (set_now st) b st.now (answered_all caller attempt st.now
@@ -382,7 +390,8 @@ module _ (st : State) (old new : Content) (stands : Stands old st) (caller : ℕ
             (never completes (Some (row_of s finished)) (replaced_row (set_now st) st.now s
             (record_now st s) old takes_over k))
             ∙ retired_shows (set_now st) st.now s (made_now st) (record_now st s)
-            old due.shows (given_now st stands.represents.history s) (one_in_force st old stands s)
+            old due.rows_match (given_now st refines.represents.history s)
+            (one_in_force st old refines s)
             takes_over k
             ∙ sym (ap (option_map (row_of s)) (miss k f))
 
@@ -444,7 +453,7 @@ module _ (st : State) (old new : Content) (stands : Stands old st) (caller : ℕ
         ∙ taken_miss (record { id = id; attempt = attempt }) (record { id = k; attempt = a })
         the_row (get old.broadcasts (record { id = k; attempt = a })) (last && not the_row.is_open)
         e)
-        ∙ due.shows.broadcasts k a
+        ∙ due.rows_match.broadcasts k a
         ∙ sym (ap (option_and_then (stored_broadcast s)) (same_elsewhere k a (id == k) refl e))
 
     wait_at : (c m k a : ℕ) (x : Bool) → ((id == k) && (attempt == a)) ≡ x
@@ -488,7 +497,7 @@ module _ (st : State) (old new : Content) (stands : Stands old st) (caller : ℕ
           id = k;
           attempt = a;
         })) ≡ stored_wait s c m is.broadcast
-        was = due.shows.waits c m k a ∙ ap (option_and_then (stored_wait s c m))
+        was = due.rows_match.waits c m k a ∙ ap (option_and_then (stored_wait s c m))
             (at_key k a e (record_now st s)
             ∙ ap (option_and_then (λ (v : Version). find (λ x. x.attempt == attempt) v.broadcasts))
             is.found ∙ is.sent)
@@ -500,7 +509,7 @@ module _ (st : State) (old new : Content) (stands : Stands old st) (caller : ℕ
           attempt = a;
         }) ∙ off ((caller == c) && (minute == m)) (id == k) (attempt == a)
         (get old.waits (record { carrier = c; minute = m; id = k; attempt = a })) e)
-        ∙ due.shows.waits c m k a
+        ∙ due.rows_match.waits c m k a
         ∙ sym (ap (option_and_then (stored_wait s c m)) (same_elsewhere k a (id == k) refl e))
       where
         off : (p y z : Bool) (o : Option Subject) → (y && z) ≡ false
@@ -510,7 +519,7 @@ module _ (st : State) (old new : Content) (stands : Stands old st) (caller : ℕ
         off true false z o f = refl
         off false y z o f = refl
 
-    own_shows : Shows new s (record_after st caller id attempt s)
+    own_shows : RowsMatch new s (record_after st caller id attempt s)
     own_shows = record {
       versions = λ k. version_at k (id == k) refl;
       broadcasts = λ k a. broadcast_at k a ((id == k) && (attempt == a)) refl;
@@ -522,9 +531,9 @@ module _ (st : State) (old new : Content) (stands : Stands old st) (caller : ℕ
     other_rows : (t : Subject) → subject_eq s t ≡ false → SameRows t old new
     other_rows t apart =
         let free : version_with id (record_now st t) ≡ None =
-        none_elsewhere st stands.represents.history s t id is.version is.found apart in
+        none_elsewhere st refines.represents.history s t id is.version is.found apart in
         let middle : Content = record new { versions = old.versions } in
-        let changed_rest : IsChanged (the_changes []) old middle = record {
+        let changed_rest : AppliesChanges (the_changes []) old middle = record {
           carriers = changed.carriers;
           lrns = changed.lrns;
           codes = changed.codes;
@@ -537,30 +546,33 @@ module _ (st : State) (old new : Content) (stands : Stands old st) (caller : ℕ
         } in
         let rest : SameRows t old middle =
         lagging_aside st old middle (the_changes []) s id (one_version caller minute id attempt last
-        s the_row refl) changed_rest t (stands.represents.subjects t) apart free in
+        s the_row refl) changed_rest t (refines.represents.subjects t) apart free in
         record {
           versions = λ k. ap (of_subject t (λ (x : VersionRow). x.subject)) (changed.versions k)
-              ∙ puts_apart st old stands s due takes_over id is.version is.found (row_of s finished)
+              ∙ puts_apart st old refines s due takes_over id is.version is.found
+              (row_of s finished)
               completes refl t apart k;
           broadcasts = rest.broadcasts;
           waits = rest.waits;
         }
 
-    pub acknowledged-leaves : LeavesOthers old new st (Requests caller (Acknowledges id attempt))
-    acknowledged-leaves = leaves_but old new st (Requests caller (Acknowledges id attempt)) s
+    pub acknowledged-leaves : FramesOthers old new st
+        (RequestFrom caller (AcknowledgementRequest id attempt))
+    acknowledged-leaves =
+        leaves_but old new st (RequestFrom caller (AcknowledgementRequest id attempt)) s
         (of_id_found st s id is.version is.found) other_rows
 
-    module _ (none : refusal st (Requests caller (Acknowledges id attempt)) ≡ None)
+    module _ (none : refusal st (RequestFrom caller (AcknowledgementRequest id attempt)) ≡ None)
         (clock : ClockRow) (clock_is : old.clock ≡ Some clock) where
       abbrev after_it : State
-      after_it = accepted st (Requests caller (Acknowledges id attempt))
+      after_it = accepted st (RequestFrom caller (AcknowledgementRequest id attempt))
 
       history_after : IsHistory st.windows after_it.history st.now
-      history_after = (omega arith, tt, none, stands.represents.history)
+      history_after = (omega arith, tt, none, refines.represents.history)
 
       elsewhere : (t : Subject) → subject_eq s t ≡ false → record_now after_it t ≡ record_now st t
-      elsewhere t apart = entered-elsewhere st caller (Acknowledges id attempt) t refl
-          (none_with id (record_now st t).versions (none_elsewhere st stands.represents.history s t
+      elsewhere t apart = entered-elsewhere st caller (AcknowledgementRequest id attempt) t refl
+          (none_with id (record_now st t).versions (none_elsewhere st refines.represents.history s t
           id is.version is.found apart))
 
       last_id : (b : ℕ) (x : Bool) → subject_eq s (Block b) ≡ x
@@ -579,7 +591,8 @@ module _ (st : State) (old new : Content) (stands : Stands old st) (caller : ℕ
 
       here : (t : Subject) → subject_eq s t ≡ true → IsSettled new after_it t
       here t e = subst (IsSettled new after_it) (sym (same_subject s t e)) (record {
-        shows = subst (Shows new s) (sym (acknowledged-record st caller id attempt s)) own_shows;
+        rows_match = subst (RowsMatch new s) (sym (acknowledged-record st caller id attempt s))
+            own_shows;
         quiet = subst (λ (x : Record). IsQuiet st.now x.versions)
             (sym (acknowledged-record st caller id attempt s)) (acknowledging-quiet (set_now st)
             st.now caller id attempt (record_now st s).versions due.quiet);
@@ -587,28 +600,31 @@ module _ (st : State) (old new : Content) (stands : Stands old st) (caller : ℕ
 
       registry : RegistryShows new after_it
       registry = record {
-        clock = clock_same st caller (Acknowledges id attempt) s id is.version
-            (acknowledge-names id attempt s) stands.represents.history is.found refl old new stands
+        clock = clock_same st caller (AcknowledgementRequest id attempt) s id is.version
+            (acknowledge-names id attempt s) refines.represents.history is.found refl old new
+            refines
             changed.clock;
-        written = ap is_some changed.clock ∙ stands.written;
-        carriers = λ k. ap is_some (changed.carriers k) ∙ stands.represents.carriers k;
-        lrns = λ k. changed.lrns k ∙ stands.represents.lrns k;
-        codes = λ k. changed.codes k ∙ stands.represents.codes k;
-        blocks = λ b. changed.blocks b ∙ stands.represents.blocks b
+        written = ap is_some changed.clock ∙ refines.written;
+        carriers = λ k. ap is_some (changed.carriers k) ∙ refines.represents.carriers k;
+        lrns = λ k. changed.lrns k ∙ refines.represents.lrns k;
+        codes = λ k. changed.codes k ∙ refines.represents.codes k;
+        blocks = λ b. changed.blocks b ∙ refines.represents.blocks b
             ∙ sym (ap (λ o. option_map (λ donor. let row : BlockRow =
             record { donor = donor; last = o } in row) (donor_of b st.history))
             (last_id b (subject_eq s (Block b)) refl));
       }
 
-      pub acknowledged-stands : Stands new after_it
+      pub acknowledged-stands : Refines new after_it
       acknowledged-stands =
-          touched-stands st old new caller (Acknowledges id attempt) (subject_eq s) stands none tt
+          touched-stands st old new caller (AcknowledgementRequest id attempt) (subject_eq s)
+          refines none tt
           refl changed.sets registry (λ t e. (elsewhere t e, other_rows t e)) here
 
       pub acknowledged-answer : (view : View) → view ≡ view_of after_it (record {
         subject = s;
         version = finished;
-      }) → Shown (Some view) ≡ answer_of st after_it (Requests caller (Acknowledges id attempt))
+      }) → Shown (Some view) ≡ answer_of st after_it
+          (RequestFrom caller (AcknowledgementRequest id attempt))
       acknowledged-answer view seen =
           ap (λ x. Shown (Some x)) seen
           ∙ ap (λ x. Shown (Some (view_of after_it (record { subject = s; version = x }))))

@@ -4,26 +4,26 @@ use Rattle.std.specs.Prelude.{Result, Ok, Err, IfOk, is_some, Contains, if◌the
 use Rattle.std.specs.List.{list_any}
 use Rattle.std.specs.FinMap.{get}
 use Rattle.numbers.specs.Subjects.{Subject, subject_eq, subject_key}
-use Rattle.numbers.specs.Views.{subject_of, key_of}
-use Rattle.numbers.specs.declared.ported.Subject.{Subject as SubjectCode}
-use Rattle.meaning.specs.declared.refusal.Refusal.{Refusal}
-use Rattle.meaning.specs.Content.{Content}
-use Rattle.meaning.specs.Laws.{IsState}
-use Rattle.meaning.specs.Machine.{Awaited, Refused, each_once, out, refused_or}
-use Rattle.meaning.specs.Reading.{State, Download, is_carrier, queue}
-use Rattle.meaning.specs.Refusals.{Asks, Waiting, refusal, tests}
-use Rattle.meaning.proofs.Ascending.{same_rising, sorted-rise, mapped-rise}
-use Rattle.meaning.proofs.Listed.{each_is_once, subjects-ascend}
-use Rattle.meaning.proofs.Lists.{Among, any_there, contained, contains-among}
-use Rattle.meaning.proofs.Ids.{same_subject}
-use Rattle.meaning.proofs.Copies.Law.{copy_is_published}
-use Rattle.settle.specs.Reads.{AreAwaited, IsAwaitedBy}
+use Rattle.numbers.specs.Abstraction.{subject_of, key_of}
+use Rattle.numbers.specs.declared.ported.Subject.{Subject as SubjectImpl}
+use Rattle.model.specs.declared.refusal.Refusal.{Refusal}
+use Rattle.model.specs.Content.{Content}
+use Rattle.model.specs.Laws.{IsReachable}
+use Rattle.model.specs.Machine.{Awaited, Refused, each_once, out, refused_or}
+use Rattle.model.specs.State.{State, Download, is_carrier, queue}
+use Rattle.model.specs.Refusals.{QuestionFrom, Waiting, refusal, tests}
+use Rattle.model.proofs.Ascending.{same_rising, sorted-rise, mapped-rise}
+use Rattle.model.proofs.Listed.{each_is_once, subjects-ascend}
+use Rattle.model.proofs.Lists.{Among, any_there, contained, contains-among}
+use Rattle.model.proofs.Ids.{same_subject}
+use Rattle.model.proofs.Copies.Law.{copy_is_published}
+use Rattle.settle.specs.Reads.{AreWaitingSubjects, IsAwaitedBy}
 use Rattle.settle.specs.Settling.{IsSettled}
 use Rattle.settle.proofs.Among.{all-among}
-use Rattle.calls.specs.Calls.{replied}
-use Rattle.register.specs.Answers.{Stands, AnswersAs}
-use Rattle.register.specs.Fetching.{HoldsAllBut}
-use Rattle.register.specs.Settling.{AnswersSettled}
+use Rattle.requests.specs.Calls.{replied}
+use Rattle.register.specs.Refinement.{Refines, SimulatesStep}
+use Rattle.register.specs.Fetching.{CopyMatchesPublishedBut}
+use Rattle.register.specs.Settling.{SimulatesSettledStep}
 use Rattle.register.proofs.EveryCall.Composed.{answers_read}
 use Rattle.register.proofs.Downloads.Fetched.{may_fetch, by_caller}
 use Rattle.register.proofs.Downloads.Copied.{known_by}
@@ -44,9 +44,9 @@ mapped-from f b (x ∷ xs) (inr there) = let m = mapped-from f b xs there in (m.
 
 -- ---- the queue's subjects
 
-module _ (st : State) (c : Content) (stands : Stands c st) (settled : (s : Subject)
-    → IsSettled c st s) (carrier : ℕ) (subjects : List SubjectCode)
-    (are : AreAwaited c carrier subjects) where
+module _ (st : State) (c : Content) (refines : Refines c st) (settled : (s : Subject)
+    → IsSettled c st s) (carrier : ℕ) (subjects : List SubjectImpl)
+    (are : AreWaitingSubjects c carrier subjects) where
   abbrev of_queue : List Subject
   of_queue = map (λ (d : Download). d.subject) (queue st carrier)
 
@@ -57,7 +57,7 @@ module _ (st : State) (c : Content) (stands : Stands c st) (settled : (s : Subje
   queued : (s : Subject) → IsAwaitedBy c carrier s → Among s of_queue
   queued s is =
       mapped-to (λ (d : Download). d.subject) _ (queue st carrier)
-      (awaited-queued st c stands carrier s is.0 is.1 is.2 (waiting-awaited st c stands carrier s
+      (awaited-queued st c refines carrier s is.0 is.1 is.2 (waiting-awaited st c refines carrier s
       (settled s) is.0 is.1 is.2 is.3))
 
   forth : (s : Subject) → Among s (map subject_of subjects) → Among s (each_once of_queue)
@@ -73,12 +73,12 @@ module _ (st : State) (c : Content) (stands : Stands c st) (settled : (s : Subje
   back s there =
       let d = mapped-from (λ (x : Download). x.subject) s (queue st carrier)
       (contains-among of_queue s ((once s).0 (contained (each_once of_queue) s there))) in
-      let is = queued-awaited st c stands carrier d.0 d.1 in
+      let is = queued-awaited st c refines carrier d.0 d.1 in
       let x = are.each d.0.subject (
         d.0.minute,
         d.0.id,
         d.0.attempt,
-        awaited-waiting st c stands carrier d.0.subject (settled d.0.subject) d.0.minute d.0.id
+        awaited-waiting st c refines carrier d.0.subject (settled d.0.subject) d.0.minute d.0.id
             d.0.attempt is,
       ) in
       let same : subject_of x.0 ≡ s = x.2 ∙ sym d.2 in
@@ -95,25 +95,28 @@ module _ (st : State) (c : Content) (stands : Stands c st) (settled : (s : Subje
 -- ---- who may ask
 
 pub waiting_by : (st : State) (caller : ℕ)
-    → refusal st (Asks caller Waiting) ≡ may_fetch (is_carrier st caller)
+    → refusal st (QuestionFrom caller Waiting) ≡ may_fetch (is_carrier st caller)
 unfolding tests
 waiting_by st caller = refl
 
 pub waiting_refused : (old : Content) (caller : ℕ) (known : Bool)
-    → is_some (get old.carriers caller) ≡ known → (st : State) → Stands old st
-    → refusal st (Asks caller Waiting) ≡ (if known then None else Some 1)
-waiting_refused old caller known is st stands =
+    → is_some (get old.carriers caller) ≡ known → (st : State) → Refines old st
+    → refusal st (QuestionFrom caller Waiting) ≡ (if known then None else Some 1)
+waiting_refused old caller known is st refines =
     waiting_by st caller ∙ by_caller (is_carrier st caller) known
-    (sym (stands.represents.carriers caller) ∙ is)
+    (sym (refines.represents.carriers caller) ∙ is)
 
-pub answers_awaited : (old new : Content) (caller : ℕ) (subjects : List SubjectCode)
-    → is_some (get old.carriers caller) ≡ true → new ≡ old → AreAwaited old caller subjects →
-    AnswersSettled old new (Asks caller Waiting) (Some (Awaited (map subject_of subjects)))
+pub answers_awaited : (old new : Content) (caller : ℕ) (subjects : List SubjectImpl)
+    → is_some (get old.carriers caller) ≡ true → new ≡ old → AreWaitingSubjects old caller subjects
+    →
+    SimulatesSettledStep old new (QuestionFrom caller Waiting)
+    (Some (Awaited (map subject_of subjects)))
 answers_awaited old new caller subjects known same are =
-    answers_read old new (Asks caller Waiting) (Awaited (map subject_of subjects)) same (λ st. refl)
-    (λ st stands settled. (
-      waiting_refused old caller true known st stands,
-      ap (λ xs. Awaited xs) (subjects_awaited st old stands (λ s. settled s refl) caller subjects
+    answers_read old new (QuestionFrom caller Waiting) (Awaited (map subject_of subjects)) same
+    (λ st. refl)
+    (λ st refines settled. (
+      waiting_refused old caller true known st refines,
+      ap (λ xs. Awaited xs) (subjects_awaited st old refines (λ s. settled s refl) caller subjects
           are),
     ))
 
@@ -127,14 +130,14 @@ told (Some k) xs ys e = let f : Awaited xs ≡ Refused k = e in cc
 nothing_waits : (s : Subject) (ds : List Download)
     → (Contains (each_once (map (λ (d : Download). d.subject) ds)) s → ⊥)
     → list_any (λ (d : Download). subject_eq d.subject s) ds ≡ false
-nothing_waits s ds none = go (list_any (λ (d : Download). subject_eq d.subject s) ds) refl
+nothing_waits s ds none = by_cases (list_any (λ (d : Download). subject_eq d.subject s) ds) refl
   where
     of_queue : List Subject
     of_queue = map (λ (d : Download). d.subject) ds
 
-    go : (b : Bool) → list_any (λ (d : Download). subject_eq d.subject s) ds ≡ b → b ≡ false
-    go false e = refl
-    go true e =
+    by_cases : (b : Bool) → list_any (λ (d : Download). subject_eq d.subject s) ds ≡ b → b ≡ false
+    by_cases false e = refl
+    by_cases true e =
         let d = any_there (λ (x : Download). subject_eq x.subject s) ds e in
         let there : Among s of_queue =
         subst (λ t. Among t of_queue) (sym (same_subject d.0.subject s d.2))
@@ -142,17 +145,17 @@ nothing_waits s ds none = go (list_any (λ (d : Download). subject_eq d.subject 
         absurd (none (((each_is_once of_queue).1 s).1 (contained of_queue s there)))
 
 pub holds_all_but : (old new : Content) (caller : ℕ) (subjects : List Subject)
-    → AnswersAs old new (Asks caller Waiting) (Some (Awaited subjects)) → (st : State)
-    → Stands old st → HoldsAllBut st caller subjects
+    → SimulatesStep old new (QuestionFrom caller Waiting) (Some (Awaited subjects)) → (st : State)
+    → Refines old st → CopyMatchesPublishedBut st caller subjects
 unfolding out
-holds_all_but old new caller subjects answers st stands = λ s none.
-    let is : IsState st = record {
-      windows = stands.represents.windows;
-      history = stands.represents.history;
+holds_all_but old new caller subjects answers st refines = λ s none.
+    let is : IsReachable st = record {
+      windows = refines.represents.windows;
+      history = refines.represents.history;
     } in
     let reply =
-    told (refusal st (Asks caller Waiting)) subjects
-    (each_once (map (λ (d : Download). d.subject) (queue st caller))) (answers st stands).0 in
+    told (refusal st (QuestionFrom caller Waiting)) subjects
+    (each_once (map (λ (d : Download). d.subject) (queue st caller))) (answers st refines).0 in
     let known : is_carrier st caller ≡ true =
     known_by (is_carrier st caller) (sym (waiting_by st caller) ∙ reply.0) in
     copy_is_published st is caller s known (nothing_waits s (queue st caller)
@@ -160,8 +163,8 @@ holds_all_but old new caller subjects answers st stands = λ s none.
 
 pub if_all_but : {V : Type 0} (old new : Content) (caller : ℕ) (seen : V
     → List Subject) (r : Result V Refusal)
-    → AnswersAs old new (Asks caller Waiting) (replied (λ v. Awaited (seen v)) r) →
-    (st : State) → Stands old st → IfOk r (λ v. HoldsAllBut st caller (seen v))
-if_all_but old new caller seen (Ok v) answers st stands =
-    holds_all_but old new caller (seen v) answers st stands
-if_all_but old new caller seen (Err refusal) answers st stands = tt
+    → SimulatesStep old new (QuestionFrom caller Waiting) (replied (λ v. Awaited (seen v)) r) →
+    (st : State) → Refines old st → IfOk r (λ v. CopyMatchesPublishedBut st caller (seen v))
+if_all_but old new caller seen (Ok v) answers st refines =
+    holds_all_but old new caller (seen v) answers st refines
+if_all_but old new caller seen (Err refusal) answers st refines = tt

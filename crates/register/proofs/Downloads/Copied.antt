@@ -3,18 +3,18 @@ use Rattle.std.proofs.Common.{◌≡◌, ◌<◌, ℕ, zero, suc, Bool, true, fa
 use Rattle.std.specs.Prelude.{take, Result, Ok, Err, IfOk}
 use Rattle.std.specs.List.{list_any}
 use Rattle.numbers.specs.Subjects.{subject_eq}
-use Rattle.meaning.specs.declared.refusal.Refusal.{Refusal}
-use Rattle.meaning.specs.Content.{Content}
-use Rattle.meaning.specs.Laws.{IsState}
-use Rattle.meaning.specs.Machine.{Refused, Fetched, out, refused_or}
-use Rattle.meaning.specs.Reading.{State, Download, is_carrier, queue}
-use Rattle.meaning.specs.Refusals.{Asks, Fetch, refusal}
-use Rattle.meaning.proofs.Copies.Law.{copy_is_published}
-use Rattle.meaning.proofs.Copies.InForce.{copy_is_in_force}
-use Rattle.delivery.specs.declared.download.Download.{Download as DownloadCode}
-use Rattle.calls.specs.Calls.{download_of, replied}
-use Rattle.register.specs.Answers.{Stands, AnswersAs}
-use Rattle.register.specs.Fetching.{HoldsWhatWasPublished}
+use Rattle.model.specs.declared.refusal.Refusal.{Refusal}
+use Rattle.model.specs.Content.{Content}
+use Rattle.model.specs.Laws.{IsReachable}
+use Rattle.model.specs.Machine.{Refused, Fetched, out, refused_or}
+use Rattle.model.specs.State.{State, Download, is_carrier, queue}
+use Rattle.model.specs.Refusals.{QuestionFrom, Fetch, refusal}
+use Rattle.model.proofs.Copies.Law.{copy_is_published}
+use Rattle.model.proofs.Copies.InForce.{copy_is_in_force}
+use Rattle.delivery.specs.declared.download.Download.{Download as DownloadImpl}
+use Rattle.requests.specs.Calls.{download_of, replied}
+use Rattle.register.specs.Refinement.{Refines, SimulatesStep}
+use Rattle.register.specs.Fetching.{CopyMatchesPublished}
 use Rattle.register.proofs.Downloads.Fetched.{may_fetch, fetch_by}
 
 none_taken : (n : ℕ) (ds : List Download) → 0 < n → take n ds ≡ [] → ds ≡ []
@@ -32,18 +32,19 @@ told : (number : Option ℕ) (xs ys : List Download) → Fetched xs ≡ refused_
 told None xs ys e = (refl, (let f : Fetched xs ≡ Fetched ys = e in cc))
 told (Some k) xs ys e = let f : Fetched xs ≡ Refused k = e in cc
 
-pub holds_published : (old new : Content) (caller many : ℕ) (downloads : List DownloadCode)
-    → AnswersAs old new (Asks caller (Fetch many)) (Some (Fetched (map download_of downloads)))
+pub holds_published : (old new : Content) (caller many : ℕ) (downloads : List DownloadImpl)
+    → SimulatesStep old new (QuestionFrom caller (Fetch many))
+    (Some (Fetched (map download_of downloads)))
     → downloads ≡ [] → 0 < many →
-    (st : State) → Stands old st → HoldsWhatWasPublished st caller
+    (st : State) → Refines old st → CopyMatchesPublished st caller
 unfolding out
-holds_published old new caller many downloads answers none some st stands =
-    let is : IsState st = record {
-      windows = stands.represents.windows;
-      history = stands.represents.history;
+holds_published old new caller many downloads answers none some st refines =
+    let is : IsReachable st = record {
+      windows = refines.represents.windows;
+      history = refines.represents.history;
     } in
-    let reply = told (refusal st (Asks caller (Fetch many))) (map download_of downloads)
-    (take many (queue st caller)) (answers st stands).0 in
+    let reply = told (refusal st (QuestionFrom caller (Fetch many))) (map download_of downloads)
+    (take many (queue st caller)) (answers st refines).0 in
     let empty : queue st caller ≡ [] =
     none_taken many (queue st caller) some (reply.1 ∙ ap (map download_of) none) in
     let known : is_carrier st caller ≡ true =
@@ -56,11 +57,11 @@ holds_published old new caller many downloads answers none some st stands =
     }
 
 pub if_published : {V : Type 0} (old new : Content) (caller many : ℕ) (items : V
-    → List DownloadCode) (r : Result V Refusal)
-    → AnswersAs old new (Asks caller (Fetch many))
+    → List DownloadImpl) (r : Result V Refusal)
+    → SimulatesStep old new (QuestionFrom caller (Fetch many))
     (replied (λ v. Fetched (map download_of (items v))) r) →
-    (st : State) → Stands old st → 0 < many
-    → IfOk r (λ v. items v ≡ [] → HoldsWhatWasPublished st caller)
-if_published old new caller many items (Ok v) answers st stands some =
-    λ none. holds_published old new caller many (items v) answers none some st stands
-if_published old new caller many items (Err refusal) answers st stands some = tt
+    (st : State) → Refines old st → 0 < many
+    → IfOk r (λ v. items v ≡ [] → CopyMatchesPublished st caller)
+if_published old new caller many items (Ok v) answers st refines some =
+    λ none. holds_published old new caller many (items v) answers none some st refines
+if_published old new caller many items (Err refusal) answers st refines some = tt

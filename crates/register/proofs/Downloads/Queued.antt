@@ -4,27 +4,27 @@ use Rattle.std.specs.Prelude.{◌==◌, find, is_none, option_and_then, if◌the
 use Rattle.std.specs.List.{list_any}
 use Rattle.std.specs.FinMap.{get}
 use Rattle.numbers.specs.Subjects.{Subject, subject_eq}
-use Rattle.meaning.specs.Versions.{Broadcast, Version, is_among, version_with, waiters}
-use Rattle.meaning.specs.History.{Acknowledges}
-use Rattle.meaning.specs.Reading.{State, SubjectVersion, Download, record_now, is_carrier, version_of_id, download, is_before, queue}
-use Rattle.meaning.specs.Refusals.{Requests, refusal, tests, first_that_holds, no_version, is_download, is_not_among, is_preceded}
-use Rattle.meaning.specs.Content.{Content, VersionRow, of_subject, stored_wait, broadcast_with, row_of}
-use Rattle.meaning.proofs.Entered.{found_is}
-use Rattle.meaning.proofs.Ids.{same_subject}
+use Rattle.model.specs.Versions.{Broadcast, Version, is_among, version_with, waiters}
+use Rattle.model.specs.History.{AcknowledgementRequest}
+use Rattle.model.specs.State.{State, SubjectVersion, Download, record_now, is_carrier, version_of_id, download, is_before, queue}
+use Rattle.model.specs.Refusals.{RequestFrom, refusal, tests, first_refusal, no_version, is_download, is_not_among, is_preceded}
+use Rattle.model.specs.Content.{Content, VersionRow, of_subject, stored_wait, broadcast_with, row_of}
+use Rattle.model.proofs.Entered.{found_is}
+use Rattle.model.proofs.Ids.{same_subject}
 use Rattle.numbers.proofs.Small.{equal_number, and_both, same_number, same_truth}
-use Rattle.meaning.proofs.Lagging.{no_row_now}
-use Rattle.meaning.proofs.Shown.{id_found, some_is, own}
-use Rattle.meaning.proofs.Tended.{AreApart, tended_kept}
-use Rattle.meaning.proofs.KeptVersions.{version_now}
-use Rattle.meaning.proofs.Queues.{found_by_attempt}
-use Rattle.meaning.proofs.Copies.Queue.{queued-from, queued-to}
-use Rattle.meaning.proofs.Lists.{Among, any_there, there_any, found-among}
+use Rattle.model.proofs.Lagging.{no_row_now}
+use Rattle.model.proofs.Shown.{id_found, some_is, own}
+use Rattle.model.proofs.Tended.{AreApart, tended_kept}
+use Rattle.model.proofs.KeptVersions.{version_now}
+use Rattle.model.proofs.Queues.{found_by_attempt}
+use Rattle.model.proofs.Copies.Queue.{queued-from, queued-to}
+use Rattle.model.proofs.Lists.{Among, any_there, there_any, found-among}
 use Rattle.delivery.specs.declared.download.DownloadKey.{DownloadKey}
 use Rattle.delivery.specs.Queues.{IsKeyOf, is_key, is_earlier, has_earlier, is_missing, is_behind, key_refusal}
 use Rattle.delivery.proofs.Queues.{key_same, before_same}
 use Rattle.settle.specs.Reads.{IsWaiting, AreWaitsAbout}
 use Rattle.settle.specs.Settling.{IsSettled}
-use Rattle.register.specs.Answers.{Stands}
+use Rattle.register.specs.Refinement.{Refines}
 use Rattle.register.proofs.EveryCall.Settled.{IdSettled, row_now, row_settled}
 
 -- ---- what waits
@@ -39,16 +39,17 @@ pub record IsAwaited (st : State) (carrier : ℕ) (s : Subject) (minute id attem
   pub sent_at : broadcast.minute ≡ minute
   pub waits : is_among carrier (waiters broadcast) ≡ true
 
-module _ (st : State) (c : Content) (stands : Stands c st) (carrier : ℕ) where
+module _ (st : State) (c : Content) (refines : Refines c st) (carrier : ℕ) where
   -- by the rows of the subject
   pub waiting-awaited : (s : Subject) → IsSettled c st s → (minute id attempt : ℕ)
       → IsWaiting c carrier s minute id attempt → IsAwaited st carrier s minute id attempt
-  waiting-awaited s due minute id attempt is = go (version_with id (record_now st s)) refl shown
+  waiting-awaited s due minute id attempt is =
+      by_cases (version_with id (record_now st s)) refl shown
     where
       shown : Some s ≡ option_and_then (stored_wait s carrier minute)
           (broadcast_with id attempt (record_now st s))
       shown = sym (own s (λ t. t) s refl) ∙ ap (of_subject s (λ t. t)) (sym is)
-          ∙ due.shows.waits carrier minute id attempt
+          ∙ due.rows_match.waits carrier minute id attempt
 
       taken : (v : Version) → version_with id (record_now st s) ≡ Some v → (b : Broadcast)
           → find (λ x. x.attempt == attempt) v.broadcasts ≡ Some b → (k : Bool) →
@@ -74,17 +75,18 @@ module _ (st : State) (c : Content) (stands : Stands c st) (carrier : ℕ) where
       of_version v found (Some b) sent e =
           taken v found b sent ((b.minute == minute) && is_among carrier (waiters b)) refl e
 
-      go : (o : Option Version) → version_with id (record_now st s) ≡ o
+      by_cases : (o : Option Version) → version_with id (record_now st s) ≡ o
           → Some s ≡ option_and_then (stored_wait s carrier minute)
           (option_and_then (λ (v : Version). find (λ x. x.attempt == attempt) v.broadcasts) o) →
           IsAwaited st carrier s minute id attempt
-      go None found e = cc
-      go (Some v) found e = of_version v found (find (λ x. x.attempt == attempt) v.broadcasts) refl
+      by_cases None found e = cc
+      by_cases (Some v) found e = of_version v found (find (λ x. x.attempt == attempt) v.broadcasts)
+          refl
           e
 
   pub awaited-waiting : (s : Subject) → IsSettled c st s → (minute id attempt : ℕ)
       → IsAwaited st carrier s minute id attempt → IsWaiting c carrier s minute id attempt
-  awaited-waiting s due minute id attempt is = go (get c.waits (record {
+  awaited-waiting s due minute id attempt is = by_cases (get c.waits (record {
     carrier = carrier;
     minute = minute;
     id = id;
@@ -103,7 +105,7 @@ module _ (st : State) (c : Content) (stands : Stands c st) (carrier : ℕ) where
         id = id;
         attempt = attempt;
       })) ≡ Some s
-      shown = due.shows.waits carrier minute id attempt
+      shown = due.rows_match.waits carrier minute id attempt
           ∙ ap (λ o. option_and_then (stored_wait s carrier minute)
           (option_and_then (λ (v : Version). find (λ x. x.attempt == attempt) v.broadcasts) o))
           is.found
@@ -113,7 +115,7 @@ module _ (st : State) (c : Content) (stands : Stands c st) (carrier : ℕ) where
       of_it t true e = e
       of_it t false e = cc
 
-      go : (o : Option Subject) → get c.waits (record {
+      by_cases : (o : Option Subject) → get c.waits (record {
         carrier = carrier;
         minute = minute;
         id = id;
@@ -125,8 +127,9 @@ module _ (st : State) (c : Content) (stands : Stands c st) (carrier : ℕ) where
             id = id;
             attempt = attempt;
           }) ≡ Some s
-      go None e = let no : None ≡ Some s = sym (ap (of_subject s (λ t. t)) e) ∙ shown in cc
-      go (Some t) e = e ∙ of_it t (subject_eq t s) (sym (ap (of_subject s (λ u. u)) e) ∙ shown)
+      by_cases None e = let no : None ≡ Some s = sym (ap (of_subject s (λ t. t)) e) ∙ shown in cc
+      by_cases (Some t) e =
+          e ∙ of_it t (subject_eq t s) (sym (ap (of_subject s (λ u. u)) e) ∙ shown)
 
   -- ---- the queue
 
@@ -149,7 +152,7 @@ module _ (st : State) (c : Content) (stands : Stands c st) (carrier : ℕ) where
   pub awaited-queued : (s : Subject) (minute id attempt : ℕ) (is : IsAwaited st carrier s minute id
       attempt) → Among (the_download s minute id attempt is) (queue st carrier)
   awaited-queued s minute id attempt is =
-      queued-to st stands.represents.history s carrier is.version is.broadcast
+      queued-to st refines.represents.history s carrier is.version is.broadcast
       (found-among (λ (v : Version). v.id == id) (record_now st s).versions is.version is.found).0
       (found-among (λ (b : Broadcast). b.attempt == attempt) is.version.broadcasts is.broadcast
       is.sent).0 is.waits
@@ -160,7 +163,7 @@ module _ (st : State) (c : Content) (stands : Stands c st) (carrier : ℕ) where
       let q = queued-from st carrier d there in
       let s : Subject = q.at.subject in
       let v : Version = q.at.version in
-      let apart : AreApart v.broadcasts = (version_now tended_kept st stands.represents.history s
+      let apart : AreApart v.broadcasts = (version_now tended_kept st refines.represents.history s
       q.id v q.found).apart in
       let is : IsAwaited st carrier s q.broadcast.minute v.id q.broadcast.attempt = record {
         version = v;
@@ -242,8 +245,8 @@ module _ (st : State) (c : Content) (stands : Stands c st) (carrier : ℕ) where
             version =
                 awaited.version;
           }) (record { subject = s; version = v })
-          (sym (found_is st stands.represents.history d.subject d.id awaited.version awaited.found)
-          ∙ ap (version_of_id st) same ∙ found_is st stands.represents.history s id v found))
+          (sym (found_is st refines.represents.history d.subject d.id awaited.version awaited.found)
+          ∙ ap (version_of_id st) same ∙ found_is st refines.represents.history s id v found))
 
       missing_same : is_missing keys id attempt ≡ is_not_among (queue st carrier) id attempt
       missing_same =
@@ -292,15 +295,15 @@ module _ (st : State) (c : Content) (stands : Stands c st) (carrier : ℕ) where
           ∙ ap (λ b. is_download id attempt d.0 && b) (earlier_same k.0 d.0 k.2) ∙ d.2))
 
       -- the keys are refused as the queue is
-      pub keys_refused : key_refusal keys id attempt ≡ first_that_holds
+      pub keys_refused : key_refusal keys id attempt ≡ first_refusal
           ((25, is_not_among (queue st carrier) id attempt) ∷ (
             26,
             is_preceded (queue st carrier) id
                 attempt,
           ) ∷ [])
       keys_refused =
-          ap (λ b. first_that_holds ((25, b) ∷ (26, is_behind keys id attempt) ∷ [])) missing_same
-          ∙ ap (λ b. first_that_holds ((25, is_not_among (queue st carrier) id attempt) ∷ (26, b)
+          ap (λ b. first_refusal ((25, b) ∷ (26, is_behind keys id attempt) ∷ [])) missing_same
+          ∙ ap (λ b. first_refusal ((25, is_not_among (queue st carrier) id attempt) ∷ (26, b)
           ∷ [])) behind_same
 
       -- the key that is found is that of a download which waits
@@ -322,47 +325,49 @@ module _ (st : State) (c : Content) (stands : Stands c st) (carrier : ℕ) where
 
 abbrev acknowledgement_table : State → (caller id attempt : ℕ) → (known none : Bool) → Option ℕ
 acknowledgement_table st caller id attempt known none =
-    first_that_holds ((1, not known) ∷ (10, none) ∷ (25, is_not_among (queue st caller) id attempt)
+    first_refusal ((1, not known) ∷ (10, none) ∷ (25, is_not_among (queue st caller) id attempt)
     ∷ (26, is_preceded (queue st caller) id attempt) ∷ [])
 
 acknowledgement_by_table : (st : State) (caller id attempt : ℕ) →
-    refusal st (Requests caller (Acknowledges id attempt)) ≡ acknowledgement_table st caller id
+    refusal st (RequestFrom caller (AcknowledgementRequest id attempt)) ≡ acknowledgement_table st
+    caller id
     attempt (is_carrier st caller) (no_version st id)
 unfolding tests
 acknowledgement_by_table st caller id attempt = refl
 
-module _ (old : Content) (caller id attempt : ℕ) (st : State) (stands : Stands old st) where
+module _ (old : Content) (caller id attempt : ℕ) (st : State) (refines : Refines old st) where
   known_is : (b : Bool) → is_some (get old.carriers caller) ≡ b → is_carrier st caller ≡ b
-  known_is b known = sym (stands.represents.carriers caller) ∙ known
+  known_is b known = sym (refines.represents.carriers caller) ∙ known
 
   pub refused_unknown : is_some (get old.carriers caller) ≡ false
-      → refusal st (Requests caller (Acknowledges id attempt)) ≡ Some 1
+      → refusal st (RequestFrom caller (AcknowledgementRequest id attempt)) ≡ Some 1
   refused_unknown unknown = acknowledgement_by_table st caller id attempt
       ∙ ap (λ b. acknowledgement_table st caller id attempt b (no_version st id))
       (known_is false unknown)
 
   pub refused_not_found : is_some (get old.carriers caller) ≡ true → get old.versions id ≡ None
-      → refusal st (Requests caller (Acknowledges id attempt)) ≡ Some 10
+      → refusal st (RequestFrom caller (AcknowledgementRequest id attempt)) ≡ Some 10
   refused_not_found known none =
       acknowledgement_by_table st caller id attempt
       ∙ ap (λ b. acknowledgement_table st caller id attempt b (no_version st id))
       (known_is true known)
       ∙ ap (λ o. acknowledgement_table st caller id attempt true (is_none o))
-      (no_row_now st old stands.represents id none)
+      (no_row_now st old refines.represents id none)
 
   -- by the downloads of the version's subject
   pub refused_by_keys : IdSettled old st id → (row : VersionRow) (keys : List DownloadKey)
       → is_some (get old.carriers caller) ≡ true → get old.versions id ≡ Some row
       → AreWaitsAbout old caller row.subject keys →
-      refusal st (Requests caller (Acknowledges id attempt)) ≡ key_refusal keys id attempt
+      refusal st (RequestFrom caller (AcknowledgementRequest id attempt)) ≡ key_refusal keys id
+      attempt
   refused_by_keys settled row keys known found are =
       let shown : (v : Version) × (version_with id (record_now st row.subject) ≡ Some v)
-      × (row ≡ row_of row.subject v) = row_now st old id row stands.represents settled found in
+      × (row ≡ row_of row.subject v) = row_now st old id row refines.represents settled found in
       acknowledgement_by_table st caller id attempt
       ∙ ap (λ b. acknowledgement_table st caller id attempt b (no_version st id))
       (known_is true known)
       ∙ ap (λ o. acknowledgement_table st caller id attempt true (is_none o))
-      (found_is st stands.represents.history row.subject id shown.0 shown.1)
-      ∙ sym (keys_refused st old stands caller row.subject
-      (row_settled st old id row stands.represents settled found) keys are id attempt shown.0
+      (found_is st refines.represents.history row.subject id shown.0 shown.1)
+      ∙ sym (keys_refused st old refines caller row.subject
+      (row_settled st old id row refines.represents settled found) keys are id attempt shown.0
       shown.1)

@@ -6,60 +6,60 @@ use Rattle.std.specs.FinMap.{get}
 use Rattle.std.proofs.Math.Nat.{le_trans}
 use Rattle.numbers.specs.Digits.{block_of}
 use Rattle.numbers.specs.Subjects.{Subject, Number, Block, subject_eq}
-use Rattle.numbers.specs.Views.{subject_of}
+use Rattle.numbers.specs.Abstraction.{subject_of}
 use Rattle.numbers.specs.declared.block_id.BlockId.{BlockId}
 use Rattle.numbers.specs.declared.tn.Tn.{Tn}
-use Rattle.numbers.specs.declared.ported.Subject.{Subject as SubjectCode}
-use Rattle.numbers.specs.declared.ported.Subject.TheVariants.{Number as NumberCode, Block as BlockCode}
-use Rattle.meaning.specs.Machine.{Reply, HasHistory}
-use Rattle.meaning.specs.Reading.{State, record_now}
-use Rattle.meaning.specs.Refusals.{Input}
-use Rattle.meaning.specs.Versions.{Version, version_with}
-use Rattle.meaning.specs.Content.{Content, VersionRow}
-use Rattle.meaning.proofs.Entered.{none_elsewhere, none_with, subject_eq-refl}
-use Rattle.meaning.proofs.Ids.{same_subject}
-use Rattle.meaning.proofs.Lagging.{no_row_at, row_has_id}
-use Rattle.settle.specs.Owing.{Owes, SaysStorage}
-use Rattle.settle.specs.Settling.{KeepsMeaning, LeavesRows, Settles, is_one_of}
+use Rattle.numbers.specs.declared.ported.Subject.{Subject as SubjectImpl}
+use Rattle.numbers.specs.declared.ported.Subject.TheVariants.{Number as NumberImpl, Block as BlockImpl}
+use Rattle.model.specs.Machine.{Reply, HasHistory}
+use Rattle.model.specs.State.{State, record_now}
+use Rattle.model.specs.Refusals.{Input}
+use Rattle.model.specs.Versions.{Version, version_with}
+use Rattle.model.specs.Content.{Content, VersionRow}
+use Rattle.model.proofs.Entered.{none_elsewhere, none_with, subject_eq-refl}
+use Rattle.model.proofs.Ids.{same_subject}
+use Rattle.model.proofs.Lagging.{no_row_at, row_has_id}
+use Rattle.settle.specs.StoreContract.{PreservesStore, ReportsStorage}
+use Rattle.settle.specs.Settling.{PreservesState, FramesRows, Settles, is_one_of}
 use Rattle.settle.proofs.Settled.{rows_joined}
 use Rattle.settle.proofs.Risen.{risen-since}
-use Rattle.register.specs.Answers.{Stands, AnswersAs}
-use Rattle.register.specs.Settling.{AnswersSettled, AreSettled, KeepsOthers, LeavesOthers, SaysOnceSettled, SettlesThose, is_of_id, is_of_number, settles}
+use Rattle.register.specs.Refinement.{Refines, SimulatesStep}
+use Rattle.register.specs.Settling.{SimulatesSettledStep, AreSettled, PreservesAndFrames, FramesOthers, ReportsOnceSettled, SettlesThose, is_of_id, is_of_number, settles}
 use Rattle.numbers.proofs.Small.{impossible, or_false}
 
 -- ---- some subjects
 
 -- a content that keeps its meaning stands
-pub meaning_stands : (old new : Content) → KeepsMeaning old new → (st : State) → Stands old st
-    → Stands new st
-meaning_stands old new kept st stands =
-    let still = kept st stands.represents stands.written in
-    record { represents = still.0; written = ap is_some still.1 ∙ stands.written }
+pub meaning_stands : (old new : Content) → PreservesState old new → (st : State) → Refines old st
+    → Refines new st
+meaning_stands old new kept st refines =
+    let still = kept st refines.represents refines.written in
+    record { represents = still.0; written = ap is_some still.1 ∙ refines.written }
 
 module _ (those : State → Subject → Bool) (chosen : Subject → Bool) (old new : Content) where
   -- where those that are not chosen are others, the others are kept
-  pub those_kept : KeepsMeaning old new
-      → ((s : Subject) → chosen s ≡ false → LeavesRows old new s)
-      → ((st : State) → Stands old st → (s : Subject) → those st s ≡ false → chosen s ≡ false)
-      → KeepsOthers those old new
-  those_kept kept leaves others st stands = (
-    meaning_stands old new kept st stands,
-    λ t other. leaves t (others st stands t other) st stands.represents stands.written,
+  pub those_kept : PreservesState old new
+      → ((s : Subject) → chosen s ≡ false → FramesRows old new s)
+      → ((st : State) → Refines old st → (s : Subject) → those st s ≡ false → chosen s ≡ false)
+      → PreservesAndFrames those old new
+  those_kept kept leaves others st refines = (
+    meaning_stands old new kept st refines,
+    λ t other. leaves t (others st refines t other) st refines.represents refines.written,
   )
 
   -- where they are all chosen, they are settled
   pub those_settled : ((s : Subject) → chosen s ≡ true → Settles old new s)
-      → ((st : State) → Stands old st → (s : Subject) → those st s ≡ true → chosen s ≡ true)
+      → ((st : State) → Refines old st → (s : Subject) → those st s ≡ true → chosen s ≡ true)
       → SettlesThose those old new
-  those_settled settled are st stands s its =
-      settled s (are st stands s its) st stands.represents stands.written
+  those_settled settled are st refines s its =
+      settled s (are st refines s its) st refines.represents refines.written
 
 -- ---- the subject of a version
 
 -- an id is that of one subject's version
 one_subject : (st : State) → HasHistory st → (id : ℕ) (s t : Subject)
     → is_of_id id st s ≡ true → is_of_id id st t ≡ true → t ≡ s
-one_subject st history id s t its also = go (subject_eq s t) refl
+one_subject st history id s t its also = by_cases (subject_eq s t) refl
   where
     apart : subject_eq s t ≡ false → (o : Option Version) → version_with id (record_now st s) ≡ o
         → t ≡ s
@@ -69,92 +69,98 @@ one_subject st history id s t its also = go (subject_eq s t) refl
         sym also ∙ none_with id (record_now st t).versions (none_elsewhere st history s t id v found
         e) in cc
 
-    go : (b : Bool) → subject_eq s t ≡ b → t ≡ s
-    go true e = same_subject s t e
-    go false e = apart e (version_with id (record_now st s)) refl
+    by_cases : (b : Bool) → subject_eq s t ≡ b → t ≡ s
+    by_cases true e = same_subject s t e
+    by_cases false e = apart e (version_with id (record_now st s)) refl
 
 pub version_is : (old : Content) (id : ℕ) (row : VersionRow) → get old.versions id ≡ Some row
-    → (subject : SubjectCode) → subject_of subject ≡ row.subject → (st : State) → Stands old st
+    → (subject : SubjectImpl) → subject_of subject ≡ row.subject → (st : State) → Refines old st
     → (s : Subject) → is_one_of (subject ∷ []) s ≡ is_of_id id st s
-version_is old id row found subject same st stands s =
-    ap (λ u. subject_eq s u || false) same ∙ go (subject_eq s row.subject) refl
+version_is old id row found subject same st refines s =
+    ap (λ u. subject_eq s u || false) same ∙ by_cases (subject_eq s row.subject) refl
   where
     has : is_of_id id st row.subject ≡ true
-    has = row_has_id st old stands.represents id row found
+    has = row_has_id st old refines.represents id row found
 
     other : subject_eq s row.subject ≡ false → (b : Bool) → is_of_id id st s ≡ b → b ≡ false
     other apart false e = refl
     other apart true e = impossible (sym (subject_eq-refl row.subject)
-        ∙ ap (λ u. subject_eq u row.subject) (sym (one_subject st stands.represents.history id
+        ∙ ap (λ u. subject_eq u row.subject) (sym (one_subject st refines.represents.history id
         row.subject s has e)) ∙ apart)
 
-    go : (b : Bool) → subject_eq s row.subject ≡ b → (b || false) ≡ is_of_id id st s
-    go true e = sym (ap (is_of_id id st) (sym (same_subject s row.subject e)) ∙ has)
-    go false e = sym (other e (is_of_id id st s) refl)
+    by_cases : (b : Bool) → subject_eq s row.subject ≡ b → (b || false) ≡ is_of_id id st s
+    by_cases true e = sym (ap (is_of_id id st) (sym (same_subject s row.subject e)) ∙ has)
+    by_cases false e = sym (other e (is_of_id id st s) refl)
 
 pub none_named : (old : Content) (id : ℕ) → get old.versions id ≡ None
     → SettlesThose (is_of_id id) old old
-none_named old id none st stands s its = let never : true ≡ false =
-    sym its ∙ no_row_at st old stands.represents id none s in cc
+none_named old id none st refines s its = let never : true ≡ false =
+    sym its ∙ no_row_at st old refines.represents id none s in cc
 
 -- ---- a number and its block
 
 pub number_is : (tn : Tn) (block : BlockId) → block.number ≡ block_of tn.number → (st : State)
     → (s : Subject)
-    → is_one_of (NumberCode tn ∷ BlockCode block ∷ []) s ≡ is_of_number tn.number st s
+    → is_one_of (NumberImpl tn ∷ BlockImpl block ∷ []) s ≡ is_of_number tn.number st s
 number_is tn block same st s =
     ap (λ b. subject_eq s (Number tn.number) || b)
     (or_false (subject_eq s (Block block.number)) ∙ ap (λ n. subject_eq s (Block n)) same)
 
 -- ---- all subjects
 
-pub all_kept : (old new : Content) → KeepsMeaning old new → KeepsOthers (λ st s. true) old new
-all_kept old new kept st stands = (
-  meaning_stands old new kept st stands,
+pub all_kept : (old new : Content) → PreservesState old new
+    → PreservesAndFrames (λ st s. true) old new
+all_kept old new kept st refines = (
+  meaning_stands old new kept st refines,
   λ t other. let never : true ≡ false = other in cc,
 )
 
 pub all_settled : (old new : Content) → ((s : Subject) → Settles old new s)
     → SettlesThose (λ st s. true) old new
-all_settled old new settled st stands s its = settled s st stands.represents stands.written
+all_settled old new settled st refines s its = settled s st refines.represents refines.written
 
 -- ---- the whole call
 
-module _ (old mid new : Content) (input : Input) (kept : KeepsOthers (λ st s. settles st input s)
+module _ (old mid new : Content) (input : Input)
+    (kept : PreservesAndFrames (λ st s. settles st input s)
     old mid) (settled : SettlesThose (λ st s. settles st input s) old mid) where
   -- what was settled is so of the content in between
-  pub are_settled : (st : State) → Stands old st → AreSettled mid st input
-  are_settled st stands = λ s its. settled st stands s its
+  pub are_settled : (st : State) → Refines old st → AreSettled mid st input
+  are_settled st refines = λ s its. settled st refines s its
 
-  pub answers_after : (reply : Option Reply) → AnswersSettled mid new input reply
-      → AnswersAs old new input reply
+  pub answers_after : (reply : Option Reply) → SimulatesSettledStep mid new input reply
+      → SimulatesStep old new input reply
   answers_after None answers =
-      λ st stands. (answers st (kept st stands).0 (are_settled st stands)).0
-  answers_after (Some reply) answers = λ st stands.
-      let given = answers st (kept st stands).0 (are_settled st stands) in
+      λ st refines. (answers st (kept st refines).0 (are_settled st refines)).0
+  answers_after (Some reply) answers = λ st refines.
+      let given = answers st (kept st refines).0 (are_settled st refines) in
       (given.0, given.1)
 
-  pub leaves_after : (reply : Option Reply) → AnswersSettled mid new input reply → (st : State)
-      → Stands old st → LeavesOthers old new st input
-  leaves_after None answers = λ st stands t other.
-      rows_joined t old mid new ((kept st stands).1 t other)
-      ((answers st (kept st stands).0 (are_settled st stands)).1 t other)
-  leaves_after (Some reply) answers = λ st stands t other.
-      rows_joined t old mid new ((kept st stands).1 t other)
-      ((answers st (kept st stands).0 (are_settled st stands)).2 t other)
+  pub leaves_after : (reply : Option Reply) → SimulatesSettledStep mid new input reply
+      → (st : State)
+      → Refines old st → FramesOthers old new st input
+  leaves_after None answers = λ st refines t other.
+      rows_joined t old mid new ((kept st refines).1 t other)
+      ((answers st (kept st refines).0 (are_settled st refines)).1 t other)
+  leaves_after (Some reply) answers = λ st refines t other.
+      rows_joined t old mid new ((kept st refines).1 t other)
+      ((answers st (kept st refines).0 (are_settled st refines)).2 t other)
 
 -- what a call owes whose settling owes its part, and what is behind that where its subjects are
 -- settled
-pub owes_after : {S : Type 0} (IsUsable IsHonest : S → Type 0) (failed : S
+pub owes_after : {S : Type 0} (IsUsable HasHonestDevice : S → Type 0) (failed : S
     → ℕ) (before middle after : S) {Settles Faults Answers Says : Type 0} (old mid : Content)
     (input : Input) →
-    Settles → Owes IsUsable IsHonest failed before middle Settles Faults →
-    (IsUsable middle → KeepsOthers (λ st s. settles st input s) old mid)
+    Settles → PreservesStore IsUsable HasHonestDevice failed before middle Settles Faults →
+    (IsUsable middle → PreservesAndFrames (λ st s. settles st input s) old mid)
     → (IsUsable middle → SettlesThose (λ st s. settles st input s) old mid) →
-    Owes IsUsable IsHonest failed middle after Answers (SaysOnceSettled (IsUsable after) mid input
-    Says) → Owes IsUsable IsHonest failed before after Answers (SaysStorage (IsUsable after) old
+    PreservesStore IsUsable HasHonestDevice failed middle after Answers
+    (ReportsOnceSettled (IsUsable after) mid input
+    Says) → PreservesStore IsUsable HasHonestDevice failed before after Answers
+    (ReportsStorage (IsUsable after) old
     Says)
-owes_after IsUsable IsHonest failed before middle after old mid input settles first kept settled
+owes_after IsUsable HasHonestDevice failed before middle after old mid input settles first kept
+    settled
     then_owed = record {
       usable = λ usable. first.usable (then_owed.usable usable);
       honest = λ honest. first.honest (then_owed.honest honest);
@@ -163,7 +169,7 @@ owes_after IsUsable IsHonest failed before middle after old mid input settles fi
       rises = le_trans first.rises then_owed.rises;
       storage = λ says.
           let held = then_owed.usable says.usable in
-          let stands : Stands old says.st = record {
+          let refines : Refines old says.st = record {
             represents = says.represents;
             written = says.written;
           } in
@@ -171,8 +177,8 @@ owes_after IsUsable IsHonest failed before middle after old mid input settles fi
           (then_owed.storage (record {
             usable = says.usable;
             st = says.st;
-            stands = (kept held says.st stands).0;
-            settled = are_settled old mid mid input (kept held) (settled held) says.st stands;
+            refines = (kept held says.st refines).0;
+            settled = are_settled old mid mid input (kept held) (settled held) says.st refines;
             says = says.says;
           }));
     }

@@ -1,25 +1,25 @@
 -- What a command comes to, exit by exit, and what becomes of it once its changes are made.
 use Rattle.std.proofs.Common.{◌≡◌, Some, refl, sym, subst}
 use Rattle.std.specs.Prelude.{Result, Ok, Err, IfErr}
-use Rattle.meaning.specs.Content.{Content}
-use Rattle.meaning.specs.Reading.{State}
-use Rattle.meaning.specs.RefusalNumbers.{number_of}
-use Rattle.meaning.specs.Refusals.{Input, refusal}
-use Rattle.meaning.specs.declared.refusal.Refusal.{Refusal}
-use Rattle.settle.specs.Changes.{Changes, IsChanged, no_changes}
+use Rattle.model.specs.Content.{Content}
+use Rattle.model.specs.State.{State}
+use Rattle.model.specs.RefusalNumbers.{number_of}
+use Rattle.model.specs.Refusals.{Input, refusal}
+use Rattle.model.specs.declared.refusal.Refusal.{Refusal}
+use Rattle.settle.specs.Changes.{Changes, AppliesChanges, no_changes}
 use Rattle.settle.specs.Faults.{refusal_of}
 use Rattle.settle.specs.declared.store.StoreFault.{StoreFault}
-use Rattle.calls.specs.Calls.{refused_with, replied, reply_of}
-use Rattle.calls.specs.declared.call.Reply.{Reply as ReplyCode}
-use Rattle.register.specs.Answers.{Stands}
+use Rattle.requests.specs.Calls.{refused_with, replied, reply_of}
+use Rattle.requests.specs.declared.call.Reply.{Reply as ReplyImpl}
+use Rattle.register.specs.Refinement.{Refines}
 use Rattle.register.specs.Deciding.{Decides, Refuses}
-use Rattle.register.specs.Settling.{AnswersSettled, AreSettled}
+use Rattle.register.specs.Settling.{SimulatesSettledStep, AreSettled}
 use Rattle.register.proofs.EveryCall.Composed.{answers_fault, answers_refused}
 
 -- ---- exits
 
-module _ (c : Content) (input : Input) (changes : Changes) (result : Result ReplyCode Refusal) where
-  pub decides_err : (r : Refusal) → result ≡ Err r → AnswersSettled c c input
+module _ (c : Content) (input : Input) (changes : Changes) (result : Result ReplyImpl Refusal) where
+  pub decides_err : (r : Refusal) → result ≡ Err r → SimulatesSettledStep c c input
       (refused_with (number_of r)) → Decides c input changes result
   decides_err r is answers = subst (Decides c input changes) (sym is) (record {
     refused = answers;
@@ -27,9 +27,9 @@ module _ (c : Content) (input : Input) (changes : Changes) (result : Result Repl
   })
 
   -- by what is said of a refused call
-  pub decides_replied : (r : Refusal) → result ≡ Err r → AnswersSettled c c input
+  pub decides_replied : (r : Refusal) → result ≡ Err r → SimulatesSettledStep c c input
       (replied reply_of result) → Decides c input changes result
-  decides_replied r is answers = decides_err r is (subst (λ x. AnswersSettled c c input
+  decides_replied r is answers = decides_err r is (subst (λ x. SimulatesSettledStep c c input
       (replied reply_of x)) is answers)
 
   -- for a fault of the store
@@ -46,7 +46,7 @@ refused_fault c input result fault is = subst (λ x. IfErr x (Refuses c input)) 
 
 -- as the machine refuses
 pub decides_refused : (c : Content) (input : Input) (changes : Changes) (r : Refusal) →
-    ((st : State) → Stands c st → AreSettled c st input → refusal st input ≡ Some (number_of r)) →
+    ((st : State) → Refines c st → AreSettled c st input → refusal st input ≡ Some (number_of r)) →
     Decides c input changes (Err r)
 decides_refused c input changes r refused = record {
   refused = answers_refused c input
@@ -57,16 +57,16 @@ decides_refused c input changes r refused = record {
 -- ---- carried out
 
 pub carried_refused : (old new : Content) (input : Input) (changes : Changes)
-    (result : Result ReplyCode Refusal) (r : Refusal) → result ≡ Err r → new ≡ old →
+    (result : Result ReplyImpl Refusal) (r : Refusal) → result ≡ Err r → new ≡ old →
     Decides old input changes (Err r) →
-    AnswersSettled old new input (replied reply_of result)
+    SimulatesSettledStep old new input (replied reply_of result)
 carried_refused old new input changes result r is same decides =
-    subst (λ x. AnswersSettled old new input (replied reply_of x)) (sym is)
-    (subst (λ m. AnswersSettled old m input (refused_with (number_of r)))
+    subst (λ x. SimulatesSettledStep old new input (replied reply_of x)) (sym is)
+    (subst (λ m. SimulatesSettledStep old m input (refused_with (number_of r)))
     (sym same) decides.refused)
 
-pub carried : (old mid new : Content) (input : Input) (changes : Changes) (reply : ReplyCode) →
-    mid ≡ old → Decides old input changes (Ok reply) → IsChanged changes mid new →
-    AnswersSettled old new input (Some (reply_of reply))
+pub carried : (old mid new : Content) (input : Input) (changes : Changes) (reply : ReplyImpl) →
+    mid ≡ old → Decides old input changes (Ok reply) → AppliesChanges changes mid new →
+    SimulatesSettledStep old new input (Some (reply_of reply))
 carried old mid new input changes reply same decides changed = decides.accepted new
-    (subst (λ m. IsChanged changes m new) same changed)
+    (subst (λ m. AppliesChanges changes m new) same changed)

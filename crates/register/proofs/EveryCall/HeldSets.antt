@@ -5,16 +5,16 @@ use Rattle.std.specs.Prelude.{◌+◌, ◌==◌, option_map, if◌then◌else◌
 use Rattle.std.specs.FinMap.{get}
 use Rattle.std.proofs.lemmas.Bool.Decides.{nat_tests}
 use Rattle.numbers.specs.Subjects.{Subject}
-use Rattle.meaning.specs.Content.{Content, ClockRow, ClockShows, Represents, VersionRow, row_of, stored_set}
-use Rattle.meaning.specs.History.{Entry, present_set, set_added, set_named, set_of_number, windows_named}
-use Rattle.meaning.specs.Machine.{IsHistory}
-use Rattle.meaning.specs.Reading.{State, record_now, set_now}
-use Rattle.meaning.specs.Versions.{Version, version_with}
-use Rattle.meaning.specs.Windows.{Windows, WindowSet, AreWindows, first_set}
+use Rattle.model.specs.Content.{Content, ClockRow, ClockRowMatches, Represents, VersionRow, row_of, stored_set}
+use Rattle.model.specs.History.{Entry, present_set, set_added, set_named, set_of_number, windows_named}
+use Rattle.model.specs.Machine.{IsHistory}
+use Rattle.model.specs.State.{State, record_now, set_now}
+use Rattle.model.specs.Versions.{Version, version_with}
+use Rattle.model.specs.Windows.{Windows, WindowSet, AreWindows, first_set}
 use Rattle.numbers.proofs.Small.{equal_number}
-use Rattle.meaning.proofs.Sets.{IsSetOf, held-is, present-are, present-is}
-use Rattle.meaning.proofs.Shown.{some_is}
-use Rattle.register.specs.Answers.{Stands}
+use Rattle.model.proofs.Sets.{IsSetOf, held-is, present-are, present-is}
+use Rattle.model.proofs.Shown.{some_is}
+use Rattle.register.specs.Refinement.{Refines}
 use Rattle.register.specs.Looking.{AreHeld, HasHeldSet, HasSet}
 use Rattle.register.proofs.EveryCall.Settled.{IdSettled, row_now}
 
@@ -29,20 +29,23 @@ windows-now c st represents = present-are st.windows st.history st.now represent
 set-are : (w : Windows) (h : List Entry) (now number : ℕ) (set : WindowSet) → AreWindows w →
     IsHistory w h now →
     set_of_number number w h ≡ Some set → AreWindows set.windows
-set-are w [] now number set are is found = go (1 == number) found
+set-are w [] now number set are is found = by_cases (1 == number) found
   where
-    go : (b : Bool) → (if b then Some (first_set w) else None) ≡ Some set → AreWindows set.windows
-    go true e = subst (λ (x : WindowSet). AreWindows x.windows) (some_is (first_set w) set e) are
-    go false e = let never : None ≡ Some set = e in cc
+    by_cases : (b : Bool) → (if b then Some (first_set w) else None) ≡ Some set
+        → AreWindows set.windows
+    by_cases true e = subst (λ (x : WindowSet). AreWindows x.windows) (some_is (first_set w) set e)
+        are
+    by_cases false e = let never : None ≡ Some set = e in cc
 set-are w (e ∷ h) now number set are is found =
-    go (set-are w h e.minute number set are is.3) (windows_named e.request) refl found
+    by_cases (set-are w h e.minute number set are is.3) (windows_named e.request) refl found
   where
-    go : (set_of_number number w h ≡ Some set → AreWindows set.windows) → (o : Option Windows) →
+    by_cases : (set_of_number number w h ≡ Some set → AreWindows set.windows) → (o : Option Windows)
+        →
         windows_named e.request ≡ o →
         set_named number o (present_set w h) (set_of_number number w h) ≡ Some set →
         AreWindows set.windows
-    go before None named f = before f
-    go before (Some windows) named f = new ((present_set w h).number + 1 == number) f
+    by_cases before None named f = before f
+    by_cases before (Some windows) named f = new ((present_set w h).number + 1 == number) f
       where
         windows_are : AreWindows windows
         windows_are = subst (λ p. AreWindows (set_added p (present_set w h)).windows) named
@@ -62,7 +65,7 @@ module _ (st : State) (c : Content) (clock : ClockRow) (represents : Represents 
     (set : WindowSet) (its : IsSetOf st.windows st.history set) where
   present_now : clock.present ≡ set_now st
   present_now = ap (λ (k : ClockRow). k.present)
-      (subst (λ o. ClockShows o st) clock_is represents.clock)
+      (subst (λ o. ClockRowMatches o st) clock_is represents.clock)
 
   stored : get c.sets set.number ≡ Some set.windows
   stored = represents.sets set.number ∙ ap (λ o. stored_set o st set.number) clock_is
@@ -81,17 +84,17 @@ module _ (st : State) (c : Content) (clock : ClockRow) (represents : Represents 
 
   -- and what is read by its number are its windows
   pub held_read : (w : Windows) → AreHeld c clock set.number w → w ≡ set.windows
-  held_read w are = go (set.number == clock.present.number) refl
+  held_read w are = by_cases (set.number == clock.present.number) refl
     where
       apart : set.number ≡ clock.present.number → (set.number == clock.present.number) ≡ false → ⊥
       apart same e = grind (arith, nat_tests)
 
-      go : (b : Bool) → (set.number == clock.present.number) ≡ b → w ≡ set.windows
-      go true e =
+      by_cases : (b : Bool) → (set.number == clock.present.number) ≡ b → w ≡ set.windows
+      by_cases true e =
           let same : set.number ≡ clock.present.number =
           equal_number set.number clock.present.number e in
           are.present same ∙ sym (ap (λ (x : WindowSet). x.windows) (same_set same))
-      go false e = some_is w set.windows (sym (are.earlier (λ same. apart same e)) ∙ stored)
+      by_cases false e = some_is w set.windows (sym (are.earlier (λ same. apart same e)) ∙ stored)
 
 -- ---- the set that a version holds
 
@@ -114,14 +117,14 @@ row_held st c clock represents clock_is s id v found row is w are =
     (subst (λ (r : VersionRow). AreHeld c clock r.held w) is are)
 
 -- of each version of a settled subject there is such a set
-pub has_held_set : (st : State) (c : Content) (id : ℕ) → Stands c st → IdSettled c st id →
+pub has_held_set : (st : State) (c : Content) (id : ℕ) → Refines c st → IdSettled c st id →
     HasHeldSet c id
-has_held_set st c id stands settled = record {
-  written = stands.written;
+has_held_set st c id refines settled = record {
+  written = refines.written;
   has_set = λ clock row is there.
       let found : (v : Version) × (version_with id (record_now st row.subject) ≡ Some v) ×
-      (row ≡ row_of row.subject v) = row_now st c id row stands.represents settled there in
+      (row ≡ row_of row.subject v) = row_now st c id row refines.represents settled there in
       subst (λ (r : VersionRow). HasSet c clock r.held) (sym found.2)
-      (has_set st c clock stands.represents is found.0.held
-      (held-is st stands.represents.history row.subject id found.0 found.1));
+      (has_set st c clock refines.represents is found.0.held
+      (held-is st refines.represents.history row.subject id found.0 found.1));
 }

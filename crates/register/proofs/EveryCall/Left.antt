@@ -1,64 +1,68 @@
 -- What a crash may leave, step after step of a call.
 use Rattle.std.proofs.Common.{◌≡◌, ◌⊎◌, inl, inr, Some, sym, subst}
-use Rattle.meaning.specs.Content.{Content}
-use Rattle.meaning.specs.Machine.{Reply}
-use Rattle.meaning.specs.Refusals.{Input}
-use Rattle.settle.specs.Owing.{Leaves, LeavesNoMore}
-use Rattle.settle.specs.Settling.{KeepsMeaning}
-use Rattle.register.specs.Answers.{Stands}
-use Rattle.register.specs.Crashes.{StaysAs, ComesSettled}
-use Rattle.register.specs.Settling.{AnswersSettled}
+use Rattle.model.specs.Content.{Content}
+use Rattle.model.specs.Machine.{Reply}
+use Rattle.model.specs.Refusals.{Input}
+use Rattle.settle.specs.StoreContract.{AddsOnlyCrashStates, AddsNoCrashState}
+use Rattle.settle.specs.Settling.{PreservesState}
+use Rattle.register.specs.Refinement.{Refines}
+use Rattle.register.specs.Crashes.{KeepsState, TakesSettledStep}
+use Rattle.register.specs.Settling.{SimulatesSettledStep}
 use Rattle.register.proofs.EveryCall.Before.{meaning_stands}
 
 -- a content of which a call would be answered
 pub comes : (old new : Content) (input : Input) (reply : Reply)
-    → AnswersSettled old new input (Some reply) → ComesSettled old input new
-comes old new input reply answers = λ st stands settled. (answers st stands settled).1
+    → SimulatesSettledStep old new input (Some reply) → TakesSettledStep old input new
+comes old new input reply answers = λ st refines settled. (answers st refines settled).1
 
-pub same_stays : (old new : Content) → new ≡ old → StaysAs old new
-same_stays old new same = λ st stands. subst (λ m. Stands m st) (sym same) stands
+pub same_stays : (old new : Content) → new ≡ old → KeepsState old new
+same_stays old new same = λ st refines. subst (λ m. Refines m st) (sym same) refines
 
-module _ {S : Type 0} (IsUsable IsHonest : S → Type 0) (content : S → Content) (MayLeave : S
+module _ {S : Type 0} (IsUsable HasHonestDevice : S → Type 0) (content : S
+    → Content) (IsCrashState : S
     → Content → Type 0) (a b d : S) where
   abbrev pub LeavesStaying : (old new : S) → Type 0
   LeavesStaying old new =
-      Leaves IsHonest MayLeave old new (λ m. IsUsable old × StaysAs (content old) m)
+      AddsOnlyCrashStates HasHonestDevice IsCrashState old new (λ m. IsUsable old
+      × KeepsState (content old) m)
 
   abbrev pub LeavesMeaning : (old new : S) → Type 0
   LeavesMeaning old new =
-      Leaves IsHonest MayLeave old new (λ m. IsUsable old × KeepsMeaning (content old) m)
+      AddsOnlyCrashStates HasHonestDevice IsCrashState old new (λ m. IsUsable old
+      × PreservesState (content old) m)
 
   -- a settling alone
   pub left_settled : LeavesMeaning a d → LeavesStaying a d
-  left_settled settles done m may = go (settles done m may)
+  left_settled settles done m may = by_cases (settles done m may)
     where
-      go : MayLeave a m ⊎ (IsUsable a × KeepsMeaning (content a) m) → MayLeave a m
-          ⊎ (IsUsable a × StaysAs (content a) m)
-      go (inl before) = inl before
-      go (inr kept) = inr (kept.0, meaning_stands (content a) m kept.1)
+      by_cases : IsCrashState a m ⊎ (IsUsable a × PreservesState (content a) m) → IsCrashState a m
+          ⊎ (IsUsable a × KeepsState (content a) m)
+      by_cases (inl before) = inl before
+      by_cases (inr kept) = inr (kept.0, meaning_stands (content a) m kept.1)
 
   -- a settling after what left the meaning
-  pub left_then : (IsHonest d → IsHonest b)
-      → (IsUsable b → IsUsable a × StaysAs (content a) (content b)) → LeavesStaying a b
+  pub left_then : (HasHonestDevice d → HasHonestDevice b)
+      → (IsUsable b → IsUsable a × KeepsState (content a) (content b)) → LeavesStaying a b
       → LeavesStaying b d → LeavesStaying a d
-  left_then honest stays first second done m may = go (second done m may)
+  left_then honest stays first second done m may = by_cases (second done m may)
     where
-      go : MayLeave b m ⊎ (IsUsable b × StaysAs (content b) m) → MayLeave a m
-          ⊎ (IsUsable a × StaysAs (content a) m)
-      go (inl before) = first (honest done) m before
-      go (inr kept) = let was = stays kept.0 in
-          inr (was.0, λ st stands. kept.1 st (was.1 st stands))
+      by_cases : IsCrashState b m ⊎ (IsUsable b × KeepsState (content b) m) → IsCrashState a m
+          ⊎ (IsUsable a × KeepsState (content a) m)
+      by_cases (inl before) = first (honest done) m before
+      by_cases (inr kept) = let was = stays kept.0 in
+          inr (was.0, λ st refines. kept.1 st (was.1 st refines))
 
   -- a settling after a read
-  pub left_read : (IsHonest d → IsHonest b) → (IsUsable b → IsUsable a × (content b ≡ content a))
-      → LeavesNoMore IsHonest MayLeave a b → LeavesStaying b d → LeavesStaying a d
+  pub left_read : (HasHonestDevice d → HasHonestDevice b)
+      → (IsUsable b → IsUsable a × (content b ≡ content a))
+      → AddsNoCrashState HasHonestDevice IsCrashState a b → LeavesStaying b d → LeavesStaying a d
   left_read honest same read = left_then honest (λ usable. let was = same usable in
       (was.0, same_stays (content a) (content b) was.1)) (λ done m may. inl (read done m may))
 
   -- a call that was answered: the store can be used, and a crash leaves its content alone
-  pub left_kept : ((s : S) (m : Content) → IsUsable s → MayLeave s m → m ≡ content s)
-      → (Holds : Content → Type 0) → (IsHonest d → IsUsable d) → (IsUsable d → IsUsable a)
+  pub left_kept : ((s : S) (m : Content) → IsUsable s → IsCrashState s m → m ≡ content s)
+      → (Holds : Content → Type 0) → (HasHonestDevice d → IsUsable d) → (IsUsable d → IsUsable a)
       → (IsUsable d → Holds (content d)) →
-      Leaves IsHonest MayLeave a d (λ m. IsUsable a × Holds m)
+      AddsOnlyCrashStates HasHonestDevice IsCrashState a d (λ m. IsUsable a × Holds m)
   left_kept alone Holds ready was holds done m may = let used = ready done in
       inr (was used, subst Holds (sym (alone d m used may)) (holds used))

@@ -1,25 +1,25 @@
 -- What is answered where a version is looked up, in vain or not.
 use Rattle.std.proofs.Common.{◌≡◌, ℕ, Bool, true, false, inl, inr, None, refl, ap, sym, ◌∙◌, subst}
 use Rattle.std.specs.Prelude.{Result, Err}
-use Rattle.meaning.specs.Reading.{State}
-use Rattle.meaning.specs.declared.refusal.Refusal.TheVariants.{Storage}
-use Rattle.settle.specs.Owing.{IsAnswered, Reads}
+use Rattle.model.specs.State.{State}
+use Rattle.model.specs.declared.refusal.Refusal.TheVariants.{Storage}
+use Rattle.settle.specs.StoreContract.{IsAvailable, IsReadOnly}
 use Rattle.settle.proofs.Faults.{same_refusal}
 use Rattle.settle.proofs.ReadOn.{reads_told}
-use Rattle.register.specs.Answers.{Stands}
+use Rattle.register.specs.Refinement.{Refines}
 use Rattle.std.specs.FinMap.{get}
-use Rattle.meaning.specs.Content.{ClockRow, Content}
-use Rattle.meaning.specs.Windows.{Windows}
+use Rattle.model.specs.Content.{ClockRow, Content}
+use Rattle.model.specs.Windows.{Windows}
 use Rattle.settle.specs.declared.rows.VersionRow.{VersionRow}
-use Rattle.meaning.specs.Machine.{Reply}
-use Rattle.meaning.specs.Refusals.{Input}
-use Rattle.meaning.specs.declared.refusal.Refusal.{Refusal}
-use Rattle.calls.specs.Calls.{refused_with, replied, reply_of}
+use Rattle.model.specs.Machine.{Reply}
+use Rattle.model.specs.Refusals.{Input}
+use Rattle.model.specs.declared.refusal.Refusal.{Refusal}
+use Rattle.requests.specs.Calls.{refused_with, replied, reply_of}
 use Rattle.register.specs.Deciding.{Decides}
-use Rattle.register.specs.Looking.{HasHeldSet, IsLookedUp, IsLookedUpInVain}
-use Rattle.register.specs.Settling.{AnswersSettled, AreSettled, SaysOnceSettled}
+use Rattle.register.specs.Looking.{HasHeldSet, IsLookedUp, IsLookupRefused}
+use Rattle.register.specs.Settling.{SimulatesSettledStep, AreSettled, ReportsOnceSettled}
 use Rattle.settle.specs.Changes.{Changes}
-use Rattle.calls.specs.declared.call.Reply.{Reply as ReplyCode}
+use Rattle.requests.specs.declared.call.Reply.{Reply as ReplyImpl}
 use Rattle.register.proofs.EveryCall.Composed.{answers_without}
 use Rattle.register.proofs.EveryCall.Deciding.{decides_replied}
 
@@ -32,30 +32,32 @@ looked_up_before old mid is_known id clock row held same found =
 -- by what is answered to a caller who is not known, and of an id that no version has
 pub answers_in_vain : {A : Type 0} (old mid new : Content) (input : Input) (is_known : Bool)
     (id : ℕ) (seen : A → Reply) (result : Result A Refusal) (r : Refusal) →
-    result ≡ Err r → mid ≡ old → new ≡ mid → IsLookedUpInVain mid is_known id r →
-    (is_known ≡ false → AnswersSettled old new input (refused_with 1)) →
-    (is_known ≡ true → get old.versions id ≡ None → AnswersSettled old new input (refused_with 10))
+    result ≡ Err r → mid ≡ old → new ≡ mid → IsLookupRefused mid is_known id r →
+    (is_known ≡ false → SimulatesSettledStep old new input (refused_with 1)) →
+    (is_known ≡ true → get old.versions id ≡ None
+    → SimulatesSettledStep old new input (refused_with 10))
     →
-    AnswersSettled old new input (replied seen result)
+    SimulatesSettledStep old new input (replied seen result)
 answers_in_vain old mid new input is_known id seen result r is early late vain unknown missing =
-    subst (λ x. AnswersSettled old new input (replied seen x)) (sym is)
-    (go (subst (λ m. IsLookedUpInVain m is_known id r) early vain))
+    subst (λ x. SimulatesSettledStep old new input (replied seen x)) (sym is)
+    (by_cases (subst (λ m. IsLookupRefused m is_known id r) early vain))
   where
-    go : IsLookedUpInVain old is_known id r → AnswersSettled old new input (replied seen (Err r))
-    go (inl (its, stranger)) =
-        subst (λ x. AnswersSettled old new input (replied seen (Err x))) (sym its)
+    by_cases : IsLookupRefused old is_known id r
+        → SimulatesSettledStep old new input (replied seen (Err r))
+    by_cases (inl (its, stranger)) =
+        subst (λ x. SimulatesSettledStep old new input (replied seen (Err x))) (sym its)
         (unknown stranger)
-    go (inr (inl (its, registered, none))) =
-        subst (λ x. AnswersSettled old new input (replied seen (Err x))) (sym its)
+    by_cases (inr (inl (its, registered, none))) =
+        subst (λ x. SimulatesSettledStep old new input (replied seen (Err x))) (sym its)
         (missing registered none)
-    go (inr (inr past)) = answers_without old new input _ past (late ∙ early)
+    by_cases (inr (inr past)) = answers_without old new input _ past (late ∙ early)
 
 -- the same, before anything is written and where nothing else was read
 pub decides_in_vain : (old : Content) (input : Input) (changes : Changes) (is_known : Bool)
-    (id : ℕ) (result : Result ReplyCode Refusal) (r : Refusal) → result ≡ Err r
-    → IsLookedUpInVain old is_known id r
-    → (is_known ≡ false → AnswersSettled old old input (refused_with 1))
-    → (is_known ≡ true → get old.versions id ≡ None → AnswersSettled old old input
+    (id : ℕ) (result : Result ReplyImpl Refusal) (r : Refusal) → result ≡ Err r
+    → IsLookupRefused old is_known id r
+    → (is_known ≡ false → SimulatesSettledStep old old input (refused_with 1))
+    → (is_known ≡ true → get old.versions id ≡ None → SimulatesSettledStep old old input
     (refused_with 10)) → Decides old input changes result
 decides_in_vain old input changes is_known id result r is vain unknown missing =
     decides_replied old input changes result r is
@@ -63,19 +65,19 @@ decides_in_vain old input changes is_known id result r is vain unknown missing =
     missing)
 
 -- and what was read for it
-module _ {S : Type 0} {IsUsable IsHonest : S → Type 0} {MayLeave : S → Content → Type 0}
+module _ {S : Type 0} {IsUsable HasHonestDevice : S → Type 0} {IsCrashState : S → Content → Type 0}
     {content : S → Content} {failed : S → ℕ} {a b : S} where
   pub reads_in_vain : {A B : Type 0} {old : Content} {id : ℕ} {input : Input} (r : Refusal)
       (result : Result A Refusal) → result ≡ Err r
-      → Reads IsUsable IsHonest MayLeave content failed a b
-      (IsAnswered {A = B} (Err r))
+      → IsReadOnly IsUsable HasHonestDevice IsCrashState content failed a b
+      (IsAvailable {A = B} (Err r))
       (IsUsable b × HasHeldSet old id × (◌≡◌ {A = Result B Refusal} (Err r) (Err Storage)))
-      → ((st : State) → Stands old st → AreSettled old st input → HasHeldSet old id)
-      → Reads IsUsable IsHonest MayLeave content failed a b (IsAnswered result)
-      (SaysOnceSettled (IsUsable b) old input (result ≡ Err Storage))
-  reads_in_vain r result is read held = reads_told read (subst IsAnswered is)
+      → ((st : State) → Refines old st → AreSettled old st input → HasHeldSet old id)
+      → IsReadOnly IsUsable HasHonestDevice IsCrashState content failed a b (IsAvailable result)
+      (ReportsOnceSettled (IsUsable b) old input (result ≡ Err Storage))
+  reads_in_vain r result is read held = reads_told read (subst IsAvailable is)
       (λ says. (
         says.usable,
-        held says.st says.stands says.settled,
+        held says.st says.refines says.settled,
         ap Err (same_refusal r result is says.says),
       ))

@@ -4,37 +4,37 @@ use Rattle.std.specs.Prelude.{nat_lt, is_none, option_map, if◌then◌else◌}
 use Rattle.std.specs.List.{list_any}
 use Rattle.std.specs.FinMap.{get, keys}
 use Rattle.numbers.specs.Subjects.{Subject, Block, subject_eq}
-use Rattle.numbers.specs.Views.{subject_of}
+use Rattle.numbers.specs.Abstraction.{subject_of}
 use Rattle.numbers.specs.declared.cic.Cic.{Cic}
-use Rattle.meaning.specs.declared.refusal.Refusal.{Refusal}
-use Rattle.meaning.specs.declared.refusal.Refusal.TheVariants.{Storage}
-use Rattle.meaning.specs.Statuses.{Create}
-use Rattle.meaning.specs.Changes.{sent}
-use Rattle.meaning.specs.Conditions.{limit}
-use Rattle.meaning.specs.Content.{ClockRow, Content, stored_block}
-use Rattle.meaning.specs.History.{Commands, donor_of, made_version, next_id, with_made}
-use Rattle.meaning.specs.Machine.{Shown, accepted, answer_of}
-use Rattle.meaning.specs.Reading.{State, View, record_now, view_of, set_now, next_of}
-use Rattle.meaning.specs.RefusalNumbers.{number_of}
-use Rattle.meaning.specs.Refusals.{Requests, is_in_block, refusal}
-use Rattle.meaning.specs.Versions.{Version, version_with}
-use Rattle.meaning.proofs.Accepted.{accepted_command}
-use Rattle.meaning.proofs.Entered.{subject_eq-refl}
+use Rattle.model.specs.declared.refusal.Refusal.{Refusal}
+use Rattle.model.specs.declared.refusal.Refusal.TheVariants.{Storage}
+use Rattle.model.specs.Statuses.{Create}
+use Rattle.model.specs.Changes.{next_attempt}
+use Rattle.model.specs.Conditions.{limit}
+use Rattle.model.specs.Content.{ClockRow, Content, stored_block}
+use Rattle.model.specs.History.{CommandRequest, donor_of, made_version, next_id, with_made}
+use Rattle.model.specs.Machine.{Shown, accepted, answer_of}
+use Rattle.model.specs.State.{State, View, record_now, view_of, set_now, next_of}
+use Rattle.model.specs.RefusalNumbers.{number_of}
+use Rattle.model.specs.Refusals.{RequestFrom, is_in_block, refusal}
+use Rattle.model.specs.Versions.{Version, version_with}
+use Rattle.model.proofs.Accepted.{accepted_command}
+use Rattle.model.proofs.Entered.{subject_eq-refl}
 use Rattle.numbers.proofs.Small.{same_number}
-use Rattle.version.specs.declared.version.Version.{Version as VersionCode}
-use Rattle.version.specs.Views.{IsSeen, version_of}
-use Rattle.settle.specs.Changes.{ClockMove, IsChanged}
-use Rattle.settle.specs.Sending.{Begun, begun_of, sending_each}
+use Rattle.version.specs.declared.version.Version.{Version as VersionImpl}
+use Rattle.version.specs.Abstraction.{HasModel, version_of}
+use Rattle.settle.specs.Changes.{ClockMove, AppliesChanges}
+use Rattle.settle.specs.Sending.{SendingVersion, begun_of, sends_changes}
 use Rattle.pool.specs.declared.assignment.Assignment.{Assignment}
 use Rattle.pool.specs.declared.facts.BlockFacts.{BlockFacts}
 use Rattle.pool.specs.Assignments.{IsAssigned, assignment_refusal, assignment_tests, command_of as assigned}
 use Rattle.pool.specs.Facts.{carrier_number}
 use Rattle.pool.proofs.BlockRefused.{assignment_refused}
-use Rattle.calls.specs.Calls.{refused_with}
+use Rattle.requests.specs.Calls.{refused_with}
 use Rattle.register.specs.declared.blocks.BlockRead.{BlockRead}
-use Rattle.register.specs.Answers.{Stands}
-use Rattle.register.specs.Pooling.{pooling}
-use Rattle.register.specs.Settling.{AnswersSettled, AreSettled, LeavesOthers, is_of_block}
+use Rattle.register.specs.Refinement.{Refines}
+use Rattle.register.specs.Pooling.{block_changes}
+use Rattle.register.specs.Settling.{SimulatesSettledStep, AreSettled, FramesOthers, is_of_block}
 use Rattle.register.proofs.OnBlocks.BlockCalled.{HasFound, not_past}
 use Rattle.register.proofs.OnBlocks.BlockCommands.{assigned_row, assignment-blocks, assignment-makes, unsent_block}
 use Rattle.register.proofs.OnBlocks.BlockFacts.{block_facts_are}
@@ -59,33 +59,35 @@ assignment_never caller facts r is storage =
 module _ (old new : Content) (caller : ℕ) (a : Assignment) (clock : ClockRow) (read : BlockRead)
     (facts : BlockFacts) (has : HasFound old caller a.block.number (assigned a) clock read
     facts) where
-  refused_read : (st : State) → Stands old st
-      → AreSettled old st (Requests caller (Commands (assigned a)))
-      → refusal st (Requests caller (Commands (assigned a))) ≡ assignment_refusal caller facts
-  refused_read st stands settled =
-      assignment_refused st caller facts a (block_facts_are st old stands a.block.number settled
+  refused_read : (st : State) → Refines old st
+      → AreSettled old st (RequestFrom caller (CommandRequest (assigned a)))
+      → refusal st (RequestFrom caller (CommandRequest (assigned a))) ≡ assignment_refusal caller
+      facts
+  refused_read st refines settled =
+      assignment_refused st caller facts a (block_facts_are st old refines a.block.number settled
       read has.is_read clock has.clock_is caller (assigned a) facts has.are refl)
-      ∙ ap (λ b. if b then Some 1 else assignment_refusal caller facts) (has.known st stands)
+      ∙ ap (λ b. if b then Some 1 else assignment_refusal caller facts) (has.known st refines)
 
   pub answers_assignment_refused : (k : ℕ) → new ≡ old → Some k ≡ assignment_refusal caller facts
-      → AnswersSettled old new (Requests caller (Commands (assigned a))) (refused_with k)
+      → SimulatesSettledStep old new (RequestFrom caller (CommandRequest (assigned a)))
+      (refused_with k)
   answers_assignment_refused k same refused =
-      answers_refused_same old new (Requests caller (Commands (assigned a))) k same
-      (λ st stands settled. refused_read st stands settled ∙ sym refused)
+      answers_refused_same old new (RequestFrom caller (CommandRequest (assigned a))) k same
+      (λ st refines settled. refused_read st refines settled ∙ sym refused)
 
-  module _ (version : VersionCode) (everyone : List ℕ) (view : View)
+  module _ (version : VersionImpl) (all_carriers : List ℕ) (view : View)
       (accepts : None ≡ assignment_refusal caller facts) (is : IsAssigned clock.present clock.minute
       a (carrier_number facts.donor) version)
-      (are_all : everyone ≡ keys old.carriers)
+      (are_all : all_carriers ≡ keys old.carriers)
       (views : Views clock.present.windows clock clock.next_id version view)
       (changed : clock.next_id + 1 ≤ limit
-      → IsChanged
-      (pooling (sending_each clock.minute Create (begun_of clock.present.windows
-      (clock.next_id, version) ∷ []) everyone)
+      → AppliesChanges
+      (block_changes (sends_changes clock.minute Create (begun_of clock.present.windows
+      (clock.next_id, version) ∷ []) all_carriers)
       (assigned_row a.block.number version.old_provider.number clock.next_id)
       (record { minute = clock.minute; next_id = clock.next_id + 1 })) old new) where
-    module _ (st : State) (stands : Stands old st)
-        (settled : AreSettled old st (Requests caller (Commands (assigned a)))) where
+    module _ (st : State) (refines : Refines old st)
+        (settled : AreSettled old st (RequestFrom caller (CommandRequest (assigned a)))) where
       abbrev cic : Option ℕ
       cic = option_map (λ (x : Cic). x.number) a.routing.cic
 
@@ -97,36 +99,36 @@ module _ (old new : Content) (caller : ℕ) (a : Assignment) (clock : ClockRow) 
           a.routing.lrn.number (option_map (λ (x : Cic). x.number) a.routing.cic)
 
       abbrev after_it : State
-      after_it = accepted st (Requests caller (Commands (assigned a)))
+      after_it = accepted st (RequestFrom caller (CommandRequest (assigned a)))
 
       abbrev first : ℕ
       first = next_of st
 
-      none : refusal st (Requests caller (Commands (assigned a))) ≡ None
-      none = refused_read st stands settled ∙ sym accepts
+      none : refusal st (RequestFrom caller (CommandRequest (assigned a))) ≡ None
+      none = refused_read st refines settled ∙ sym accepts
 
       same_clock : clock ≡ clock_of st
-      same_clock = clock_is_of old st clock stands.represents has.clock_is
+      same_clock = clock_is_of old st clock refines.represents has.clock_is
 
       donor_is : carrier_number facts.donor ≡ donor_of a.block.number st.history
-      donor_is = (block_facts_are st old stands a.block.number settled read has.is_read clock
+      donor_is = (block_facts_are st old refines a.block.number settled read has.is_read clock
           has.clock_is caller (assigned a) facts has.are refl).donor
 
       -- the version as the definitions make it
       made : (id : ℕ) (cs : List ℕ)
-          → version_of id (sent (set_now st) Create cs st.now (blank id)).broadcasts
-          (set_now st).windows version ≡ sent (set_now st) Create cs st.now (blank id)
+          → version_of id (next_attempt (set_now st) Create cs st.now (blank id)).broadcasts
+          (set_now st).windows version ≡ next_attempt (set_now st) Create cs st.now (blank id)
       made id cs =
-          subst (λ d. IsSeen version (made_version (set_now st) id caller st.now cs d
-          (Commands (assigned a)))) donor_is
-          (subst (λ (k : ClockRow). IsSeen version
+          subst (λ d. HasModel version (made_version (set_now st) id caller st.now cs d
+          (CommandRequest (assigned a)))) donor_is
+          (subst (λ (k : ClockRow). HasModel version
           (made_version k.present id caller k.minute cs (carrier_number facts.donor)
-          (Commands (assigned a)))) same_clock (is.version id caller cs))
+          (CommandRequest (assigned a)))) same_clock (is.version id caller cs))
 
-      begun : List Begun
+      begun : List SendingVersion
       begun = begun_of (set_now st).windows (next_of st, version) ∷ []
 
-      are : AreBegun (set_now st) st.now everyone blank (λ id. refl) (λ id. refl) (λ id. refl)
+      are : AreBegun (set_now st) st.now all_carriers blank (λ id. refl) (λ id. refl) (λ id. refl)
           (next_of st)
           (begun_of (set_now st).windows (next_of st, version) ∷ [])
       are = (refl, ap bare (made (next_of st) []), tt)
@@ -151,72 +153,74 @@ module _ (old new : Content) (caller : ℕ) (a : Assignment) (clock : ClockRow) 
       abbrev next : ClockMove
       next = record { minute = st.now; next_id = next_of st + 1 }
 
-      put : IsChanged
-          (pooling (sending_each st.now Create
-          (begun_of (set_now st).windows (next_of st, version) ∷ []) everyone)
+      put : AppliesChanges
+          (block_changes (sends_changes st.now Create
+          (begun_of (set_now st).windows (next_of st, version) ∷ []) all_carriers)
           (assigned_row a.block.number the_donor.0 (next_of st)) next) old new
       put = subst
-          (λ d. IsChanged
-          (pooling (sending_each st.now Create
-          (begun_of (set_now st).windows (next_of st, version) ∷ []) everyone)
+          (λ d. AppliesChanges
+          (block_changes (sends_changes st.now Create
+          (begun_of (set_now st).windows (next_of st, version) ∷ []) all_carriers)
           (assigned_row a.block.number d (next_of st)) next) old new) donor_named
-          (subst (λ (k : ClockRow). IsChanged
-          (pooling (sending_each k.minute Create
-          (begun_of k.present.windows (k.next_id, version) ∷ []) everyone)
+          (subst (λ (k : ClockRow). AppliesChanges
+          (block_changes (sends_changes k.minute Create
+          (begun_of k.present.windows (k.next_id, version) ∷ []) all_carriers)
           (assigned_row a.block.number version.old_provider.number k.next_id)
           (record { minute = k.minute; next_id = k.next_id + 1 })) old new) same_clock
           (changed room))
 
       blocks : (k : ℕ)
-          → get new.blocks k ≡ stored_block (accepted st (Requests caller (Commands (assigned a))))
+          → get new.blocks k ≡ stored_block
+          (accepted st (RequestFrom caller (CommandRequest (assigned a))))
           k
       blocks k = put.blocks k ∙ assignment-blocks st old caller a.block.number a.holder.number
-          a.routing.lrn.number cic the_donor.0 stands the_donor.1 k
+          a.routing.lrn.number cic the_donor.0 refines the_donor.1 k
 
       here : (t : Subject) → list_any (subject_eq t) (Block a.block.number ∷ []) ≡ true
           → is_of_block a.block.number st t ≡ true
-      here t named = go (subject_eq t (Block a.block.number)) named
+      here t named = by_cases (subject_eq t (Block a.block.number)) named
         where
-          go : (b : Bool) → (b || false) ≡ true → (b || is_in_block a.block.number t) ≡ true
-          go true e = refl
-          go false e = cc
+          by_cases : (b : Bool) → (b || false) ≡ true → (b || is_in_block a.block.number t) ≡ true
+          by_cases true e = refl
+          by_cases false e = cc
 
       within : (t : Subject) → is_of_block a.block.number st t ≡ false
           → list_any (subject_eq t) (Block a.block.number ∷ []) ≡ false
-      within t other = go (subject_eq t (Block a.block.number)) other
+      within t other = by_cases (subject_eq t (Block a.block.number)) other
         where
-          go : (b : Bool) → (b || is_in_block a.block.number t) ≡ false → (b || false) ≡ false
-          go false e = refl
-          go true e = cc
+          by_cases : (b : Bool) → (b || is_in_block a.block.number t) ≡ false → (b || false) ≡ false
+          by_cases false e = refl
+          by_cases true e = cc
 
-      assigned-stands : Stands new after_it
-          × LeavesOthers old new st (Requests caller (Commands (assigned a)))
+      assigned-stands : Refines new after_it
+          × FramesOthers old new st (RequestFrom caller (CommandRequest (assigned a)))
       assigned-stands =
-          pooled-stands st caller (Commands (assigned a)) (Block a.block.number ∷ []) blank
+          pooled-stands st caller (CommandRequest (assigned a)) (Block a.block.number ∷ []) blank
           (assignment-makes st caller a.block.number a.holder.number a.routing.lrn.number cic)
           old new (begun_of (set_now st).windows (next_of st, version) ∷ [])
-          everyone (assigned_row a.block.number the_donor.0 (next_of st)) next
-          stands none
+          all_carriers (assigned_row a.block.number the_donor.0 (next_of st)) next
+          refines none
           are (refl, tt) (ap (λ t. t ∷ []) is.subject) are_all put
           (λ t named. settled t (here t named)) blocks refl within
 
       -- ---- the answer
 
       abbrev made_one : Version
-      made_one = sent (set_now st) Create (record_now st (Block a.block.number)).carriers st.now
+      made_one = next_attempt (set_now st) Create (record_now st (Block a.block.number)).carriers
+          st.now
           (blank (next_of st))
 
       in_front : version_with (next_of st)
           (record_now after_it (Block a.block.number)) ≡ Some made_one
       in_front =
           ap (version_with (next_of st))
-          (made-records st caller (Commands (assigned a)) (Block a.block.number ∷ []) blank
+          (made-records st caller (CommandRequest (assigned a)) (Block a.block.number ∷ []) blank
           (assignment-makes st caller a.block.number a.holder.number a.routing.lrn.number cic)
           (Block a.block.number))
           ∙ ap (λ b. version_with (next_of st) (record {
             carriers = (record_now st (Block a.block.number)).carriers;
             versions = with_made (if b then Some (next_of st)
-                else None) (λ id. sent (set_now st) Create
+                else None) (λ id. next_attempt (set_now st) Create
                 (record_now st (Block a.block.number)).carriers st.now (blank id))
                 (record_now st (Block a.block.number)).versions;
           })) (subject_eq-refl (Block a.block.number))
@@ -248,18 +252,19 @@ module _ (old new : Content) (caller : ℕ) (a : Assignment) (clock : ClockRow) 
           (made (next_of st) (record_now st (Block a.block.number)).carriers)
 
       assigned-answer : Shown (Some view) ≡ answer_of st after_it
-          (Requests caller (Commands (assigned a)))
+          (RequestFrom caller (CommandRequest (assigned a)))
       assigned-answer =
           ap (λ x. Shown (Some x)) seen_as
           ∙ sym (shown_is after_it (Block a.block.number) (next_of st) made_one
           assigned-stands.0.represents.history in_front)
 
-    pub answers_assigned : AnswersSettled old new (Requests caller (Commands (assigned a)))
+    pub answers_assigned : SimulatesSettledStep old new
+        (RequestFrom caller (CommandRequest (assigned a)))
         (Some (Shown (Some view)))
-    answers_assigned = answers_accepted old new (Requests caller (Commands (assigned a)))
-        (Shown (Some view)) (λ st stands settled. (
-          none st stands settled,
-          assigned-answer st stands settled,
-          (assigned-stands st stands settled).0,
-          (assigned-stands st stands settled).1,
+    answers_assigned = answers_accepted old new (RequestFrom caller (CommandRequest (assigned a)))
+        (Shown (Some view)) (λ st refines settled. (
+          none st refines settled,
+          assigned-answer st refines settled,
+          (assigned-stands st refines settled).0,
+          (assigned-stands st refines settled).1,
         ))

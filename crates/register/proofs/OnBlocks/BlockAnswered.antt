@@ -3,27 +3,27 @@ use Rattle.std.proofs.Common.{◌≡◌, ℕ, true, cond, not, List, [], ◌∷�
 use Rattle.std.specs.Prelude.{◌==◌, find, option_map}
 use Rattle.std.specs.FinMap.{keys}
 use Rattle.numbers.specs.Subjects.{Block}
-use Rattle.numbers.specs.Views.{subject_of}
-use Rattle.meaning.specs.Statuses.{Delete}
-use Rattle.meaning.specs.Commands.{Release}
-use Rattle.meaning.specs.Conditions.{holds_of, is_active}
-use Rattle.meaning.specs.Versions.{Version, first_of_versions, in_force_status, last_version, version_with}
-use Rattle.meaning.specs.Changes.{sent}
-use Rattle.meaning.specs.Content.{ClockRow, Content}
-use Rattle.meaning.specs.History.{Commands, Request}
-use Rattle.meaning.specs.Machine.{Shown, accepted, answer_of, shown_found}
-use Rattle.meaning.specs.Reading.{State, View, record_now, view_of, set_now}
-use Rattle.meaning.specs.Refusals.{Requests, refusal}
-use Rattle.meaning.proofs.Accepted.{accepted_command}
-use Rattle.meaning.proofs.Entries.{is_active-is}
+use Rattle.numbers.specs.Abstraction.{subject_of}
+use Rattle.model.specs.Statuses.{Delete}
+use Rattle.model.specs.Commands.{Release}
+use Rattle.model.specs.Conditions.{holds_of, is_active}
+use Rattle.model.specs.Versions.{Version, first_of_versions, in_force_status, last_version, version_with}
+use Rattle.model.specs.Changes.{next_attempt}
+use Rattle.model.specs.Content.{ClockRow, Content}
+use Rattle.model.specs.History.{CommandRequest, Request}
+use Rattle.model.specs.Machine.{Shown, accepted, answer_of, shown_found}
+use Rattle.model.specs.State.{State, View, record_now, view_of, set_now}
+use Rattle.model.specs.Refusals.{RequestFrom, refusal}
+use Rattle.model.proofs.Accepted.{accepted_command}
+use Rattle.model.proofs.Entries.{is_active-is}
 use Rattle.numbers.proofs.Small.{same_number, some_is}
-use Rattle.version.specs.declared.version.Version.{Version as VersionCode}
-use Rattle.version.specs.Views.{Becomes, IsSeen, seen_by, version_of}
-use Rattle.settle.specs.Changes.{IsChanged}
+use Rattle.version.specs.declared.version.Version.{Version as VersionImpl}
+use Rattle.version.specs.Abstraction.{Becomes, HasModel, model_with_windows, version_of}
+use Rattle.settle.specs.Changes.{AppliesChanges}
 use Rattle.settle.specs.Settling.{IsSettled}
-use Rattle.settle.specs.Stepping.{stepping}
-use Rattle.register.specs.Answers.{Stands}
-use Rattle.register.specs.Settling.{LeavesOthers}
+use Rattle.settle.specs.Transition.{transition_changes}
+use Rattle.register.specs.Refinement.{Refines}
+use Rattle.register.specs.Settling.{FramesOthers}
 use Rattle.register.proofs.OnBlocks.BlockCommands.{release-steps}
 use Rattle.register.proofs.EveryCall.Composed.{Views}
 use Rattle.register.proofs.OnVersions.OnVersion.{clock_is_of, clock_of}
@@ -40,22 +40,23 @@ first_has_id (u ∷ us) v is =
     ∙ same_number v.id) ∙ is
 
 -- `u` is what was read of the block's last version, and `next` what becomes of it
-module _ (st : State) (old new : Content) (caller block : ℕ) (v : Version) (u next : VersionCode)
-    (id : ℕ) (clock : ClockRow) (everyone : List ℕ) (view : View)
-    (stands : Stands old st) (due : IsSettled old st (Block block))
-    (none : refusal st (Requests caller (Commands (Release block))) ≡ None)
-    (last : last_version (record_now st (Block block)) ≡ Some v) (sees : IsSeen u v)
+module _ (st : State) (old new : Content) (caller block : ℕ) (v : Version) (u next : VersionImpl)
+    (id : ℕ) (clock : ClockRow) (all_carriers : List ℕ) (view : View)
+    (refines : Refines old st) (due : IsSettled old st (Block block))
+    (none : refusal st (RequestFrom caller (CommandRequest (Release block))) ≡ None)
+    (last : last_version (record_now st (Block block)) ≡ Some v) (sees : HasModel u v)
     (its : id ≡ v.id) (subject : subject_of u.subject ≡ Block block)
-    (clock_is : old.clock ≡ Some clock) (are_all : everyone ≡ keys old.carriers)
-    (becomes : (cs : List ℕ) → Becomes (sent clock.present Delete cs clock.minute) u next)
-    (changed : IsChanged (stepping id clock.minute (Some Delete) (subject_of next.subject)
-    (seen_by clock.present.windows next) everyone) old new)
+    (clock_is : old.clock ≡ Some clock) (are_all : all_carriers ≡ keys old.carriers)
+    (becomes : (cs : List ℕ) → Becomes (next_attempt clock.present Delete cs clock.minute) u next)
+    (changed : AppliesChanges (transition_changes id clock.minute (Some Delete)
+    (subject_of next.subject)
+    (model_with_windows clock.present.windows next) all_carriers) old new)
     (views : Views clock.present.windows clock id next view) where
   abbrev request : Request
-  request = Commands (Release block)
+  request = CommandRequest (Release block)
 
   abbrev after_it : State
-  after_it = accepted st (Requests caller (Commands (Release block)))
+  after_it = accepted st (RequestFrom caller (CommandRequest (Release block)))
 
   abbrev cs : List ℕ
   cs = (record_now st (Block block)).carriers
@@ -68,83 +69,99 @@ module _ (st : State) (old new : Content) (caller block : ℕ) (v : Version) (u 
       (ap (holds_of (λ (x : Version). not (is_active x.status))) (sym last)
       ∙ accepted_command st caller (Release block) none 13))
 
-  one : StepsOne st caller (Commands (Release block)) (Block block) v.id
-      (sent (set_now st) Delete (record_now st (Block block)).carriers st.now) (Some Delete) v
-  one = release-steps st old caller block v stands found forced
+  one : StepsOne st caller (CommandRequest (Release block)) (Block block) v.id
+      (next_attempt (set_now st) Delete (record_now st (Block block)).carriers st.now) (Some Delete)
+      v
+  one = release-steps st old caller block v refines found forced
 
   same_clock : clock ≡ clock_of st
-  same_clock = clock_is_of old st clock stands.represents clock_is
+  same_clock = clock_is_of old st clock refines.represents clock_is
 
   now : clock.minute ≡ st.now
   now = ap (λ (k : ClockRow). k.minute) same_clock
 
-  becomes_now : (cs : List ℕ) → Becomes (sent (set_now st) Delete cs st.now) u next
-  becomes_now cs = subst (λ (k : ClockRow). Becomes (sent k.present Delete cs k.minute) u next)
+  becomes_now : (cs : List ℕ) → Becomes (next_attempt (set_now st) Delete cs st.now) u next
+  becomes_now cs =
+      subst (λ (k : ClockRow). Becomes (next_attempt k.present Delete cs k.minute) u next)
       same_clock (becomes cs)
 
-  after_is : version_of v.id (sent (set_now st) Delete (record_now st (Block block)).carriers st.now
+  after_is : version_of v.id (next_attempt (set_now st) Delete
+      (record_now st (Block block)).carriers st.now
       v).broadcasts (set_now st).windows next
-      ≡ sent (set_now st) Delete (record_now st (Block block)).carriers st.now v
-  after_is = subst (λ (x : Version). IsSeen next
-      (sent (set_now st) Delete (record_now st (Block block)).carriers st.now x)) sees
+      ≡ next_attempt (set_now st) Delete (record_now st (Block block)).carriers st.now v
+  after_is = subst (λ (x : Version). HasModel next
+      (next_attempt (set_now st) Delete (record_now st (Block block)).carriers st.now x)) sees
       ((becomes_now (record_now st (Block block)).carriers).version v.id v.broadcasts
       v.held.windows)
 
   its_subject : subject_of next.subject ≡ Block block
   its_subject = ap subject_of (becomes []).subject ∙ subject
 
-  put : IsChanged (stepping v.id st.now (Some Delete) (Block block)
-      (sent (set_now st) Delete (record_now st (Block block)).carriers st.now v) everyone) old new
-  put = subst (λ (x : Version). IsChanged (stepping v.id st.now (Some Delete) (Block block) x
-      everyone) old new) after_is
-      (subst (λ k. IsChanged (stepping k st.now (Some Delete) (Block block)
-      (seen_by (set_now st).windows next) everyone) old new) its
-      (subst (λ t. IsChanged (stepping id st.now (Some Delete) t (seen_by (set_now st).windows next)
-      everyone) old new) its_subject
-      (subst (λ (k : ClockRow). IsChanged (stepping id k.minute (Some Delete)
-      (subject_of next.subject) (seen_by k.present.windows next) everyone) old new) same_clock
+  put : AppliesChanges (transition_changes v.id st.now (Some Delete) (Block block)
+      (next_attempt (set_now st) Delete (record_now st (Block block)).carriers st.now v)
+      all_carriers) old new
+  put = subst (λ (x : Version). AppliesChanges (transition_changes v.id st.now (Some Delete)
+      (Block block) x
+      all_carriers) old new) after_is
+      (subst (λ k. AppliesChanges (transition_changes k st.now (Some Delete) (Block block)
+      (model_with_windows (set_now st).windows next) all_carriers) old new) its
+      (subst (λ t. AppliesChanges (transition_changes id st.now (Some Delete) t
+      (model_with_windows (set_now st).windows next)
+      all_carriers) old new) its_subject
+      (subst (λ (k : ClockRow). AppliesChanges (transition_changes id k.minute (Some Delete)
+      (subject_of next.subject) (model_with_windows k.present.windows next) all_carriers) old new)
+      same_clock
       changed)))
 
   seen_as : view ≡ view_of after_it (record {
     subject = Block block;
-    version = sent (set_now st) Delete (record_now st (Block block)).carriers st.now v;
+    version = next_attempt (set_now st) Delete (record_now st (Block block)).carriers st.now v;
   })
   seen_as =
-      views after_it (sent (set_now st) Delete (record_now st (Block block)).carriers st.now
+      views after_it (next_attempt (set_now st) Delete (record_now st (Block block)).carriers st.now
       v).broadcasts (sym now)
       ∙ ap (λ (k : ClockRow). view_of after_it
       (record {
         subject = subject_of next.subject;
         version =
-            version_of id (sent (set_now st) Delete (record_now st (Block block)).carriers st.now
+            version_of id (next_attempt (set_now st) Delete (record_now st (Block block)).carriers
+            st.now
             v).broadcasts k.present.windows next;
       })) same_clock
       ∙ ap (λ t. view_of after_it (record {
         subject = t;
-        version = version_of id (sent (set_now st) Delete (record_now st (Block block)).carriers
+        version = version_of id (next_attempt (set_now st) Delete
+            (record_now st (Block block)).carriers
             st.now v).broadcasts (set_now st).windows next;
       })) its_subject
       ∙ ap (λ k. view_of after_it (record {
         subject = Block block;
-        version = version_of k (sent (set_now st) Delete (record_now st (Block block)).carriers
+        version = version_of k (next_attempt (set_now st) Delete
+            (record_now st (Block block)).carriers
             st.now v).broadcasts (set_now st).windows next;
       })) its
       ∙ ap (λ x. view_of after_it (record { subject = Block block; version = x })) after_is
 
-  pub released-stands : Stands new after_it
-  released-stands = stepped-stands st old new caller (Commands (Release block)) (Block block) v.id
-      (sent (set_now st) Delete (record_now st (Block block)).carriers st.now) (Some Delete) v
-      everyone clock one stands due found clock_is none are_all put
+  pub released-stands : Refines new after_it
+  released-stands = stepped-stands st old new caller (CommandRequest (Release block)) (Block block)
+      v.id
+      (next_attempt (set_now st) Delete (record_now st (Block block)).carriers st.now) (Some Delete)
+      v
+      all_carriers clock one refines due found clock_is none are_all put
 
-  pub released-leaves : LeavesOthers old new st (Requests caller (Commands (Release block)))
-  released-leaves = stepped-leaves st old new caller (Commands (Release block)) (Block block) v.id
-      (sent (set_now st) Delete (record_now st (Block block)).carriers st.now) (Some Delete) v
-      everyone clock one stands due found clock_is none are_all put
+  pub released-leaves : FramesOthers old new st
+      (RequestFrom caller (CommandRequest (Release block)))
+  released-leaves = stepped-leaves st old new caller (CommandRequest (Release block)) (Block block)
+      v.id
+      (next_attempt (set_now st) Delete (record_now st (Block block)).carriers st.now) (Some Delete)
+      v
+      all_carriers clock one refines due found clock_is none are_all put
 
   pub released-answer : Shown (Some view) ≡ answer_of st after_it
-      (Requests caller (Commands (Release block)))
+      (RequestFrom caller (CommandRequest (Release block)))
   released-answer =
-      stepped-answer st old new caller (Commands (Release block)) (Block block) v.id
-      (sent (set_now st) Delete (record_now st (Block block)).carriers st.now) (Some Delete) v
-      everyone clock one stands due found clock_is none are_all put view seen_as
+      stepped-answer st old new caller (CommandRequest (Release block)) (Block block) v.id
+      (next_attempt (set_now st) Delete (record_now st (Block block)).carriers st.now) (Some Delete)
+      v
+      all_carriers clock one refines due found clock_is none are_all put view seen_as
       ∙ sym (ap (λ o. shown_found after_it (option_map (λ (x : Version). x.id) o)) last)

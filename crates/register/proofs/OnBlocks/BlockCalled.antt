@@ -3,80 +3,83 @@ use Rattle.std.proofs.Common.{arith, ◌≡◌, ◌≤◌, ℕ, Bool, true, fals
 use Rattle.std.specs.Prelude.{◌==◌, ◌≢◌, nat_lt, is_some, Result, Err}
 use Rattle.std.specs.FinMap.{get}
 use Rattle.std.proofs.lemmas.Bool.Decides.{nat_tests}
-use Rattle.meaning.specs.Commands.{Command, Donate, Assign, Release}
-use Rattle.meaning.specs.Conditions.{limit}
-use Rattle.meaning.specs.Content.{Content, ClockRow}
-use Rattle.meaning.specs.History.{Commands}
-use Rattle.meaning.specs.Machine.{Reply}
-use Rattle.meaning.specs.Reading.{State, is_carrier}
-use Rattle.meaning.specs.RefusalNumbers.{number_of}
-use Rattle.meaning.specs.Refusals.{Requests, npac, refusal, holds_at, own_tests}
-use Rattle.meaning.specs.declared.refusal.Refusal.{Refusal}
-use Rattle.meaning.specs.declared.refusal.Refusal.TheVariants.{NoMemory}
+use Rattle.model.specs.Commands.{Command, Donate, Assign, Release}
+use Rattle.model.specs.Conditions.{limit}
+use Rattle.model.specs.Content.{Content, ClockRow}
+use Rattle.model.specs.History.{CommandRequest}
+use Rattle.model.specs.Machine.{Reply}
+use Rattle.model.specs.State.{State, is_carrier}
+use Rattle.model.specs.RefusalNumbers.{number_of}
+use Rattle.model.specs.Refusals.{RequestFrom, npac, refusal, holds_at, own_tests}
+use Rattle.model.specs.declared.refusal.Refusal.{Refusal}
+use Rattle.model.specs.declared.refusal.Refusal.TheVariants.{NoMemory}
 use Rattle.pool.specs.declared.facts.BlockFacts.{BlockFacts}
-use Rattle.calls.specs.Calls.{refused_with, replied}
+use Rattle.requests.specs.Calls.{refused_with, replied}
 use Rattle.register.specs.declared.blocks.BlockRead.{BlockRead}
-use Rattle.register.specs.Answers.{Stands}
-use Rattle.register.specs.Blocks.{AreBlockFacts, IsBlockFound, IsBlockFoundInVain, IsBlockRead, is_routing_good}
-use Rattle.register.specs.Settling.{AnswersSettled, AreSettled}
+use Rattle.register.specs.Refinement.{Refines}
+use Rattle.register.specs.Blocks.{AreBlockFacts, IsBlockFound, IsBlockLookupRefused, IsBlockRead, is_routing_good}
+use Rattle.register.specs.Settling.{SimulatesSettledStep, AreSettled}
 use Rattle.register.proofs.EveryCall.Composed.{answers_refused_same, answers_without, first_refusal}
 
 -- ---- carriers
 
-carrier_is : (st : State) (old : Content) → Stands old st → (k : ℕ) (b : Bool)
+carrier_is : (st : State) (old : Content) → Refines old st → (k : ℕ) (b : Bool)
     → b ≡ is_some (get old.carriers k) → is_carrier st k ≡ b
-carrier_is st old stands k b is = sym (stands.represents.carriers k) ∙ sym is
+carrier_is st old refines k b is = sym (refines.represents.carriers k) ∙ sym is
 
 -- the donor, unless it is registered
 pub donor_unknown : (st : State) (old : Content) (caller block : ℕ) (used : List ℕ) (lrn : ℕ)
-    (cic : Option ℕ) → Stands old st → (known : Bool) → known ≡ is_some (get old.carriers caller) →
+    (cic : Option ℕ) → Refines old st → (known : Bool) → known ≡ is_some (get old.carriers caller) →
     holds_at 1 (own_tests st caller (Donate block used lrn cic)) ≡ not known
-donor_unknown st old caller block used lrn cic stands known is =
-    ap not (carrier_is st old stands caller known is)
+donor_unknown st old caller block used lrn cic refines known is =
+    ap not (carrier_is st old refines caller known is)
 
 -- the holder, unless it is registered
 pub holder_unknown : (st : State) (old : Content) (caller block holder lrn : ℕ) (cic : Option ℕ)
-    → Stands old st → (known : Bool) → known ≡ is_some (get old.carriers holder) →
+    → Refines old st → (known : Bool) → known ≡ is_some (get old.carriers holder) →
     holds_at 1 (own_tests st caller (Assign block holder lrn cic)) ≡ not known
-holder_unknown st old caller block holder lrn cic stands known is =
-    ap not (carrier_is st old stands holder known is)
+holder_unknown st old caller block holder lrn cic refines known is =
+    ap not (carrier_is st old refines holder known is)
 
 -- who releases, unless it is registered or the administrator
-pub releaser_unknown : (st : State) (old : Content) (caller block : ℕ) → Stands old st
+pub releaser_unknown : (st : State) (old : Content) (caller block : ℕ) → Refines old st
     → (known : Bool) → known ≡ ((caller == npac) || is_some (get old.carriers caller)) →
     holds_at 1 (own_tests st caller (Release block)) ≡ not known
-releaser_unknown st old caller block stands known is =
-    ap (λ b. not b && not (caller == npac)) (sym (stands.represents.carriers caller))
-    ∙ go (is_some (get old.carriers caller)) (caller == npac) ∙ ap not (sym is)
+releaser_unknown st old caller block refines known is =
+    ap (λ b. not b && not (caller == npac)) (sym (refines.represents.carriers caller))
+    ∙ by_cases (is_some (get old.carriers caller)) (caller == npac) ∙ ap not (sym is)
   where
-    go : (b c : Bool) → (not b && not c) ≡ not (c || b)
-    go true true = refl
-    go true false = refl
-    go false true = refl
-    go false false = refl
+    by_cases : (b c : Bool) → (not b && not c) ≡ not (c || b)
+    by_cases true true = refl
+    by_cases true false = refl
+    by_cases false true = refl
+    by_cases false false = refl
 
 -- ---- refused for carriers
 
 -- by what was answered where no block was found
 pub answers_unfound : {A : Type 0} (old new : Content) (caller : ℕ) (command : Command)
     (is_known : Bool) (seen : A → Reply) (result : Result A Refusal) (r : Refusal) →
-    result ≡ Err r → new ≡ old → IsBlockFoundInVain is_known r →
-    ((st : State) → Stands old st → holds_at 1 (own_tests st caller command)
+    result ≡ Err r → new ≡ old → IsBlockLookupRefused is_known r →
+    ((st : State) → Refines old st → holds_at 1 (own_tests st caller command)
     ≡ not is_known) →
-    AnswersSettled old new (Requests caller (Commands command)) (replied seen result)
+    SimulatesSettledStep old new (RequestFrom caller (CommandRequest command)) (replied seen result)
 answers_unfound old new caller command is_known seen result r is same vain unknown =
-    subst (λ x. AnswersSettled old new (Requests caller (Commands command)) (replied seen x))
-    (sym is) (go vain)
+    subst (λ x. SimulatesSettledStep old new (RequestFrom caller (CommandRequest command))
+    (replied seen x))
+    (sym is) (by_cases vain)
   where
-    go : IsBlockFoundInVain is_known r → AnswersSettled old new (Requests caller (Commands command))
+    by_cases : IsBlockLookupRefused is_known r
+        → SimulatesSettledStep old new (RequestFrom caller (CommandRequest command))
         (replied seen (Err r))
-    go (inl (its, stranger)) =
-        subst (λ x. AnswersSettled old new (Requests caller (Commands command))
+    by_cases (inl (its, stranger)) =
+        subst (λ x. SimulatesSettledStep old new (RequestFrom caller (CommandRequest command))
         (replied seen (Err x))) (sym its)
-        (answers_refused_same old new (Requests caller (Commands command)) 1 same
-        (λ st stands settled. first_refusal st caller command (unknown st stands
+        (answers_refused_same old new (RequestFrom caller (CommandRequest command)) 1 same
+        (λ st refines settled. first_refusal st caller command (unknown st refines
         ∙ ap not stranger)))
-    go (inr past) = answers_without old new (Requests caller (Commands command)) (number_of r) past
+    by_cases (inr past) = answers_without old new (RequestFrom caller (CommandRequest command))
+        (number_of r) past
         same
 
 -- ---- ids
@@ -88,7 +91,7 @@ not_past n below = grind (arith, nat_tests)
 
 pub record HasFound (old : Content) (caller block : ℕ) (command : Command) (clock : ClockRow)
     (read : BlockRead) (facts : BlockFacts) : Type 0 where
-  pub known : (st : State) → Stands old st → holds_at 1 (own_tests st caller command)
+  pub known : (st : State) → Refines old st → holds_at 1 (own_tests st caller command)
       ≡ false
   pub clock_is : old.clock ≡ Some clock
   pub is_read : IsBlockRead old block read
@@ -97,14 +100,14 @@ pub record HasFound (old : Content) (caller block : ℕ) (command : Command) (cl
 -- by the content of which the block was read, which is the old one
 pub has_found : (old mid : Content) (caller block : ℕ) (command : Command) (clock : ClockRow)
     (read : BlockRead) (facts : BlockFacts) (is_known good : Bool) →
-    mid ≡ old → IsBlockFound mid is_known block clock read → ((st : State) → Stands old st
+    mid ≡ old → IsBlockFound mid is_known block clock read → ((st : State) → Refines old st
     → holds_at 1 (own_tests st caller command) ≡ not is_known) →
     good ≡ is_routing_good old caller command → AreBlockFacts read good clock.next_id facts
     → HasFound old caller block command clock read facts
 has_found old mid caller block command clock read facts is_known good same found unknown is are =
     let here = subst (λ (m : Content). IsBlockFound m is_known block clock read) same found in
     record {
-      known = λ st stands. unknown st stands ∙ ap not here.known;
+      known = λ st refines. unknown st refines ∙ ap not here.known;
       clock_is = here.clock_is;
       is_read = here.is_read;
       are = subst (λ b. AreBlockFacts read b clock.next_id facts) is are;
@@ -117,20 +120,24 @@ pub answers_or_no_memory : {A : Type 0} (old new : Content) (caller : ℕ) (comm
     (seen : A → Reply) (result : Result A Refusal) (r : Refusal) (o : Option ℕ) → result ≡ Err r
     → new ≡ old →
     (r ≢ NoMemory → o ≡ Some (number_of r)) →
-    ((st : State) → Stands old st → AreSettled old st (Requests caller (Commands command))
-    → refusal st (Requests caller (Commands command)) ≡ o) →
-    AnswersSettled old new (Requests caller (Commands command)) (replied seen result)
+    ((st : State) → Refines old st → AreSettled old st (RequestFrom caller (CommandRequest command))
+    → refusal st (RequestFrom caller (CommandRequest command)) ≡ o) →
+    SimulatesSettledStep old new (RequestFrom caller (CommandRequest command)) (replied seen result)
 answers_or_no_memory old new caller command seen result r o is same says refused =
-    subst (λ x. AnswersSettled old new (Requests caller (Commands command)) (replied seen x))
-    (sym is) (go (nat_lt (number_of r) 29) refl)
+    subst (λ x. SimulatesSettledStep old new (RequestFrom caller (CommandRequest command))
+    (replied seen x))
+    (sym is) (by_cases (nat_lt (number_of r) 29) refl)
   where
     machines : nat_lt (number_of r) 29 ≡ true → r ≢ NoMemory
     machines below none = let past : true ≡ false =
         sym below ∙ ap (λ x. nat_lt (number_of x) 29) none in cc
 
-    go : (b : Bool) → nat_lt (number_of r) 29 ≡ b
-        → AnswersSettled old new (Requests caller (Commands command)) (refused_with (number_of r))
-    go true below = answers_refused_same old new (Requests caller (Commands command)) (number_of r)
-        same (λ st stands settled. refused st stands settled ∙ says (machines below))
-    go false past = answers_without old new (Requests caller (Commands command)) (number_of r) past
+    by_cases : (b : Bool) → nat_lt (number_of r) 29 ≡ b
+        → SimulatesSettledStep old new (RequestFrom caller (CommandRequest command))
+        (refused_with (number_of r))
+    by_cases true below = answers_refused_same old new (RequestFrom caller (CommandRequest command))
+        (number_of r)
+        same (λ st refines settled. refused st refines settled ∙ says (machines below))
+    by_cases false past = answers_without old new (RequestFrom caller (CommandRequest command))
+        (number_of r) past
         same

@@ -3,24 +3,24 @@ use Rattle.std.proofs.Common.{◌≡◌, ℕ, true, false, List, [], ◌∷◌, 
 use Rattle.std.specs.Prelude.{◌==◌, is_some, option_map}
 use Rattle.std.specs.FinMap.{get}
 use Rattle.numbers.specs.Subjects.{Subject, Block}
-use Rattle.meaning.specs.Versions.{Version, last_version, first_of_versions}
-use Rattle.meaning.specs.History.{donor_of}
-use Rattle.meaning.specs.Reading.{State, record_now}
-use Rattle.meaning.specs.Concerns.{has_id}
-use Rattle.meaning.specs.Content.{Content, BlockRow, VersionRow, Represents}
+use Rattle.model.specs.Versions.{Version, last_version, first_of_versions}
+use Rattle.model.specs.History.{donor_of}
+use Rattle.model.specs.State.{State, record_now}
+use Rattle.model.specs.Concerns.{has_id}
+use Rattle.model.specs.Content.{Content, BlockRow, VersionRow, Represents}
 use Rattle.numbers.proofs.Small.{same_number}
-use Rattle.meaning.proofs.Lagging.{no_row_at}
-use Rattle.settle.specs.declared.rows.BlockRow.{BlockRow as BlockRowCode}
-use Rattle.settle.specs.Views.{block_row_of}
+use Rattle.model.proofs.Lagging.{no_row_at}
+use Rattle.settle.specs.declared.rows.BlockRow.{BlockRow as BlockRowImpl}
+use Rattle.settle.specs.Abstraction.{block_row_of}
 use Rattle.register.specs.Blocks.{IsRowThere, last_id}
-use Rattle.meaning.proofs.Answered.{first_has_id}
+use Rattle.model.proofs.Answered.{first_has_id}
 
 -- the id that a row names
 abbrev pub named_by : Option BlockRow → Option ℕ
 named_by None = None
 named_by (Some row) = row.last
 
-pub names_last : (o : Option BlockRowCode) → last_id o ≡ named_by (option_map block_row_of o)
+pub names_last : (o : Option BlockRowImpl) → last_id o ≡ named_by (option_map block_row_of o)
 names_last None = refl
 names_last (Some row) = refl
 
@@ -34,14 +34,14 @@ stored_last (Some d) last = refl
 -- a version of a record has a row
 pub row_is_there : (st : State) (c : Content) → Represents c st → (s : Subject) (id : ℕ)
     → has_id id (record_now st s).versions ≡ true → is_some (get c.versions id) ≡ true
-row_is_there st c represents s id has = go (get c.versions id) refl
+row_is_there st c represents s id has = by_cases (get c.versions id) refl
   where
-    go : (o : Option VersionRow) → get c.versions id ≡ o → is_some o ≡ true
-    go (Some row) e = refl
-    go None e = let never : true ≡ false = sym has ∙ no_row_at st c represents id e s in cc
+    by_cases : (o : Option VersionRow) → get c.versions id ≡ o → is_some o ≡ true
+    by_cases (Some row) e = refl
+    by_cases None e = let never : true ≡ false = sym has ∙ no_row_at st c represents id e s in cc
 
 module _ (st : State) (c : Content) (represents : Represents c st) (block : ℕ)
-    (row : Option BlockRowCode) (is : option_map block_row_of row ≡ get c.blocks block) where
+    (row : Option BlockRowImpl) (is : option_map block_row_of row ≡ get c.blocks block) where
   -- what the row names
   pub named_is : last_id row
       ≡ (elim (donor_of block st.history) [
@@ -55,14 +55,15 @@ module _ (st : State) (c : Content) (represents : Represents c st) (block : ℕ)
 
   pub last_is_there : IsRowThere c (last_id row)
   last_is_there =
-      subst (IsRowThere c) (sym named_is) (go (donor_of block st.history)
+      subst (IsRowThere c) (sym named_is) (by_cases (donor_of block st.history)
       (last_version (record_now st (Block block))) refl)
     where
-      go : (donor : Option ℕ) (o : Option Version) → last_version (record_now st (Block block)) ≡ o
+      by_cases : (donor : Option ℕ) (o : Option Version)
+          → last_version (record_now st (Block block)) ≡ o
           →
           IsRowThere c (elim donor [ Some d ↦ option_map (λ (v : Version). v.id) o | None ↦ None ])
-      go None o e = tt
-      go (Some d) None e = tt
-      go (Some d) (Some v) e =
+      by_cases None o e = tt
+      by_cases (Some d) None e = tt
+      by_cases (Some d) (Some v) e =
           row_is_there st c represents (Block block) v.id
           (first_has_id (record_now st (Block block)).versions v e)

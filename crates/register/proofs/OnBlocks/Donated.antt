@@ -5,34 +5,34 @@ use Rattle.std.specs.List.{list_any}
 use Rattle.std.specs.FinMap.{get, keys}
 use Rattle.numbers.specs.Digits.{block_of, number_in}
 use Rattle.numbers.specs.Subjects.{Subject, Number, Block, subject_eq}
-use Rattle.meaning.specs.declared.refusal.Refusal.{Refusal}
-use Rattle.meaning.specs.declared.refusal.Refusal.TheVariants.{NoMemory, Storage}
-use Rattle.meaning.specs.Statuses.{Create}
-use Rattle.meaning.specs.Conditions.{limit}
-use Rattle.meaning.specs.Content.{ClockRow, Content, stored_block}
-use Rattle.meaning.specs.History.{AreLines, Commands, next_id, rising, used_numbers}
-use Rattle.meaning.specs.Machine.{Donated, Reply, accepted, ids_from}
-use Rattle.meaning.specs.Reading.{State, record_now, set_now, next_of}
-use Rattle.meaning.specs.RefusalNumbers.{number_of}
-use Rattle.meaning.specs.Refusals.{Requests, is_in_block, refusal}
-use Rattle.meaning.specs.Versions.{version_in_force}
-use Rattle.meaning.proofs.Accepted.{accepted_command}
-use Rattle.meaning.proofs.Ids.{same_subject}
-use Rattle.meaning.proofs.Lists.{Among, any_there, filtered-from, mapped-from}
+use Rattle.model.specs.declared.refusal.Refusal.{Refusal}
+use Rattle.model.specs.declared.refusal.Refusal.TheVariants.{NoMemory, Storage}
+use Rattle.model.specs.Statuses.{Create}
+use Rattle.model.specs.Conditions.{limit}
+use Rattle.model.specs.Content.{ClockRow, Content, stored_block}
+use Rattle.model.specs.History.{AreLines, CommandRequest, next_id, rising, used_numbers}
+use Rattle.model.specs.Machine.{Donated, Reply, accepted, ids_from}
+use Rattle.model.specs.State.{State, record_now, set_now, next_of}
+use Rattle.model.specs.RefusalNumbers.{number_of}
+use Rattle.model.specs.Refusals.{RequestFrom, is_in_block, refusal}
+use Rattle.model.specs.Versions.{version_in_force}
+use Rattle.model.proofs.Accepted.{accepted_command}
+use Rattle.model.proofs.Ids.{same_subject}
+use Rattle.model.proofs.Lists.{Among, any_there, filtered-from, mapped-from}
 use Rattle.numbers.proofs.Small.{same_number, or_right}
-use Rattle.version.specs.declared.version.Version.{Version as VersionCode}
-use Rattle.settle.specs.Changes.{ClockMove, IsChanged}
-use Rattle.settle.specs.Sending.{Begun, begun_of, sending_each}
+use Rattle.version.specs.declared.version.Version.{Version as VersionImpl}
+use Rattle.settle.specs.Changes.{ClockMove, AppliesChanges}
+use Rattle.settle.specs.Sending.{SendingVersion, begun_of, sends_changes}
 use Rattle.pool.specs.declared.donation.Donation.{Donation}
 use Rattle.pool.specs.declared.facts.BlockFacts.{BlockFacts}
 use Rattle.pool.specs.Donations.{AreProtective, IsPlanned, block_tests, command_of as donated, donation_refusal, donor_tests, lines_of, made_numbers, used_by}
 use Rattle.pool.specs.Facts.{in_force_numbers}
 use Rattle.pool.proofs.BlockRefused.{are_lines, donation_makes, donation_refused}
-use Rattle.calls.specs.Calls.{replied}
+use Rattle.requests.specs.Calls.{replied}
 use Rattle.register.specs.declared.blocks.BlockRead.{BlockRead}
-use Rattle.register.specs.Answers.{Stands}
-use Rattle.register.specs.Pooling.{pooling}
-use Rattle.register.specs.Settling.{AnswersSettled, AreSettled, LeavesOthers, is_of_block}
+use Rattle.register.specs.Refinement.{Refines}
+use Rattle.register.specs.Pooling.{block_changes}
+use Rattle.register.specs.Settling.{SimulatesSettledStep, AreSettled, FramesOthers, is_of_block}
 use Rattle.register.proofs.OnBlocks.BlockCalled.{HasFound, answers_or_no_memory, not_past}
 use Rattle.register.proofs.OnBlocks.BlockCommands.{donated_row, donation-blocks, donation-makes, protective, to_protect}
 use Rattle.register.proofs.OnBlocks.BlockFacts.{block_facts_are, facts_numbers_are}
@@ -42,8 +42,8 @@ use Rattle.register.proofs.EveryCall.Unfailing.{never_storage}
 use Rattle.register.proofs.OnVersions.OnVersion.{clock_is_of, clock_of}
 use Rattle.register.proofs.OnBlocks.Planned.{Once, cic_of, once-apart, planned-begun, planned-subjects, used_once}
 use Rattle.register.proofs.Records.Pooled.{pooled-stands}
-use Rattle.meaning.proofs.Donated.{rising-lines}
-use Rattle.meaning.specs.Windows.{WindowSet}
+use Rattle.model.proofs.Donated.{rising-lines}
+use Rattle.model.specs.Windows.{WindowSet}
 
 -- a donation is not refused with storage
 pub donation_never : (caller : ℕ) (d : Donation) (facts : BlockFacts) (r : Refusal)
@@ -79,7 +79,7 @@ used-inside st block test used lines t named =
 -- ---- their ids
 
 planned-ids : (w : WindowSet) (caller minute : ℕ) (d : Donation) (from : ℕ) (ss : List Subject)
-    (es : List (ℕ × VersionCode)) → AreProtective w caller minute d from ss es
+    (es : List (ℕ × VersionImpl)) → AreProtective w caller minute d from ss es
     → map (λ e. e.0) es ≡ ids_from from (length ss)
 planned-ids w caller minute d from [] [] are = refl
 planned-ids w caller minute d from (s ∷ ss) (e ∷ es) are =
@@ -89,7 +89,7 @@ planned-ids w caller minute d from [] (e ∷ es) are = absurd are
 planned-ids w caller minute d from (s ∷ ss) [] are = absurd are
 
 so_many : (w : WindowSet) (caller minute : ℕ) (d : Donation) (from : ℕ) (ss : List Subject)
-    (es : List (ℕ × VersionCode)) → AreProtective w caller minute d from ss es
+    (es : List (ℕ × VersionImpl)) → AreProtective w caller minute d from ss es
     → length es ≡ length ss
 so_many w caller minute d from [] [] are = refl
 so_many w caller minute d from (s ∷ ss) (e ∷ es) are =
@@ -102,56 +102,58 @@ so_many w caller minute d from (s ∷ ss) [] are = absurd are
 module _ (old new : Content) (caller : ℕ) (d : Donation) (clock : ClockRow) (read : BlockRead)
     (facts : BlockFacts) (has : HasFound old caller d.block.number (donated d) clock read
     facts) where
-  refused_read : (st : State) → Stands old st
-      → AreSettled old st (Requests caller (Commands (donated d)))
-      → refusal st (Requests caller (Commands (donated d))) ≡ donation_refusal caller d facts
-  refused_read st stands settled =
+  refused_read : (st : State) → Refines old st
+      → AreSettled old st (RequestFrom caller (CommandRequest (donated d)))
+      → refusal st (RequestFrom caller (CommandRequest (donated d))) ≡ donation_refusal caller d
+      facts
+  refused_read st refines settled =
       donation_refused st caller facts d
-      (block_facts_are st old stands d.block.number settled read has.is_read clock has.clock_is
+      (block_facts_are st old refines d.block.number settled read has.is_read clock has.clock_is
       caller (donated d) facts has.are refl)
-      (facts_numbers_are st old stands d.block.number settled read has.is_read clock has.clock_is
+      (facts_numbers_are st old refines d.block.number settled read has.is_read clock has.clock_is
       caller (donated d) facts has.are refl)
-      ∙ ap (λ b. if b then Some 1 else donation_refusal caller d facts) (has.known st stands)
+      ∙ ap (λ b. if b then Some 1 else donation_refusal caller d facts) (has.known st refines)
 
   pub answers_donation_refused : {A : Type 0} (seen : A → Reply) (result : Result A Refusal)
       (r : Refusal) → result ≡ Err r → new ≡ old →
       (r ≢ NoMemory → donation_refusal caller d facts ≡ Some (number_of r))
-      → AnswersSettled old new (Requests caller (Commands (donated d))) (replied seen result)
+      → SimulatesSettledStep old new (RequestFrom caller (CommandRequest (donated d)))
+      (replied seen result)
   answers_donation_refused seen result r is same says =
       answers_or_no_memory old new caller (donated d) seen result r
       (donation_refusal caller d facts) is same says refused_read
 
-  module _ (versions : List (ℕ × VersionCode)) (ids everyone : List ℕ)
+  module _ (versions : List (ℕ × VersionImpl)) (ids all_carriers : List ℕ)
       (accepts : donation_refusal caller d facts ≡ None) (plan : IsPlanned clock.present caller
       clock.minute d facts versions)
-      (ids_are : ids ≡ map (λ e. e.0) versions) (are_all : everyone ≡ keys old.carriers)
+      (ids_are : ids ≡ map (λ e. e.0) versions) (are_all : all_carriers ≡ keys old.carriers)
       (changed : clock.next_id + length versions ≤ limit
-      → IsChanged (pooling (sending_each clock.minute Create
-      (map (begun_of clock.present.windows) versions) everyone)
+      → AppliesChanges (block_changes (sends_changes clock.minute Create
+      (map (begun_of clock.present.windows) versions) all_carriers)
       (donated_row d.block.number caller)
       (record { minute = clock.minute; next_id = clock.next_id + length versions })) old new) where
-    module _ (st : State) (stands : Stands old st)
-        (settled : AreSettled old st (Requests caller (Commands (donated d)))) where
+    module _ (st : State) (refines : Refines old st)
+        (settled : AreSettled old st (RequestFrom caller (CommandRequest (donated d)))) where
       abbrev used : List ℕ
       used = lines_of d.used.now
 
       abbrev news : List Subject
       news = to_protect st d.block.number (lines_of d.used.now)
 
-      abbrev begun : List Begun
+      abbrev begun : List SendingVersion
       begun = map (begun_of (set_now st).windows) versions
 
-      none : refusal st (Requests caller (Commands (donated d))) ≡ None
-      none = refused_read st stands settled ∙ accepts
+      none : refusal st (RequestFrom caller (CommandRequest (donated d))) ≡ None
+      none = refused_read st refines settled ∙ accepts
 
       lines : AreLines (lines_of d.used.now)
       lines = are_lines d.used.now
 
       same_clock : clock ≡ clock_of st
-      same_clock = clock_is_of old st clock stands.represents has.clock_is
+      same_clock = clock_is_of old st clock refines.represents has.clock_is
 
       news_are : made_numbers (used_by d) (in_force_numbers facts.numbers.now) ≡ news
-      news_are = sym (donation_makes st d facts (facts_numbers_are st old stands d.block.number
+      news_are = sym (donation_makes st d facts (facts_numbers_are st old refines d.block.number
           settled read has.is_read clock has.clock_is caller (donated d) facts has.are refl))
 
       first_is : facts.next_id ≡ next_of st
@@ -167,7 +169,7 @@ module _ (old new : Content) (caller : ℕ) (d : Donation) (clock : ClockRow) (r
           (made_numbers (used_by d) (in_force_numbers facts.numbers.now)) versions) same_clock
           plan))
 
-      subjects : map (λ (b : Begun). b.subject) begun ≡ news
+      subjects : map (λ (b : SendingVersion). b.subject) begun ≡ news
       subjects = planned-subjects (set_now st) caller st.now d (next_of st) news
           versions planned
 
@@ -196,22 +198,23 @@ module _ (old new : Content) (caller : ℕ) (d : Donation) (clock : ClockRow) (r
             (to_protect st d.block.number (lines_of d.used.now));
       }
 
-      put : IsChanged (pooling (sending_each st.now Create begun everyone)
+      put : AppliesChanges (block_changes (sends_changes st.now Create begun all_carriers)
           (donated_row d.block.number caller) next) old new
       put = subst (λ n. let row : ClockMove =
           record { minute = st.now; next_id = next_of st + n } in
-          IsChanged (pooling (sending_each st.now Create begun everyone)
+          AppliesChanges (block_changes (sends_changes st.now Create begun all_carriers)
           (donated_row d.block.number caller) row) old new) many
-          (subst (λ (k : ClockRow). IsChanged
-          (pooling (sending_each k.minute Create (map (begun_of k.present.windows) versions)
-          everyone) (donated_row d.block.number caller)
+          (subst (λ (k : ClockRow). AppliesChanges
+          (block_changes (sends_changes k.minute Create (map (begun_of k.present.windows) versions)
+          all_carriers) (donated_row d.block.number caller)
           (record { minute = k.minute; next_id = k.next_id + length versions })) old new) same_clock
           (changed room))
 
       blocks : (k : ℕ)
-          → get new.blocks k ≡ stored_block (accepted st (Requests caller (Commands (donated d)))) k
+          → get new.blocks k ≡ stored_block
+          (accepted st (RequestFrom caller (CommandRequest (donated d)))) k
       blocks k = put.blocks k ∙ donation-blocks st old caller d.block.number (lines_of d.used.now)
-          d.routing.lrn.number (cic_of d) lines stands none k
+          d.routing.lrn.number (cic_of d) lines refines none k
 
       is_due : (t : Subject) → list_any (subject_eq t) news ≡ true
           → is_of_block d.block.number st t ≡ true
@@ -221,36 +224,38 @@ module _ (old new : Content) (caller : ℕ) (d : Donation) (clock : ClockRow) (r
 
       within : (t : Subject) → is_of_block d.block.number st t ≡ false
           → list_any (subject_eq t) news ≡ false
-      within t other = go (list_any (subject_eq t) news) refl
+      within t other = by_cases (list_any (subject_eq t) news) refl
         where
-          go : (b : Bool) → list_any (subject_eq t) news ≡ b → b ≡ false
-          go false e = refl
-          go true e = let never : true ≡ false = sym (is_due t e) ∙ other in cc
+          by_cases : (b : Bool) → list_any (subject_eq t) news ≡ b → b ≡ false
+          by_cases false e = refl
+          by_cases true e = let never : true ≡ false = sym (is_due t e) ∙ other in cc
 
-      donated-stands : Stands new (accepted st (Requests caller (Commands (donated d))))
-          × LeavesOthers old new st (Requests caller (Commands (donated d)))
+      donated-stands : Refines new (accepted st (RequestFrom caller (CommandRequest (donated d))))
+          × FramesOthers old new st (RequestFrom caller (CommandRequest (donated d)))
       donated-stands =
-          pooled-stands st caller (Commands (donated d)) news (protective (set_now st) caller st.now
+          pooled-stands st caller (CommandRequest (donated d)) news (protective (set_now st) caller
+          st.now
           d.routing.lrn.number (cic_of d))
           (donation-makes st caller d.block.number (lines_of d.used.now) d.routing.lrn.number
           (cic_of d) lines)
-          old new begun everyone (donated_row d.block.number caller) next stands none
-          (planned-begun (set_now st) everyone caller st.now d (next_of st) news
+          old new begun all_carriers (donated_row d.block.number caller) next refines none
+          (planned-begun (set_now st) all_carriers caller st.now d (next_of st) news
           versions planned)
-          (once-apart (set_now st) st.now everyone (protective (set_now st) caller st.now
+          (once-apart (set_now st) st.now all_carriers (protective (set_now st) caller st.now
           d.routing.lrn.number (cic_of d)) (λ id. refl) (λ id. refl) (λ id. refl) begun
           (subst Once (sym subjects)
           (used_once d.block.number (λ s. is_none (version_in_force (record_now st s)))
           (lines_of d.used.now))))
           subjects are_all put (λ t named. settled t (is_due t named)) blocks refl within
 
-    pub answers_donated : AnswersSettled old new (Requests caller (Commands (donated d)))
+    pub answers_donated : SimulatesSettledStep old new
+        (RequestFrom caller (CommandRequest (donated d)))
         (Some (Donated d.block.number ids))
     answers_donated =
-        answers_accepted old new (Requests caller (Commands (donated d)))
-        (Donated d.block.number ids) (λ st stands settled. (
-          none st stands settled,
-          ap (Donated d.block.number) (ids_from_first st stands settled),
-          (donated-stands st stands settled).0,
-          (donated-stands st stands settled).1,
+        answers_accepted old new (RequestFrom caller (CommandRequest (donated d)))
+        (Donated d.block.number ids) (λ st refines settled. (
+          none st refines settled,
+          ap (Donated d.block.number) (ids_from_first st refines settled),
+          (donated-stands st refines settled).0,
+          (donated-stands st refines settled).1,
         ))

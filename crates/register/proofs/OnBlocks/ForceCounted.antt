@@ -2,9 +2,9 @@
 use Rattle.std.proofs.Common.{◌≡◌, ℕ, suc, ◌<◌, Bool, true, false, cond, List, [], ◌∷◌, length, map, refl, ap, sym, ◌∙◌}
 use Rattle.std.specs.Prelude.{filter, if◌then◌else◌}
 use Rattle.numbers.specs.Subjects.{Subject, subject_lt}
-use Rattle.meaning.specs.Versions.{in_force}
-use Rattle.meaning.specs.Reading.{SubjectVersion, InForce, row_inserted, rows_in_force}
-use Rattle.meaning.proofs.Ascending as ascending
+use Rattle.model.specs.Versions.{in_force}
+use Rattle.model.specs.State.{SubjectVersion, InForce, row_inserted, rows_in_force}
+use Rattle.model.proofs.Ascending as ascending
 
 -- ---- rising lists
 
@@ -12,22 +12,22 @@ module _ {A : Type 0} (key : A → ℕ) (p : A → Bool) where
   above_filtered : (k : ℕ) (xs : List A) → ascending.AreAbove key k xs
       → ascending.AreAbove key k (filter p xs)
   above_filtered k [] above = tt
-  above_filtered k (x ∷ xs) above = go (above_filtered k xs above.1) (p x)
+  above_filtered k (x ∷ xs) above = by_cases (above_filtered k xs above.1) (p x)
     where
-      go : ascending.AreAbove key k (filter p xs) → (b : Bool)
+      by_cases : ascending.AreAbove key k (filter p xs) → (b : Bool)
           → ascending.AreAbove key k (cond b (x ∷ filter p xs) (filter p xs))
-      go later true = (above.0, later)
-      go later false = later
+      by_cases later true = (above.0, later)
+      by_cases later false = later
 
   -- those of a rising list that pass a test rise
   pub filtered-rise : (xs : List A) → ascending.Rise key xs → ascending.Rise key (filter p xs)
   filtered-rise [] rise = tt
-  filtered-rise (x ∷ xs) rise = go (filtered-rise xs rise.1) (p x)
+  filtered-rise (x ∷ xs) rise = by_cases (filtered-rise xs rise.1) (p x)
     where
-      go : ascending.Rise key (filter p xs) → (b : Bool)
+      by_cases : ascending.Rise key (filter p xs) → (b : Bool)
           → ascending.Rise key (cond b (x ∷ filter p xs) (filter p xs))
-      go later true = (above_filtered (key x) xs rise.0, later)
-      go later false = later
+      by_cases later true = (above_filtered (key x) xs rise.0, later)
+      by_cases later false = later
 
 -- what rises by one number rises by another that grows with it
 pub rekeyed-rise : {A : Type 0} (key other : A → ℕ)
@@ -70,14 +70,14 @@ module _ (p : Subject → Bool) where
   length-inserted : (r : InForce) (qs : List InForce) → length (passing_rows (row_inserted r qs))
       ≡ counted (p r.subject) (length (passing_rows qs))
   length-inserted r [] = first_counted (p r.subject) r.subject []
-  length-inserted r (q ∷ qs) = go (length-inserted r qs) (subject_lt r.subject q.subject)
+  length-inserted r (q ∷ qs) = by_cases (length-inserted r qs) (subject_lt r.subject q.subject)
     where
-      go : length (passing_rows (row_inserted r qs)) ≡ counted (p r.subject)
+      by_cases : length (passing_rows (row_inserted r qs)) ≡ counted (p r.subject)
           (length (passing_rows qs)) → (b : Bool) →
           length (passing_rows (if b then r ∷ q ∷ qs else q ∷ row_inserted r qs))
           ≡ counted (p r.subject) (length (passing_rows (q ∷ qs)))
-      go later true = first_counted (p r.subject) r.subject (passing_rows (q ∷ qs))
-      go later false =
+      by_cases later true = first_counted (p r.subject) r.subject (passing_rows (q ∷ qs))
+      by_cases later false =
           first_counted (p q.subject) q.subject (passing_rows (row_inserted r qs))
           ∙ ap (counted (p q.subject)) later
           ∙ counted-swap (p q.subject) (p r.subject) (length (passing_rows qs))
@@ -87,23 +87,24 @@ module _ (p : Subject → Bool) where
   pub length-rows : (es : List SubjectVersion)
       → length (passing_versions es) ≡ length (passing_rows (rows_in_force es))
   length-rows [] = refl
-  length-rows (e ∷ es) = go (length-rows es) (in_force e.version)
+  length-rows (e ∷ es) = by_cases (length-rows es) (in_force e.version)
     where
       row : InForce
       row = record { subject = e.subject; routing = e.version.routing }
 
-      go : length (passing_versions es) ≡ length (passing_rows (rows_in_force es)) → (b : Bool) →
+      by_cases : length (passing_versions es) ≡ length (passing_rows (rows_in_force es))
+          → (b : Bool) →
           length (filter p (map (λ (x : SubjectVersion). x.subject)
           (cond b (e ∷ filter (λ x. in_force x.version) es) (filter (λ x. in_force x.version) es))))
           ≡ length (passing_rows (if b then row_inserted (record {
             subject = e.subject;
             routing = e.version.routing;
           }) (rows_in_force es) else rows_in_force es))
-      go later true =
+      by_cases later true =
           first_counted (p e.subject) e.subject (passing_versions es) ∙ ap (counted (p e.subject))
           later
           ∙ sym (length-inserted (record {
             subject = e.subject;
             routing = e.version.routing;
           }) (rows_in_force es))
-      go later false = later
+      by_cases later false = later

@@ -3,54 +3,54 @@ use Rattle.std.proofs.Common.{◌≡◌, ℕ, Bool, true, false, not, List, [], 
 use Rattle.std.specs.Prelude.{is_some}
 use Rattle.std.specs.FinMap.{get, keys}
 use Rattle.numbers.specs.Subjects.{Subject}
-use Rattle.numbers.specs.Views.{subject_of}
-use Rattle.meaning.specs.declared.refusal.Refusal.{Refusal}
-use Rattle.meaning.specs.declared.refusal.Refusal.TheVariants.{Storage}
-use Rattle.meaning.specs.Statuses.{Send}
-use Rattle.meaning.specs.Statuses.{Create, Delete, Modify}
-use Rattle.meaning.specs.Content.{Content, VersionRow, ClockRow, row_of}
-use Rattle.meaning.specs.History.{Commands}
-use Rattle.meaning.specs.Machine.{Shown, accepted, answer_of}
-use Rattle.meaning.specs.Reading.{State, View, record_now, is_carrier, version_of_id, view_of, set_now}
-use Rattle.meaning.specs.RefusalNumbers.{number_of}
-use Rattle.meaning.specs.Refusals.{Requests, refusal, has_open, owns}
-use Rattle.meaning.specs.OnVersion.{is_number}
-use Rattle.meaning.specs.Versions.{Broadcast, Version, is_open, version_with}
-use Rattle.meaning.specs.Windows.{WindowSet, Windows}
-use Rattle.meaning.specs.Laws.{IsState, version_table}
-use Rattle.meaning.proofs.OwnTests.{refused_by_own_tests}
-use Rattle.meaning.proofs.Entered.{found_is, sound_now}
-use Rattle.meaning.proofs.Lagging.{no_row_now}
-use Rattle.meaning.proofs.Shown.{id_found}
-use Rattle.meaning.specs.Commands.{VersionCommand, Activate, PutInConflict, RemoveFromConflict, Cancel, OldProviderCancellationAcknowledge, NewProviderCancellationAcknowledge, Disconnect, ModifyRouting, OnVersion}
-use Rattle.meaning.specs.History.{change_of}
-use Rattle.meaning.specs.OnVersion.{version_tests}
-use Rattle.version.specs.declared.command.Told.{Told}
-use Rattle.meaning.specs.Conditions.{is_the}
-use Rattle.version.specs.Commands.{sends_of, sends_seen, version_refusal, IsTold, Steps}
-use Rattle.version.specs.Views.{version_of, seen_by, IsSeen}
-use Rattle.version.specs.declared.command.Step.{Step}
+use Rattle.numbers.specs.Abstraction.{subject_of}
+use Rattle.model.specs.declared.refusal.Refusal.{Refusal}
+use Rattle.model.specs.declared.refusal.Refusal.TheVariants.{Storage}
+use Rattle.model.specs.Statuses.{Send}
+use Rattle.model.specs.Statuses.{Create, Delete, Modify}
+use Rattle.model.specs.Content.{Content, VersionRow, ClockRow, row_of}
+use Rattle.model.specs.History.{CommandRequest}
+use Rattle.model.specs.Machine.{Shown, accepted, answer_of}
+use Rattle.model.specs.State.{State, View, record_now, is_carrier, version_of_id, view_of, set_now}
+use Rattle.model.specs.RefusalNumbers.{number_of}
+use Rattle.model.specs.Refusals.{RequestFrom, refusal, has_open, owns}
+use Rattle.model.specs.OnVersion.{is_number}
+use Rattle.model.specs.Versions.{Broadcast, Version, is_open, version_with}
+use Rattle.model.specs.Windows.{WindowSet, Windows}
+use Rattle.model.specs.Laws.{IsReachable, version_table}
+use Rattle.model.proofs.OwnTests.{refused_by_own_tests}
+use Rattle.model.proofs.Entered.{found_is, sound_now}
+use Rattle.model.proofs.Lagging.{no_row_now}
+use Rattle.model.proofs.Shown.{id_found}
+use Rattle.model.specs.Commands.{VersionCommand, Activate, PutInConflict, RemoveFromConflict, Cancel, OldProviderCancellationAcknowledge, NewProviderCancellationAcknowledge, Disconnect, ModifyRouting, OnVersion}
+use Rattle.model.specs.History.{version_after_command}
+use Rattle.model.specs.OnVersion.{version_tests}
+use Rattle.version.specs.declared.command.CommandFacts.{CommandFacts}
+use Rattle.model.specs.Conditions.{is_the}
+use Rattle.version.specs.Commands.{sends_of, sends_model, version_refusal, AreFactsNeeded, IsTransition}
+use Rattle.version.specs.Abstraction.{version_of, model_with_windows, HasModel}
+use Rattle.version.specs.declared.command.Transition.{Transition}
 use Rattle.version.proofs.Commanded.{change_id, change_stepped, fits, IsFit}
 use Rattle.version.proofs.Refused.{command_refused}
-use Rattle.settle.specs.Changes.{IsChanged}
+use Rattle.settle.specs.Changes.{AppliesChanges}
 use Rattle.settle.proofs.Passing.{sound_open}
 use Rattle.settle.specs.Reads.{IsOpen}
 use Rattle.settle.specs.Settling.{IsSettled}
-use Rattle.settle.specs.Stepping.{stepping}
-use Rattle.settle.specs.Views.{version_row_of}
+use Rattle.settle.specs.Transition.{transition_changes}
+use Rattle.settle.specs.Abstraction.{version_row_of}
 use Rattle.settle.specs.declared.rows.NumberedRow.{NumberedRow}
 use Rattle.settle.specs.declared.rows.VersionRow.TheInside.{Inside}
-use Rattle.register.specs.Answers.{Stands}
+use Rattle.register.specs.Refinement.{Refines}
 use Rattle.register.specs.Looking.{AreHeld, IsLookedUp}
 use Rattle.register.proofs.EveryCall.HeldSets.{row_held, windows-now}
 use Rattle.version.proofs.Commanded.{change_holds}
-use Rattle.calls.specs.Calls.{refused_with}
-use Rattle.register.specs.Telling.{Tells}
-use Rattle.register.specs.Settling.{AnswersSettled, AreSettled, LeavesOthers}
+use Rattle.requests.specs.Calls.{refused_with}
+use Rattle.register.specs.CommandFacts.{AreCommandFacts}
+use Rattle.register.specs.Settling.{SimulatesSettledStep, AreSettled, FramesOthers}
 use Rattle.register.proofs.Asking.Alone.{none_held, row_is_held}
 use Rattle.register.proofs.OnVersions.RowVersion.{row_version, row_subject}
 use Rattle.register.proofs.EveryCall.Composed.{answers_refused_same, answers_accepted, Views}
-use Rattle.meaning.proofs.Lists.{everywhere}
+use Rattle.model.proofs.Lists.{everywhere}
 use Rattle.register.proofs.OnVersions.OnVersion.{LeavesRegistry, NamesVersion, clock_of, clock_is_of}
 use Rattle.register.proofs.EveryCall.Settled.{IdSettled, row_now, row_settled, of_id_found}
 use Rattle.register.proofs.Records.Stepped.{StepsOne, stepped-stands, stepped-leaves, stepped-answer}
@@ -59,7 +59,7 @@ use Rattle.register.proofs.EveryCall.Unfailing.{AreMachines, never_storage}
 -- ---- by the command
 
 command-leaves : (c : VersionCommand) (caller id : ℕ)
-    → LeavesRegistry caller (Commands (OnVersion id c))
+    → LeavesRegistry caller (CommandRequest (OnVersion id c))
 command-leaves c caller id = record {
   carrier = refl;
   lrn = λ k. refl;
@@ -70,11 +70,12 @@ command-leaves c caller id = record {
 }
 
 command-names : (c : VersionCommand) (id : ℕ) (s : Subject)
-    → NamesVersion id s (Commands (OnVersion id c))
+    → NamesVersion id s (CommandRequest (OnVersion id c))
 command-names c id s = record { unmade = λ at. refl; elsewhere = λ t vs apart none. none }
 
 -- its refusals are the machine's
-machine_own : (w : Windows) (now caller : ℕ) (told : Told) (c : VersionCommand) (s : Subject)
+machine_own : (w : Windows) (now caller : ℕ) (told : CommandFacts) (c : VersionCommand)
+    (s : Subject)
     (v : Version)
     → AreMachines (version_tests w now caller (λ t. told.is_another_open)
     (λ lrn carrier. told.is_lrn_good) c (Some (record { subject = s; version = v })))
@@ -88,7 +89,8 @@ machine_own w now caller told (Disconnect release) s v = (refl, (refl, (refl, (r
 machine_own w now caller told (ModifyRouting lrn cic) s v =
     (refl, (refl, (refl, (refl, (refl, tt)))))
 
-pub command_never : (w : Windows) (now caller : ℕ) (told : Told) (c : VersionCommand) (s : Subject)
+pub command_never : (w : Windows) (now caller : ℕ) (told : CommandFacts) (c : VersionCommand)
+    (s : Subject)
     (v : Version) (r : Refusal) → Some (number_of r) ≡ version_refusal w now caller told c s v
     → r ≡ Storage → ⊥
 command_never w now caller told c s v r is storage =
@@ -100,99 +102,103 @@ command_never w now caller told c s v r is storage =
     not_number = not (is_number s)
 
 -- what was told of the open version is so
-open_is : (st : State) (old : Content) (s : Subject) (o : Option NumberedRow) → Stands old st
+open_is : (st : State) (old : Content) (s : Subject) (o : Option NumberedRow) → Refines old st
     → IsSettled old st s → IsOpen old s o → is_some o ≡ has_open st s
-open_is st old s None stands due reads =
-    sym (ap is_some (none_held st old stands s due (λ t v. is_open t v)
+open_is st old s None refines due reads =
+    sym (ap is_some (none_held st old refines s due (λ t v. is_open t v)
     (λ (row : VersionRow). row.opens) (λ t v. refl) (sound_open s (record_now st s).versions
-    (sound_now st stands.represents.history s)) reads))
-open_is st old s (Some n) stands due reads =
-    sym (ap is_some (row_is_held st old stands s due (λ t v. is_open t v)
+    (sound_now st refines.represents.history s)) reads))
+open_is st old s (Some n) refines due reads =
+    sym (ap is_some (row_is_held st old refines s due (λ t v. is_open t v)
     (λ (row : VersionRow). row.opens) (λ t v. refl) (sound_open s (record_now st s).versions
-    (sound_now st stands.represents.history s)) n.id n.row reads.0 reads.1).1)
+    (sound_now st refines.represents.history s)) n.id n.row reads.0 reads.1).1)
 
 told_is : (c : VersionCommand) (st : State) (old : Content) (s : Subject) (provider : ℕ)
-    (told : Told) → Stands old st → IsSettled old st s → Tells old c s provider told
-    → IsTold c told (has_open st s) (λ lrn. owns st lrn provider)
-told_is Activate st old s provider told stands due tells = tt
-told_is PutInConflict st old s provider told stands due tells = tt
-told_is RemoveFromConflict st old s provider told stands due tells = tt
-told_is Cancel st old s provider told stands due tells = tt
-told_is OldProviderCancellationAcknowledge st old s provider told stands due tells = tt
-told_is NewProviderCancellationAcknowledge st old s provider told stands due tells = tt
-told_is (Disconnect release) st old s provider told stands due tells =
-    tells.2 ∙ open_is st old s tells.0 stands due tells.1
-told_is (ModifyRouting lrn cic) st old s provider told stands due tells = (
-  tells.0.2 ∙ open_is st old s tells.0.0 stands due tells.0.1,
-  tells.1 ∙ ap (is_the provider) (stands.represents.lrns lrn),
+    (told : CommandFacts) → Refines old st → IsSettled old st s
+    → AreCommandFacts old c s provider told
+    → AreFactsNeeded c told (has_open st s) (λ lrn. owns st lrn provider)
+told_is Activate st old s provider told refines due tells = tt
+told_is PutInConflict st old s provider told refines due tells = tt
+told_is RemoveFromConflict st old s provider told refines due tells = tt
+told_is Cancel st old s provider told refines due tells = tt
+told_is OldProviderCancellationAcknowledge st old s provider told refines due tells = tt
+told_is NewProviderCancellationAcknowledge st old s provider told refines due tells = tt
+told_is (Disconnect release) st old s provider told refines due tells =
+    tells.2 ∙ open_is st old s tells.0 refines due tells.1
+told_is (ModifyRouting lrn cic) st old s provider told refines due tells = (
+  tells.0.2 ∙ open_is st old s tells.0.0 refines due tells.0.1,
+  tells.1 ∙ ap (is_the provider) (refines.represents.lrns lrn),
 )
 
 -- ---- refusals
 
-is_state : (old : Content) (st : State) → Stands old st → IsState st
-is_state old st stands = record {
-  windows = stands.represents.windows;
-  history = stands.represents.history;
+is_state : (old : Content) (st : State) → Refines old st → IsReachable st
+is_state old st refines = record {
+  windows = refines.represents.windows;
+  history = refines.represents.history;
 }
 
 module _ (old : Content) (caller id : ℕ) (c : VersionCommand) where
-  known_is : (st : State) (b : Bool) → Stands old st → is_some (get old.carriers caller) ≡ b
+  known_is : (st : State) (b : Bool) → Refines old st → is_some (get old.carriers caller) ≡ b
       → is_carrier st caller ≡ b
-  known_is st b stands known = sym (stands.represents.carriers caller) ∙ known
+  known_is st b refines known = sym (refines.represents.carriers caller) ∙ known
 
-  id_settled : (st : State) → AreSettled old st (Requests caller (Commands (OnVersion id c)))
+  id_settled : (st : State)
+      → AreSettled old st (RequestFrom caller (CommandRequest (OnVersion id c)))
       → IdSettled old st id
   id_settled st settled = λ s is. settled s is
 
-  refused_unknown : is_some (get old.carriers caller) ≡ false → (st : State) → Stands old st
-      → refusal st (Requests caller (Commands (OnVersion id c))) ≡ Some 1
-  refused_unknown unknown st stands = refused_by_own_tests st (is_state old st stands) caller id c
+  refused_unknown : is_some (get old.carriers caller) ≡ false → (st : State) → Refines old st
+      → refusal st (RequestFrom caller (CommandRequest (OnVersion id c))) ≡ Some 1
+  refused_unknown unknown st refines = refused_by_own_tests st (is_state old st refines) caller id c
       ∙ ap (λ b. version_table st caller c b (version_of_id st id))
-      (known_is st false stands unknown)
+      (known_is st false refines unknown)
 
   refused_not_found : is_some (get old.carriers caller) ≡ true → get old.versions id ≡ None
-      → (st : State) → Stands old st → refusal st (Requests caller (Commands (OnVersion id c)))
+      → (st : State) → Refines old st
+      → refusal st (RequestFrom caller (CommandRequest (OnVersion id c)))
       ≡ Some 10
-  refused_not_found known none st stands =
-      refused_by_own_tests st (is_state old st stands) caller id c
-      ∙ ap (λ b. version_table st caller c b (version_of_id st id)) (known_is st true stands known)
-      ∙ ap (version_table st caller c true) (no_row_now st old stands.represents id none)
+  refused_not_found known none st refines =
+      refused_by_own_tests st (is_state old st refines) caller id c
+      ∙ ap (λ b. version_table st caller c b (version_of_id st id)) (known_is st true refines known)
+      ∙ ap (version_table st caller c true) (no_row_now st old refines.represents id none)
 
   -- by the row, the windows that it holds and the clock, and what was told of the open version
-  refused_by_row : (clock : ClockRow) (row : VersionRow) (held : Windows) (u : Inside) (told : Told)
+  refused_by_row : (clock : ClockRow) (row : VersionRow) (held : Windows) (u : Inside)
+      (told : CommandFacts)
       → is_some (get old.carriers caller) ≡ true →
       old.clock ≡ Some clock → get old.versions id ≡ Some row → AreHeld old clock row.held held →
       version_row_of u ≡ row →
-      (st : State) → Stands old st → IdSettled old st id
-      → IsTold c told (has_open st row.subject) (λ lrn. owns st lrn row.new_provider) →
-      refusal st (Requests caller (Commands (OnVersion id c)))
+      (st : State) → Refines old st → IdSettled old st id
+      → AreFactsNeeded c told (has_open st row.subject) (λ lrn. owns st lrn row.new_provider) →
+      refusal st (RequestFrom caller (CommandRequest (OnVersion id c)))
       ≡ version_refusal clock.present.windows clock.minute caller told c
-      (subject_of u.version.subject) (seen_by held u.version)
-  refused_by_row clock row held u told known clock_is found are_held is st stands settled tells =
+      (subject_of u.version.subject) (model_with_windows held u.version)
+  refused_by_row clock row held u told known clock_is found are_held is st refines settled tells =
       let shown : (v : Version) × (version_with id (record_now st row.subject) ≡ Some v)
-      × (row ≡ row_of row.subject v) = row_now st old id row stands.represents settled found in
-      let same_clock : clock ≡ clock_of st = clock_is_of old st clock stands.represents clock_is in
+      × (row ≡ row_of row.subject v) = row_now st old id row refines.represents settled found in
+      let same_clock : clock ≡ clock_of st = clock_is_of old st clock refines.represents clock_is in
       let held_is : held ≡ shown.0.held.windows =
-      row_held st old clock stands.represents clock_is row.subject id shown.0 shown.1 row
+      row_held st old clock refines.represents clock_is row.subject id shown.0 shown.1 row
       shown.2 held are_held in
       command_refused st caller id c (record { subject = row.subject; version = shown.0 })
-      (is_state old st stands) (known_is st true stands known)
-      (found_is st stands.represents.history row.subject id shown.0 shown.1) told
-      (subst (λ (x : VersionRow). IsTold c told (has_open st row.subject)
+      (is_state old st refines) (known_is st true refines known)
+      (found_is st refines.represents.history row.subject id shown.0 shown.1) told
+      (subst (λ (x : VersionRow). AreFactsNeeded c told (has_open st row.subject)
       (λ lrn. owns st lrn x.new_provider)) shown.2 tells)
       ∙ by_seen (set_now st).windows st.now row.subject shown.0
       (ap (λ w. version_of shown.0.id shown.0.broadcasts w u.version) held_is
       ∙ row_version row.subject shown.0 u (is ∙ shown.2))
       (row_subject row.subject shown.0 u (is ∙ shown.2))
       ∙ ap (λ (k : ClockRow). version_refusal k.present.windows k.minute caller told c
-      (subject_of u.version.subject) (seen_by held u.version)) (sym same_clock)
+      (subject_of u.version.subject) (model_with_windows held u.version)) (sym same_clock)
     where
       -- the command asks neither for the id nor for the broadcasts
       by_seen : (w : Windows) (now : ℕ) (s : Subject) (v : Version) →
           version_of v.id v.broadcasts held u.version ≡ v → subject_of u.version.subject ≡ s →
           version_refusal w now caller told c s v
           ≡ version_refusal w now caller told c (subject_of u.version.subject)
-          (seen_by held u.version)
+          (model_with_windows held u.version)
       by_seen w now s v version subject =
           ap (λ (x : Version). version_refusal w now caller told c s x) (sym version)
           ∙ ap (λ t. version_refusal w now caller told c t
@@ -203,7 +209,7 @@ module _ (old : Content) (caller id : ℕ) (c : VersionCommand) where
               version_refusal w now caller told d (subject_of u.version.subject)
               (version_of k bs held u.version)
               ≡ version_refusal w now caller told d (subject_of u.version.subject)
-              (seen_by held u.version)
+              (model_with_windows held u.version)
           unseen w now k bs Activate = refl
           unseen w now k bs PutInConflict = refl
           unseen w now k bs RemoveFromConflict = refl
@@ -217,127 +223,139 @@ module _ (old : Content) (caller id : ℕ) (c : VersionCommand) where
 
 pub answers_unknown : (old new : Content) (caller id : ℕ) (c : VersionCommand) → new ≡ old
     → is_some (get old.carriers caller) ≡ false
-    → AnswersSettled old new (Requests caller (Commands (OnVersion id c))) (refused_with 1)
+    → SimulatesSettledStep old new (RequestFrom caller (CommandRequest (OnVersion id c)))
+    (refused_with 1)
 answers_unknown old new caller id c same unknown =
-    answers_refused_same old new (Requests caller (Commands (OnVersion id c))) 1 same
-    (λ st stands settled. refused_unknown old caller id c unknown st stands)
+    answers_refused_same old new (RequestFrom caller (CommandRequest (OnVersion id c))) 1 same
+    (λ st refines settled. refused_unknown old caller id c unknown st refines)
 
 pub answers_not_found : (old new : Content) (caller id : ℕ) (c : VersionCommand) → new ≡ old
     → is_some (get old.carriers caller) ≡ true → get old.versions id ≡ None →
-    AnswersSettled old new (Requests caller (Commands (OnVersion id c))) (refused_with 10)
+    SimulatesSettledStep old new (RequestFrom caller (CommandRequest (OnVersion id c)))
+    (refused_with 10)
 answers_not_found old new caller id c same known none =
-    answers_refused_same old new (Requests caller (Commands (OnVersion id c))) 10 same
-    (λ st stands settled. refused_not_found old caller id c known none st stands)
+    answers_refused_same old new (RequestFrom caller (CommandRequest (OnVersion id c))) 10 same
+    (λ st refines settled. refused_not_found old caller id c known none st refines)
 
 -- what the code read
 pub record HasRead (old : Content) (caller id : ℕ) (c : VersionCommand) (clock : ClockRow)
-    (held : Windows) (u : Inside) (told : Told) : Type 0 where
+    (held : Windows) (u : Inside) (told : CommandFacts) : Type 0 where
   pub known : is_some (get old.carriers caller) ≡ true
   pub clock_is : old.clock ≡ Some clock
   pub found : get old.versions id ≡ Some (version_row_of u)
   pub are_held : AreHeld old clock u.version.held held
-  pub tells : Tells old c (subject_of u.version.subject) u.version.new_provider.number told
+  pub tells : AreCommandFacts old c (subject_of u.version.subject) u.version.new_provider.number
+      told
 
 -- what is told was read of a content that was as the first
 pub has_read : (old read : Content) (caller id : ℕ) (c : VersionCommand) (clock : ClockRow)
-    (held : Windows) (u : Inside) (told : Told) → read ≡ old
+    (held : Windows) (u : Inside) (told : CommandFacts) → read ≡ old
     → IsLookedUp old (is_some (get old.carriers caller)) id clock (version_row_of u) held
-    → Tells read c (subject_of u.version.subject) u.version.new_provider.number told
+    → AreCommandFacts read c (subject_of u.version.subject) u.version.new_provider.number told
     → HasRead old caller id c clock held u told
 has_read old read caller id c clock held u told same looked tells = record {
   known = looked.known;
   clock_is = looked.clock_is;
   found = looked.found;
   are_held = looked.are_held;
-  tells = subst (λ m. Tells m c (subject_of u.version.subject) u.version.new_provider.number told)
+  tells = subst (λ m. AreCommandFacts m c (subject_of u.version.subject)
+      u.version.new_provider.number told)
       same tells;
 }
 
 module _ (old : Content) (caller id : ℕ) (c : VersionCommand) (clock : ClockRow) (held : Windows)
-    (u : Inside) (told : Told)
+    (u : Inside) (told : CommandFacts)
     (has : HasRead old caller id c clock held u told) where
-  refused_read : (st : State) → Stands old st
-      → AreSettled old st (Requests caller (Commands (OnVersion id c))) →
-      refusal st (Requests caller (Commands (OnVersion id c)))
+  refused_read : (st : State) → Refines old st
+      → AreSettled old st (RequestFrom caller (CommandRequest (OnVersion id c))) →
+      refusal st (RequestFrom caller (CommandRequest (OnVersion id c)))
       ≡ version_refusal clock.present.windows clock.minute caller told c
-      (subject_of u.version.subject) (seen_by held u.version)
-  refused_read st stands settled =
+      (subject_of u.version.subject) (model_with_windows held u.version)
+  refused_read st refines settled =
       refused_by_row old caller id c clock (version_row_of u) held u told has.known has.clock_is
-      has.found has.are_held refl st stands (id_settled old caller id c st settled)
-      (told_is c st old (subject_of u.version.subject) u.version.new_provider.number told stands
-      (row_settled st old id (version_row_of u) stands.represents
+      has.found has.are_held refl st refines (id_settled old caller id c st settled)
+      (told_is c st old (subject_of u.version.subject) u.version.new_provider.number told refines
+      (row_settled st old id (version_row_of u) refines.represents
       (id_settled old caller id c st settled) has.found) has.tells)
 
   pub answers_read : (new : Content) (k : ℕ) → new ≡ old →
       Some k ≡ version_refusal clock.present.windows clock.minute caller told c
-      (subject_of u.version.subject) (seen_by held u.version) →
-      AnswersSettled old new (Requests caller (Commands (OnVersion id c))) (refused_with k)
+      (subject_of u.version.subject) (model_with_windows held u.version) →
+      SimulatesSettledStep old new (RequestFrom caller (CommandRequest (OnVersion id c)))
+      (refused_with k)
   answers_read new k same refused =
-      answers_refused_same old new (Requests caller (Commands (OnVersion id c))) k same
-      (λ st stands settled. refused_read st stands settled ∙ sym refused)
+      answers_refused_same old new (RequestFrom caller (CommandRequest (OnVersion id c))) k same
+      (λ st refines settled. refused_read st refines settled ∙ sym refused)
 
-  pub answers_stepped : (new : Content) (everyone : List ℕ) (step : Step) (view : View) →
+  pub answers_stepped : (new : Content) (all_carriers : List ℕ) (step : Transition) (view : View) →
       None ≡ version_refusal clock.present.windows clock.minute caller told c
-      (subject_of u.version.subject) (seen_by held u.version) →
-      Steps clock.present caller clock.minute c u.version step → everyone ≡ keys old.carriers →
-      IsChanged (stepping id clock.minute (sends_seen step.sends) (subject_of step.version.subject)
-      (seen_by clock.present.windows step.version) everyone) old new →
+      (subject_of u.version.subject) (model_with_windows held u.version) →
+      IsTransition clock.present caller clock.minute c u.version step
+      → all_carriers ≡ keys old.carriers →
+      AppliesChanges (transition_changes id clock.minute (sends_model step.sends)
+      (subject_of step.version.subject)
+      (model_with_windows clock.present.windows step.version) all_carriers) old new →
       Views clock.present.windows clock id step.version view →
-      AnswersSettled old new (Requests caller (Commands (OnVersion id c)))
+      SimulatesSettledStep old new (RequestFrom caller (CommandRequest (OnVersion id c)))
       (Some (Shown (Some view)))
-  answers_stepped new everyone step view accepts steps are_all changed views =
-      answers_accepted old new (Requests caller (Commands (OnVersion id c))) (Shown (Some view))
+  answers_stepped new all_carriers step view accepts steps are_all changed views =
+      answers_accepted old new (RequestFrom caller (CommandRequest (OnVersion id c)))
+      (Shown (Some view))
       each
     where
       s : Subject
       s = subject_of u.version.subject
 
-      each : (st : State) → Stands old st
-          → AreSettled old st (Requests caller (Commands (OnVersion id c)))
-          → (refusal st (Requests caller (Commands (OnVersion id c))) ≡ None)
+      each : (st : State) → Refines old st
+          → AreSettled old st (RequestFrom caller (CommandRequest (OnVersion id c)))
+          → (refusal st (RequestFrom caller (CommandRequest (OnVersion id c))) ≡ None)
           × (Shown (Some view) ≡ answer_of st
-          (accepted st (Requests caller (Commands (OnVersion id c))))
-          (Requests caller (Commands (OnVersion id c))))
-          × Stands new (accepted st (Requests caller (Commands (OnVersion id c))))
-          × LeavesOthers old new st (Requests caller (Commands (OnVersion id c)))
-      each st stands settled = (
+          (accepted st (RequestFrom caller (CommandRequest (OnVersion id c))))
+          (RequestFrom caller (CommandRequest (OnVersion id c))))
+          × Refines new (accepted st (RequestFrom caller (CommandRequest (OnVersion id c))))
+          × FramesOthers old new st (RequestFrom caller (CommandRequest (OnVersion id c)))
+      each st refines settled = (
         none,
-        stepped-answer st old new caller (Commands (OnVersion id c)) s id change (sends_of st.now c)
-            shown.0 everyone clock one stands due shown.1 has.clock_is none are_all put view
+        stepped-answer st old new caller (CommandRequest (OnVersion id c)) s id change
+            (sends_of st.now c)
+            shown.0 all_carriers clock one refines due shown.1 has.clock_is none are_all put view
             seen_as,
-        stepped-stands st old new caller (Commands (OnVersion id c)) s id change (sends_of st.now c)
-            shown.0 everyone clock one stands due shown.1 has.clock_is none are_all put,
-        stepped-leaves st old new caller (Commands (OnVersion id c)) s id change (sends_of st.now c)
-            shown.0 everyone clock one stands due shown.1 has.clock_is none are_all put,
+        stepped-stands st old new caller (CommandRequest (OnVersion id c)) s id change
+            (sends_of st.now c)
+            shown.0 all_carriers clock one refines due shown.1 has.clock_is none are_all put,
+        stepped-leaves st old new caller (CommandRequest (OnVersion id c)) s id change
+            (sends_of st.now c)
+            shown.0 all_carriers clock one refines due shown.1 has.clock_is none are_all put,
       )
         where
           by_id : IdSettled old st id
           by_id = id_settled old caller id c st settled
 
           due : IsSettled old st s
-          due = row_settled st old id (version_row_of u) stands.represents by_id has.found
+          due = row_settled st old id (version_row_of u) refines.represents by_id has.found
 
           shown : (v : Version) × (version_with id (record_now st s) ≡ Some v)
               × (version_row_of u ≡ row_of s v)
-          shown = row_now st old id (version_row_of u) stands.represents by_id has.found
+          shown = row_now st old id (version_row_of u) refines.represents by_id has.found
 
           same_clock : clock ≡ clock_of st
-          same_clock = clock_is_of old st clock stands.represents has.clock_is
+          same_clock = clock_is_of old st clock refines.represents has.clock_is
 
           now : clock.minute ≡ st.now
           now = ap (λ (k : ClockRow). k.minute) same_clock
 
-          none : refusal st (Requests caller (Commands (OnVersion id c))) ≡ None
-          none = refused_read st stands settled ∙ sym accepts
+          none : refusal st (RequestFrom caller (CommandRequest (OnVersion id c))) ≡ None
+          none = refused_read st refines settled ∙ sym accepts
 
           change : Version → Version
-          change = change_of (set_now st) caller st.now (record_now st s).carriers c
+          change = version_after_command (set_now st) caller st.now (record_now st s).carriers c
 
-          before : IsSeen u.version shown.0
+          before : HasModel u.version shown.0
           before = row_version s shown.0 u shown.2
 
-          steps_now : Steps (set_now st) caller st.now c u.version step
-          steps_now = subst (λ (k : ClockRow). Steps k.present caller k.minute c u.version step)
+          steps_now : IsTransition (set_now st) caller st.now c u.version step
+          steps_now =
+              subst (λ (k : ClockRow). IsTransition k.present caller k.minute c u.version step)
               same_clock steps
 
           subject : subject_of step.version.subject ≡ s
@@ -345,12 +363,12 @@ module _ (old : Content) (caller id : ℕ) (c : VersionCommand) (clock : ClockRo
 
           accepts_now : version_refusal (set_now st).windows st.now caller told c s shown.0 ≡ None
           accepts_now = sym (command_refused st caller id c
-              (record { subject = s; version = shown.0 }) (is_state old st stands)
-              (known_is old caller id c st true stands has.known)
-              (found_is st stands.represents.history s id shown.0 shown.1) told
-              (subst (λ (x : VersionRow). IsTold c told (has_open st s)
+              (record { subject = s; version = shown.0 }) (is_state old st refines)
+              (known_is old caller id c st true refines has.known)
+              (found_is st refines.represents.history s id shown.0 shown.1) told
+              (subst (λ (x : VersionRow). AreFactsNeeded c told (has_open st s)
               (λ lrn. owns st lrn x.new_provider)) shown.2
-              (told_is c st old s u.version.new_provider.number told stands due has.tells)))
+              (told_is c st old s u.version.new_provider.number told refines due has.tells)))
               ∙ none
 
           -- the version holds the present set then
@@ -363,53 +381,60 @@ module _ (old : Content) (caller id : ℕ) (c : VersionCommand) (clock : ClockRo
               set.windows step.version)
               (sym (change_holds (set_now st) (set_now st).windows st.now caller
               (record_now st s).carriers told c s shown.0 accepts_now))
-              ∙ subst (λ (x : Version). IsSeen step.version
-              (change_of (set_now st) caller st.now (record_now st s).carriers c x)) before
+              ∙ subst (λ (x : Version). HasModel step.version
+              (version_after_command (set_now st) caller st.now (record_now st s).carriers c x))
+              before
               ((steps_now.version (record_now st s).carriers).version shown.0.id shown.0.broadcasts
               shown.0.held.windows)
 
           fit : IsFit c shown.0
           fit = fits (set_now st).windows st.now caller told c s shown.0 accepts_now
 
-          one : StepsOne st caller (Commands (OnVersion id c)) s id change (sends_of st.now c)
+          one : StepsOne st caller (CommandRequest (OnVersion id c)) s id change (sends_of st.now c)
               shown.0
           one = record {
             leaves = command-leaves c caller id;
             names = command-names c id s;
             does = everywhere (λ v. refl) (record_now st s).versions;
             keeps = λ v. change_id (set_now st) caller st.now (record_now st s).carriers c v;
-            stepped = change_stepped (set_now st) (windows-now old st stands.represents) caller
+            stepped = change_stepped (set_now st) (windows-now old st refines.represents) caller
                 st.now (record_now st s).carriers c shown.0 fit;
             settles = of_id_found st s id shown.0 shown.1;
           }
 
-          put : IsChanged (stepping id st.now (sends_of st.now c) s (change shown.0) everyone) old
+          put : AppliesChanges (transition_changes id st.now (sends_of st.now c) s (change shown.0)
+              all_carriers) old
               new
-          put = subst (λ (x : Version). IsChanged (stepping id st.now (sends_of st.now c) s x
-              everyone) old new) after_is
+          put = subst (λ (x : Version). AppliesChanges
+              (transition_changes id st.now (sends_of st.now c) s x
+              all_carriers) old new) after_is
               (by_parts (sends_of st.now c)
-              (subst (λ a. IsChanged (stepping id st.now a s
-              (seen_by (set_now st).windows step.version) everyone) old new) steps_now.sends
-              (subst (λ t. IsChanged (stepping id st.now (sends_seen step.sends) t
-              (seen_by (set_now st).windows step.version) everyone) old new) subject
-              (subst (λ (k : ClockRow). IsChanged
-              (stepping id k.minute (sends_seen step.sends) (subject_of step.version.subject)
-              (seen_by k.present.windows step.version) everyone) old new) same_clock changed))))
+              (subst (λ a. AppliesChanges (transition_changes id st.now a s
+              (model_with_windows (set_now st).windows step.version) all_carriers) old new)
+              steps_now.sends
+              (subst (λ t. AppliesChanges (transition_changes id st.now (sends_model step.sends) t
+              (model_with_windows (set_now st).windows step.version) all_carriers) old new) subject
+              (subst (λ (k : ClockRow). AppliesChanges
+              (transition_changes id k.minute (sends_model step.sends)
+              (subject_of step.version.subject)
+              (model_with_windows k.present.windows step.version) all_carriers) old new) same_clock
+              changed))))
             where
               -- the rows have neither the version's id nor its broadcasts
-              by_parts : (a : Option Send) → IsChanged
-                  (stepping id st.now a s (seen_by (set_now st).windows step.version) everyone) old
+              by_parts : (a : Option Send) → AppliesChanges
+                  (transition_changes id st.now a s (model_with_windows (set_now st).windows
+                  step.version) all_carriers) old
                   new →
-                  IsChanged (stepping id st.now a s
+                  AppliesChanges (transition_changes id st.now a s
                   (version_of shown.0.id (change shown.0).broadcasts (set_now st).windows
-                  step.version) everyone) old new
+                  step.version) all_carriers) old new
               by_parts None changes = changes
               by_parts (Some Create) changes = changes
               by_parts (Some Delete) changes = changes
               by_parts (Some (Modify routing)) changes = changes
 
           after_it : State
-          after_it = accepted st (Requests caller (Commands (OnVersion id c)))
+          after_it = accepted st (RequestFrom caller (CommandRequest (OnVersion id c)))
 
           seen_as : view ≡ view_of after_it (record { subject = s; version = change shown.0 })
           seen_as =

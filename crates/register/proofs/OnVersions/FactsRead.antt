@@ -4,28 +4,28 @@ use Rattle.std.specs.Prelude.{find, is_some, is_none, option_map, if◌then◌el
 use Rattle.std.specs.FinMap.{get}
 use Rattle.numbers.specs.Digits.{code_of, block_of}
 use Rattle.numbers.specs.Subjects.{Subject, Number, Block}
-use Rattle.meaning.specs.Versions.{Version, in_force, version_in_force, open_version, is_open}
-use Rattle.meaning.specs.History.{Commands, donor_of, lrn_owner}
-use Rattle.meaning.specs.Reading.{State, Server, ByVersion, ByBlock, InPool, ByCode, record_now, serving, served_by_block, protected_by, is_served_by, is_carrier, set_now}
-use Rattle.meaning.specs.Conditions.{holds_of, is_the, is_delete_sent}
-use Rattle.meaning.specs.Refusals.{Requests, holds_at, own_tests, is_in_pool, refusal}
-use Rattle.meaning.specs.Content.{Content, ClockRow}
-use Rattle.version.specs.declared.version.Version.{Version as VersionCode}
-use Rattle.version.specs.declared.create.Create.{Create as CreateCode}
+use Rattle.model.specs.Versions.{Version, in_force, version_in_force, open_version, is_open}
+use Rattle.model.specs.History.{CommandRequest, donor_of, lrn_owner}
+use Rattle.model.specs.State.{State, Server, ByVersion, ByBlock, InPool, ByCode, record_now, serving, served_by_block, protected_by, is_served_by, is_carrier, set_now}
+use Rattle.model.specs.Conditions.{holds_of, is_the, is_delete_sent}
+use Rattle.model.specs.Refusals.{RequestFrom, holds_at, own_tests, is_in_pool, refusal}
+use Rattle.model.specs.Content.{Content, ClockRow}
+use Rattle.version.specs.declared.version.Version.{Version as VersionImpl}
+use Rattle.version.specs.declared.create.Create.{Create as CreateImpl}
 use Rattle.version.specs.declared.create.CreateFacts.{CreateFacts}
 use Rattle.version.specs.declared.create.Creator.{Creator}
 use Rattle.version.specs.declared.create.Creator.TheVariants.{OldProvider, NewProvider}
 use Rattle.version.specs.Creates.{command_by, command_of, create_refusal}
-use Rattle.version.specs.Facts.{FactsAre, Sees}
+use Rattle.version.specs.Facts.{CreateFactsMatch, HasModelIfAny}
 use Rattle.version.proofs.CreateRefused.{create_refused}
 use Rattle.settle.specs.Settling.{IsSettled}
 use Rattle.numbers.specs.declared.spid.Spid.{Spid}
-use Rattle.version.specs.Views.{seen}
+use Rattle.version.specs.Abstraction.{model_of}
 use Rattle.pool.specs.Facts.{carrier_number}
-use Rattle.pool.specs.Serving.{ServingFactsAre, carrier_of, served_by_code, served_by_version}
+use Rattle.pool.specs.Serving.{ServingFactsMatch, carrier_of, served_by_code, served_by_version}
 use Rattle.pool.proofs.Served.{serving-is}
-use Rattle.register.specs.Answers.{Stands}
-use Rattle.register.specs.Serving.{IsHeld, IsJudgedBy, IsOpened, are_known, is_lrn_good, is_released}
+use Rattle.register.specs.Refinement.{Refines}
+use Rattle.register.specs.Serving.{IsVersionInForce, IsJudgedBy, IsOpened, are_known, is_lrn_good, is_released}
 use Rattle.register.proofs.OnVersions.OnVersion.{clock_is_of}
 use Rattle.register.specs.Settling.{is_of_number}
 use Rattle.register.proofs.EveryCall.Settled.{number_of_number, block_of_number}
@@ -34,22 +34,24 @@ use Rattle.numbers.proofs.Small.{mapped_there}
 
 -- ---- what was found is seen
 
-sees_found : (st : State) (s : Subject) (f : Version → Bool) (e : Option (ℕ × VersionCode))
-    → IsFound st s f e → Sees (option_map (λ p. p.1) e) (find f (record_now st s).versions)
-sees_found st s f None is = subst (Sees None) (sym is) tt
-sees_found st s f (Some e) is = subst (Sees (Some e.1)) (sym is.1) is.3
+sees_found : (st : State) (s : Subject) (f : Version → Bool) (e : Option (ℕ × VersionImpl))
+    → IsFound st s f e → HasModelIfAny (option_map (λ p. p.1) e) (find f (record_now st s).versions)
+sees_found st s f None is = subst (HasModelIfAny None) (sym is) tt
+sees_found st s f (Some e) is = subst (HasModelIfAny (Some e.1)) (sym is.1) is.3
 
-sees_held : (st : State) (c : Content) (s : Subject) (o : Option VersionCode) → Stands c st
-    → IsSettled c st s → IsHeld c s o → Sees o (version_in_force (record_now st s))
-sees_held st c s o stands due held =
-    subst (λ x. Sees x (version_in_force (record_now st s))) held.2 (sees_found st s in_force held.0
-    (held_is st c s o stands due held))
+sees_held : (st : State) (c : Content) (s : Subject) (o : Option VersionImpl) → Refines c st
+    → IsSettled c st s → IsVersionInForce c s o
+    → HasModelIfAny o (version_in_force (record_now st s))
+sees_held st c s o refines due held =
+    subst (λ x. HasModelIfAny x (version_in_force (record_now st s))) held.2
+    (sees_found st s in_force held.0
+    (held_is st c s o refines due held))
 
-sees_opened : (st : State) (c : Content) (s : Subject) (o : Option (ℕ × VersionCode)) → Stands c st
+sees_opened : (st : State) (c : Content) (s : Subject) (o : Option (ℕ × VersionImpl)) → Refines c st
     → IsSettled c st s → IsOpened c s o
-    → Sees (option_map (λ p. p.1) o) (open_version s (record_now st s))
-sees_opened st c s o stands due is =
-    sees_found st s (is_open s) o (opened_is st c s o stands due is)
+    → HasModelIfAny (option_map (λ p. p.1) o) (open_version s (record_now st s))
+sees_opened st c s o refines due is =
+    sees_found st s (is_open s) o (opened_is st c s o refines due is)
 
 -- ---- carriers
 
@@ -75,37 +77,37 @@ carriers_known true true false e = cc
 carriers_known true false c e = cc
 carriers_known false b c e = cc
 
-known_are : (st : State) (old : Content) (c : CreateCode) (caller : ℕ) (b : Bool) → Stands old st
+known_are : (st : State) (old : Content) (c : CreateImpl) (caller : ℕ) (b : Bool) → Refines old st
     → are_known old c caller ≡ b →
     (is_carrier st c.old_provider.number && (is_carrier st c.new_provider.number && is_carrier st
     caller)) ≡ b
-known_are st old c caller b stands known =
+known_are st old c caller b refines known =
     ap (λ x. x && (is_carrier st c.new_provider.number && is_carrier st caller))
-    (sym (stands.represents.carriers c.old_provider.number))
+    (sym (refines.represents.carriers c.old_provider.number))
     ∙ ap (λ x. is_some (get old.carriers c.old_provider.number) && (x && is_carrier st caller))
-    (sym (stands.represents.carriers c.new_provider.number))
+    (sym (refines.represents.carriers c.new_provider.number))
     ∙ ap (λ x. is_some (get old.carriers c.old_provider.number)
     && (is_some (get old.carriers c.new_provider.number) && x))
-    (sym (stands.represents.carriers caller))
+    (sym (refines.represents.carriers caller))
     ∙ known
 
-pub unknown_is : (st : State) (old : Content) (c : CreateCode) (caller : ℕ) → Stands old st
+pub unknown_is : (st : State) (old : Content) (c : CreateImpl) (caller : ℕ) → Refines old st
     → are_known old c caller ≡ false
     → holds_at 1 (own_tests st caller (command_of c)) ≡ true
-unknown_is st old c caller stands known =
+unknown_is st old c caller refines known =
     known_by st c.creator caller c.tn.number c.old_provider.number c.new_provider.number
     c.due.number
     ∙ carriers_unknown (is_carrier st c.old_provider.number) (is_carrier st c.new_provider.number)
-    (is_carrier st caller) (known_are st old c caller false stands known)
+    (is_carrier st caller) (known_are st old c caller false refines known)
 
-known_is : (st : State) (old : Content) (c : CreateCode) (caller : ℕ) → Stands old st
+known_is : (st : State) (old : Content) (c : CreateImpl) (caller : ℕ) → Refines old st
     → are_known old c caller ≡ true → holds_at 1 (own_tests st caller (command_of c))
     ≡ false
-known_is st old c caller stands known =
+known_is st old c caller refines known =
     known_by st c.creator caller c.tn.number c.old_provider.number c.new_provider.number
     c.due.number
     ∙ carriers_known (is_carrier st c.old_provider.number) (is_carrier st c.new_provider.number)
-    (is_carrier st caller) (known_are st old c caller true stands known)
+    (is_carrier st caller) (known_are st old c caller true refines known)
 
 -- ---- the routing number
 
@@ -143,12 +145,12 @@ in_pool_is : (held opened : Option Version) (other : Server)
     ≡ is_in_pool (served_by_version held (protected_by opened other))
 in_pool_is (Some v) opened other same = refl
 in_pool_is None None other same = same
-in_pool_is None (Some v) other same = go v.protective
+in_pool_is None (Some v) other same = by_cases v.protective
   where
-    go : (b : Bool) → is_none (carrier_of (if b then ByVersion v.new_provider else other))
+    by_cases : (b : Bool) → is_none (carrier_of (if b then ByVersion v.new_provider else other))
         ≡ is_in_pool (if b then ByVersion v.new_provider else other)
-    go true = refl
-    go false = same
+    by_cases true = refl
+    by_cases false = same
 
 served_is : (k : ℕ) (server : Server) → is_the k (carrier_of server) ≡ is_served_by k server
 served_is k (ByVersion c) = refl
@@ -159,7 +161,7 @@ served_is k (ByCode (Some c)) = refl
 
 -- ---- the block
 
-released_is : (o : Option VersionCode) (p : Option Version) → Sees o p
+released_is : (o : Option VersionImpl) (p : Option Version) → HasModelIfAny o p
     → is_released o ≡ holds_of is_delete_sent (option_map (λ (v : Version). v.status) p)
 released_is None None sees = refl
 released_is (Some u) (Some v) sees = ap (λ (x : Version). is_delete_sent x.status) sees
@@ -168,32 +170,34 @@ released_is (Some u) None sees = absurd sees
 
 -- ---- all facts
 
-module _ (st : State) (old : Content) (caller : ℕ) (c : CreateCode) (clock : ClockRow)
-    (facts : CreateFacts) (stands : Stands old st)
+module _ (st : State) (old : Content) (caller : ℕ) (c : CreateImpl) (clock : ClockRow)
+    (facts : CreateFacts) (refines : Refines old st)
     (settled : (s : Subject) → is_of_number c.tn.number st s ≡ true → IsSettled old st s)
     (has : IsJudgedBy old caller c clock facts) where
   -- what tells who serves the number is so in the state
-  they_serve : ServingFactsAre st c.tn.number has.read.server.0
+  they_serve : ServingFactsMatch st c.tn.number has.read.server.0
   they_serve =
       let row = has.read.server.1 in
       record {
-        in_force = subst (λ o. Sees o (version_in_force (record_now st (Number c.tn.number))))
+        in_force = subst
+            (λ o. HasModelIfAny o (version_in_force (record_now st (Number c.tn.number))))
             (sym row.in_force)
-            (sees_held st old (Number c.tn.number) has.held stands
+            (sees_held st old (Number c.tn.number) has.held refines
             (settled (Number c.tn.number) (number_of_number st c.tn.number)) has.is_held);
         opened = subst
-            (λ o. Sees o (open_version (Number c.tn.number) (record_now st (Number c.tn.number))))
+            (λ o. HasModelIfAny o (open_version (Number c.tn.number)
+            (record_now st (Number c.tn.number))))
             (sym row.opened)
-            (sees_opened st old (Number c.tn.number) has.opened stands
+            (sees_opened st old (Number c.tn.number) has.opened refines
             (settled (Number c.tn.number) (number_of_number st c.tn.number)) has.is_opened);
-        donated = row.donated ∙ ap is_some (stands.represents.blocks (block_of c.tn.number))
+        donated = row.donated ∙ ap is_some (refines.represents.blocks (block_of c.tn.number))
             ∙ mapped_there _ (donor_of (block_of c.tn.number) st.history);
         block = subst
-            (λ o. Sees o (version_in_force (record_now st (Block (block_of c.tn.number)))))
+            (λ o. HasModelIfAny o (version_in_force (record_now st (Block (block_of c.tn.number)))))
             (sym row.block)
-            (sees_held st old (Block (block_of c.tn.number)) has.block stands
+            (sees_held st old (Block (block_of c.tn.number)) has.block refines
             (settled (Block (block_of c.tn.number)) (block_of_number st c.tn.number)) has.is_block);
-        code = row.code ∙ stands.represents.codes (code_of c.tn.number);
+        code = row.code ∙ refines.represents.codes (code_of c.tn.number);
       }
 
   server_is : carrier_number facts.server ≡ carrier_of (serving st c.tn.number)
@@ -203,43 +207,45 @@ module _ (st : State) (old : Content) (caller : ℕ) (c : CreateCode) (clock : C
   nobody_is : facts.is_code_open ≡ true → is_none facts.server ≡ is_in_pool (serving st c.tn.number)
   nobody_is is =
       is_none_mapped (λ (s : Spid). s.number) facts.server ∙ ap is_none has.read.server.2
-      ∙ in_pool_is (option_map seen has.read.server.0.in_force)
-      (option_map seen has.read.server.0.opened)
+      ∙ in_pool_is (option_map model_of has.read.server.0.in_force)
+      (option_map model_of has.read.server.0.opened)
       (served_by_code has.read.server.0)
-      (by_code_is (option_map seen has.read.server.0.block_in_force) has.read.server.0.is_donated
+      (by_code_is (option_map model_of has.read.server.0.block_in_force)
+      has.read.server.0.is_donated
       (carrier_number has.read.server.0.code_holder) (ap is_some has.read.server.1.code
       ∙ sym has.read.code
       ∙ is))
       ∙ ap is_in_pool (serving-is st c.tn.number has.read.server.0 they_serve)
 
-  pub facts_are : FactsAre st caller c facts
+  pub facts_are : CreateFactsMatch st caller c facts
   facts_are = record {
-    code = has.read.code ∙ ap is_some (stands.represents.codes (code_of c.tn.number));
-    lrn = has.read.lrn ∙ lrn_by st old stands.represents.lrns c.creator caller c.tn.number
+    code = has.read.code ∙ ap is_some (refines.represents.codes (code_of c.tn.number));
+    lrn = has.read.lrn ∙ lrn_by st old refines.represents.lrns c.creator caller c.tn.number
         c.old_provider.number c.new_provider.number c.due.number;
     pool = nobody_is;
     server = λ is. ap (is_the c.old_provider.number) server_is ∙ served_is c.old_provider.number
         (serving st c.tn.number);
-    opened = subst (λ o. Sees (option_map (λ e. e.1) o) (open_version (Number c.tn.number)
+    opened = subst (λ o. HasModelIfAny (option_map (λ e. e.1) o) (open_version (Number c.tn.number)
         (record_now st (Number c.tn.number)))) (sym has.read.opened)
-        (sees_opened st old (Number c.tn.number) has.opened stands
+        (sees_opened st old (Number c.tn.number) has.opened refines
         (settled (Number c.tn.number) (number_of_number st c.tn.number)) has.is_opened);
-    in_force = subst (λ o. Sees o (version_in_force (record_now st (Number c.tn.number))))
-        (sym has.read.in_force) (sees_held st old (Number c.tn.number) has.held stands
+    in_force = subst (λ o. HasModelIfAny o (version_in_force (record_now st (Number c.tn.number))))
+        (sym has.read.in_force) (sees_held st old (Number c.tn.number) has.held refines
         (settled (Number c.tn.number) (number_of_number st c.tn.number)) has.is_held);
     block = has.read.block
         ∙ released_is has.block (version_in_force (record_now st (Block (block_of c.tn.number))))
-        (sees_held st old (Block (block_of c.tn.number)) has.block stands
+        (sees_held st old (Block (block_of c.tn.number)) has.block refines
         (settled (Block (block_of c.tn.number)) (block_of_number st c.tn.number)) has.is_block);
     next_id = has.read.next_id ∙ ap (λ (k : ClockRow). k.next_id)
-        (clock_is_of old st clock stands.represents has.clock_is);
+        (clock_is_of old st clock refines.represents has.clock_is);
   }
 
   -- so a create is refused as they say
-  pub refused_by_facts : refusal st (Requests caller (Commands (command_of c))) ≡ create_refusal
+  pub refused_by_facts : refusal st (RequestFrom caller (CommandRequest (command_of c)))
+      ≡ create_refusal
       clock.present.windows clock.minute caller c facts
-  refused_by_facts = create_refused st caller c facts facts_are stands.represents.history
+  refused_by_facts = create_refused st caller c facts facts_are refines.represents.history
       ∙ ap (λ b. if b then Some 1 else create_refusal (set_now st).windows st.now caller c facts)
-      (known_is st old c caller stands has.known)
+      (known_is st old c caller refines has.known)
       ∙ ap (λ (k : ClockRow). create_refusal k.present.windows k.minute caller c facts)
-      (sym (clock_is_of old st clock stands.represents has.clock_is))
+      (sym (clock_is_of old st clock refines.represents has.clock_is))

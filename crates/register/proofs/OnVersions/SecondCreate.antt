@@ -3,31 +3,31 @@ use Rattle.std.proofs.Common.{◌≡◌, ℕ, Bool, true, false, cond, not, ◌&
 use Rattle.std.specs.Prelude.{◌==◌, find, is_some, is_none, option_and_then, if◌then◌else◌}
 use Rattle.std.specs.List.{AllByRecursion}
 use Rattle.numbers.specs.Subjects.{Subject, Number, subject_eq}
-use Rattle.meaning.specs.Windows.{AreWindows, WindowSet, Windows}
-use Rattle.meaning.specs.Statuses.{Status, Pending, Conflict, CancelPending, Sending, Active, PartialFailure, Failed, DisconnectPending, Old, Canceled}
-use Rattle.meaning.specs.Versions.{Version, Record, Broadcast, in_force, is_open, version_with}
-use Rattle.meaning.specs.Changes.{of_id, changed_at, retired}
-use Rattle.meaning.specs.Judge.{is_over, has_ended}
-use Rattle.meaning.specs.Laws.{IsQuiet}
-use Rattle.meaning.specs.History.{Request, Commands, carrier_named, makes, done_to, awaits_creates}
-use Rattle.meaning.specs.Reading.{State, record_now, set_now, made_now}
-use Rattle.meaning.specs.Refusals.{Requests}
-use Rattle.meaning.specs.Machine.{accepted}
-use Rattle.meaning.specs.Content.{Content, Shows}
-use Rattle.meaning.proofs.Settling.{newborn}
-use Rattle.meaning.specs.Concerns.{has_id}
-use Rattle.meaning.proofs.Ids.{AreGiven}
-use Rattle.meaning.proofs.Shown.{some_is}
-use Rattle.meaning.proofs.Entered.{entered-record, subject_eq-refl, version_with-changed, version_with-other, changed_at-map_where, brings_none}
-use Rattle.meaning.proofs.Creates.{lacks_old-open, lacks_new-open}
+use Rattle.model.specs.Windows.{AreWindows, WindowSet, Windows}
+use Rattle.model.specs.Statuses.{Status, Pending, Conflict, CancelPending, Sending, Active, PartialFailure, Failed, DisconnectPending, Old, Canceled}
+use Rattle.model.specs.Versions.{Version, Record, Broadcast, in_force, is_open, version_with}
+use Rattle.model.specs.Changes.{of_id, changed_at, retired}
+use Rattle.model.specs.Judge.{is_expired, has_expired}
+use Rattle.model.specs.Laws.{IsQuiet}
+use Rattle.model.specs.History.{Request, CommandRequest, carrier_named, subjects_made_by, version_after_request, awaits_creates}
+use Rattle.model.specs.State.{State, record_now, set_now, made_now}
+use Rattle.model.specs.Refusals.{RequestFrom}
+use Rattle.model.specs.Machine.{accepted}
+use Rattle.model.specs.Content.{Content, RowsMatch}
+use Rattle.model.proofs.Settling.{newborn}
+use Rattle.model.specs.Concerns.{has_id}
+use Rattle.model.proofs.Ids.{AreGiven}
+use Rattle.model.proofs.Shown.{some_is}
+use Rattle.model.proofs.Entered.{entered-record, subject_eq-refl, version_with-changed, version_with-other, changed_at-map_where, brings_none}
+use Rattle.model.proofs.Creates.{lacks_old-open, lacks_new-open}
 use Rattle.version.specs.declared.create.Creator.{Creator}
 use Rattle.version.specs.declared.create.Creator.TheVariants.{OldProvider, NewProvider}
 use Rattle.version.specs.Creates.{command_by, lacks, with_create}
-use Rattle.settle.specs.Changes.{IsChanged, ClockMove}
-use Rattle.settle.specs.Sending.{putting}
+use Rattle.settle.specs.Changes.{AppliesChanges, ClockMove}
+use Rattle.settle.specs.Sending.{version_changes}
 use Rattle.settle.proofs.Passing.{NonePass, OnePasses, none_found}
 use Rattle.register.proofs.OnVersions.FirstCreate.{retained_newborn}
-use Rattle.meaning.proofs.HasCreate.{HasCreate, HasCreateAs}
+use Rattle.model.proofs.HasCreate.{HasCreate, HasCreateAs}
 use Rattle.numbers.proofs.Small.{true-false, no_takeover, equal_number, still_false, or_first, or_second}
 use Rattle.register.proofs.OnVersions.FirstCreate.{put-shows}
 
@@ -64,20 +64,20 @@ pub same_change : (made : List Subject) (s : Subject) (test : Version → Bool) 
     else u) (of_id id f) vs
 same_change made s test f id [] v given one found passes = tt
 same_change made s test f id (u ∷ us) v given one found passes =
-    go (λ g. same_change made s test f id us v given.2 one.1 g passes) (u.id == id) refl found
+    by_cases (λ g. same_change made s test f id us v given.2 one.1 g passes) (u.id == id) refl found
   where
-    go : (find (λ x. x.id == id) us ≡ Some v → SameEach (λ x. if test x then f x
+    by_cases : (find (λ x. x.id == id) us ≡ Some v → SameEach (λ x. if test x then f x
         else x) (of_id id f) us) → (b : Bool) → (u.id == id) ≡ b
         → cond b (Some u) (find (λ x. x.id == id) us) ≡ Some v →
         ((if test u then f u else u) ≡ (if u.id == id then f u else u)) × SameEach (λ x. if test x
         then f x else x) (of_id id f) us
-    go later true e g =
+    by_cases later true e g =
         let it : test u ≡ true = ap test (some_is u v g) ∙ passes in (
           ap (λ b. if b then f u else u) it ∙ sym (ap (λ b. if b then f u else u) e),
           same_leaving test f id us (one.0 it) (ap (λ k. has_id k us) (sym (equal_number u.id id e))
               ∙ given.1),
         )
-    go later false e g = (
+    by_cases later false e g = (
       ap (λ b. if b then f u else u) (fails (test u) refl) ∙ sym (ap (λ b. if b then f u else u) e),
       later g,
     )
@@ -90,11 +90,12 @@ same_change made s test f id (u ∷ us) v given one found passes =
 none_of : (test other : Version → Bool) → ((v : Version) → test v ≡ true → other v ≡ true)
     → (vs : List Version) → NonePass other vs → NonePass test vs
 none_of test other implies [] none = tt
-none_of test other implies (v ∷ vs) none = (go (test v) refl, none_of test other implies vs none.1)
+none_of test other implies (v ∷ vs) none =
+    (by_cases (test v) refl, none_of test other implies vs none.1)
   where
-    go : (b : Bool) → test v ≡ b → test v ≡ false
-    go true e = true-false (other v) (implies v e) none.0
-    go false e = e
+    by_cases : (b : Bool) → test v ≡ b → test v ≡ false
+    by_cases true e = true-false (other v) (implies v e) none.0
+    by_cases false e = e
 
 pub one_of : (test other : Version → Bool) → ((v : Version) → test v ≡ true → other v ≡ true)
     → (vs : List Version) → OnePasses other vs → OnePasses test vs
@@ -132,43 +133,46 @@ with_create-forces_none w (OldProvider false) minute v = still_false (in_force v
 with_create-forces_none w (NewProvider routing) minute v = no_takeover (in_force v)
 
 done_by : (w : WindowSet) (creator : Creator) (caller minute tn old_provider new_provider due : ℕ)
-    (everyone : List ℕ) (v : Version) →
-    done_to w (Number tn) caller minute everyone
-    (Commands (command_by creator tn old_provider new_provider due)) v
+    (all_carriers : List ℕ) (v : Version) →
+    version_after_request w (Number tn) caller minute all_carriers
+    (CommandRequest (command_by creator tn old_provider new_provider due)) v
     ≡ (if subject_eq (Number tn) (Number tn) && lacks creator old_provider new_provider v
     then with_create w creator minute v else v)
-done_by w (OldProvider authorized) caller minute tn old_provider new_provider due everyone v = refl
-done_by w (NewProvider routing) caller minute tn old_provider new_provider due everyone v = refl
+done_by w (OldProvider authorized) caller minute tn old_provider new_provider due all_carriers v =
+    refl
+done_by w (NewProvider routing) caller minute tn old_provider new_provider due all_carriers v = refl
 
 done_each : (w : WindowSet) (creator : Creator) (caller minute tn old_provider new_provider due : ℕ)
-    (everyone : List ℕ) (vs : List Version) →
-    SameEach (done_to w (Number tn) caller minute everyone
-    (Commands (command_by creator tn old_provider new_provider due)))
+    (all_carriers : List ℕ) (vs : List Version) →
+    SameEach (version_after_request w (Number tn) caller minute all_carriers
+    (CommandRequest (command_by creator tn old_provider new_provider due)))
     (λ v. if lacks creator old_provider new_provider v then with_create w creator minute v
     else v) vs
-done_each w creator caller minute tn old_provider new_provider due everyone [] = tt
-done_each w creator caller minute tn old_provider new_provider due everyone (v ∷ vs) = (
-  done_by w creator caller minute tn old_provider new_provider due everyone v
+done_each w creator caller minute tn old_provider new_provider due all_carriers [] = tt
+done_each w creator caller minute tn old_provider new_provider due all_carriers (v ∷ vs) = (
+  done_by w creator caller minute tn old_provider new_provider due all_carriers v
       ∙ ap (λ b. if b && lacks creator old_provider new_provider v
       then with_create w creator minute v else v) (subject_eq-refl (Number tn)),
-  done_each w creator caller minute tn old_provider new_provider due everyone vs,
+  done_each w creator caller minute tn old_provider new_provider due all_carriers vs,
 )
 
 pub create-carrier : (creator : Creator) (tn old_provider new_provider due : ℕ)
-    → carrier_named (Commands (command_by creator tn old_provider new_provider due)) ≡ None
+    → carrier_named (CommandRequest (command_by creator tn old_provider new_provider due)) ≡ None
 create-carrier (OldProvider authorized) tn old_provider new_provider due = refl
 create-carrier (NewProvider routing) tn old_provider new_provider due = refl
 
 -- the record after a second create
 pub second-record : (st : State) (caller : ℕ) (creator : Creator) (tn old_provider new_provider due
     id : ℕ) (v : Version) →
-    makes (Commands (command_by creator tn old_provider new_provider due)) (record_now st) ≡ [] →
+    subjects_made_by (CommandRequest (command_by creator tn old_provider new_provider due))
+    (record_now st) ≡ [] →
     AreGiven (made_now st) (Number tn) (record_now st (Number tn)).versions
     → OnePasses (lacks creator old_provider new_provider) (record_now st (Number tn)).versions →
     version_with id (record_now st (Number tn)) ≡ Some v → lacks creator old_provider new_provider v
     ≡ true →
     record_now (accepted st
-    (Requests caller (Commands (command_by creator tn old_provider new_provider due)))) (Number tn)
+    (RequestFrom caller (CommandRequest (command_by creator tn old_provider new_provider due))))
+    (Number tn)
     ≡ record {
       carriers = (record_now st (Number tn)).carriers;
       versions = map (of_id id (with_create (set_now st) creator st.now))
@@ -176,11 +180,12 @@ pub second-record : (st : State) (caller : ℕ) (creator : Creator) (tn old_prov
     }
 second-record st caller creator tn old_provider new_provider due id v unmade given one found
     lacking =
-    let request : Request = Commands (command_by creator tn old_provider new_provider due) in
+    let request : Request = CommandRequest (command_by creator tn old_provider new_provider due) in
     entered-record st caller request (Number tn) [] unmade
     (create-carrier creator tn old_provider new_provider due)
     ∙ ap (λ vs. record { carriers = (record_now st (Number tn)).carriers; versions = vs })
-    (changed_at-each (set_now st) st.now (done_to (set_now st) (Number tn) caller st.now
+    (changed_at-each (set_now st) st.now (version_after_request (set_now st) (Number tn) caller
+    st.now
     (record_now st (Number tn)).carriers request) (λ u. if lacks creator old_provider new_provider u
     then with_create (set_now st) creator st.now u else u) (record_now st (Number tn)).versions
     (done_each (set_now st) creator caller st.now tn old_provider new_provider due
@@ -205,51 +210,53 @@ still_quiet : (w : WindowSet) (now : ℕ) (id : ℕ) (f : Version → Version) (
     → has_id id vs ≡ false → IsQuiet now vs → IsQuiet now (map (of_id id f) vs)
 still_quiet w now id f [] gone quiet = tt
 still_quiet w now id f (v ∷ vs) gone quiet = (
-  go (v.id == id) (or_first (v.id == id) (has_id id vs) gone),
+  by_cases (v.id == id) (or_first (v.id == id) (has_id id vs) gone),
   still_quiet w now id f vs (or_second (v.id == id) (has_id id vs) gone) quiet.1,
 )
   where
-    go : (b : Bool) → b ≡ false → is_over now (if b then f v else v) (if b then f v else v).status
+    by_cases : (b : Bool) → b ≡ false → is_expired now (if b then f v else v) (if b then f v
+        else v).status
         ≡ false
-    go true e = cc
-    go false e = quiet.0
+    by_cases true e = cc
+    by_cases false e = quiet.0
 
 -- where the changed version is not over, no version is
 pub changed-quiet : (w : WindowSet) (now : ℕ) (made : List Subject) (s : Subject) (id : ℕ)
     (f : Version → Version) (vs : List Version) (v : Version) → AreGiven made s vs →
-    find (λ u. u.id == id) vs ≡ Some v → is_over now (f v) (f v).status ≡ false → IsQuiet now vs
+    find (λ u. u.id == id) vs ≡ Some v → is_expired now (f v) (f v).status ≡ false → IsQuiet now vs
     → IsQuiet now (map (of_id id f) vs)
 changed-quiet w now made s id f [] v given found new quiet = tt
 changed-quiet w now made s id f (u ∷ us) v given found new quiet =
-    go (λ g. changed-quiet w now made s id f us v given.2 g new quiet.1) (u.id == id) refl found
+    by_cases (λ g. changed-quiet w now made s id f us v given.2 g new quiet.1) (u.id == id) refl
+    found
   where
-    go : (find (λ x. x.id == id) us ≡ Some v → IsQuiet now (map (of_id id f) us)) → (b : Bool)
+    by_cases : (find (λ x. x.id == id) us ≡ Some v → IsQuiet now (map (of_id id f) us)) → (b : Bool)
         → (u.id == id) ≡ b → cond b (Some u) (find (λ x. x.id == id) us) ≡ Some v →
-        (is_over now (if b then f u else u) (if b then f u else u).status ≡ false)
+        (is_expired now (if b then f u else u) (if b then f u else u).status ≡ false)
         × IsQuiet now (map (of_id id f) us)
-    go later true e g = (
-      ap (λ (x : Version). is_over now (f x) (f x).status) (some_is u v g) ∙ new,
+    by_cases later true e g = (
+      ap (λ (x : Version). is_expired now (f x) (f x).status) (some_is u v g) ∙ new,
       still_quiet w now id f us (ap (λ k. has_id k us) (sym (equal_number u.id id e)) ∙ given.1)
           quiet.1,
     )
-    go later false e g = (quiet.0, later g)
+    by_cases later false e g = (quiet.0, later g)
 
 awaits_of : (status : Status) (b c : Bool) → ((awaits_creates status && b) && c) ≡ true
     → (awaits_creates status ≡ true) × (c ≡ true)
-awaits_of status b c is = go (awaits_creates status) b c is
+awaits_of status b c is = by_cases (awaits_creates status) b c is
   where
-    go : (x y z : Bool) → ((x && y) && z) ≡ true → (x ≡ true) × (z ≡ true)
-    go true true z e = (refl, e)
-    go true false z e = cc
-    go false y z e = cc
+    by_cases : (x y z : Bool) → ((x && y) && z) ≡ true → (x ≡ true) × (z ≡ true)
+    by_cases true true z e = (refl, e)
+    by_cases true false z e = cc
+    by_cases false y z e = cc
 
 -- a version with the old provider's authorized create is over when it was before: it had the new
 -- provider's create
 old_quiet : (w : Windows) (now due : ℕ) (old_at new_at : Option ℕ) (since : ℕ) (status : Status)
     → awaits_creates status ≡ true → is_none old_at ≡ true
     → ((is_some old_at || is_some new_at) ≡ true) →
-    has_ended w now due old_at new_at since status ≡ false
-    → has_ended w now due (Some now) new_at since status ≡ false
+    has_expired w now due old_at new_at since status ≡ false
+    → has_expired w now due (Some now) new_at since status ≡ false
 old_quiet w now due old_at (Some m) since Pending awaits lacks has quiet = quiet
 old_quiet w now due None None since Pending awaits lacks has quiet = cc
 old_quiet w now due (Some k) None since Pending awaits lacks has quiet = cc
@@ -266,8 +273,8 @@ old_quiet w now due old_at new_at since Canceled awaits lacks has quiet = cc
 -- one with the new provider's create is retained from now on
 new_quiet : (w : Windows) → AreWindows w → (now due : ℕ) (old_at new_at : Option ℕ) (since : ℕ)
     (status : Status) → awaits_creates status ≡ true →
-    has_ended w now due old_at new_at since status ≡ false
-    → has_ended w now due old_at (Some now) since status ≡ false
+    has_expired w now due old_at new_at since status ≡ false
+    → has_expired w now due old_at (Some now) since status ≡ false
 new_quiet w windows now due old_at new_at since Pending awaits quiet =
     retained_newborn w.pending_retention due since now windows.pending_retention
 new_quiet w windows now due old_at new_at since Conflict awaits quiet = quiet
@@ -298,8 +305,8 @@ pub with_create-quiet : (w : WindowSet) → AreWindows w.windows →
     (creator : Creator) (old_provider new_provider now : ℕ) (v : Version) →
     AreWindows v.held.windows →
     lacks creator old_provider new_provider v ≡ true → HasCreate v →
-    is_over now v v.status ≡ false
-    → is_over now (with_create w creator now v) (with_create w creator now v).status ≡ false
+    is_expired now v v.status ≡ false
+    → is_expired now (with_create w creator now v) (with_create w creator now v).status ≡ false
 with_create-quiet w windows (OldProvider true) old_provider new_provider now v held lacking has
     quiet =
     let parts : (awaits_creates v.status ≡ true) × (is_none v.old_at ≡ true) =
@@ -330,8 +337,9 @@ with_create-holds K w (NewProvider routing) minute v now before = before
 pub changed-shows : (w : WindowSet) (s : Subject) (id : ℕ) (f : Version → Version)
     → ((u : Version) → (f u).id ≡ u.id) → (v : Version) → (f v).broadcasts ≡ v.broadcasts
     → (r : Record) (clock : Option ClockMove) (old new : Content) →
-    IsChanged (putting id s (f v) clock) old new → version_with id r ≡ Some v → Shows old s r
-    → Shows new s (record {
+    AppliesChanges (version_changes id s (f v) clock) old new → version_with id r ≡ Some v
+    → RowsMatch old s r
+    → RowsMatch new s (record {
       carriers = r.carriers;
       versions = map (of_id id f) r.versions;
     })

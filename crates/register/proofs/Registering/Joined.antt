@@ -4,26 +4,26 @@ use Rattle.std.specs.Prelude.{◌==◌, find, filter, option_map, option_and_the
 use Rattle.std.specs.FinMap.{get, entries, entries_sorted, get-entries}
 use Rattle.std.proofs.lemmas.Bool.Decides.{nat_tests}
 use Rattle.numbers.specs.Subjects.{Subject, subject_eq}
-use Rattle.meaning.specs.Commands.{RegisterCarrier}
-use Rattle.meaning.specs.Windows.{WindowSet}
-use Rattle.meaning.specs.Versions.{Version, Record, Broadcast, in_force, is_among, with_number, is_open_broadcast, is_open_outcome, is_withdrawn_outcome, unacknowledged, waiters, version_with}
-use Rattle.meaning.specs.declared.words.Outcome.{Outcome}
-use Rattle.meaning.specs.declared.words.Outcome.TheVariants.{Open, AllAcknowledged, SomeAcknowledged, NoneAcknowledged}
-use Rattle.meaning.specs.Changes.{joined_by, joined_broadcast, changed_at, retired}
-use Rattle.meaning.specs.Laws.{IsQuiet}
-use Rattle.meaning.specs.History.{Commands, effect, after, meaning, donor_of}
-use Rattle.meaning.specs.Reading.{State, record_now, set_now}
-use Rattle.meaning.specs.Refusals.{Requests}
-use Rattle.meaning.specs.Machine.{accepted}
-use Rattle.meaning.specs.Content.{Content, VersionRow, BroadcastRow, WaitKey, Shows, row_of, of_subject, stored_broadcast, stored_wait, broadcast_with, is_nonempty}
-use Rattle.meaning.proofs.Entered.{judged-now}
-use Rattle.meaning.proofs.Minutes.{retired-never}
-use Rattle.meaning.proofs.Rising.{among-with_number}
-use Rattle.meaning.proofs.Shown.{own, some_is}
-use Rattle.settle.specs.Changes.{IsChanged}
-use Rattle.register.specs.Joining.{joining}
+use Rattle.model.specs.Commands.{RegisterCarrier}
+use Rattle.model.specs.Windows.{WindowSet}
+use Rattle.model.specs.Versions.{Version, Record, Broadcast, in_force, is_among, with_number, is_open_broadcast, is_open_outcome, is_withdrawn_outcome, unacknowledged, waiters, version_with}
+use Rattle.model.specs.declared.words.Outcome.{Outcome}
+use Rattle.model.specs.declared.words.Outcome.TheVariants.{Open, AllAcknowledged, SomeAcknowledged, NoneAcknowledged}
+use Rattle.model.specs.Changes.{joined_by, joined_broadcast, changed_at, retired}
+use Rattle.model.specs.Laws.{IsQuiet}
+use Rattle.model.specs.History.{CommandRequest, effect, replay_step, replay_of, donor_of}
+use Rattle.model.specs.State.{State, record_now, set_now}
+use Rattle.model.specs.Refusals.{RequestFrom}
+use Rattle.model.specs.Machine.{accepted}
+use Rattle.model.specs.Content.{Content, VersionRow, BroadcastRow, WaitKey, RowsMatch, row_of, of_subject, stored_broadcast, stored_wait, broadcast_with, is_nonempty}
+use Rattle.model.proofs.Entered.{judged-now}
+use Rattle.model.proofs.Minutes.{retired-never}
+use Rattle.model.proofs.Rising.{among-with_number}
+use Rattle.model.proofs.Shown.{own, some_is}
+use Rattle.settle.specs.Changes.{AppliesChanges}
+use Rattle.register.specs.Joining.{registration_changes}
 use Rattle.register.proofs.Registering.JoinedWaits.{joined_at, joined-put}
-use Rattle.meaning.proofs.Attempts.{joined_same}
+use Rattle.model.proofs.Attempts.{joined_same}
 use Rattle.numbers.proofs.Small.{no_takeover}
 
 -- ---- the record of a subject
@@ -44,14 +44,15 @@ joined_record c r = record {
 }
 
 pub registered-record : (st : State) (caller c : ℕ) (s : Subject)
-    → record_now (accepted st (Requests caller (Commands (RegisterCarrier c)))) s ≡ joined_record c
+    → record_now (accepted st (RequestFrom caller (CommandRequest (RegisterCarrier c)))) s
+    ≡ joined_record c
     (record_now st s)
-unfolding meaning after effect
+unfolding replay_of replay_step effect
 registered-record st caller c s =
     judged-now (set_now st) st.now (effect (set_now st) s None (donor_of 0 st.history) (record {
       minute = st.now;
       caller = caller;
-      request = Commands (RegisterCarrier c);
+      request = CommandRequest (RegisterCarrier c);
     }) (record_now st s))
     ∙ ap (λ vs. record {
       carriers = with_number c (record_now st s).carriers;
@@ -68,14 +69,14 @@ joined-quiet w c now (v ∷ vs) quiet = (quiet.0, joined-quiet w c now vs quiet.
 joined_version : (c id : ℕ) (vs : List Version) → find (λ u. u.id == id) (map (joined_by c) vs)
     ≡ option_map (joined_by c) (find (λ u. u.id == id) vs)
 joined_version c id [] = refl
-joined_version c id (v ∷ vs) = go (joined_version c id vs) (v.id == id)
+joined_version c id (v ∷ vs) = by_cases (joined_version c id vs) (v.id == id)
   where
-    go : find (λ u. u.id == id) (map (joined_by c) vs) ≡ option_map (joined_by c)
+    by_cases : find (λ u. u.id == id) (map (joined_by c) vs) ≡ option_map (joined_by c)
         (find (λ u. u.id == id) vs) → (b : Bool) →
         cond b (Some (joined_by c v)) (find (λ u. u.id == id) (map (joined_by c) vs))
         ≡ option_map (joined_by c) (cond b (Some v) (find (λ u. u.id == id) vs))
-    go later true = refl
-    go later false = later
+    by_cases later true = refl
+    by_cases later false = later
 
 joined_found : (c attempt : ℕ) (bs : List Broadcast)
     → find (λ b. b.attempt == attempt) (map (joined_broadcast c) bs)
@@ -84,40 +85,40 @@ joined_found c attempt [] = refl
 joined_found c attempt (b ∷ bs) =
     ap (λ n. cond (n == attempt) (Some (joined_broadcast c b)) (find (λ x. x.attempt == attempt)
     (map (joined_broadcast c) bs))) (joined_same c b)
-    ∙ go (joined_found c attempt bs) (b.attempt == attempt)
+    ∙ by_cases (joined_found c attempt bs) (b.attempt == attempt)
   where
-    go : find (λ x. x.attempt == attempt) (map (joined_broadcast c) bs)
+    by_cases : find (λ x. x.attempt == attempt) (map (joined_broadcast c) bs)
         ≡ option_map (joined_broadcast c) (find (λ x. x.attempt == attempt) bs) → (t : Bool) →
         cond t (Some (joined_broadcast c b)) (find (λ x. x.attempt == attempt)
         (map (joined_broadcast c) bs)) ≡ option_map (joined_broadcast c)
         (cond t (Some b) (find (λ x. x.attempt == attempt) bs))
-    go later true = refl
-    go later false = later
+    by_cases later true = refl
+    by_cases later false = later
 
 pub joined_with : (c id attempt : ℕ) (r : Record) → broadcast_with id attempt (joined_record c r)
     ≡ option_map (joined_broadcast c) (broadcast_with id attempt r)
 joined_with c id attempt r =
     ap (option_and_then (λ (v : Version). find (λ b. b.attempt == attempt) v.broadcasts))
-    (joined_version c id r.versions) ∙ go (find (λ u. u.id == id) r.versions)
+    (joined_version c id r.versions) ∙ by_cases (find (λ u. u.id == id) r.versions)
   where
-    go : (o : Option Version)
+    by_cases : (o : Option Version)
         → option_and_then (λ (v : Version). find (λ b. b.attempt == attempt) v.broadcasts)
         (option_map (joined_by c) o)
         ≡ option_map (joined_broadcast c)
         (option_and_then (λ (v : Version). find (λ b. b.attempt == attempt) v.broadcasts) o)
-    go None = refl
-    go (Some v) = joined_found c attempt v.broadcasts
+    by_cases None = refl
+    by_cases (Some v) = joined_found c attempt v.broadcasts
 
 -- ---- what is stored of a broadcast
 
 joined_row : (s : Subject) (c : ℕ) (b : Broadcast) → stored_broadcast s (joined_broadcast c b)
     ≡ stored_broadcast s b
-joined_row s c b = go (is_open_broadcast b) refl
+joined_row s c b = by_cases (is_open_broadcast b) refl
   where
-    go : (t : Bool) → is_open_broadcast b ≡ t
+    by_cases : (t : Bool) → is_open_broadcast b ≡ t
         → stored_broadcast s (if t then record b { recipients = with_number c b.recipients }
         else b) ≡ stored_broadcast s b
-    go true e =
+    by_cases true e =
         ap (λ t. if t || is_nonempty (waiters (record b {
           recipients =
               with_number c b.recipients;
@@ -137,7 +138,7 @@ joined_row s c b = go (is_open_broadcast b) refl
           is_open = is_open_broadcast b;
           any = is_nonempty b.acknowledged;
         }) else None) e)
-    go false e = refl
+    by_cases false e = refl
 
 among-filter : (p : ℕ → Bool) (k : ℕ) (xs : List ℕ)
     → is_among k (filter p xs) ≡ (p k && is_among k xs)
@@ -146,7 +147,7 @@ among-filter p k [] = none (p k)
     none : (b : Bool) → false ≡ (b && false)
     none true = refl
     none false = refl
-among-filter p k (x ∷ xs) = go (among-filter p k xs) (p x) (x == k) refl refl
+among-filter p k (x ∷ xs) = by_cases (among-filter p k xs) (p x) (x == k) refl refl
   where
     equal : (x == k) ≡ true → x ≡ k
     equal e = grind (arith, nat_tests)
@@ -159,13 +160,14 @@ among-filter p k (x ∷ xs) = go (among-filter p k xs) (p x) (x == k) refl refl
     lost false c e = refl
     lost true c e = cc
 
-    go : is_among k (filter p xs) ≡ (p k && is_among k xs) → (a b : Bool) → p x ≡ a → (x == k) ≡ b
+    by_cases : is_among k (filter p xs) ≡ (p k && is_among k xs) → (a b : Bool) → p x ≡ a
+        → (x == k) ≡ b
         → is_among k (cond a (x ∷ filter p xs) (filter p xs)) ≡ (p k && (b || is_among k xs))
-    go later true true e f = ap (λ z. z || is_among k (filter p xs)) f
+    by_cases later true true e f = ap (λ z. z || is_among k (filter p xs)) f
         ∙ sym (ap (λ z. z && true) (sym (ap p (equal f)) ∙ e))
-    go later true false e f = ap (λ z. z || is_among k (filter p xs)) f ∙ later
-    go later false true e f = later ∙ lost (p k) (is_among k xs) (sym (ap p (equal f)) ∙ e)
-    go later false false e f = later
+    by_cases later true false e f = ap (λ z. z || is_among k (filter p xs)) f ∙ later
+    by_cases later false true e f = later ∙ lost (p k) (is_among k xs) (sym (ap p (equal f)) ∙ e)
+    by_cases later false false e f = later
 
 -- whether a carrier waits for an open broadcast that the newcomer joins
 open_waits : (c k : ℕ) (b : Broadcast) → is_open_broadcast b ≡ true
@@ -178,7 +180,7 @@ open_waits c k b opens new =
     (not_withdrawn b.outcome opens)
     ∙ among-filter (λ x. not (is_among x b.acknowledged)) k (with_number c b.recipients)
     ∙ ap (λ t. not (is_among k b.acknowledged) && t) (among-with_number k c b.recipients)
-    ∙ go (c == k) refl
+    ∙ by_cases (c == k) refl
     ∙ sym (ap (λ t. (c == k) || t) (ap (λ t. is_among k (if t then [] else unacknowledged b))
     (not_withdrawn b.outcome opens) ∙ among-filter (λ x. not (is_among x b.acknowledged)) k
     b.recipients))
@@ -192,11 +194,12 @@ open_waits c k b opens new =
     equal : (c == k) ≡ true → c ≡ k
     equal e = grind (arith, nat_tests)
 
-    go : (t : Bool) → (c == k) ≡ t
+    by_cases : (t : Bool) → (c == k) ≡ t
         → (not (is_among k b.acknowledged) && (t || is_among k b.recipients))
         ≡ (t || (not (is_among k b.acknowledged) && is_among k b.recipients))
-    go true e = ap (λ z. not z && true) (ap (λ n. is_among n b.acknowledged) (sym (equal e)) ∙ new)
-    go false e = refl
+    by_cases true e = ap (λ z. not z && true) (ap (λ n. is_among n b.acknowledged) (sym (equal e))
+        ∙ new)
+    by_cases false e = refl
 
 -- ---- what stands at a key of a wait
 
@@ -213,11 +216,11 @@ module _ (s : Subject) (c k m : ℕ) (key : WaitKey) (carrier : key.carrier ≡ 
 
   not_its : (row : BroadcastRow) → (if subject_eq row.subject s then Some row else None) ≡ None
       → subject_eq row.subject s ≡ false
-  not_its row e = go (subject_eq row.subject s) e
+  not_its row e = by_cases (subject_eq row.subject s) e
     where
-      go : (t : Bool) → (if t then Some row else None) ≡ None → t ≡ false
-      go false f = refl
-      go true f = cc
+      by_cases : (t : Bool) → (if t then Some row else None) ≡ None → t ≡ false
+      by_cases false f = refl
+      by_cases true f = cc
 
   -- no broadcast is there
   at_none : (o : Option BroadcastRow) (before : Option Subject)
@@ -250,16 +253,16 @@ module _ (s : Subject) (c k m : ℕ) (key : WaitKey) (carrier : key.carrier ≡ 
       else before)) opens
       ∙ ap (λ n. seen (if (c == n) && (b.minute == key.minute) then Some s else before)) carrier
       ∙ ap (λ n. seen (if (c == k) && (b.minute == n) then Some s else before)) minute
-      ∙ go (c == k) (b.minute == m) was
+      ∙ by_cases (c == k) (b.minute == m) was
       ∙ sym (ap (λ t. if (b.minute == m) && t then Some s else None) (open_waits c k b opens new))
     where
-      go : (x y : Bool) → seen before ≡ (if y && is_among k (waiters b) then Some s else None)
+      by_cases : (x y : Bool) → seen before ≡ (if y && is_among k (waiters b) then Some s else None)
           → seen (if x && y then Some s else before) ≡ (if y && (x || is_among k (waiters b))
           then Some s else None)
-      go true true e = own s (λ t. t) s refl
-      go true false e = e
-      go false true e = e
-      go false false e = e
+      by_cases true true e = own s (λ t. t) s refl
+      by_cases true false e = e
+      by_cases false true e = e
+      by_cases false false e = e
 
   -- one is there that is closed
   at_closed : (o : Option BroadcastRow) (b : Broadcast) (before : Option Subject)
@@ -268,7 +271,7 @@ module _ (s : Subject) (c k m : ℕ) (key : WaitKey) (carrier : key.carrier ≡ 
       seen before ≡ stored_wait s k m b → seen (joined_at c key o before) ≡ stored_wait s k m b
   at_closed None b before closed stored was = was
   at_closed (Some row) b before closed stored was =
-      go (subject_eq row.subject s) (is_nonempty (waiters b)) refl refl (stored
+      by_cases (subject_eq row.subject s) (is_nonempty (waiters b)) refl refl (stored
       ∙ ap (λ t. if t || is_nonempty (waiters b) then Some (row_seen b) else None) closed)
     where
       nobody : (xs : List ℕ) → is_nonempty xs ≡ false → is_among k xs ≡ false
@@ -279,16 +282,16 @@ module _ (s : Subject) (c k m : ℕ) (key : WaitKey) (carrier : key.carrier ≡ 
       none_waits true = refl
       none_waits false = refl
 
-      go : (p q : Bool) → subject_eq row.subject s ≡ p → is_nonempty (waiters b) ≡ q
+      by_cases : (p q : Bool) → subject_eq row.subject s ≡ p → is_nonempty (waiters b) ≡ q
           → (if p then Some row else None) ≡ (if q then Some (row_seen b) else None)
           → seen (joined_at c key (Some row) before) ≡ stored_wait s k m b
-      go true true e f same =
+      by_cases true true e f same =
           ap (λ t. seen (if t && ((c == key.carrier) && (row.minute == key.minute))
           then Some row.subject else before)) (ap (λ (x : BroadcastRow). x.is_open)
           (some_is row (row_seen b) same) ∙ closed) ∙ was
-      go true false e f same = cc
-      go false true e f same = cc
-      go false false e f same =
+      by_cases true false e f same = cc
+      by_cases false true e f same = cc
+      by_cases false false e f same =
           let gone : stored_wait s k m b ≡ None = ap (λ t. if (b.minute == m) && t then Some s
           else None) (nobody (waiters b) f) ∙ none_waits (b.minute == m) in
           foreign row (row.is_open && ((c == key.carrier) && (row.minute == key.minute))) before e
@@ -297,11 +300,11 @@ module _ (s : Subject) (c k m : ℕ) (key : WaitKey) (carrier : key.carrier ≡ 
   the_row : (o : Option BroadcastRow) (row : BroadcastRow)
       → of_subject s (λ (x : BroadcastRow). x.subject) o ≡ Some row → o ≡ Some row
   the_row None row e = cc
-  the_row (Some x) row e = go (subject_eq x.subject s) e
+  the_row (Some x) row e = by_cases (subject_eq x.subject s) e
     where
-      go : (t : Bool) → (if t then Some x else None) ≡ Some row → Some x ≡ Some row
-      go true f = f
-      go false f = cc
+      by_cases : (t : Bool) → (if t then Some x else None) ≡ Some row → Some x ≡ Some row
+      by_cases true f = f
+      by_cases false f = cc
 
   pub at_key : (o : Option BroadcastRow) (found : Option Broadcast) (before : Option Subject)
       → of_subject s (λ (x : BroadcastRow). x.subject) o ≡ option_and_then (stored_broadcast s)
@@ -311,26 +314,27 @@ module _ (s : Subject) (c k m : ℕ) (key : WaitKey) (carrier : key.carrier ≡ 
       seen (joined_at c key o before) ≡ option_and_then (stored_wait s k m)
       (option_map (joined_broadcast c) found)
   at_key o None before stored was new = at_none o before stored was
-  at_key o (Some b) before stored was new = go (is_open_broadcast b) refl
+  at_key o (Some b) before stored was new = by_cases (is_open_broadcast b) refl
     where
-      go : (t : Bool) → is_open_broadcast b ≡ t
+      by_cases : (t : Bool) → is_open_broadcast b ≡ t
           → seen (joined_at c key o before) ≡ stored_wait s k m (if t then record b {
             recipients =
                 with_number c b.recipients;
           } else b)
-      go true e =
+      by_cases true e =
           ap (λ x. seen (joined_at c key x before))
           (the_row o (row_seen b) (stored ∙ ap (λ t. if t || is_nonempty (waiters b)
           then Some (row_seen b) else None) e))
           ∙ at_open b before e (new b refl) was
-      go false e = at_closed o b before e stored was
+      by_cases false e = at_closed o b before e stored was
 
 -- ---- the rows of a subject
 
 pub joined-shows : (w : WindowSet) (s : Subject) (c : ℕ) (old new : Content) (r : Record)
-    → IsChanged (joining c (filter (λ e. e.1.is_open) (entries old.broadcasts))) old new →
+    → AppliesChanges (registration_changes c (filter (λ e. e.1.is_open) (entries old.broadcasts)))
+    old new →
     ((id attempt : ℕ) (b : Broadcast) → broadcast_with id attempt r ≡ Some b
-    → is_among c b.acknowledged ≡ false) → Shows old s r → Shows new s (joined_record c r)
+    → is_among c b.acknowledged ≡ false) → RowsMatch old s r → RowsMatch new s (joined_record c r)
 joined-shows w s c old new r changed newcomer shows = record {
   versions = λ id. ap (of_subject s (λ (x : VersionRow). x.subject)) (changed.versions id)
       ∙ shows.versions id ∙ kept (version_with id r)

@@ -3,23 +3,23 @@ use Rattle.std.proofs.Common.{◌≡◌, ℕ, Bool, true, false, not, ◌||◌, 
 use Rattle.std.specs.Prelude.{◌==◌, nat_le, filter, is_some, option_map, if◌then◌else◌}
 use Rattle.std.specs.FinMap.{get, keys, entries, entries_sorted}
 use Rattle.numbers.specs.Subjects.{Subject, Block}
-use Rattle.meaning.specs.Commands.{RegisterCarrier}
-use Rattle.meaning.specs.Laws.{IsQuiet}
-use Rattle.meaning.specs.Versions.{Record, Version, Broadcast, is_among, last_version}
-use Rattle.meaning.specs.History.{Commands, carriers, donor_of}
-use Rattle.meaning.specs.Reading.{State, InForce, record_now, is_carrier, all_in_force, set_now}
-use Rattle.meaning.specs.Refusals.{Requests, refusal, tests, first_that_holds, npac}
-use Rattle.meaning.specs.Machine.{Registered, accepted}
-use Rattle.meaning.specs.Changes.{joined_by}
-use Rattle.meaning.specs.Content.{Content, BlockRow, ClockRow, Shows, Represents, ClockShows, broadcast_with}
-use Rattle.meaning.proofs.Entered.{next_id-same}
-use Rattle.meaning.proofs.Recipients.{broadcast_known}
-use Rattle.meaning.proofs.Rising.{among-with_number, same_numbers, carriers-rise, keys-rise}
-use Rattle.settle.specs.Changes.{IsChanged}
+use Rattle.model.specs.Commands.{RegisterCarrier}
+use Rattle.model.specs.Laws.{IsQuiet}
+use Rattle.model.specs.Versions.{Record, Version, Broadcast, is_among, last_version}
+use Rattle.model.specs.History.{CommandRequest, carriers, donor_of}
+use Rattle.model.specs.State.{State, InForce, record_now, is_carrier, all_in_force, set_now}
+use Rattle.model.specs.Refusals.{RequestFrom, refusal, tests, first_refusal, npac}
+use Rattle.model.specs.Machine.{Registered, accepted}
+use Rattle.model.specs.Changes.{joined_by}
+use Rattle.model.specs.Content.{Content, BlockRow, ClockRow, RowsMatch, Represents, ClockRowMatches, broadcast_with}
+use Rattle.model.proofs.Entered.{next_id-same}
+use Rattle.model.proofs.Recipients.{broadcast_known}
+use Rattle.model.proofs.Rising.{among-with_number, same_numbers, carriers-rise, keys-rise}
+use Rattle.settle.specs.Changes.{AppliesChanges}
 use Rattle.settle.specs.Settling.{IsSettled}
-use Rattle.register.specs.Answers.{Stands}
-use Rattle.register.specs.Settling.{AnswersSettled}
-use Rattle.register.specs.Joining.{joining}
+use Rattle.register.specs.Refinement.{Refines}
+use Rattle.register.specs.Settling.{SimulatesSettledStep}
+use Rattle.register.specs.Joining.{registration_changes}
 use Rattle.register.proofs.EveryCall.Composed.{answers_accepted}
 use Rattle.register.proofs.Registering.Joined.{joined_record, registered-record, joined-quiet, joined-shows}
 use Rattle.register.proofs.Records.Touched.{RegistryShows, touched-stands}
@@ -40,10 +40,10 @@ carriers_are c st rep =
 
 abbrev carrier_refusal : (is_admin taken full : Bool) → Option ℕ
 carrier_refusal is_admin taken full =
-    first_that_holds ((2, not is_admin) ∷ (4, taken) ∷ (28, full) ∷ [])
+    first_refusal ((2, not is_admin) ∷ (4, taken) ∷ (28, full) ∷ [])
 
 carrier_tests : (st : State) (caller spid : ℕ)
-    → refusal st (Requests caller (Commands (RegisterCarrier spid)))
+    → refusal st (RequestFrom caller (CommandRequest (RegisterCarrier spid)))
     ≡ carrier_refusal (caller == npac) (is_carrier st spid || (spid == npac))
     (nat_le 100 (length (carriers st.history)))
 unfolding tests
@@ -56,91 +56,94 @@ turned false true = refl
 turned false false = refl
 
 module _ (old : Content) (caller spid : ℕ) where
-  pub carrier_not_admin : (caller == npac) ≡ false → (st : State) → Stands old st
-      → refusal st (Requests caller (Commands (RegisterCarrier spid))) ≡ Some 2
-  carrier_not_admin other st stands =
+  pub carrier_not_admin : (caller == npac) ≡ false → (st : State) → Refines old st
+      → refusal st (RequestFrom caller (CommandRequest (RegisterCarrier spid))) ≡ Some 2
+  carrier_not_admin other st refines =
       carrier_tests st caller spid
       ∙ ap (λ b. carrier_refusal b (is_carrier st spid || (spid == npac))
       (nat_le 100 (length (carriers st.history)))) other
 
   by_taken : (caller == npac) ≡ true → (known : Bool)
-      → (spid == npac || is_some (get old.carriers spid)) ≡ known → (st : State) → Stands old st →
-      refusal st (Requests caller (Commands (RegisterCarrier spid))) ≡ carrier_refusal true known
+      → (spid == npac || is_some (get old.carriers spid)) ≡ known → (st : State) → Refines old st →
+      refusal st (RequestFrom caller (CommandRequest (RegisterCarrier spid))) ≡ carrier_refusal true
+      known
       (nat_le 100 (length (keys old.carriers)))
-  by_taken admin known is st stands =
+  by_taken admin known is st refines =
       carrier_tests st caller spid
       ∙ ap (λ b. carrier_refusal b (is_carrier st spid || (spid == npac))
       (nat_le 100 (length (carriers st.history)))) admin
       ∙ ap (λ b. carrier_refusal true b (nat_le 100 (length (carriers st.history))))
       (turned (is_carrier st spid) (spid == npac) ∙ ap (λ b. (spid == npac) || b)
-      (sym (stands.represents.carriers spid)) ∙ is)
+      (sym (refines.represents.carriers spid)) ∙ is)
       ∙ ap (λ ns. carrier_refusal true known (nat_le 100 (length ns)))
-      (sym (carriers_are old st stands.represents))
+      (sym (carriers_are old st refines.represents))
 
   pub carrier_is_taken : (caller == npac) ≡ true → (spid == npac || is_some (get old.carriers spid))
-      ≡ true → (st : State) → Stands old st →
-      refusal st (Requests caller (Commands (RegisterCarrier spid))) ≡ Some 4
-  carrier_is_taken admin taken st stands = by_taken admin true taken st stands
+      ≡ true → (st : State) → Refines old st →
+      refusal st (RequestFrom caller (CommandRequest (RegisterCarrier spid))) ≡ Some 4
+  carrier_is_taken admin taken st refines = by_taken admin true taken st refines
 
   pub carriers_full : (caller == npac) ≡ true → (spid == npac || is_some (get old.carriers spid))
-      ≡ false → nat_le 100 (length (keys old.carriers)) ≡ true → (st : State) → Stands old st →
-      refusal st (Requests caller (Commands (RegisterCarrier spid))) ≡ Some 28
-  carriers_full admin free full st stands =
-      by_taken admin false free st stands ∙ ap (carrier_refusal true false) full
+      ≡ false → nat_le 100 (length (keys old.carriers)) ≡ true → (st : State) → Refines old st →
+      refusal st (RequestFrom caller (CommandRequest (RegisterCarrier spid))) ≡ Some 28
+  carriers_full admin free full st refines =
+      by_taken admin false free st refines ∙ ap (carrier_refusal true false) full
 
   carrier_accepted : (caller == npac) ≡ true → (spid == npac || is_some (get old.carriers spid))
-      ≡ false → nat_le 100 (length (keys old.carriers)) ≡ false → (st : State) → Stands old st →
-      refusal st (Requests caller (Commands (RegisterCarrier spid))) ≡ None
-  carrier_accepted admin free room st stands =
-      by_taken admin false free st stands ∙ ap (carrier_refusal true false) room
+      ≡ false → nat_le 100 (length (keys old.carriers)) ≡ false → (st : State) → Refines old st →
+      refusal st (RequestFrom caller (CommandRequest (RegisterCarrier spid))) ≡ None
+  carrier_accepted admin free room st refines =
+      by_taken admin false free st refines ∙ ap (carrier_refusal true false) room
 
 -- ---- what is left
 
 module _ (old new : Content) (caller spid : ℕ)
-    (changed : IsChanged (joining spid (filter (λ e. e.1.is_open) (entries old.broadcasts))) old
+    (changed : AppliesChanges
+    (registration_changes spid (filter (λ e. e.1.is_open) (entries old.broadcasts))) old
     new)
     (admin : (caller == npac) ≡ true) (free : (spid == npac || is_some (get old.carriers spid))
     ≡ false) (room : nat_le 100 (length (keys old.carriers)) ≡ false)
-    (st : State) (stands : Stands old st) (settled : (s : Subject) → IsSettled old st s) where
+    (st : State) (refines : Refines old st) (settled : (s : Subject) → IsSettled old st s) where
   abbrev after_it : State
-  after_it = accepted st (Requests caller (Commands (RegisterCarrier spid)))
+  after_it = accepted st (RequestFrom caller (CommandRequest (RegisterCarrier spid)))
 
-  accepts : refusal st (Requests caller (Commands (RegisterCarrier spid))) ≡ None
-  accepts = carrier_accepted old caller spid admin free room st stands
+  accepts : refusal st (RequestFrom caller (CommandRequest (RegisterCarrier spid))) ≡ None
+  accepts = carrier_accepted old caller spid admin free room st refines
 
   newcomer : is_among spid (carriers st.history) ≡ false
-  newcomer = sym (stands.represents.carriers spid)
+  newcomer = sym (refines.represents.carriers spid)
       ∙ or_second (spid == npac) (is_some (get old.carriers spid)) free
 
   not_yet : (s : Subject) (id attempt : ℕ) (b : Broadcast)
       → broadcast_with id attempt (record_now st s) ≡ Some b → is_among spid b.acknowledged ≡ false
-  not_yet s id attempt b found = go (is_among spid b.acknowledged) refl
+  not_yet s id attempt b found = by_cases (is_among spid b.acknowledged) refl
     where
-      go : (t : Bool) → is_among spid b.acknowledged ≡ t → t ≡ false
-      go false e = refl
-      go true e = let known : is_among spid (carriers st.history) ≡ true =
-          (broadcast_known st stands.represents.history s id attempt b found).acknowledged spid e in
+      by_cases : (t : Bool) → is_among spid b.acknowledged ≡ t → t ≡ false
+      by_cases false e = refl
+      by_cases true e = let known : is_among spid (carriers st.history) ≡ true =
+          (broadcast_known st refines.represents.history s id attempt b found).acknowledged spid
+          e in
           let never : true ≡ false = sym known ∙ newcomer in cc
 
   the_record : (s : Subject) → record_now after_it s ≡ joined_record spid (record_now st s)
   the_record s = registered-record st caller spid s
 
-  shows : (s : Subject) → Shows new s (joined_record spid (record_now st s))
+  shows : (s : Subject) → RowsMatch new s (joined_record spid (record_now st s))
   shows s = joined-shows (set_now st) s spid old new (record_now st s) changed (not_yet s)
-      (settled s).shows
+      (settled s).rows_match
 
   quiet : (s : Subject) → IsQuiet st.now (joined_record spid (record_now st s)).versions
   quiet s = joined-quiet (set_now st) spid st.now (record_now st s).versions (settled s).quiet
 
   carrier_at : (k : ℕ) → is_some (get new.carriers k) ≡ is_among k (carriers after_it.history)
-  carrier_at k = ap is_some (changed.carriers k) ∙ go (spid == k) refl
+  carrier_at k = ap is_some (changed.carriers k) ∙ by_cases (spid == k) refl
       ∙ sym (among-with_number k spid (carriers st.history))
     where
-      go : (t : Bool) → (spid == k) ≡ t → is_some (if t then Some tt else get old.carriers k)
+      by_cases : (t : Bool) → (spid == k) ≡ t → is_some (if t then Some tt else get old.carriers k)
           ≡ ((spid == k) || is_among k (carriers st.history))
-      go true e = sym (ap (λ t. t || is_among k (carriers st.history)) e)
-      go false e =
-          stands.represents.carriers k ∙ sym (ap (λ t. t || is_among k (carriers st.history)) e)
+      by_cases true e = sym (ap (λ t. t || is_among k (carriers st.history)) e)
+      by_cases false e =
+          refines.represents.carriers k ∙ sym (ap (λ t. t || is_among k (carriers st.history)) e)
 
   last_is : (vs : List Version)
       → option_map (λ (v : Version). v.id) (last_version (record {
@@ -154,23 +157,24 @@ module _ (old new : Content) (caller spid : ℕ)
   last_is (v ∷ vs) = refl
 
   -- the minute, the windows and the next id are what they were
-  clock_after : (o : Option ClockRow) → is_some o ≡ true → ClockShows o st → ClockShows o after_it
+  clock_after : (o : Option ClockRow) → is_some o ≡ true → ClockRowMatches o st
+      → ClockRowMatches o after_it
   clock_after (Some row) e is = is ∙ ap (λ k. record {
     minute = st.now;
     next_id = k;
     present = set_now st;
-  }) (sym (next_id-same st caller (Commands (RegisterCarrier spid)) refl))
+  }) (sym (next_id-same st caller (CommandRequest (RegisterCarrier spid)) refl))
   clock_after None e is = cc
 
   registry : RegistryShows new after_it
   registry = record {
-    clock = subst (λ o. ClockShows o after_it) (sym changed.clock)
-        (clock_after old.clock stands.written stands.represents.clock);
-    written = ap is_some changed.clock ∙ stands.written;
+    clock = subst (λ o. ClockRowMatches o after_it) (sym changed.clock)
+        (clock_after old.clock refines.written refines.represents.clock);
+    written = ap is_some changed.clock ∙ refines.written;
     carriers = carrier_at;
-    lrns = λ k. changed.lrns k ∙ stands.represents.lrns k;
-    codes = λ k. changed.codes k ∙ stands.represents.codes k;
-    blocks = λ b. changed.blocks b ∙ stands.represents.blocks b
+    lrns = λ k. changed.lrns k ∙ refines.represents.lrns k;
+    codes = λ k. changed.codes k ∙ refines.represents.codes k;
+    blocks = λ b. changed.blocks b ∙ refines.represents.blocks b
         ∙ ap (λ o. option_map (λ donor. let row : BlockRow = record { donor = donor; last = o } in
         row) (donor_of b st.history)) (last_is (record_now st (Block b)).versions)
         ∙ sym (ap (λ r. option_map (λ donor. let row : BlockRow = record {
@@ -181,29 +185,32 @@ module _ (old new : Content) (caller spid : ℕ)
 
   settled_after : (t : Subject) → IsSettled new after_it t
   settled_after t = record {
-    shows = subst (Shows new t) (sym (the_record t)) (shows t);
+    rows_match = subst (RowsMatch new t) (sym (the_record t)) (shows t);
     quiet = subst (λ (r : Record). IsQuiet st.now r.versions) (sym (the_record t)) (quiet t);
   }
 
   -- every subject is touched
-  pub registered_stands : Stands new after_it
+  pub registered_stands : Refines new after_it
   registered_stands =
-      touched-stands st old new caller (Commands (RegisterCarrier spid)) (λ t. true) stands accepts
+      touched-stands st old new caller (CommandRequest (RegisterCarrier spid)) (λ t. true) refines
+      accepts
       tt refl changed.sets registry (λ t never. let x : ⊥ = cc in
       absurd x) (λ t is. settled_after t)
 
 pub answers_registered : (old new : Content) (caller spid : ℕ) (rows : List InForce) →
-    IsChanged (joining spid (filter (λ e. e.1.is_open) (entries old.broadcasts))) old new →
+    AppliesChanges (registration_changes spid (filter (λ e. e.1.is_open) (entries old.broadcasts)))
+    old new →
     (caller == npac) ≡ true → (spid == npac || is_some (get old.carriers spid)) ≡ false
     → nat_le 100 (length (keys old.carriers)) ≡ false →
-    ((st : State) → Stands old st → ((s : Subject) → IsSettled old st s) → rows ≡ all_in_force st)
-    → AnswersSettled old new (Requests caller (Commands (RegisterCarrier spid)))
+    ((st : State) → Refines old st → ((s : Subject) → IsSettled old st s) → rows ≡ all_in_force st)
+    → SimulatesSettledStep old new (RequestFrom caller (CommandRequest (RegisterCarrier spid)))
     (Some (Registered spid rows))
 answers_registered old new caller spid rows changed admin free room listed =
-    answers_accepted old new (Requests caller (Commands (RegisterCarrier spid)))
-    (Registered spid rows) (λ st stands settled. (
-      carrier_accepted old caller spid admin free room st stands,
-      ap (λ xs. Registered spid xs) (listed st stands (λ s. settled s refl)),
-      registered_stands old new caller spid changed admin free room st stands (λ s. settled s refl),
+    answers_accepted old new (RequestFrom caller (CommandRequest (RegisterCarrier spid)))
+    (Registered spid rows) (λ st refines settled. (
+      carrier_accepted old caller spid admin free room st refines,
+      ap (λ xs. Registered spid xs) (listed st refines (λ s. settled s refl)),
+      registered_stands old new caller spid changed admin free room st refines
+          (λ s. settled s refl),
       λ t other. let never : true ≡ false = other in cc,
     ))

@@ -3,30 +3,31 @@ use Rattle.std.proofs.Common.{◌≡◌, ℕ, Bool, true, false, not, [], ◌∷
 use Rattle.std.specs.Prelude.{◌==◌, is_some, option_map, if◌then◌else◌}
 use Rattle.std.specs.FinMap.{get}
 use Rattle.numbers.specs.Subjects.{Subject, Block}
-use Rattle.meaning.specs.Commands.{RegisterRoutingNumber, OpenCode}
-use Rattle.meaning.specs.Versions.{Version, last_version, is_among}
-use Rattle.meaning.specs.History.{Request, Commands, HasValues, next_id, carriers, donor_of, lrn_owner, code_holder, or_else, makes, donor_named, windows_named}
-use Rattle.meaning.specs.Reading.{State, record_now, is_carrier, set_now}
-use Rattle.meaning.specs.Refusals.{Requests, refusal, tests, first_that_holds, npac}
-use Rattle.meaning.specs.Machine.{LrnAdded, CodeOpened, accepted}
-use Rattle.meaning.specs.Content.{Content, VersionRow, BroadcastRow, BlockRow, ClockRow, BroadcastKey, WaitKey, ClockShows, SameRows, of_subject}
-use Rattle.meaning.specs.Concerns.{concerns}
-use Rattle.meaning.proofs.Entered.{entered-elsewhere, next_id-same}
-use Rattle.settle.specs.Changes.{IsChanged, no_changes}
-use Rattle.register.specs.Answers.{Stands}
-use Rattle.register.specs.Settling.{AnswersSettled}
+use Rattle.model.specs.Commands.{RegisterRoutingNumber, OpenCode}
+use Rattle.model.specs.Versions.{Version, last_version, is_among}
+use Rattle.model.specs.History.{Request, CommandRequest, HasValues, next_id, carriers, donor_of, lrn_owner, code_holder, or_else, subjects_made_by, donor_named, windows_named}
+use Rattle.model.specs.State.{State, record_now, is_carrier, set_now}
+use Rattle.model.specs.Refusals.{RequestFrom, refusal, tests, first_refusal, npac}
+use Rattle.model.specs.Machine.{LrnAdded, CodeOpened, accepted}
+use Rattle.model.specs.Content.{Content, VersionRow, BroadcastRow, BlockRow, ClockRow, BroadcastKey, WaitKey, ClockRowMatches, SameRows, of_subject}
+use Rattle.model.specs.Concerns.{concerns}
+use Rattle.model.proofs.Entered.{entered-elsewhere, next_id-same}
+use Rattle.settle.specs.Changes.{AppliesChanges, no_changes}
+use Rattle.register.specs.Refinement.{Refines}
+use Rattle.register.specs.Settling.{SimulatesSettledStep}
 use Rattle.register.proofs.Records.Touched.{touched-stands, present-stays}
 use Rattle.register.proofs.EveryCall.Composed.{answers_accepted}
 
 -- ---- an entry that concerns no subject, and rows of the registry alone
 
-module _ (st : State) (old new : Content) (caller : ℕ) (request : Request) (stands : Stands old st)
-    (unmade : makes request (record_now st) ≡ []) (apart : (t : Subject)
+module _ (st : State) (old new : Content) (caller : ℕ) (request : Request)
+    (refines : Refines old st)
+    (unmade : subjects_made_by request (record_now st) ≡ []) (apart : (t : Subject)
     → concerns request t (record_now st t).versions ≡ false) (lines : HasValues request)
     (unset : windows_named request ≡ None)
-    (accepts : refusal st (Requests caller request) ≡ None) (begun : st.history ≡ [] → ⊥) where
+    (accepts : refusal st (RequestFrom caller request) ≡ None) (begun : st.history ≡ [] → ⊥) where
   abbrev after_it : State
-  after_it = accepted st (Requests caller request)
+  after_it = accepted st (RequestFrom caller request)
 
   same_record : (t : Subject) → record_now after_it t ≡ record_now st t
   same_record t = entered-elsewhere st caller request t unmade (apart t)
@@ -58,10 +59,10 @@ module _ (st : State) (old new : Content) (caller : ℕ) (request : Request) (st
       }));
     }
 
-    clock_at : (o : Option ClockRow) → ClockShows o st → old.clock ≡ o
-        → ClockShows new.clock after_it
+    clock_at : (o : Option ClockRow) → ClockRowMatches o st → old.clock ≡ o
+        → ClockRowMatches new.clock after_it
     clock_at None shows e = absurd (begun shows.0)
-    clock_at (Some row) shows e = subst (λ o. ClockShows o after_it) (sym (clock ∙ e))
+    clock_at (Some row) shows e = subst (λ o. ClockRowMatches o after_it) (sym (clock ∙ e))
         (shows ∙ ap (λ k. let row : ClockRow = record {
           minute = st.now;
           next_id = k;
@@ -73,15 +74,15 @@ module _ (st : State) (old new : Content) (caller : ℕ) (request : Request) (st
           present = p;
         } in row) (sym (present-stays st caller request unset)))
 
-    pub registry_stands : Stands new after_it
-    registry_stands = touched-stands st old new caller request (λ t. false) stands accepts lines
+    pub registry_stands : Refines new after_it
+    registry_stands = touched-stands st old new caller request (λ t. false) refines accepts lines
         unset same_sets (record {
-          clock = clock_at old.clock stands.represents.clock refl;
-          written = ap is_some clock ∙ stands.written;
+          clock = clock_at old.clock refines.represents.clock refl;
+          written = ap is_some clock ∙ refines.written;
           carriers = carriers_are;
           lrns = lrns_are;
           codes = codes_are;
-          blocks = λ b. blocks b ∙ stands.represents.blocks b
+          blocks = λ b. blocks b ∙ refines.represents.blocks b
               ∙ sym (ap (λ r. option_map (λ donor. let row : BlockRow = record {
                 donor = donor;
                 last = option_map (λ (u : Version). u.id) (last_version r);
@@ -101,149 +102,154 @@ has_begun st caller known h = let no : true ≡ false =
 -- ---- a routing number
 
 abbrev lrn_refusal : (known : Bool) → Option ℕ → Option ℕ
-lrn_refusal known owner = first_that_holds ((1, not known) ∷ (6, is_some owner) ∷ [])
+lrn_refusal known owner = first_refusal ((1, not known) ∷ (6, is_some owner) ∷ [])
 
 lrn_tests : (st : State) (caller lrn : ℕ)
-    → refusal st (Requests caller (Commands (RegisterRoutingNumber lrn))) ≡ lrn_refusal
+    → refusal st (RequestFrom caller (CommandRequest (RegisterRoutingNumber lrn))) ≡ lrn_refusal
     (is_carrier st caller) (lrn_owner lrn st.history)
 unfolding tests
 lrn_tests st caller lrn = refl
 
 module _ (old : Content) (caller lrn : ℕ) where
-  pub lrn_unknown : is_some (get old.carriers caller) ≡ false → (st : State) → Stands old st
-      → refusal st (Requests caller (Commands (RegisterRoutingNumber lrn))) ≡ Some 1
-  lrn_unknown unknown st stands =
+  pub lrn_unknown : is_some (get old.carriers caller) ≡ false → (st : State) → Refines old st
+      → refusal st (RequestFrom caller (CommandRequest (RegisterRoutingNumber lrn))) ≡ Some 1
+  lrn_unknown unknown st refines =
       lrn_tests st caller lrn ∙ ap (λ b. lrn_refusal b (lrn_owner lrn st.history))
-      (sym (stands.represents.carriers caller) ∙ unknown)
+      (sym (refines.represents.carriers caller) ∙ unknown)
 
   pub lrn_is_taken : is_some (get old.carriers caller) ≡ true → is_some (get old.lrns lrn) ≡ true
-      → (st : State) → Stands old st →
-      refusal st (Requests caller (Commands (RegisterRoutingNumber lrn))) ≡ Some 6
-  lrn_is_taken known taken st stands =
+      → (st : State) → Refines old st →
+      refusal st (RequestFrom caller (CommandRequest (RegisterRoutingNumber lrn))) ≡ Some 6
+  lrn_is_taken known taken st refines =
       lrn_tests st caller lrn ∙ ap (λ b. lrn_refusal b (lrn_owner lrn st.history))
-      (sym (stands.represents.carriers caller) ∙ known)
+      (sym (refines.represents.carriers caller) ∙ known)
       ∙ ap (λ b. if b then Some 6 else lrn_refusal true None)
-      (ap is_some (sym (stands.represents.lrns lrn)) ∙ taken)
+      (ap is_some (sym (refines.represents.lrns lrn)) ∙ taken)
 
   lrn_accepted : is_some (get old.carriers caller) ≡ true → get old.lrns lrn ≡ None → (st : State)
-      → Stands old st → refusal st (Requests caller (Commands (RegisterRoutingNumber lrn))) ≡ None
-  lrn_accepted known free st stands =
+      → Refines old st
+      → refusal st (RequestFrom caller (CommandRequest (RegisterRoutingNumber lrn))) ≡ None
+  lrn_accepted known free st refines =
       lrn_tests st caller lrn ∙ ap (λ b. lrn_refusal b (lrn_owner lrn st.history))
-      (sym (stands.represents.carriers caller) ∙ known)
-      ∙ ap (lrn_refusal true) (sym (stands.represents.lrns lrn) ∙ free)
+      (sym (refines.represents.carriers caller) ∙ known)
+      ∙ ap (lrn_refusal true) (sym (refines.represents.lrns lrn) ∙ free)
 
 pub answers_lrn : (old new : Content) (caller lrn : ℕ) → is_some (get old.carriers caller) ≡ true
     → get old.lrns lrn ≡ None →
-    IsChanged (record no_changes { lrn = Some (lrn, caller) }) old new
-    → AnswersSettled old new (Requests caller (Commands (RegisterRoutingNumber lrn)))
+    AppliesChanges (record no_changes { lrn = Some (lrn, caller) }) old new
+    → SimulatesSettledStep old new (RequestFrom caller (CommandRequest (RegisterRoutingNumber lrn)))
     (Some (LrnAdded lrn caller))
 answers_lrn old new caller lrn known free changed =
-    answers_accepted old new (Requests caller (Commands (RegisterRoutingNumber lrn)))
-    (LrnAdded lrn caller) (λ st stands settled. (
-      lrn_accepted old caller lrn known free st stands,
+    answers_accepted old new (RequestFrom caller (CommandRequest (RegisterRoutingNumber lrn)))
+    (LrnAdded lrn caller) (λ st refines settled. (
+      lrn_accepted old caller lrn known free st refines,
       refl,
-      registry_stands st old new caller (Commands (RegisterRoutingNumber lrn)) stands refl
-          (λ t. refl) tt refl (lrn_accepted old caller lrn known free st stands)
-          (has_begun st caller (sym (stands.represents.carriers caller) ∙ known))
+      registry_stands st old new caller (CommandRequest (RegisterRoutingNumber lrn)) refines refl
+          (λ t. refl) tt refl (lrn_accepted old caller lrn known free st refines)
+          (has_begun st caller (sym (refines.represents.carriers caller) ∙ known))
           changed.versions changed.broadcasts changed.waits changed.blocks changed.clock
           changed.sets (λ b. refl)
-          (λ k. ap is_some (changed.carriers k) ∙ stands.represents.carriers k)
-          (λ k. changed.lrns k ∙ owner st stands k (lrn == k))
-          (λ k. changed.codes k ∙ stands.represents.codes k),
-      λ t other. same_rows st old new caller (Commands (RegisterRoutingNumber lrn)) stands refl
-          (λ t. refl) tt refl (lrn_accepted old caller lrn known free st stands)
-          (has_begun st caller (sym (stands.represents.carriers caller) ∙ known))
+          (λ k. ap is_some (changed.carriers k) ∙ refines.represents.carriers k)
+          (λ k. changed.lrns k ∙ owner st refines k (lrn == k))
+          (λ k. changed.codes k ∙ refines.represents.codes k),
+      λ t other. same_rows st old new caller (CommandRequest (RegisterRoutingNumber lrn)) refines
+          refl
+          (λ t. refl) tt refl (lrn_accepted old caller lrn known free st refines)
+          (has_begun st caller (sym (refines.represents.carriers caller) ∙ known))
           changed.versions changed.broadcasts changed.waits changed.blocks changed.clock
           changed.sets (λ b. refl)
-          (λ k. ap is_some (changed.carriers k) ∙ stands.represents.carriers k)
-          (λ k. changed.lrns k ∙ owner st stands k (lrn == k))
-          (λ k. changed.codes k ∙ stands.represents.codes k) t,
+          (λ k. ap is_some (changed.carriers k) ∙ refines.represents.carriers k)
+          (λ k. changed.lrns k ∙ owner st refines k (lrn == k))
+          (λ k. changed.codes k ∙ refines.represents.codes k) t,
     ))
   where
-    owner : (st : State) → Stands old st → (k : ℕ) (b : Bool)
+    owner : (st : State) → Refines old st → (k : ℕ) (b : Bool)
         → (if b then Some caller else get old.lrns k) ≡ or_else (if b then Some caller
         else None) (lrn_owner k st.history)
-    owner st stands k true = refl
-    owner st stands k false = stands.represents.lrns k
+    owner st refines k true = refl
+    owner st refines k false = refines.represents.lrns k
 
 -- ---- a code
 
 abbrev code_refusal : (known is_admin : Bool) → Option ℕ → Option ℕ
 code_refusal known is_admin holder =
-    first_that_holds ((1, not known) ∷ (2, not is_admin) ∷ (5, is_some holder) ∷ [])
+    first_refusal ((1, not known) ∷ (2, not is_admin) ∷ (5, is_some holder) ∷ [])
 
 code_tests : (st : State) (caller code spid : ℕ) →
-    refusal st (Requests caller (Commands (OpenCode code spid))) ≡ code_refusal
+    refusal st (RequestFrom caller (CommandRequest (OpenCode code spid))) ≡ code_refusal
     (is_carrier st spid) (caller == npac) (code_holder code st.history)
 unfolding tests
 code_tests st caller code spid = refl
 
 module _ (old : Content) (caller code spid : ℕ) where
-  pub code_unknown : is_some (get old.carriers spid) ≡ false → (st : State) → Stands old st
-      → refusal st (Requests caller (Commands (OpenCode code spid))) ≡ Some 1
-  code_unknown unknown st stands =
+  pub code_unknown : is_some (get old.carriers spid) ≡ false → (st : State) → Refines old st
+      → refusal st (RequestFrom caller (CommandRequest (OpenCode code spid))) ≡ Some 1
+  code_unknown unknown st refines =
       code_tests st caller code spid
       ∙ ap (λ b. code_refusal b (caller == npac) (code_holder code st.history))
-      (sym (stands.represents.carriers spid) ∙ unknown)
+      (sym (refines.represents.carriers spid) ∙ unknown)
 
   by_caller : is_some (get old.carriers spid) ≡ true → (b : Bool) → (caller == npac) ≡ b
-      → (st : State) → Stands old st →
-      refusal st (Requests caller (Commands (OpenCode code spid))) ≡ code_refusal true b
+      → (st : State) → Refines old st →
+      refusal st (RequestFrom caller (CommandRequest (OpenCode code spid))) ≡ code_refusal true b
       (code_holder code st.history)
-  by_caller known b is st stands =
+  by_caller known b is st refines =
       code_tests st caller code spid
       ∙ ap (λ c. code_refusal c (caller == npac) (code_holder code st.history))
-      (sym (stands.represents.carriers spid) ∙ known)
+      (sym (refines.represents.carriers spid) ∙ known)
       ∙ ap (λ c. code_refusal true c (code_holder code st.history)) is
 
   pub code_not_admin : is_some (get old.carriers spid) ≡ true → (caller == npac) ≡ false
-      → (st : State) → Stands old st → refusal st (Requests caller (Commands (OpenCode code spid)))
+      → (st : State) → Refines old st
+      → refusal st (RequestFrom caller (CommandRequest (OpenCode code spid)))
       ≡ Some 2
-  code_not_admin known other st stands = by_caller known false other st stands
+  code_not_admin known other st refines = by_caller known false other st refines
 
   pub code_is_taken : is_some (get old.carriers spid) ≡ true → (caller == npac) ≡ true
-      → is_some (get old.codes code) ≡ true → (st : State) → Stands old st →
-      refusal st (Requests caller (Commands (OpenCode code spid))) ≡ Some 5
-  code_is_taken known admin taken st stands = by_caller known true admin st stands
+      → is_some (get old.codes code) ≡ true → (st : State) → Refines old st →
+      refusal st (RequestFrom caller (CommandRequest (OpenCode code spid))) ≡ Some 5
+  code_is_taken known admin taken st refines = by_caller known true admin st refines
       ∙ ap (λ b. if b then Some 5 else code_refusal true true None)
-      (ap is_some (sym (stands.represents.codes code)) ∙ taken)
+      (ap is_some (sym (refines.represents.codes code)) ∙ taken)
 
   code_accepted : is_some (get old.carriers spid) ≡ true → (caller == npac) ≡ true
-      → get old.codes code ≡ None → (st : State) → Stands old st →
-      refusal st (Requests caller (Commands (OpenCode code spid))) ≡ None
-  code_accepted known admin free st stands = by_caller known true admin st stands
-      ∙ ap (code_refusal true true) (sym (stands.represents.codes code) ∙ free)
+      → get old.codes code ≡ None → (st : State) → Refines old st →
+      refusal st (RequestFrom caller (CommandRequest (OpenCode code spid))) ≡ None
+  code_accepted known admin free st refines = by_caller known true admin st refines
+      ∙ ap (code_refusal true true) (sym (refines.represents.codes code) ∙ free)
 
 pub answers_code : (old new : Content) (caller code spid : ℕ)
     → is_some (get old.carriers spid) ≡ true → (caller == npac) ≡ true → get old.codes code ≡ None →
-    IsChanged (record no_changes { code = Some (code, spid) }) old new
-    → AnswersSettled old new (Requests caller (Commands (OpenCode code spid)))
+    AppliesChanges (record no_changes { code = Some (code, spid) }) old new
+    → SimulatesSettledStep old new (RequestFrom caller (CommandRequest (OpenCode code spid)))
     (Some (CodeOpened code spid))
 answers_code old new caller code spid known admin free changed =
-    answers_accepted old new (Requests caller (Commands (OpenCode code spid)))
-    (CodeOpened code spid) (λ st stands settled. (
-      code_accepted old caller code spid known admin free st stands,
+    answers_accepted old new (RequestFrom caller (CommandRequest (OpenCode code spid)))
+    (CodeOpened code spid) (λ st refines settled. (
+      code_accepted old caller code spid known admin free st refines,
       refl,
-      registry_stands st old new caller (Commands (OpenCode code spid)) stands refl (λ t. refl) tt
-          refl (code_accepted old caller code spid known admin free st stands)
-          (has_begun st spid (sym (stands.represents.carriers spid) ∙ known))
+      registry_stands st old new caller (CommandRequest (OpenCode code spid)) refines refl
+          (λ t. refl) tt
+          refl (code_accepted old caller code spid known admin free st refines)
+          (has_begun st spid (sym (refines.represents.carriers spid) ∙ known))
           changed.versions changed.broadcasts changed.waits changed.blocks changed.clock
           changed.sets (λ b. refl)
-          (λ k. ap is_some (changed.carriers k) ∙ stands.represents.carriers k)
-          (λ k. changed.lrns k ∙ stands.represents.lrns k)
-          (λ k. changed.codes k ∙ holder st stands k (code == k)),
-      λ t other. same_rows st old new caller (Commands (OpenCode code spid)) stands refl (λ t. refl)
-          tt refl (code_accepted old caller code spid known admin free st stands)
-          (has_begun st spid (sym (stands.represents.carriers spid) ∙ known))
+          (λ k. ap is_some (changed.carriers k) ∙ refines.represents.carriers k)
+          (λ k. changed.lrns k ∙ refines.represents.lrns k)
+          (λ k. changed.codes k ∙ holder st refines k (code == k)),
+      λ t other. same_rows st old new caller (CommandRequest (OpenCode code spid)) refines refl
+          (λ t. refl)
+          tt refl (code_accepted old caller code spid known admin free st refines)
+          (has_begun st spid (sym (refines.represents.carriers spid) ∙ known))
           changed.versions changed.broadcasts changed.waits changed.blocks changed.clock
           changed.sets (λ b. refl)
-          (λ k. ap is_some (changed.carriers k) ∙ stands.represents.carriers k)
-          (λ k. changed.lrns k ∙ stands.represents.lrns k)
-          (λ k. changed.codes k ∙ holder st stands k (code == k)) t,
+          (λ k. ap is_some (changed.carriers k) ∙ refines.represents.carriers k)
+          (λ k. changed.lrns k ∙ refines.represents.lrns k)
+          (λ k. changed.codes k ∙ holder st refines k (code == k)) t,
     ))
   where
-    holder : (st : State) → Stands old st → (k : ℕ) (b : Bool)
+    holder : (st : State) → Refines old st → (k : ℕ) (b : Bool)
         → (if b then Some spid else get old.codes k) ≡ or_else (if b then Some spid
         else None) (code_holder k st.history)
-    holder st stands k true = refl
-    holder st stands k false = stands.represents.codes k
+    holder st refines k true = refl
+    holder st refines k false = refines.represents.codes k

@@ -1,4 +1,4 @@
-use Rattle.meaning.specs.Refusals.{Knows}
+use Rattle.model.specs.Refusals.{Knows}
 use Rattle.api.proofs.StepLemmas.{away_or_not, blamed, known_or_not}
 use Rattle.register.proofs.Asking.Unmoved.{kept}
 use Rattle.api.proofs.call.admit.Goals as goal
@@ -19,4 +19,4 @@ returns-in-Number-clause-err g c = rw c.in-Number.is
     (g.S.Store.failed c.args.register.now.store) (g.S.Store.failed c.knows.new.self.store)
     (g.S.Store.content c.args.register.now.store) (g.S.Store.content c.knows.new.self.store)
     c.args.caller.number c.in-Number.tn.number
-    c.knows.ensures.answers (blamed c.knows.ensures.owes))
+    c.knows.ensures.answers (blamed c.knows.ensures.preserves))

@@ -1,8 +1,8 @@
 use Rattle.std.proofs.Common.{inl, inr, refl, Some, IfSome, ap, sym, subst, ◌∙◌}
-use Rattle.meaning.specs.declared.refusal.Refusal.TheVariants.{NoMemory}
-use Rattle.calls.specs.Calls.{called_of}
-use Rattle.bodies.specs.Forms.{Calling, Seeking, HasForm, asked_of}
-use Rattle.bodies.proofs.RefusalLemmas.{text_by_number}
+use Rattle.model.specs.declared.refusal.Refusal.TheVariants.{NoMemory}
+use Rattle.requests.specs.Calls.{called_of}
+use Rattle.json_api.specs.Forms.{RegisterCall, UriQuery, HasForm, api_call_model}
+use Rattle.json_api.proofs.RefusalLemmas.{text_by_number}
 use Rattle.api.proofs.StepLemmas.{calls_carried}
 use Rattle.api.proofs.call.answer_fields.Goals as goal
 
@@ -15,19 +15,19 @@ returns-in-Ok-Some-Call-clause-calls g c = λ u body is st s.
     calls_carried (g.S.Store.failed c.args.register.now.store)
     (g.S.Store.failed c.answer.new.register.store) (g.S.Store.content c.answer.new.register.store)
     st c.args.route c.args.caller.number body (g.F.Fields.value c.args.fields.now)
-    (Calling (called_of c.in-Ok-Some-Call.call)) _
+    (RegisterCall (called_of c.in-Ok-Some-Call.call)) _
     (sym is)
     (subst (λ read. IfSome read (λ asked. HasForm c.args.route (g.F.Fields.value c.args.fields.now)
-    (asked_of asked))) (c.in-Ok-Some-Call.field-0-is ∙ ap Some c.in-Ok-Some-Call.field-0-0-is)
-    c.in-Ok-Some-Call.ensures.some) (c.answer.ensures.carries u st s)
+    (api_call_model asked))) (c.in-Ok-Some-Call.field-0-is ∙ ap Some c.in-Ok-Some-Call.field-0-0-is)
+    c.in-Ok-Some-Call.ensures.some) (c.answer.ensures.performs u st s)
 
 pub returns-in-Ok-Some-Uri-clause-calls : goal.returns-in-Ok-Some-Uri-clause-calls
 returns-in-Ok-Some-Uri-clause-calls g c = λ u body is st s.
     calls_carried (g.S.Store.failed c.args.register.now.store)
     (g.S.Store.failed c.query.new.register.store) (g.S.Store.content c.query.new.register.store) st
     c.args.route c.args.caller.number body (g.F.Fields.value c.args.fields.now)
-    (Seeking c.in-Ok-Some-Uri.uri.now) _
+    (UriQuery c.in-Ok-Some-Uri.uri.now) _
     (sym is)
     (subst (λ read. IfSome read (λ asked. HasForm c.args.route (g.F.Fields.value c.args.fields.now)
-    (asked_of asked))) (c.in-Ok-Some-Uri.field-0-is ∙ ap Some c.in-Ok-Some-Uri.field-0-0-is)
-    c.in-Ok-Some-Uri.ensures.some) (c.query.ensures.carries u st s)
+    (api_call_model asked))) (c.in-Ok-Some-Uri.field-0-is ∙ ap Some c.in-Ok-Some-Uri.field-0-0-is)
+    c.in-Ok-Some-Uri.ensures.some) (c.query.ensures.performs u st s)

@@ -1,6 +1,6 @@
 use Rattle.std.proofs.Common.{rules}
-use Rattle.calls.specs.Calls.{called_of}
-use Rattle.bodies.specs.Forms.{Calling}
+use Rattle.requests.specs.Calls.{called_of}
+use Rattle.json_api.specs.Forms.{RegisterCall}
 use Rattle.api.specs.Step.{IdAsks, NumberAsks, CountAsks}
 use Rattle.api.proofs.StepLemmas.{asked_carried, path_carried, unasked_refused}
 use Rattle.api.proofs.call.answer_message.Goals as goal
@@ -38,8 +38,8 @@ returns-in_ok-version_asked-in-Version-clause-calls g c = rw c.in-Version.is (λ
     asked_carried (g.S.Store.failed c.args.register.now.store)
     (g.S.Store.failed c.answer.new.register.store) (g.S.Store.content c.answer.new.register.store)
     st (IdAsks c.in-Version.id c.args.body.now)
-    (Calling (called_of c.in_ok-version_asked-in-Version.field-0)) c.args.caller.number _
-    c.in_ok-version_asked-in-Version.ensures.ok (c.answer.ensures.carries u st s))
+    (RegisterCall (called_of c.in_ok-version_asked-in-Version.field-0)) c.args.caller.number _
+    c.in_ok-version_asked-in-Version.ensures.ok (c.answer.ensures.performs u st s))
 
 pub returns-in_ok-number_asked-in-Number-clause-calls : goal.returns-in_ok-number_asked-in-Number-clause-calls
 returns-in_ok-number_asked-in-Number-clause-calls g c = rw c.in-Number.is (λ u st s.
@@ -47,17 +47,17 @@ returns-in_ok-number_asked-in-Number-clause-calls g c = rw c.in-Number.is (λ u 
     (g.S.Store.failed c.answer-in-Number.new.register.store)
     (g.S.Store.content c.answer-in-Number.new.register.store) st
     (NumberAsks c.in-Number.number c.args.body.now)
-    (Calling (called_of c.in_ok-number_asked-in-Number.field-0)) c.args.caller.number _
-    c.in_ok-number_asked-in-Number.ensures.ok (c.answer-in-Number.ensures.carries u st s))
+    (RegisterCall (called_of c.in_ok-number_asked-in-Number.field-0)) c.args.caller.number _
+    c.in_ok-number_asked-in-Number.ensures.ok (c.answer-in-Number.ensures.performs u st s))
 
 pub returns-in_ok-downloads_asked-in-Downloads-clause-calls : goal.returns-in_ok-downloads_asked-in-Downloads-clause-calls
 returns-in_ok-downloads_asked-in-Downloads-clause-calls g c = rw c.in-Downloads.is (λ u st s.
     asked_carried (g.S.Store.failed c.args.register.now.store)
     (g.S.Store.failed c.answer-in-Downloads.new.register.store)
     (g.S.Store.content c.answer-in-Downloads.new.register.store) st (CountAsks c.in-Downloads.count
-    c.args.body.now) (Calling (called_of c.in_ok-downloads_asked-in-Downloads.field-0))
+    c.args.body.now) (RegisterCall (called_of c.in_ok-downloads_asked-in-Downloads.field-0))
     c.args.caller.number _
-    c.in_ok-downloads_asked-in-Downloads.ensures.ok (c.answer-in-Downloads.ensures.carries u st s))
+    c.in_ok-downloads_asked-in-Downloads.ensures.ok (c.answer-in-Downloads.ensures.performs u st s))
 
 pub returns-in_default-clause-calls : goal.returns-in_default-clause-calls
 returns-in_default-clause-calls g c = λ u st s.

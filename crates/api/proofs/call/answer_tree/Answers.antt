@@ -1,8 +1,8 @@
 use Rattle.std.proofs.Common.{rules, ◌≡◌, ◌∙◌, ap, inl, inr, refl}
-use Rattle.meaning.specs.declared.refusal.Refusal.TheVariants.{NoMemory}
-use Rattle.bodies.specs.declared.fault.Failure.TheVariants.{Refused}
-use Rattle.bodies.specs.Failures.{failure_text}
-use Rattle.bodies.proofs.RefusalLemmas.{text_by_number}
+use Rattle.model.specs.declared.refusal.Refusal.TheVariants.{NoMemory}
+use Rattle.json_api.specs.declared.fault.Failure.TheVariants.{Refused}
+use Rattle.json_api.specs.Failures.{failure_text}
+use Rattle.json_api.proofs.RefusalLemmas.{text_by_number}
 use Rattle.api.proofs.call.answer_tree.Goals as goal
 
 pub returns-in-Err-clause-calls : goal.returns-in-Err-clause-calls

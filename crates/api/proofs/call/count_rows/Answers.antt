@@ -1,7 +1,7 @@
 use Rattle.std.proofs.Common.{◌∙◌, sym, map, ap, Err}
 use Rattle.std.proofs.lemmas.List.{length-map}
-use Rattle.meaning.specs.Refusals.{AllInForce}
-use Rattle.calls.specs.Calls.{in_force_of}
+use Rattle.model.specs.Refusals.{AllInForce}
+use Rattle.requests.specs.Calls.{in_force_of}
 use Rattle.api.proofs.StepLemmas.{blamed, rows_counted, rows_short}
 use Rattle.register.proofs.Asking.Unmoved.{kept}
 use Rattle.api.proofs.call.count_rows.Goals as goal
@@ -24,4 +24,4 @@ returns-in-Err-clause-short g c =
     λ u. rows_short c.in-Err.refusal (g.S.Store.failed c.args.register.now.store)
     (g.S.Store.failed c.in_force.new.self.store) (g.S.Store.content c.args.register.now.store)
     (g.S.Store.content c.in_force.new.self.store) (c.in-Err.ensures.answers u)
-    (λ st s e. blamed c.in-Err.ensures.owes u st s (ap Err e))
+    (λ st s e. blamed c.in-Err.ensures.preserves u st s (ap Err e))

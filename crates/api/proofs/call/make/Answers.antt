@@ -1,15 +1,15 @@
 use Rattle.std.proofs.Common.{ap, Err, rules}
-use Rattle.calls.specs.Calls.{called_of, reply_of}
-use Rattle.bodies.specs.Forms.{Calling}
+use Rattle.requests.specs.Calls.{called_of, reply_of}
+use Rattle.json_api.specs.Forms.{RegisterCall}
 use Rattle.api.proofs.StepLemmas.{blamed, blames_since, refused_as, refused_carried, reply_carried, short_carried}
 use Rattle.api.proofs.call.make.Goals as goal
 
-pub returns-in_err-counted-clause-carries : goal.returns-in_err-counted-clause-carries
-returns-in_err-counted-clause-carries g c = λ u st s admits.
+pub returns-in_err-counted-clause-performs : goal.returns-in_err-counted-clause-performs
+returns-in_err-counted-clause-performs g c = λ u st s admits.
     refused_as (g.S.Store.failed c.args.register.now.store)
     (g.S.Store.failed c.take_room.new.register.store)
     (g.S.Store.content c.take_room.new.register.store) st c.args.caller.number
-    (Calling (called_of c.args.call.now)) c.from_residual.result _ c.in_err-counted.field-0.0
+    (RegisterCall (called_of c.args.call.now)) c.from_residual.result _ c.in_err-counted.field-0.0
     (search rules)
     (short_carried (g.S.Store.failed c.args.register.now.store)
     (g.S.Store.failed c.take_room.new.register.store)
@@ -17,25 +17,25 @@ returns-in_err-counted-clause-carries g c = λ u st s admits.
     (called_of c.args.call.now) c.in_err-counted.field-0.0
     (c.in_err-counted.ensures.kept u st s) (c.in_err-counted.ensures.short u st s))
 
-pub returns-in_err-reply-clause-carries : goal.returns-in_err-reply-clause-carries
-returns-in_err-reply-clause-carries g c = λ u st s admits.
+pub returns-in_err-reply-clause-performs : goal.returns-in_err-reply-clause-performs
+returns-in_err-reply-clause-performs g c = λ u st s admits.
     let from = g.S.Store.failed c.args.register.now.store in
     let to = g.S.Store.failed c.answer.new.self.store in
     let mid = g.S.Store.content c.take_room.new.register.store in
     let new = g.S.Store.content c.answer.new.self.store in
     let refusal = c.in_err-reply.field-0.0 in
-    refused_as from to new st c.args.caller.number (Calling (called_of c.args.call.now))
+    refused_as from to new st c.args.caller.number (RegisterCall (called_of c.args.call.now))
     c.from_residual-in_err-reply.result _ refusal (search rules)
     (refused_carried from to new st c.args.caller.number (called_of c.args.call.now) admits refusal
     mid (c.in_err-reply.ensures.answers u)
     (blames_since from (g.S.Store.failed c.take_room.new.register.store) to mid mid refusal
-    c.in_ok-counted.ensures.owes.rises c.in_err-reply.ensures.owes.rises (λ x y. y)
-    (λ st s e. blamed c.in_err-reply.ensures.owes u st s (ap Err e)))
-    (c.in_ok-counted.ensures.kept (c.answer.ensures.owes.usable u) st s))
+    c.in_ok-counted.ensures.preserves.rises c.in_err-reply.ensures.preserves.rises (λ x y. y)
+    (λ st s e. blamed c.in_err-reply.ensures.preserves u st s (ap Err e)))
+    (c.in_ok-counted.ensures.kept (c.answer.ensures.preserves.usable u) st s))
 
-pub returns-clause-carries : goal.returns-clause-carries
-returns-clause-carries g c = λ u st s admits.
-    let middle = c.answer.ensures.owes.usable u in
+pub returns-clause-performs : goal.returns-clause-performs
+returns-clause-performs g c = λ u st s admits.
+    let middle = c.answer.ensures.preserves.usable u in
     reply_carried (g.S.Store.failed c.args.register.now.store)
     (g.S.Store.failed c.answer.new.self.store) (g.S.Store.content c.answer.new.self.store) st
     c.args.caller.number (called_of c.args.call.now) admits

@@ -7,6 +7,6 @@ returns-in-Ok-clause-step g c = λ u st s.
     (g.S.Store.failed c.answer_message.new.register.store)
     (g.S.Store.content c.answer_message.new.register.store) st c.args.request.now c.in-Ok.route
     c.in-Ok.caller c.args.body.now _
-    c.answer_message.ensures.owes.rises c.in-Ok.ensures.ok.0 c.in-Ok.ensures.ok.1
+    c.answer_message.ensures.preserves.rises c.in-Ok.ensures.ok.0 c.in-Ok.ensures.ok.1
     c.in-Ok.ensures.ok.2
     (c.answer_message.ensures.calls u st s)

@@ -1,25 +1,25 @@
 use Rattle.std.proofs.Common.{ap, Err}
-use Rattle.calls.specs.Calls.{answer_of}
-use Rattle.telnp.specs.Views.{uri_of}
+use Rattle.requests.specs.Calls.{answer_of}
+use Rattle.telnp.specs.Abstraction.{uri_of}
 use Rattle.api.proofs.StepLemmas.{blamed, unknown_carried, faulty_carried, unasked_carried, query_carried, refused_query_carried}
 use Rattle.api.proofs.query.query.Goals as goal
 
-pub returns-in-Err-clause-carries : goal.returns-in-Err-clause-carries
-returns-in-Err-clause-carries g c =
+pub returns-in-Err-clause-performs : goal.returns-in-Err-clause-performs
+returns-in-Err-clause-performs g c =
     λ u. unknown_carried c.in-Err.refusal (g.S.Store.failed c.args.register.now.store)
     (g.S.Store.failed c.knows.new.self.store) (g.S.Store.content c.args.register.now.store)
     (g.S.Store.content c.knows.new.self.store) c.args.caller.number c.args.text.now
-    (c.in-Err.ensures.answers u) (λ st s e. blamed c.in-Err.ensures.owes u st s (ap Err e))
+    (c.in-Err.ensures.answers u) (λ st s e. blamed c.in-Err.ensures.preserves u st s (ap Err e))
 
-pub returns-in-Err-read-clause-carries : goal.returns-in-Err-read-clause-carries
-returns-in-Err-read-clause-carries g c =
+pub returns-in-Err-read-clause-performs : goal.returns-in-Err-read-clause-performs
+returns-in-Err-read-clause-performs g c =
     λ u. faulty_carried c.in-Err-read.fault (g.S.Store.failed c.args.register.now.store)
     (g.S.Store.failed c.knows.new.self.store) (g.S.Store.content c.args.register.now.store)
     (g.S.Store.content c.knows.new.self.store) c.args.caller.number c.args.text.now
     (c.in_default.ensures.answers u) c.in-Err-read.ensures.fault
 
-pub returns-in_default-number_asked_for-clause-carries : goal.returns-in_default-number_asked_for-clause-carries
-returns-in_default-number_asked_for-clause-carries g c = λ u.
+pub returns-in_default-number_asked_for-clause-performs : goal.returns-in_default-number_asked_for-clause-performs
+returns-in_default-number_asked_for-clause-performs g c = λ u.
     unasked_carried (g.S.Store.failed c.args.register.now.store)
     (g.S.Store.failed c.knows.new.self.store) (g.S.Store.content c.args.register.now.store)
     (g.S.Store.content c.knows.new.self.store) c.args.caller.number c.args.text.now
@@ -30,8 +30,8 @@ returns-in_default-number_asked_for-clause-carries g c = λ u.
     }) c.in_default-number_asked_for.ensures.none (c.in_default.ensures.answers u)
     c.put_text.ensures.body c.put_text.ensures.short
 
-pub returns-in-Ok-query-clause-carries : goal.returns-in-Ok-query-clause-carries
-returns-in-Ok-query-clause-carries g c = λ u.
+pub returns-in-Ok-query-clause-performs : goal.returns-in-Ok-query-clause-performs
+returns-in-Ok-query-clause-performs g c = λ u.
     query_carried (g.S.Store.failed c.args.register.now.store)
     (g.S.Store.failed c.query.new.self.store) (g.S.Store.content c.args.register.now.store)
     (g.S.Store.content c.knows.new.self.store) (g.S.Store.content c.query.new.self.store)
@@ -40,19 +40,19 @@ returns-in-Ok-query-clause-carries g c = λ u.
     (record {
       same = c.in-Ok.ensures.text;
       parts = c.in-Ok.ensures.uri;
-    }) c.in-Some.ensures.some (c.in_default.ensures.answers (c.query.ensures.owes.usable u))
+    }) c.in-Some.ensures.some (c.in_default.ensures.answers (c.query.ensures.preserves.usable u))
     (c.in-Ok-query.ensures.answers u) c.put_routed.ensures.body c.put_routed.ensures.short
 
-pub returns-in-Err-query-clause-carries : goal.returns-in-Err-query-clause-carries
-returns-in-Err-query-clause-carries g c = λ u.
+pub returns-in-Err-query-clause-performs : goal.returns-in-Err-query-clause-performs
+returns-in-Err-query-clause-performs g c = λ u.
     refused_query_carried c.in-Err-query.refusal (g.S.Store.failed c.args.register.now.store)
     (g.S.Store.failed c.knows.new.self.store) (g.S.Store.failed c.query.new.self.store)
     (g.S.Store.content c.args.register.now.store) (g.S.Store.content c.knows.new.self.store)
     (g.S.Store.content c.query.new.self.store) c.args.caller.number c.args.text.now
     (uri_of c.in-Ok.uri) c.in-Some.tn.number
-    c.in_default.ensures.owes.rises c.in-Err-query.ensures.owes.rises (record {
+    c.in_default.ensures.preserves.rises c.in-Err-query.ensures.preserves.rises (record {
       same = c.in-Ok.ensures.text;
       parts = c.in-Ok.ensures.uri;
-    }) c.in-Some.ensures.some (c.in_default.ensures.answers (c.query.ensures.owes.usable u))
-    (c.in-Err-query.ensures.answers u) (λ st s e. blamed c.in-Err-query.ensures.owes u st s
+    }) c.in-Some.ensures.some (c.in_default.ensures.answers (c.query.ensures.preserves.usable u))
+    (c.in-Err-query.ensures.answers u) (λ st s e. blamed c.in-Err-query.ensures.preserves u st s
     (ap Err e))

@@ -1,4 +1,4 @@
-use Rattle.bodies.proofs.WholeRefusals.{no_bytes, refusal_is}
+use Rattle.json_api.proofs.WholeRefusals.{no_bytes, refusal_is}
 use Rattle.api.proofs.reply.put_refused.Goals as goal
 
 pub returns-clause-text : goal.returns-clause-text

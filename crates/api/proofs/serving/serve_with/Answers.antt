@@ -1,11 +1,11 @@
 use Rattle.std.proofs.Common.{◌≡◌, ◌∙◌, inl, sym, subst, refl, ℕ, arith}
 use Rattle.std.proofs.Math.Nat.{le_refl, le_trans}
 use Rattle.std.specs.Io.KnownBytes.{Appends}
-use Rattle.messages.specs.Held.{input_left}
-use Rattle.messages.specs.Sending.{AppendsFront}
+use Rattle.http_messages.specs.ReadBuffer.{remaining_input}
+use Rattle.http_messages.specs.Sending.{AppendsFront}
 use Rattle.std.specs.Prelude.{IfSome}
-use Rattle.meaning.specs.Reading.{State}
-use Rattle.register.specs.Answers.{Stands}
+use Rattle.model.specs.State.{State}
+use Rattle.register.specs.Refinement.{Refines}
 use Rattle.api.specs.Serving.{FailsAt}
 use Rattle.api.specs.declared.serving.Fault.TheVariants.{Memory}
 use Rattle.api.proofs.Going.{started, ended, failed_read, no_memory, full, responds_on, state_then, went_on, finished, partly}
@@ -21,11 +21,12 @@ loop-count-init g c = (
   λ honest. honest,
   λ usable honest. inl usable,
   λ usable. (
-    input_left c.args.buffers.now.held (g.R.Read.remaining c.args.reader.now),
+    remaining_input c.args.buffers.now.held (g.R.Read.remaining c.args.reader.now),
     refl,
     started c.args.options.now.clock_route (g.S.Store.failed c.args.register.now.store)
         (g.S.Store.content c.args.register.now.store) _ (g.R.Read.remaining c.args.reader.now)
-        (g.W.Write.contents c.args.writer.now) (g.T.Ticks.told c.args.ticks.now) c.requires.empty,
+        (g.W.Write.contents c.args.writer.now) (g.T.Ticks.remaining c.args.ticks.now)
+        c.requires.empty,
   ),
 )
 
@@ -128,7 +129,7 @@ returns-in-Some-clause-state g c = λ usable.
 
 pub loop-count-preserved : goal.loop-count-preserved
 loop-count-preserved g c = (
-  c.next_held-at_hand.ensures.size,
+  c.next_buffered-at_hand.ensures.size,
   c.respond-end.ensures.room,
   λ usable. c.loop-count.invariant.2 (c.respond-end.ensures.usable usable),
   le_trans c.loop-count.invariant.3 c.respond-end.ensures.rises,
@@ -145,8 +146,8 @@ loop-count-preserved g c = (
       (further _ _ _ _ _ _ _ _ _ sent),
   λ usable.
       let at = c.loop-count.invariant.6 (c.respond-end.ensures.usable usable) in (
-        input_left c.next_of.new.held (g.R.Read.remaining c.next_of.new.reader),
-        c.next_held-at_hand.ensures.cut (g.R.Read.remaining c.next_of.new.reader),
+        remaining_input c.next_of.new.held (g.R.Read.remaining c.next_of.new.reader),
+        c.next_buffered-at_hand.ensures.cut (g.R.Read.remaining c.next_of.new.reader),
         went_on _ _ _ _ _ _ _ _ _ _ _ _ at.2 _ _ c.next_of.new.held
             (g.R.Read.remaining c.next_of.new.reader) c.in-Ok-Some.ensures.size _ _ _ _
             c.in-Ok-Some.next
@@ -163,7 +164,7 @@ returns-clause-serves g c = λ usable.
     let at = c.loop-count.invariant.6 usable in
     let last : c.loop-count.count ≡ 18446744073709551615 =
     omega (arith, c.loop-count-test.false, c.loop-count.auto.count-end) in
-    subst (λ (k : ℕ). (st : State) → Stands (g.S.Store.content c.args.register.now.store) st
+    subst (λ (k : ℕ). (st : State) → Refines (g.S.Store.content c.args.register.now.store) st
     → IfSome (g.R.Read.remaining c.args.reader.now)
     (λ input. FailsAt (Memory k) c.args.options.now.clock_route
     (g.S.Store.failed c.args.register.now.store) (g.S.Store.failed c.loop-count.register.store) st
@@ -171,9 +172,9 @@ returns-clause-serves g c = λ usable.
     (record {
       input = input;
       unread = g.R.Read.remaining c.loop-count.reader;
-      before = g.T.Ticks.told c.args.ticks.now;
-      behind = g.T.Ticks.told c.loop-count.ticks;
-      had = g.W.Write.contents c.args.writer.now;
-      has = g.W.Write.contents c.loop-count.writer;
+      ticks_before = g.T.Ticks.remaining c.args.ticks.now;
+      ticks_after = g.T.Ticks.remaining c.loop-count.ticks;
+      written_before = g.W.Write.contents c.args.writer.now;
+      written_after = g.W.Write.contents c.loop-count.writer;
     }))) last
     (full _ _ _ _ _ _ _ _ _ _ _ _ at.2 (g.R.Read.remaining c.loop-count.reader) last)

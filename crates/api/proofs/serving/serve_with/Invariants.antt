@@ -1,26 +1,27 @@
 use Rattle.std.proofs.Common.{◌≡◌, ◌⊎◌, ℕ, ◌≤◌, List, Option, vec_len}
-use Rattle.messages.specs.Cuts.{IsTaken}
-use Rattle.messages.specs.Held.{input_left}
-use Rattle.bodies.specs.Rooms.{HasRoom}
+use Rattle.http_messages.specs.Parsing.{IsTaken}
+use Rattle.http_messages.specs.ReadBuffer.{remaining_input}
+use Rattle.json_api.specs.ResponseBuffers.{HasCapacity}
 use Rattle.api.proofs.Going.{Progress}
 use Rattle.api.proofs.Withheld.{Past}
 use Rattle.api.proofs.serving.serve_with.Given as goal
 
 abbrev pub invariant-loop-count : goal.invariant-loop-count
 invariant-loop-count g l =
-    (vec_len l.held.bytes ≡ 8192) × HasRoom 512 l.room
+    (vec_len l.held.bytes ≡ 8192) × HasCapacity 512 l.room
     × (g.S.Store.IsUsable l.register.store → g.S.Store.IsUsable l.fn.register.store)
     × (g.S.Store.failed l.fn.register.store ≤ g.S.Store.failed l.register.store)
-    × (g.S.Store.IsHonest l.register.store → g.S.Store.IsHonest l.fn.register.store)
-    × (g.S.Store.IsUsable l.fn.register.store → g.S.Store.IsHonest l.register.store
+    × (g.S.Store.HasHonestDevice l.register.store → g.S.Store.HasHonestDevice l.fn.register.store)
+    × (g.S.Store.IsUsable l.fn.register.store → g.S.Store.HasHonestDevice l.register.store
     → g.S.Store.IsUsable l.register.store
     ⊎ Past l.fn.options.clock_route (g.S.Store.failed l.fn.register.store)
     (g.S.Store.content l.fn.register.store) (g.R.Read.remaining l.fn.reader)
-    (g.W.Write.contents l.fn.writer) (g.T.Ticks.told l.fn.ticks) (g.W.Write.contents l.writer))
+    (g.W.Write.contents l.fn.writer) (g.T.Ticks.remaining l.fn.ticks) (g.W.Write.contents l.writer))
     × (g.S.Store.IsUsable l.register.store → (left : Option (List ℕ))
-    × IsTaken left l.at_hand l.body.items (input_left l.held (g.R.Read.remaining l.reader))
+    × IsTaken left l.at_hand l.body.items (remaining_input l.held (g.R.Read.remaining l.reader))
     × Progress l.fn.options.clock_route (g.S.Store.failed l.fn.register.store)
     (g.S.Store.failed l.register.store) (g.S.Store.content l.fn.register.store)
     (g.S.Store.content l.register.store)
     (g.R.Read.remaining l.fn.reader) left (g.W.Write.contents l.fn.writer)
-    (g.W.Write.contents l.writer) (g.T.Ticks.told l.fn.ticks) (g.T.Ticks.told l.ticks) l.count)
+    (g.W.Write.contents l.writer) (g.T.Ticks.remaining l.fn.ticks) (g.T.Ticks.remaining l.ticks)
+    l.count)

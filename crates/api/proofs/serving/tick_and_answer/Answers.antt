@@ -1,6 +1,6 @@
 use Rattle.std.proofs.Common.{◌⊎◌, ℕ, List, Option, option_map, sym, subst}
 use Rattle.numbers.specs.declared.minute.Minute.{Minute}
-use Rattle.api.specs.Step.{IsWithheld}
+use Rattle.api.specs.Step.{IsUnavailableText}
 use Rattle.api.proofs.StepLemmas.{tick_then, tick_withheld}
 use Rattle.api.proofs.Withheld.{refused_or}
 use Rattle.api.proofs.serving.tick_and_answer.Goals as goal
@@ -15,12 +15,12 @@ returns-in-Ok-clause-responds g c = λ u. (
   c.next-tick.ensures,
   tick_then c.args.clock (minute_of c.next-tick.result) (g.S.Store.failed c.args.register.now.store)
       (g.S.Store.failed c.take_tick.new.register.store)
-      (g.S.Store.failed c.put_answer.new.register.store)
+      (g.S.Store.failed c.write_response.new.register.store)
       (g.S.Store.content c.args.register.now.store)
       (g.S.Store.content c.take_tick.new.register.store)
-      (g.S.Store.content c.put_answer.new.register.store) c.args.request.now c.args.body.now _
-      c.in-Ok.ensures.owes.rises (c.in-Ok.ensures.moved (c.put_answer.ensures.usable u))
-      (c.put_answer.ensures.step u),
+      (g.S.Store.content c.write_response.new.register.store) c.args.request.now c.args.body.now _
+      c.in-Ok.ensures.preserves.rises (c.in-Ok.ensures.moved (c.write_response.ensures.usable u))
+      (c.write_response.ensures.step u),
 )
 
 pub returns-in-Err-clause-responds : goal.returns-in-Err-clause-responds
@@ -31,11 +31,12 @@ returns-in-Err-clause-responds g c = λ u. (
       (g.S.Store.failed c.args.register.now.store) (g.S.Store.failed c.take_tick.new.register.store)
       (g.S.Store.content c.args.register.now.store)
       (g.S.Store.content c.take_tick.new.register.store) c.args.request.now c.args.body.now _ _
-      c.in-Err.ensures.owes.rises c.put_refused.ensures.text (c.in-Err.ensures.short u),
+      c.in-Err.ensures.preserves.rises c.put_refused.ensures.text (c.in-Err.ensures.short u),
 )
 
 pub returns-in-Err-clause-stays : goal.returns-in-Err-clause-stays
 returns-in-Err-clause-stays g c = λ usable honest.
-    subst (λ (t : List ℕ). IsWithheld t ⊎ g.S.Store.IsUsable c.take_tick.new.register.store)
+    subst (λ (t : List ℕ). IsUnavailableText t ⊎ g.S.Store.IsUsable c.take_tick.new.register.store)
     (sym c.put_refused.ensures.text)
-    (refused_or c.in-Err.refusal (λ answered. c.in-Err.ensures.owes.stays answered usable honest))
+    (refused_or c.in-Err.refusal (λ answered. c.in-Err.ensures.preserves.stays answered usable
+    honest))

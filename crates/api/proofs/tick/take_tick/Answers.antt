@@ -4,11 +4,11 @@ use Rattle.api.proofs.tick.take_tick.Goals as goal
 
 pub returns-in_default-refusal : goal.returns-in_default-refusal
 returns-in_default-refusal g c = record {
-  owes = record {
-    usable = c.in-Err.ensures.owes.usable;
-    honest = c.in-Err.ensures.owes.honest;
+  preserves = record {
+    usable = c.in-Err.ensures.preserves.usable;
+    honest = c.in-Err.ensures.preserves.honest;
     stays = search rules;
-    rises = c.in-Err.ensures.owes.rises;
+    rises = c.in-Err.ensures.preserves.rises;
     storage = λ never. absurd never;
   };
   moved = tt;
@@ -16,5 +16,5 @@ returns-in_default-refusal g c = record {
       (g.S.Store.failed c.args.register.now.store) (g.S.Store.failed c.clock.new.self.store)
       (g.S.Store.content c.args.register.now.store) (g.S.Store.content c.clock.new.self.store)
       c.in-Some.minute.number c.in_default-refusal.not-ClockBack
-      (c.in-Err.ensures.answers u) (λ st s e. blamed c.in-Err.ensures.owes u st s (ap Err e)));
+      (c.in-Err.ensures.answers u) (λ st s e. blamed c.in-Err.ensures.preserves u st s (ap Err e)));
 }

@@ -1,4 +1,4 @@
-use Rattle.meaning.specs.Refusals.{Ids}
+use Rattle.model.specs.Refusals.{Ids}
 use Rattle.bulk.proofs.Asked.{ids_are}
 use Rattle.register.proofs.Asking.Unmoved.{kept}
 use Rattle.bulk.proofs.asking.ids_of.Goals as goal

@@ -1,6 +1,6 @@
 use Rattle.std.proofs.Common.{map}
-use Rattle.calls.specs.Calls.{in_force_of}
-use Rattle.meaning.specs.Refusals.{AllInForce}
+use Rattle.requests.specs.Calls.{in_force_of}
+use Rattle.model.specs.Refusals.{AllInForce}
 use Rattle.register.proofs.Asking.Unmoved.{kept, rows_of}
 use Rattle.bulk.proofs.asking.rows_in_force.Goals as goal
 

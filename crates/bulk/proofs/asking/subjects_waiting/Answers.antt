@@ -1,6 +1,6 @@
 use Rattle.std.proofs.Common.{map}
-use Rattle.numbers.specs.Views.{subject_of}
-use Rattle.meaning.specs.Refusals.{Waiting}
+use Rattle.numbers.specs.Abstraction.{subject_of}
+use Rattle.model.specs.Refusals.{Waiting}
 use Rattle.register.proofs.Asking.Unmoved.{kept}
 use Rattle.bulk.proofs.Waited.{stranger_told, waits_are}
 use Rattle.bulk.proofs.asking.subjects_waiting.Goals as goal

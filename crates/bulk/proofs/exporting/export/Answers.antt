@@ -1,6 +1,6 @@
 use Rattle.std.proofs.Common.{◌∙◌, map, ap}
 use Rattle.delivery.specs.Mirrors.{in_force_of}
-use Rattle.meaning.specs.Reading.{all_in_force}
+use Rattle.model.specs.State.{all_in_force}
 use Rattle.bulk.specs.Exports.{export_header}
 use Rattle.bulk.proofs.Exported.{all_exported, part_exported}
 use Rattle.bulk.proofs.exporting.export.Goals as goal

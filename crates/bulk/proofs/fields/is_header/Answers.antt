@@ -1,5 +1,5 @@
 use Rattle.std.proofs.Common.{ap, length}
-use Rattle.bulk.specs.Orders.{header}
+use Rattle.bulk.specs.Requests.{header}
 use Rattle.bulk.proofs.fields.is_header.Goals as goal
 
 pub returns-in-None : goal.returns-in-None

@@ -1,6 +1,6 @@
 use Rattle.std.proofs.Common.{◌≡◌, ◌∷◌, inl, refl, ap, rules, ◌∙◌}
 use Rattle.csv.specs.Records.{fields_of}
-use Rattle.bulk.specs.Orders.{header}
+use Rattle.bulk.specs.Requests.{header}
 use Rattle.bulk.specs.Rows.{HasRows}
 use Rattle.bulk.proofs.Filed.{other_first, no_first_read}
 use Rattle.bulk.proofs.file.read_header.Goals as goal

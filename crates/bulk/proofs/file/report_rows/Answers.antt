@@ -1,6 +1,6 @@
 use Rattle.std.proofs.Common.{inl, subst, ◌∙◌}
 use Rattle.std.specs.Io.KnownBytes.{Appends}
-use Rattle.messages.specs.Sending.{AppendsFront}
+use Rattle.http_messages.specs.Sending.{AppendsFront}
 use Rattle.bulk.specs.Report.{report_header}
 use Rattle.bulk.proofs.Filed.{header_broken}
 use Rattle.bulk.proofs.file.report_rows.Goals as goal

@@ -12,7 +12,8 @@ pub loop-row-init : goal.loop-row-init
 loop-row-init g c = record {
   plain = c.requires;
   few = omega arith;
-  owed = owes_none g.S.Store.IsUsable g.S.Store.IsHonest g.S.Store.failed c.args.register.now.store;
+  owed = owes_none g.S.Store.IsUsable g.S.Store.HasHonestDevice g.S.Store.failed
+      c.args.register.now.store;
   follows = λ u st s. follows_none st (g.S.Store.content c.args.register.now.store) s;
   passes = λ u st s rows has. begins g.R.Read.remaining st rows c.args.reader.now
       (g.S.Store.content c.args.register.now.store) (g.W.Write.contents c.args.writer.now) s has;
@@ -20,26 +21,26 @@ loop-row-init g c = record {
 
 pub returns-in-Err-run_row-clause-runs : goal.returns-in-Err-run_row-clause-runs
 returns-in-Err-run_row-clause-runs g c = λ u st s rows has.
-    let p = c.loop-row.invariant.passes (c.run_row.ensures.owes.usable u) st s rows has in
+    let p = c.loop-row.invariant.passes (c.run_row.ensures.preserves.usable u) st s rows has in
     let runs = c.in-Err-run_row.ensures.runs in
     let takes = rw c.in-Ok-true.field-0-test at c.in-Ok-true.ensures.takes in
     fails_row g.R.Read.remaining st rows c.loop-row.reader c.next_row.new.reader _
     (g.W.Write.contents c.args.writer.now) (g.W.Write.contents c.loop-row.writer) c.loop-row.row
     c.loop-row.count p (fields_of c.next_row.new.row) runs.0 _ _ runs.1 takes
-    c.in-Err-run_row.fault (runs.2 u (state_after st (tasks_from 1 p.orders)) p.done.stands)
+    c.in-Err-run_row.fault (runs.2 u (state_after st (tasks_from 1 p.requests)) p.done.refines)
 
 pub returns-in-Err-run_row-clause-state : goal.returns-in-Err-run_row-clause-state
 returns-in-Err-run_row-clause-state g c = λ u st s.
     let runs = c.in-Err-run_row.ensures.runs in
     follows_then st (g.S.Store.content c.loop-row.register.store) _
-    (c.loop-row.invariant.follows (c.run_row.ensures.owes.usable u) st s)
+    (c.loop-row.invariant.follows (c.run_row.ensures.preserves.usable u) st s)
     (λ later t. run_follows later (tasks_of c.loop-row.row runs.0) _
     (g.W.Write.contents c.loop-row.writer) (g.W.Write.contents c.run_row.new.writer)
     c.loop-row.count (Err c.in-Err-run_row.fault) (runs.2 u later t))
 
-pub returns-in-Err-run_row-clause-owes : goal.returns-in-Err-run_row-clause-owes
-returns-in-Err-run_row-clause-owes g c =
-    owes_on c.loop-row.invariant.owed c.in-Err-run_row.ensures.owes (λ u st s. let f =
+pub returns-in-Err-run_row-clause-preserves : goal.returns-in-Err-run_row-clause-preserves
+returns-in-Err-run_row-clause-preserves g c =
+    owes_on c.loop-row.invariant.owed c.in-Err-run_row.ensures.preserves (λ u st s. let f =
     c.loop-row.invariant.follows u st s in (_, f.1))
 
 pub returns-in-Ok-false-clause-runs : goal.returns-in-Ok-false-clause-runs
@@ -62,25 +63,26 @@ loop-row-preserved g c =
       plain = c.in-Ok-true.ensures.plain c.in-Ok-true.field-0-test;
       few = omega (arith, c.loop-row.invariant.few, c.in-Ok.ensures.few);
       owed = record {
-        usable = λ u. c.loop-row.invariant.owed.usable (c.run_row.ensures.owes.usable u);
-        honest = λ h. c.loop-row.invariant.owed.honest (c.run_row.ensures.owes.honest h);
+        usable = λ u. c.loop-row.invariant.owed.usable (c.run_row.ensures.preserves.usable u);
+        honest = λ h. c.loop-row.invariant.owed.honest (c.run_row.ensures.preserves.honest h);
         stays = λ never. absurd never;
-        rises = le_trans c.loop-row.invariant.owed.rises c.run_row.ensures.owes.rises;
+        rises = le_trans c.loop-row.invariant.owed.rises c.run_row.ensures.preserves.rises;
         storage = λ x. absurd x;
       };
       follows = λ u st s.
           follows_then st (g.S.Store.content c.loop-row.register.store) _
-          (c.loop-row.invariant.follows (c.run_row.ensures.owes.usable u) st s)
+          (c.loop-row.invariant.follows (c.run_row.ensures.preserves.usable u) st s)
           (λ later t. run_follows later (tasks_of c.loop-row.row runs.0) _
           (g.W.Write.contents c.loop-row.writer) (g.W.Write.contents c.run_row.new.writer)
           c.loop-row.count (Ok c.in-Ok.done) (runs.2 u later t));
       passes = λ u st s rows has.
-          let p = c.loop-row.invariant.passes (c.run_row.ensures.owes.usable u) st s rows has in
+          let p = c.loop-row.invariant.passes (c.run_row.ensures.preserves.usable u) st s rows
+          has in
           let takes = rw c.in-Ok-true.field-0-test at c.in-Ok-true.ensures.takes in
           passes_row g.R.Read.remaining st rows c.loop-row.reader c.next_row.new.reader _
           (g.W.Write.contents c.args.writer.now) (g.W.Write.contents c.loop-row.writer)
           c.loop-row.row c.loop-row.count p (fields_of c.next_row.new.row) runs.0 _ _ runs.1 takes
-          c.in-Ok.done (runs.2 u (state_after st (tasks_from 1 p.orders)) p.done.stands);
+          c.in-Ok.done (runs.2 u (state_after st (tasks_from 1 p.requests)) p.done.refines);
     }
 
 pub returns-clause-runs : goal.returns-clause-runs

@@ -1,7 +1,7 @@
 use Rattle.std.proofs.Common.{◌∙◌, true, ap}
 use Rattle.std.specs.Prelude.{if◌then◌else◌}
 use Rattle.numbers.specs.Subjects.{subject_eq}
-use Rattle.numbers.specs.Views.{subject_of}
+use Rattle.numbers.specs.Abstraction.{subject_of}
 use Rattle.bulk.specs.Sides.{sides_at}
 use Rattle.bulk.specs.declared.sides.Sides.{Sides}
 use Rattle.bulk.proofs.Sided.{waiting_turn}

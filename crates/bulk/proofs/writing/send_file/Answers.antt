@@ -1,6 +1,6 @@
 use Rattle.std.proofs.Common.{◌∷◌, [], ◌++◌, length, map, subst}
 use Rattle.std.specs.Io.KnownBytes.{Appends}
-use Rattle.messages.specs.Sending.{AppendsFront}
+use Rattle.http_messages.specs.Sending.{AppendsFront}
 use Rattle.bulk.proofs.Sending.{all_behind, part_behind, part_of_first}
 use Rattle.bulk.proofs.writing.send_file.Goals as goal
 

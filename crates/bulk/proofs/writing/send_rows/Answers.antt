@@ -1,7 +1,7 @@
 use Rattle.std.proofs.Common.{refl, List, map, sym, subst, arith, ℕ}
 use Rattle.std.proofs.KnownBytes.{Appends-nil}
 use Rattle.std.specs.Io.KnownBytes.{Appends}
-use Rattle.messages.specs.Sending.{AppendsFront}
+use Rattle.http_messages.specs.Sending.{AppendsFront}
 use Rattle.bulk.specs.Files.{IsSentPart}
 use Rattle.bulk.proofs.Sending.{all_sent, sent_next, sent_part, line_at}
 use Rattle.bulk.proofs.writing.send_rows.Goals as goal

@@ -1,21 +1,21 @@
 use Rattle.std.proofs.Common.{◌≡◌, ◌&&◌, Bool, true, false, [], ◌∷◌, ◌++◌, map, refl, ap, ◌∙◌}
 use Rattle.std.specs.Prelude.{not, if◌then◌else◌}
-use Rattle.numbers.specs.Views.{subject_of}
-use Rattle.meaning.specs.Content.{BroadcastKey, BroadcastRow, row_of}
-use Rattle.meaning.specs.Views.{status_of}
-use Rattle.version.specs.Views.{seen_by, set_of, windows_of}
+use Rattle.numbers.specs.Abstraction.{subject_of}
+use Rattle.model.specs.Content.{BroadcastKey, BroadcastRow, row_of}
+use Rattle.model.specs.Abstraction.{status_of}
+use Rattle.version.specs.Abstraction.{model_with_windows, set_of, windows_of}
 use Rattle.delivery.specs.declared.broadcast.Broadcast.{Broadcast}
 use Rattle.settle.specs.Changes.{Changes, no_changes}
-use Rattle.settle.specs.declared.rows.BroadcastKey.{BroadcastKey as BroadcastKeyCode}
+use Rattle.settle.specs.declared.rows.BroadcastKey.{BroadcastKey as BroadcastKeyImpl}
 use Rattle.settle.specs.Lists.{items_of}
-use Rattle.settle.specs.Views.{broadcast_key_of, broadcast_row_of, wait_key_of}
+use Rattle.settle.specs.Abstraction.{broadcast_key_of, broadcast_row_of, wait_key_of}
 use Rattle.settle.specs.Fired.{retired_rows}
 use Rattle.version.specs.Acknowledging.{is_sending, completes}
-use Rattle.register.specs.Acknowledging.{answered_row, own_rows, acknowledging}
+use Rattle.register.specs.Acknowledging.{answered_row, own_rows, acknowledgement_changes}
 use Rattle.register.proofs.Downloads.Receipts.{answered_seen}
 use Rattle.register.proofs.acknowledgement.put_last.Goals as goal
 
-abbrev told : BroadcastKeyCode × Broadcast → BroadcastKey × BroadcastRow
+abbrev told : BroadcastKeyImpl × Broadcast → BroadcastKey × BroadcastRow
 told e = (broadcast_key_of e.0, broadcast_row_of e.1)
 
 -- a row that is seen, where it is wanted
@@ -35,12 +35,13 @@ returns c =
     c.args.clock.now.minute.number c.args.found.now.earlier
     ++ own_rows (completes c.args.version.now c.args.wait.attempt true) c.args.wait.id
     (row_of (subject_of c.args.after.now.subject)
-    (seen_by (windows_of c.args.windows.now) c.args.after.now)) =
+    (model_with_windows (windows_of c.args.windows.now) c.args.after.now)) =
     c.versions_of.ensures
     ∙ ap (λ b. retired_rows (set_of c.args.clock.now.present) c.args.clock.now.minute.number
     c.args.found.now.earlier
     ++ own_rows b c.args.wait.id (row_of (subject_of c.args.after.now.subject)
-    (seen_by (windows_of c.args.windows.now) c.args.after.now))) c.completes-completes.ensures
+    (model_with_windows (windows_of c.args.windows.now) c.args.after.now)))
+    c.completes-completes.ensures
     in
     let broadcast : broadcast_row_of c.acknowledged-broadcast.result
     ≡ answered_row (completes c.args.version.now c.args.wait.attempt true && is_sending
@@ -85,9 +86,11 @@ returns c =
       taken_broadcasts = gone i;
       taken_waits = wait_key_of c.args.wait ∷ [];
     })
-    ∙ ap (λ row. acknowledging c.args.wait.carrier.number c.args.wait.minute.number c.args.wait.id
+    ∙ ap (λ row. acknowledgement_changes c.args.wait.carrier.number c.args.wait.minute.number
+    c.args.wait.id
     c.args.wait.attempt true (items_of c.versions_of.result) row) broadcast
-    ∙ ap (λ rows. acknowledging c.args.wait.carrier.number c.args.wait.minute.number c.args.wait.id
+    ∙ ap (λ rows. acknowledgement_changes c.args.wait.carrier.number c.args.wait.minute.number
+    c.args.wait.id
     c.args.wait.attempt true rows
     (answered_row (completes c.args.version.now c.args.wait.attempt true && is_sending
     (status_of c.args.version.now.status)) (broadcast_row_of c.args.found.now.broadcast))) versions

@@ -1,6 +1,6 @@
 use Rattle.std.proofs.Common.{◌≡◌, false, [], ◌∷◌, ap, ◌∙◌}
 use Rattle.settle.specs.Changes.{Changes, no_changes}
-use Rattle.settle.specs.Views.{broadcast_key_of, broadcast_row_of, wait_key_of}
+use Rattle.settle.specs.Abstraction.{broadcast_key_of, broadcast_row_of, wait_key_of}
 use Rattle.register.specs.Acknowledging.{answered_row}
 use Rattle.register.proofs.Downloads.Receipts.{answered_seen}
 use Rattle.register.proofs.acknowledgement.put_one.Goals as goal

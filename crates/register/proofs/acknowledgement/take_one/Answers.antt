@@ -1,11 +1,11 @@
 use Rattle.std.proofs.Common.{None, false, ap, refl, sym, ◌∙◌, subst, option_map}
 use Rattle.std.specs.Prelude.{if◌then◌else◌}
 use Rattle.std.specs.FinMap.{get}
-use Rattle.settle.specs.Changes.{IsChanged}
-use Rattle.settle.specs.Views.{broadcast_row_of}
+use Rattle.settle.specs.Changes.{AppliesChanges}
+use Rattle.settle.specs.Abstraction.{broadcast_row_of}
 use Rattle.numbers.proofs.Small.{same_number}
-use Rattle.version.specs.Views.{set_of, windows_of}
-use Rattle.calls.specs.Calls.{view_of}
+use Rattle.version.specs.Abstraction.{set_of, windows_of}
+use Rattle.requests.specs.Calls.{view_of}
 use Rattle.register.proofs.acknowledgement.take_one.Goals as goal
 
 pub returns-clause-taken : goal.returns-clause-taken
@@ -28,7 +28,7 @@ returns-clause-taken g c = λ usable last m changed. (
       replaced = refl;
     };
     becomes = record { subject = refl; version = λ id broadcasts windows. refl };
-    changed = subst (λ d. IsChanged d (g.S.Store.content c.args.store.now) m)
+    changed = subst (λ d. AppliesChanges d (g.S.Store.content c.args.store.now) m)
         (c.put_one.ensures (set_of c.args.clock.now.present) (windows_of c.args.held.now)
         c.args.clock.now.minute.number c.args.version.now c.args.version.now) changed;
     shown = c.of.ensures;

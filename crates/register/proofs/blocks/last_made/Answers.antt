@@ -1,7 +1,7 @@
 use Rattle.std.proofs.Common.{◌≡◌, Some, refl, sym, ap, ◌∙◌, subst}
 use Rattle.std.specs.FinMap.{get}
-use Rattle.meaning.specs.Content.{VersionRow}
-use Rattle.settle.specs.Views.{version_row_of}
+use Rattle.model.specs.Content.{VersionRow}
+use Rattle.settle.specs.Abstraction.{version_row_of}
 use Rattle.register.specs.Blocks.{IsLast}
 use Rattle.register.proofs.blocks.last_made.Goals as goal
 

@@ -1,27 +1,28 @@
 use Rattle.std.proofs.Common.{rules, arith, ◌≡◌, Err, option_map, sym, ap, ◌∙◌, subst}
 use Rattle.std.specs.FinMap.{get}
 use Rattle.settle.proofs.Risen.{risen-since}
-use Rattle.settle.specs.Views.{block_row_of}
+use Rattle.settle.specs.Abstraction.{block_row_of}
 use Rattle.settle.specs.declared.store.StoreFault.TheVariants.{Storage}
 use Rattle.register.specs.Blocks.{IsRowThere, last_id}
 use Rattle.register.proofs.OnBlocks.BlockRow.{last_is_there}
 use Rattle.register.proofs.blocks.read_block.Goals as goal
 
-pub returns-in_err-last-clause-reads : goal.returns-in_err-last-clause-reads
-returns-in_err-last-clause-reads g c = record {
+pub returns-in_err-last-clause-read_only : goal.returns-in_err-last-clause-read_only
+returns-in_err-last-clause-read_only g c = record {
   same = λ usable.
-      let at_row = c.last_made.ensures.reads.same usable in
-      let at_code = c.block.ensures.reads.same at_row.0 in
-      let first = c.code-2.ensures.reads.same at_code.0 in
+      let at_row = c.last_made.ensures.read_only.same usable in
+      let at_code = c.block.ensures.read_only.same at_row.0 in
+      let first = c.code-2.ensures.read_only.same at_code.0 in
       (first.0, at_row.1 ∙ at_code.1 ∙ first.1);
   honest = search rules;
   stays = search rules;
-  rises = let a = c.code-2.ensures.reads.rises in let b = c.block.ensures.reads.rises in let d =
-      c.last_made.ensures.reads.rises in omega arith;
+  rises = let a = c.code-2.ensures.read_only.rises in let b = c.block.ensures.read_only.rises in
+      let d =
+      c.last_made.ensures.read_only.rises in omega arith;
   storage = λ says.
-      let at_row = c.last_made.ensures.reads.same says.usable in
-      let at_code = c.block.ensures.reads.same at_row.0 in
-      let first = c.code-2.ensures.reads.same at_code.0 in
+      let at_row = c.last_made.ensures.read_only.same says.usable in
+      let at_code = c.block.ensures.read_only.same at_row.0 in
+      let first = c.code-2.ensures.read_only.same at_code.0 in
       let read : option_map block_row_of c.in_ok-row.row
       ≡ get (g.S.Store.content c.args.store.now).blocks c.args.block.number =
       c.in_ok-row.ensures.value at_row.0 ∙ ap (λ m. get m.blocks c.args.block.number) first.1 in
@@ -31,9 +32,9 @@ returns-in_err-last-clause-reads g c = record {
       (last_is_there says.st (g.S.Store.content c.args.store.now) says.represents
       c.args.block.number c.in_ok-row.row read)) in
       let said : c.last_made.result ≡ Err Storage = let s = says.says in search (rules, s) in
-      let a = c.code-2.ensures.reads.rises in let b = c.block.ensures.reads.rises in
+      let a = c.code-2.ensures.read_only.rises in let b = c.block.ensures.read_only.rises in
       risen-since (g.S.Store.failed c.args.store.now) (g.S.Store.failed c.block.new.self)
-      (g.S.Store.failed c.last_made.new.store) (omega arith) c.last_made.ensures.reads.rises
-      (c.last_made.ensures.reads.storage (says.usable, there, said));
+      (g.S.Store.failed c.last_made.new.store) (omega arith) c.last_made.ensures.read_only.rises
+      (c.last_made.ensures.read_only.storage (says.usable, there, said));
   left = search rules;
 }

@@ -1,17 +1,17 @@
 use Rattle.std.proofs.Common.{arith, rules, ◌≡◌, ◌+◌, ◌<◌, ◌≤◌, ℕ, true, false, Some, ap, sym, subst, ◌∙◌}
 use Rattle.std.specs.Prelude.{◌==◌, ◌-◌, ◌^◌, min, nat_le, option_map}
 use Rattle.std.proofs.lemmas.Bool.Decides.{nat_tests}
-use Rattle.meaning.specs.Commands.{SetWindows}
-use Rattle.meaning.specs.History.{Commands}
-use Rattle.meaning.specs.Machine.{WindowsSet}
-use Rattle.meaning.specs.Refusals.{Requests, npac}
-use Rattle.meaning.specs.Windows.{WindowSet}
-use Rattle.meaning.specs.declared.refusal.Refusal.TheVariants.{NotAdmin, Full}
-use Rattle.settle.specs.Changes.{Changes, IsChanged, no_changes}
-use Rattle.settle.specs.Views.{clock_row_of}
+use Rattle.model.specs.Commands.{SetWindows}
+use Rattle.model.specs.History.{CommandRequest}
+use Rattle.model.specs.Machine.{WindowsSet}
+use Rattle.model.specs.Refusals.{RequestFrom, npac}
+use Rattle.model.specs.Windows.{WindowSet}
+use Rattle.model.specs.declared.refusal.Refusal.TheVariants.{NotAdmin, Full}
+use Rattle.settle.specs.Changes.{Changes, AppliesChanges, no_changes}
+use Rattle.settle.specs.Abstraction.{clock_row_of}
 use Rattle.version.proofs.Ends.{windows_are}
-use Rattle.version.specs.Views.{windows_of}
-use Rattle.register.specs.Settling.{AnswersSettled}
+use Rattle.version.specs.Abstraction.{windows_of}
+use Rattle.register.specs.Settling.{SimulatesSettledStep}
 use Rattle.register.proofs.EveryCall.Deciding.{decides_refused}
 use Rattle.register.proofs.Registering.SetsPut.{sets_not_admin, sets_full, answers_sets}
 use Rattle.register.proofs.clock.set_windows.Goals as goal
@@ -29,20 +29,20 @@ past_test n past = grind (arith, nat_tests)
 pub returns-then-caller-clause-decides : goal.returns-then-caller-clause-decides
 returns-then-caller-clause-decides g c = λ usable.
     let other : (c.args.caller.number == npac) ≡ false = search rules in
-    decides_refused _ _ _ NotAdmin (λ st stands settled. sets_not_admin
+    decides_refused _ _ _ NotAdmin (λ st refines settled. sets_not_admin
     (g.S.Store.content c.args.store.now) c.args.caller.number (windows_of c.args.windows.now) other
-    st stands)
+    st refines)
 
 pub returns-then-clock-ge-MOST_SETS-clause-decides :
     goal.returns-then-clock-ge-MOST_SETS-clause-decides
 returns-then-clock-ge-MOST_SETS-clause-decides g c = λ usable.
     let admin : (c.args.caller.number == npac) ≡ true = search rules in
     let past : 1000 ≤ c.in-Some.clock.present.number = search rules in
-    decides_refused _ _ _ Full (λ st stands settled. sets_full
+    decides_refused _ _ _ Full (λ st refines settled. sets_full
     (g.S.Store.content c.args.store.now) c.args.caller.number (windows_of c.args.windows.now)
     admin (clock_row_of c.in-Some.clock)
     (sym (c.in_ok-clock.ensures.value usable) ∙ ap (option_map clock_row_of) c.in-Some.is)
-    (past_test c.in-Some.clock.present.number past) st stands)
+    (past_test c.in-Some.clock.present.number past) st refines)
 
 pub returns-clause-decides : goal.returns-clause-decides
 returns-clause-decides g c = λ usable.
@@ -54,14 +54,15 @@ returns-clause-decides g c = λ usable.
     c.saturating_add.ensures in
     record {
       refused = tt;
-      accepted = λ m changed. subst (λ n. AnswersSettled old m
-          (Requests c.args.caller.number (Commands (SetWindows (windows_of c.args.windows.now))))
+      accepted = λ m changed. subst (λ n. SimulatesSettledStep old m
+          (RequestFrom c.args.caller.number
+          (CommandRequest (SetWindows (windows_of c.args.windows.now))))
           (Some (WindowsSet c.in-Some.clock.minute.number n))) (sym next)
           (answers_sets old m c.args.caller.number (windows_of c.args.windows.now)
           (clock_row_of c.in-Some.clock) admin
           (sym (c.in_ok-clock.ensures.value usable) ∙ ap (option_map clock_row_of) c.in-Some.is)
           (below_test c.in-Some.clock.present.number below) (windows_are c.args.windows.now)
-          (subst (λ d. IsChanged d old m)
+          (subst (λ d. AppliesChanges d old m)
           (ap (λ (d : Changes). let x : Changes = record d {
             set = Some (record {
               number = c.saturating_add.result;

@@ -1,11 +1,11 @@
 use Rattle.std.proofs.Common.{rules, ◌≡◌, true, false, None, ap, refl, sym, ◌∙◌}
 use Rattle.std.specs.Prelude.{is_some, option_map}
-use Rattle.meaning.specs.Content.{Content}
-use Rattle.settle.specs.Views.{clock_row_of}
+use Rattle.model.specs.Content.{Content}
+use Rattle.settle.specs.Abstraction.{clock_row_of}
 use Rattle.register.proofs.OnVersions.Created.{judged_by, answers_create_unknown}
 use Rattle.register.specs.Serving.{are_known}
-use Rattle.meaning.specs.History.{Commands}
-use Rattle.meaning.specs.Refusals.{Requests}
+use Rattle.model.specs.History.{CommandRequest}
+use Rattle.model.specs.Refusals.{RequestFrom}
 use Rattle.version.specs.Creates.{command_of}
 use Rattle.register.proofs.EveryCall.Deciding.{refused_fault}
 use Rattle.settle.proofs.ReadOn.{reads_on, reads_refused}
@@ -14,10 +14,10 @@ use Rattle.register.proofs.create.judged_by.Goals as goal
 pub returns-clause-judged : goal.returns-clause-judged
 returns-clause-judged g c = λ usable.
     let old = g.S.Store.content c.args.store.now in
-    let at_row = c.in_ok-facts.ensures.reads.same usable in
-    let at_clock = c.in_ok-row.ensures.reads.same at_row.0 in
-    let at_known = c.in_ok-clock.ensures.reads.same at_clock.0 in
-    let at_start = c.in_ok-are_carriers_known.ensures.reads.same at_known.0 in
+    let at_row = c.in_ok-facts.ensures.read_only.same usable in
+    let at_clock = c.in_ok-row.ensures.read_only.same at_row.0 in
+    let at_known = c.in_ok-clock.ensures.read_only.same at_clock.0 in
+    let at_start = c.in_ok-are_carriers_known.ensures.read_only.same at_known.0 in
     let known : are_known old c.args.create.now c.args.caller.number ≡ true =
     ◌∙◌ {a = are_known old c.args.create.now c.args.caller.number}
     (sym (c.in_ok-are_carriers_known.ensures.value at_known.0)) c.if-not-branch.false in
@@ -36,25 +36,26 @@ returns-then-not-branch-clause-refused g c = λ usable.
     answers_create_unknown old old c.args.caller.number c.args.create.now refl
     (sym (c.in_ok-are_carriers_known.ensures.value usable) ∙ c.if-not-branch.true)
 
-pub returns-in_default-clause-reads : goal.returns-in_default-clause-reads
-returns-in_default-clause-reads g c = reads_refused
-    (reads_on c.in_ok-are_carriers_known.ensures.reads tt c.in_ok-clock.ensures.reads tt) tt
+pub returns-in_default-clause-read_only : goal.returns-in_default-clause-read_only
+returns-in_default-clause-read_only g c = reads_refused
+    (reads_on c.in_ok-are_carriers_known.ensures.read_only tt c.in_ok-clock.ensures.read_only tt) tt
     (λ says.
-    let at_known = c.in_ok-clock.ensures.reads.same says.usable in
+    let at_known = c.in_ok-clock.ensures.read_only.same says.usable in
     let none : (g.S.Store.content c.args.store.now).clock ≡ None =
-    ap (λ (m : Content). m.clock) (sym (c.in_ok-are_carriers_known.ensures.reads.same at_known.0).1)
+    ap (λ (m : Content). m.clock)
+    (sym (c.in_ok-are_carriers_known.ensures.read_only.same at_known.0).1)
     ∙ sym (c.in_ok-clock.ensures.value says.usable) ∙ ap (option_map clock_row_of) c.in_default.is
     in
-    let never : true ≡ false = sym says.stands.written ∙ ap is_some none in cc)
+    let never : true ≡ false = sym says.refines.written ∙ ap is_some none in cc)
 
 pub returns-in_err-row-clause-refused : goal.returns-in_err-row-clause-refused
 returns-in_err-row-clause-refused g c = λ usable.
     refused_fault (g.S.Store.content c.args.store.now)
-    (Requests c.args.caller.number (Commands (command_of c.args.create.now)))
+    (RequestFrom c.args.caller.number (CommandRequest (command_of c.args.create.now)))
     c.from_residual-in_err-row.result c.in_err-row.field-0.0 (search rules)
 
 pub returns-in_err-facts-clause-refused : goal.returns-in_err-facts-clause-refused
 returns-in_err-facts-clause-refused g c = λ usable.
     refused_fault (g.S.Store.content c.args.store.now)
-    (Requests c.args.caller.number (Commands (command_of c.args.create.now)))
+    (RequestFrom c.args.caller.number (CommandRequest (command_of c.args.create.now)))
     c.from_residual-in_err-facts.result c.in_err-facts.field-0.0 (search rules)

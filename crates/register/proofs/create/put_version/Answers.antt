@@ -1,8 +1,8 @@
 use Rattle.std.proofs.Common.{◌≡◌, ap, ◌∙◌, [], ◌∷◌}
 use Rattle.std.specs.Prelude.{option_map}
-use Rattle.numbers.specs.Views.{subject_of}
-use Rattle.version.specs.Views.{seen_by, windows_of}
-use Rattle.meaning.specs.Content.{row_of}
+use Rattle.numbers.specs.Abstraction.{subject_of}
+use Rattle.version.specs.Abstraction.{model_with_windows, windows_of}
+use Rattle.model.specs.Content.{row_of}
 use Rattle.settle.specs.Changes.{Changes, no_changes, clock_move_of}
 use Rattle.register.proofs.create.put_version.Goals as goal
 
@@ -12,7 +12,7 @@ returns c =
     ≡ (
       c.args.id,
       row_of (subject_of c.args.version.now.subject)
-          (seen_by (windows_of c.args.windows.now) c.args.version.now),
+          (model_with_windows (windows_of c.args.windows.now) c.args.version.now),
     ) ∷ [] =
     ap (λ row. (c.args.id, row) ∷ []) (c.of.ensures 0 []) in
     ap (λ (n : Changes). let x : Changes = record n {

@@ -1,30 +1,30 @@
 use Rattle.std.proofs.Common.{arith, rules, ◌≡◌, Some, Err, ap, sym, subst, ◌∙◌}
 use Rattle.std.specs.Prelude.{option_map}
 use Rattle.std.specs.FinMap.{get}
-use Rattle.meaning.specs.Content.{Content, VersionRow}
+use Rattle.model.specs.Content.{Content, VersionRow}
 use Rattle.settle.proofs.Risen.{risen-since}
-use Rattle.settle.specs.Views.{clock_row_of}
+use Rattle.settle.specs.Abstraction.{clock_row_of}
 use Rattle.register.specs.Looking.{HasSet}
 use Rattle.settle.proofs.Faults.{storage_by}
 use Rattle.register.proofs.looking.look_up.Goals as goal
 
 -- the set of the row is there, so that none is said only where the device failed
-pub returns-in_err-held-clause-reads : goal.returns-in_err-held-clause-reads
-returns-in_err-held-clause-reads g c = record {
+pub returns-in_err-held-clause-read_only : goal.returns-in_err-held-clause-read_only
+returns-in_err-held-clause-read_only g c = record {
   same = λ usable.
-      let third = c.in_err-held.ensures.reads.same usable in
-      let second = c.in_ok-row.ensures.reads.same third.0 in
-      let first = c.in_ok-clock.ensures.reads.same second.0 in
+      let third = c.in_err-held.ensures.read_only.same usable in
+      let second = c.in_ok-row.ensures.read_only.same third.0 in
+      let first = c.in_ok-clock.ensures.read_only.same second.0 in
       (first.0, third.1 ∙ second.1 ∙ first.1);
-  honest = λ honest. c.in_ok-clock.ensures.reads.honest
-      (c.in_ok-row.ensures.reads.honest (c.in_err-held.ensures.reads.honest honest));
+  honest = λ honest. c.in_ok-clock.ensures.read_only.honest
+      (c.in_ok-row.ensures.read_only.honest (c.in_err-held.ensures.read_only.honest honest));
   stays = search rules;
   rises = omega arith;
   storage = λ (usable, has, said).
       let old = g.S.Store.content c.args.store.now in
-      let third = c.in_err-held.ensures.reads.same usable in
-      let second = c.in_ok-row.ensures.reads.same third.0 in
-      let first = c.in_ok-clock.ensures.reads.same second.0 in
+      let third = c.in_err-held.ensures.read_only.same usable in
+      let second = c.in_ok-row.ensures.read_only.same third.0 in
+      let first = c.in_ok-clock.ensures.read_only.same second.0 in
       let clock_is : (g.S.Store.content c.args.store.now).clock
       ≡ Some (clock_row_of c.in-Some.clock) =
       sym (c.in_ok-clock.ensures.value second.0) ∙ ap (option_map clock_row_of) c.in-Some.is in
@@ -34,12 +34,12 @@ returns-in_err-held-clause-reads g c = record {
       ∙ sym (c.in_ok-row.ensures.value third.0) ∙ c.in-Some-2.is in
       let there : HasSet old (clock_row_of c.in-Some.clock) c.in-Some-2.row.held =
       has.has_set (clock_row_of c.in-Some.clock) c.in-Some-2.row clock_is found in
-      let a = c.clock.ensures.reads.rises in
-      let b = c.version.ensures.reads.rises in
+      let a = c.clock.ensures.read_only.rises in
+      let b = c.version.ensures.read_only.rises in
       risen-since (g.S.Store.failed c.args.store.now) (g.S.Store.failed c.version.new.self)
       (g.S.Store.failed c.held_windows.new.store) (omega arith)
-      c.held_windows.ensures.reads.rises
-      (c.in_err-held.ensures.reads.storage (
+      c.held_windows.ensures.read_only.rises
+      (c.in_err-held.ensures.read_only.storage (
         usable,
         subst (λ (m : Content). HasSet m (clock_row_of c.in-Some.clock) c.row.inside.version.held)
             (sym (second.1 ∙ first.1))
@@ -49,8 +49,9 @@ returns-in_err-held-clause-reads g c = record {
             said),
       ));
   left = λ honest m may.
-      let second = c.in_err-held.ensures.reads.honest honest in
-      let first = c.in_ok-row.ensures.reads.honest second in
-      c.in_ok-clock.ensures.reads.left first m
-      (c.in_ok-row.ensures.reads.left second m (c.in_err-held.ensures.reads.left honest m may));
+      let second = c.in_err-held.ensures.read_only.honest honest in
+      let first = c.in_ok-row.ensures.read_only.honest second in
+      c.in_ok-clock.ensures.read_only.left first m
+      (c.in_ok-row.ensures.read_only.left second m (c.in_err-held.ensures.read_only.left honest m
+      may));
 }

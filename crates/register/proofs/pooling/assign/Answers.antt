@@ -2,12 +2,12 @@ use Rattle.std.proofs.Common.{rules, ap, refl, ◌∙◌, subst}
 use Rattle.std.specs.Prelude.{Err, option_map}
 use Rattle.std.specs.FinMap.{get, keys}
 use Rattle.numbers.specs.declared.cic.Cic.{Cic}
-use Rattle.meaning.specs.Conditions.{is_the}
-use Rattle.meaning.specs.Content.{Content}
+use Rattle.model.specs.Conditions.{is_the}
+use Rattle.model.specs.Content.{Content}
 use Rattle.pool.specs.Assignments.{command_of as assignment_of}
-use Rattle.settle.specs.Changes.{IsChanged}
-use Rattle.settle.specs.Views.{clock_row_of}
-use Rattle.calls.specs.Calls.{reply_of, view_of}
+use Rattle.settle.specs.Changes.{AppliesChanges}
+use Rattle.settle.specs.Abstraction.{clock_row_of}
+use Rattle.requests.specs.Calls.{reply_of, view_of}
 use Rattle.register.proofs.OnBlocks.Assigned.{answers_assigned, answers_assignment_refused, assignment_never}
 use Rattle.register.proofs.OnBlocks.BlockCalled.{answers_unfound, has_found, holder_unknown}
 use Rattle.register.proofs.EveryCall.Deciding.{decides_err, decides_fault, decides_replied}
@@ -19,31 +19,31 @@ pub returns-in_err-found-clause-decides : goal.returns-in_err-found-clause-decid
 returns-in_err-found-clause-decides g c = λ usable.
     let old = g.S.Store.content c.args.store.now in
     let a = c.args.assignment.now in
-    let at_carrier = c.in_err-found.ensures.reads.same usable in
+    let at_carrier = c.in_err-found.ensures.read_only.same usable in
     decides_replied old _ _ c.from_residual-in_err-found.result c.in_err-found.field-0.0
     (search rules)
     (answers_unfound old old c.args.caller.number (assignment_of a) c.in_ok-is_known.is_known
     reply_of c.from_residual-in_err-found.result c.in_err-found.field-0.0 (search rules) refl
     (c.in_err-found.ensures.refused usable)
-    (λ st stands. holder_unknown st old c.args.caller.number a.block.number a.holder.number
+    (λ st refines. holder_unknown st old c.args.caller.number a.block.number a.holder.number
     a.routing.lrn.number (option_map (λ (x : Cic). x.number) a.routing.cic)
-    stands c.in_ok-is_known.is_known (c.in_ok-is_known.ensures.value at_carrier.0)))
+    refines c.in_ok-is_known.is_known (c.in_ok-is_known.ensures.value at_carrier.0)))
 
 pub returns-in_err-version-clause-decides : goal.returns-in_err-version-clause-decides
 returns-in_err-version-clause-decides g c = λ usable.
     let old = g.S.Store.content c.args.store.now in
     let a = c.args.assignment.now in
-    let at_found = c.in_ok-is_lrn_good.ensures.reads.same usable in
-    let at_carrier = c.in_ok-found.ensures.reads.same at_found.0 in
-    let at_start = c.in_ok-is_known.ensures.reads.same at_carrier.0 in
+    let at_found = c.in_ok-is_lrn_good.ensures.read_only.same usable in
+    let at_carrier = c.in_ok-found.ensures.read_only.same at_found.0 in
+    let at_start = c.in_ok-is_known.ensures.read_only.same at_carrier.0 in
     let has = has_found old (g.S.Store.content c.carrier.new.self) c.args.caller.number
     a.block.number (assignment_of a) (clock_row_of c.in_ok-found.found.clock)
     c.in_ok-found.found.read c.facts-facts.result
     c.in_ok-is_known.is_known c.in_ok-is_lrn_good.is_lrn_good at_start.1
     (c.in_ok-found.ensures.found at_found.0)
-    (λ st stands. holder_unknown st old c.args.caller.number a.block.number a.holder.number
+    (λ st refines. holder_unknown st old c.args.caller.number a.block.number a.holder.number
     a.routing.lrn.number (option_map (λ (x : Cic). x.number) a.routing.cic)
-    stands c.in_ok-is_known.is_known (c.in_ok-is_known.ensures.value at_carrier.0))
+    refines c.in_ok-is_known.is_known (c.in_ok-is_known.ensures.value at_carrier.0))
     (c.in_ok-is_lrn_good.ensures.value usable
     ∙ ap (λ (m : Content). is_the a.holder.number (get m.lrns a.routing.lrn.number)) (at_carrier.1
     ∙ at_start.1))
@@ -53,10 +53,11 @@ returns-in_err-version-clause-decides g c = λ usable.
     (answers_assignment_refused old old c.args.caller.number a _ _ _ has _ refl
     c.in_err-version.ensures.refusal)
 
-pub returns-in_err-version-clause-reads : goal.returns-in_err-version-clause-reads
-returns-in_err-version-clause-reads g c =
-    reads_refused (reads_on (reads_on c.in_ok-is_known.ensures.reads tt c.in_ok-found.ensures.reads
-    tt) tt c.in_ok-is_lrn_good.ensures.reads tt) tt
+pub returns-in_err-version-clause-read_only : goal.returns-in_err-version-clause-read_only
+returns-in_err-version-clause-read_only g c =
+    reads_refused
+    (reads_on (reads_on c.in_ok-is_known.ensures.read_only tt c.in_ok-found.ensures.read_only
+    tt) tt c.in_ok-is_lrn_good.ensures.read_only tt) tt
     (λ says. assignment_never c.args.caller.number c.facts-facts.result c.in_err-version.field-0.0
     c.in_err-version.ensures.refusal
     (same_refusal c.in_err-version.field-0.0 c.from_residual-in_err-version.result
@@ -66,18 +67,18 @@ pub returns-clause-decides : goal.returns-clause-decides
 returns-clause-decides g c = λ usable.
     let old = g.S.Store.content c.args.store.now in
     let a = c.args.assignment.now in
-    let at_lrn = c.in_ok-put_made.ensures.reads.same usable in
-    let at_found = c.in_ok-is_lrn_good.ensures.reads.same at_lrn.0 in
-    let at_carrier = c.in_ok-found.ensures.reads.same at_found.0 in
-    let at_start = c.in_ok-is_known.ensures.reads.same at_carrier.0 in
+    let at_lrn = c.in_ok-put_made.ensures.read_only.same usable in
+    let at_found = c.in_ok-is_lrn_good.ensures.read_only.same at_lrn.0 in
+    let at_carrier = c.in_ok-found.ensures.read_only.same at_found.0 in
+    let at_start = c.in_ok-is_known.ensures.read_only.same at_carrier.0 in
     let has = has_found old (g.S.Store.content c.carrier.new.self) c.args.caller.number
     a.block.number (assignment_of a) (clock_row_of c.in_ok-found.found.clock)
     c.in_ok-found.found.read c.facts-facts.result
     c.in_ok-is_known.is_known c.in_ok-is_lrn_good.is_lrn_good at_start.1
     (c.in_ok-found.ensures.found at_found.0)
-    (λ st stands. holder_unknown st old c.args.caller.number a.block.number a.holder.number
+    (λ st refines. holder_unknown st old c.args.caller.number a.block.number a.holder.number
     a.routing.lrn.number (option_map (λ (x : Cic). x.number) a.routing.cic)
-    stands c.in_ok-is_known.is_known (c.in_ok-is_known.ensures.value at_carrier.0))
+    refines c.in_ok-is_known.is_known (c.in_ok-is_known.ensures.value at_carrier.0))
     (c.in_ok-is_lrn_good.ensures.value at_lrn.0 ∙ ap (λ (m : Content). is_the a.holder.number
     (get m.lrns a.routing.lrn.number)) (at_carrier.1 ∙ at_start.1))
     c.facts-facts.ensures in
@@ -89,7 +90,7 @@ returns-clause-decides g c = λ usable.
           c.in_ok-version.ensures.refusal c.in_ok-version.ensures.made
           (ap (λ (k : Content). keys k.carriers) (at_found.1 ∙ at_carrier.1 ∙ at_start.1))
           c.of.ensures
-          (λ room. subst (λ d. IsChanged d old m) (c.in_ok-put_made.ensures.value usable room)
+          (λ room. subst (λ d. AppliesChanges d old m) (c.in_ok-put_made.ensures.value usable room)
           changed);
     }
 
@@ -101,14 +102,16 @@ pub returns-in_err-put_made-clause-decides : goal.returns-in_err-put_made-clause
 returns-in_err-put_made-clause-decides g c = λ usable. decides_fault _ _ _
     c.from_residual-in_err-put_made.result c.in_err-put_made.field-0.0 (search rules)
 
-pub returns-in_err-is_lrn_good-clause-reads : goal.returns-in_err-is_lrn_good-clause-reads
-returns-in_err-is_lrn_good-clause-reads g c =
-    reads_fault (reads_on c.in_ok-is_known.ensures.reads tt c.in_ok-found.ensures.reads tt) tt
-    c.in_err-is_lrn_good.ensures.reads c.from_residual-in_err-is_lrn_good.result
+pub returns-in_err-is_lrn_good-clause-read_only : goal.returns-in_err-is_lrn_good-clause-read_only
+returns-in_err-is_lrn_good-clause-read_only g c =
+    reads_fault (reads_on c.in_ok-is_known.ensures.read_only tt c.in_ok-found.ensures.read_only tt)
+    tt
+    c.in_err-is_lrn_good.ensures.read_only c.from_residual-in_err-is_lrn_good.result
     c.in_err-is_lrn_good.field-0.0 (search rules) (ap Err)
 
-pub returns-in_err-put_made-clause-reads : goal.returns-in_err-put_made-clause-reads
-returns-in_err-put_made-clause-reads g c =
-    reads_fault (reads_on (reads_on c.in_ok-is_known.ensures.reads tt c.in_ok-found.ensures.reads
-    tt) tt c.in_ok-is_lrn_good.ensures.reads tt) tt c.in_err-put_made.ensures.reads
+pub returns-in_err-put_made-clause-read_only : goal.returns-in_err-put_made-clause-read_only
+returns-in_err-put_made-clause-read_only g c =
+    reads_fault
+    (reads_on (reads_on c.in_ok-is_known.ensures.read_only tt c.in_ok-found.ensures.read_only
+    tt) tt c.in_ok-is_lrn_good.ensures.read_only tt) tt c.in_err-put_made.ensures.read_only
     c.from_residual-in_err-put_made.result c.in_err-put_made.field-0.0 (search rules) (ap Err)

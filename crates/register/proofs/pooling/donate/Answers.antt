@@ -2,16 +2,16 @@ use Rattle.std.proofs.Common.{rules, ◌≡◌, ◌+◌, ◌≤◌, map, length,
 use Rattle.std.specs.Prelude.{Err, option_map}
 use Rattle.std.specs.FinMap.{get, keys}
 use Rattle.numbers.specs.declared.cic.Cic.{Cic}
-use Rattle.meaning.specs.Statuses.{Create}
-use Rattle.meaning.specs.Conditions.{is_the, limit}
-use Rattle.meaning.specs.Content.{Content}
-use Rattle.version.specs.Views.{windows_of}
+use Rattle.model.specs.Statuses.{Create}
+use Rattle.model.specs.Conditions.{is_the, limit}
+use Rattle.model.specs.Content.{Content}
+use Rattle.version.specs.Abstraction.{windows_of}
 use Rattle.pool.specs.Donations.{command_of as donation_of, lines_of}
-use Rattle.settle.specs.Changes.{IsChanged, changes_of}
-use Rattle.settle.specs.Sending.{begun_of, sending_each}
-use Rattle.settle.specs.Views.{clock_row_of}
-use Rattle.calls.specs.Calls.{reply_of}
-use Rattle.register.specs.Pooling.{pooling}
+use Rattle.settle.specs.Changes.{AppliesChanges, changes_of}
+use Rattle.settle.specs.Sending.{begun_of, sends_changes}
+use Rattle.settle.specs.Abstraction.{clock_row_of}
+use Rattle.requests.specs.Calls.{reply_of}
+use Rattle.register.specs.Pooling.{block_changes}
 use Rattle.register.proofs.OnBlocks.BlockCalled.{answers_unfound, donor_unknown, has_found}
 use Rattle.register.proofs.OnBlocks.BlockCommands.{donated_row}
 use Rattle.register.proofs.EveryCall.Deciding.{decides_fault, decides_replied}
@@ -24,31 +24,31 @@ pub returns-in_err-found-clause-decides : goal.returns-in_err-found-clause-decid
 returns-in_err-found-clause-decides g c = λ usable.
     let old = g.S.Store.content c.args.store.now in
     let d = c.args.donation.now in
-    let at_carrier = c.in_err-found.ensures.reads.same usable in
+    let at_carrier = c.in_err-found.ensures.read_only.same usable in
     decides_replied old _ _ c.from_residual-in_err-found.result c.in_err-found.field-0.0
     (search rules)
     (answers_unfound old old c.args.caller.number (donation_of d) c.in_ok-is_known.is_known reply_of
     c.from_residual-in_err-found.result c.in_err-found.field-0.0 (search rules) refl
     (c.in_err-found.ensures.refused usable)
-    (λ st stands. donor_unknown st old c.args.caller.number d.block.number
+    (λ st refines. donor_unknown st old c.args.caller.number d.block.number
     (lines_of d.used.now) d.routing.lrn.number (option_map (λ (x : Cic). x.number) d.routing.cic)
-    stands c.in_ok-is_known.is_known (c.in_ok-is_known.ensures.value at_carrier.0)))
+    refines c.in_ok-is_known.is_known (c.in_ok-is_known.ensures.value at_carrier.0)))
 
 pub returns-in_err-plan-clause-decides : goal.returns-in_err-plan-clause-decides
 returns-in_err-plan-clause-decides g c = λ usable.
     let old = g.S.Store.content c.args.store.now in
     let d = c.args.donation.now in
-    let at_found = c.in_ok-is_lrn_good.ensures.reads.same usable in
-    let at_carrier = c.in_ok-found.ensures.reads.same at_found.0 in
-    let at_start = c.in_ok-is_known.ensures.reads.same at_carrier.0 in
+    let at_found = c.in_ok-is_lrn_good.ensures.read_only.same usable in
+    let at_carrier = c.in_ok-found.ensures.read_only.same at_found.0 in
+    let at_start = c.in_ok-is_known.ensures.read_only.same at_carrier.0 in
     let has = has_found old (g.S.Store.content c.carrier.new.self) c.args.caller.number
     d.block.number (donation_of d) (clock_row_of c.in_ok-found.found.clock) c.in_ok-found.found.read
     c.facts-facts.result
     c.in_ok-is_known.is_known c.in_ok-is_lrn_good.is_lrn_good at_start.1
     (c.in_ok-found.ensures.found at_found.0)
-    (λ st stands. donor_unknown st old c.args.caller.number d.block.number (lines_of d.used.now)
+    (λ st refines. donor_unknown st old c.args.caller.number d.block.number (lines_of d.used.now)
     d.routing.lrn.number (option_map (λ (x : Cic). x.number) d.routing.cic)
-    stands c.in_ok-is_known.is_known (c.in_ok-is_known.ensures.value at_carrier.0))
+    refines c.in_ok-is_known.is_known (c.in_ok-is_known.ensures.value at_carrier.0))
     (c.in_ok-is_lrn_good.ensures.value usable
     ∙ ap (λ (m : Content). is_the c.args.caller.number (get m.lrns d.routing.lrn.number))
     (at_carrier.1 ∙ at_start.1))
@@ -63,37 +63,37 @@ pub returns-clause-decides : goal.returns-clause-decides
 returns-clause-decides g c = λ usable.
     let old = g.S.Store.content c.args.store.now in
     let d = c.args.donation.now in
-    let at_lrn = c.in_ok-put_made.ensures.reads.same usable in
-    let at_found = c.in_ok-is_lrn_good.ensures.reads.same at_lrn.0 in
-    let at_carrier = c.in_ok-found.ensures.reads.same at_found.0 in
-    let at_start = c.in_ok-is_known.ensures.reads.same at_carrier.0 in
+    let at_lrn = c.in_ok-put_made.ensures.read_only.same usable in
+    let at_found = c.in_ok-is_lrn_good.ensures.read_only.same at_lrn.0 in
+    let at_carrier = c.in_ok-found.ensures.read_only.same at_found.0 in
+    let at_start = c.in_ok-is_known.ensures.read_only.same at_carrier.0 in
     let clock = c.in_ok-found.found.clock in
-    let everyone = keys (g.S.Store.content c.is_lrn_of.new.store).carriers in
+    let all_carriers = keys (g.S.Store.content c.is_lrn_of.new.store).carriers in
     let has = has_found old (g.S.Store.content c.carrier.new.self) c.args.caller.number
     d.block.number (donation_of d) (clock_row_of c.in_ok-found.found.clock) c.in_ok-found.found.read
     c.facts-facts.result
     c.in_ok-is_known.is_known c.in_ok-is_lrn_good.is_lrn_good at_start.1
     (c.in_ok-found.ensures.found at_found.0)
-    (λ st stands. donor_unknown st old c.args.caller.number d.block.number (lines_of d.used.now)
+    (λ st refines. donor_unknown st old c.args.caller.number d.block.number (lines_of d.used.now)
     d.routing.lrn.number (option_map (λ (x : Cic). x.number) d.routing.cic)
-    stands c.in_ok-is_known.is_known (c.in_ok-is_known.ensures.value at_carrier.0))
+    refines c.in_ok-is_known.is_known (c.in_ok-is_known.ensures.value at_carrier.0))
     (c.in_ok-is_lrn_good.ensures.value at_lrn.0 ∙ ap (λ (m : Content). is_the c.args.caller.number
     (get m.lrns d.routing.lrn.number)) (at_carrier.1 ∙ at_start.1))
     c.facts-facts.ensures in
     let made = subst (λ es. clock.next_id + length es ≤ limit → changes_of c.put_made.new.changes
-    ≡ pooling (sending_each clock.minute.number Create
-    (map (begun_of (windows_of clock.present.windows)) es) everyone)
+    ≡ block_changes (sends_changes clock.minute.number Create
+    (map (begun_of (windows_of clock.present.windows)) es) all_carriers)
     (donated_row d.block.number c.args.caller.number)
     (record { minute = clock.minute.number; next_id = clock.next_id + length es }))
     c.deref-2.ensures.value (c.in_ok-put_made.ensures.value usable) in
     record {
       refused = tt;
       accepted = λ m changed. answers_donated old m c.args.caller.number d _ _ _ has
-          c.in_ok-plan.plan.versions.items c.in_ok-ids.ids.items everyone
+          c.in_ok-plan.plan.versions.items c.in_ok-ids.ids.items all_carriers
           c.in_ok-plan.ensures.accepted c.in_ok-plan.ensures.planned (c.in_ok-ids.ensures ∙ ap
           (map (λ e. e.0)) c.deref.ensures.value) (ap (λ (k : Content). keys k.carriers)
           (at_found.1 ∙ at_carrier.1 ∙ at_start.1))
-          (λ room. subst (λ x. IsChanged x old m) (made room) changed);
+          (λ room. subst (λ x. AppliesChanges x old m) (made room) changed);
     }
 
 pub returns-in_err-put_made-clause-decides : goal.returns-in_err-put_made-clause-decides
@@ -104,16 +104,18 @@ pub returns-in_err-is_lrn_good-clause-decides : goal.returns-in_err-is_lrn_good-
 returns-in_err-is_lrn_good-clause-decides g c = λ usable. decides_fault _ _ _
     c.from_residual-in_err-is_lrn_good.result c.in_err-is_lrn_good.field-0.0 (search rules)
 
-pub returns-in_err-is_lrn_good-clause-reads : goal.returns-in_err-is_lrn_good-clause-reads
-returns-in_err-is_lrn_good-clause-reads g c =
-    reads_fault (reads_on c.in_ok-is_known.ensures.reads tt c.in_ok-found.ensures.reads tt) tt
-    c.in_err-is_lrn_good.ensures.reads c.from_residual-in_err-is_lrn_good.result
+pub returns-in_err-is_lrn_good-clause-read_only : goal.returns-in_err-is_lrn_good-clause-read_only
+returns-in_err-is_lrn_good-clause-read_only g c =
+    reads_fault (reads_on c.in_ok-is_known.ensures.read_only tt c.in_ok-found.ensures.read_only tt)
+    tt
+    c.in_err-is_lrn_good.ensures.read_only c.from_residual-in_err-is_lrn_good.result
     c.in_err-is_lrn_good.field-0.0 (search rules) (ap Err)
 
-pub returns-in_err-plan-clause-reads : goal.returns-in_err-plan-clause-reads
-returns-in_err-plan-clause-reads g c =
-    reads_refused (reads_on (reads_on c.in_ok-is_known.ensures.reads tt c.in_ok-found.ensures.reads
-    tt) tt c.in_ok-is_lrn_good.ensures.reads tt) tt
+pub returns-in_err-plan-clause-read_only : goal.returns-in_err-plan-clause-read_only
+returns-in_err-plan-clause-read_only g c =
+    reads_refused
+    (reads_on (reads_on c.in_ok-is_known.ensures.read_only tt c.in_ok-found.ensures.read_only
+    tt) tt c.in_ok-is_lrn_good.ensures.read_only tt) tt
     (λ says. donation_never c.args.caller.number c.args.donation.now c.facts-facts.result
     c.in_err-plan.field-0.0 c.in_err-plan.ensures.refused
     (same_refusal c.in_err-plan.field-0.0 c.from_residual-in_err-plan.result

@@ -1,5 +1,5 @@
 use Rattle.std.proofs.Common.{false, sym, ◌∙◌, subst}
-use Rattle.meaning.specs.Refusals.{Asks, Fetch}
+use Rattle.model.specs.Refusals.{QuestionFrom, Fetch}
 use Rattle.settle.specs.Reads.{AreFirst}
 use Rattle.register.proofs.EveryCall.Composed.{answers_refused_same}
 use Rattle.register.proofs.Downloads.Fetched.{fetch_refused, answers_fetched}
@@ -8,14 +8,16 @@ use Rattle.register.proofs.query.fetch.Goals as goal
 pub returns-then-not-branch-clause-answers : goal.returns-then-not-branch-clause-answers
 returns-then-not-branch-clause-answers g c = λ usable.
     answers_refused_same (g.S.Store.content c.args.store.now) (g.S.Store.content c.carrier.new.self)
-    (Asks c.args.caller.number (Fetch c.args.many)) 1 (c.in_ok-carrier.ensures.reads.same usable).1
-    (λ st stands settled. fetch_refused (g.S.Store.content c.args.store.now) c.args.caller.number
-    c.args.many false (sym (c.in_ok-carrier.ensures.value usable) ∙ c.if-not-branch.true) st stands)
+    (QuestionFrom c.args.caller.number (Fetch c.args.many)) 1
+    (c.in_ok-carrier.ensures.read_only.same usable).1
+    (λ st refines settled. fetch_refused (g.S.Store.content c.args.store.now) c.args.caller.number
+    c.args.many false (sym (c.in_ok-carrier.ensures.value usable) ∙ c.if-not-branch.true) st
+    refines)
 
 pub returns-clause-answers : goal.returns-clause-answers
 returns-clause-answers g c = λ usable.
-    let second = c.in_ok-front.ensures.reads.same usable in
-    let first = c.in_ok-carrier.ensures.reads.same second.0 in
+    let second = c.in_ok-front.ensures.read_only.same usable in
+    let first = c.in_ok-carrier.ensures.read_only.same second.0 in
     answers_fetched (g.S.Store.content c.args.store.now) (g.S.Store.content c.front.new.self)
     c.args.caller.number c.args.many c.in_ok-front.field-0.items
     (sym (c.in_ok-carrier.ensures.value second.0) ∙ c.if-not-branch.false) (second.1 ∙ first.1)

@@ -1,5 +1,5 @@
 use Rattle.std.proofs.Common.{subst, ◌∙◌}
-use Rattle.meaning.specs.Content.{Content}
+use Rattle.model.specs.Content.{Content}
 use Rattle.numbers.specs.Subjects.{Number}
 use Rattle.settle.specs.Reads.{IsOpen}
 use Rattle.register.proofs.Asking.IdsFound.{answers_ids}
@@ -7,8 +7,8 @@ use Rattle.register.proofs.query.ids.Goals as goal
 
 pub returns-clause-answers : goal.returns-clause-answers
 returns-clause-answers g c = λ usable caller.
-    let second = c.in_ok-opened.ensures.reads.same usable in
-    let first = c.in_ok-held.ensures.reads.same second.0 in
+    let second = c.in_ok-opened.ensures.read_only.same usable in
+    let first = c.in_ok-held.ensures.read_only.same second.0 in
     answers_ids (g.S.Store.content c.args.store.now) (g.S.Store.content c.open_version.new.self)
     caller c.args.tn.number c.in_ok-held.held c.in_ok-opened.opened c.id_of.result c.id_of-2.result
     c.id_of.ensures c.id_of-2.ensures (second.1 ∙ first.1) (c.in_ok-held.ensures.value second.0)

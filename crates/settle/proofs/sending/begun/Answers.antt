@@ -1,9 +1,9 @@
 use Rattle.std.proofs.Common.{[], ap, ◌∙◌}
-use Rattle.numbers.specs.Views.{subject_of}
-use Rattle.meaning.specs.Content.{BroadcastKey, BroadcastRow}
-use Rattle.meaning.proofs.Shown.{some_is}
-use Rattle.version.specs.Views.{routings_of}
-use Rattle.meaning.specs.Views.{send_of}
+use Rattle.numbers.specs.Abstraction.{subject_of}
+use Rattle.model.specs.Content.{BroadcastKey, BroadcastRow}
+use Rattle.model.proofs.Shown.{some_is}
+use Rattle.version.specs.Abstraction.{routings_of}
+use Rattle.model.specs.Abstraction.{send_of}
 use Rattle.settle.specs.Sending.{begun_row}
 use Rattle.settle.proofs.FiredCode.{begun_as}
 use Rattle.settle.proofs.sending.begun.Goals as goal

@@ -1,7 +1,7 @@
 use Rattle.std.proofs.Common.{◌≡◌, ◌++◌, map, drop}
 use Rattle.settle.specs.Sending.{begun_of, begun_version}
 use Rattle.settle.proofs.sending.rows_of_each.Given as goal
-use Rattle.version.specs.Views.{windows_of}
+use Rattle.version.specs.Abstraction.{windows_of}
 
 abbrev pub invariant-loop-id : goal.invariant-loop-id
 invariant-loop-id l =

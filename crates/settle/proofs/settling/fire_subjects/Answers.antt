@@ -1,7 +1,7 @@
 use Rattle.std.proofs.Common.{arith, rules, ◌≡◌, ◌+◌, ◌∷◌, inl, inr, drop, subst}
-use Rattle.numbers.specs.Views.{subject_of}
-use Rattle.meaning.proofs.Entered.{subject_eq-refl}
-use Rattle.settle.specs.Views.{clock_row_of}
+use Rattle.numbers.specs.Abstraction.{subject_of}
+use Rattle.model.proofs.Entered.{subject_eq-refl}
+use Rattle.settle.specs.Abstraction.{clock_row_of}
 use Rattle.settle.proofs.Rest.{rest_at}
 use Rattle.settle.proofs.SettledEach.{SettlesUpTo, next_elsewhere, next_settled}
 use Rattle.settle.proofs.settling.fire_subjects.Goals as goal
@@ -19,7 +19,7 @@ returns-in_err-fire_due-clause-elsewhere g c = λ usable.
     (g.S.Store.content c.loop-subject.store) (g.S.Store.content c.fire_due.new.store)
     (subst (λ rest. SettlesUpTo clock c.args.subjects.now rest (g.S.Store.content c.args.store.now)
     (g.S.Store.content c.loop-subject.store)) left
-    (c.loop-subject.invariant.4 (c.fire_due.ensures.owes.usable usable)))
+    (c.loop-subject.invariant.4 (c.fire_due.ensures.preserves.usable usable)))
     (c.fire_due.ensures.kept usable) (c.fire_due.ensures.elsewhere usable)
 
 pub loop-subject-preserved : goal.loop-subject-preserved
@@ -29,11 +29,11 @@ loop-subject-preserved g c =
     (c.loop-subject.subject-index + 1) c.args.subjects.now =
     rest_at c.args.subjects.now c.loop-subject.subject-index c.subject-item.result
     c.loop-subject-test.true c.subject-item.is in (
-      λ usable. c.loop-subject.invariant.0 (c.fire_due.ensures.owes.usable usable),
-      omega (arith, c.loop-subject.invariant.1, c.fire_due.ensures.owes.rises),
-      λ honest. c.loop-subject.invariant.2 (c.fire_due.ensures.owes.honest honest),
+      λ usable. c.loop-subject.invariant.0 (c.fire_due.ensures.preserves.usable usable),
+      omega (arith, c.loop-subject.invariant.1, c.fire_due.ensures.preserves.rises),
+      λ honest. c.loop-subject.invariant.2 (c.fire_due.ensures.preserves.honest honest),
       λ usable honest.
-          let before = c.fire_due.ensures.owes.honest honest in
+          let before = c.fire_due.ensures.preserves.honest honest in
           search rules,
       λ usable.
           next_settled clock c.args.subjects.now
@@ -42,12 +42,12 @@ loop-subject-preserved g c =
           (g.S.Store.content c.fire_due.new.store)
           (subst (λ rest. SettlesUpTo clock c.args.subjects.now rest
           (g.S.Store.content c.args.store.now) (g.S.Store.content c.loop-subject.store)) left
-          (c.loop-subject.invariant.4 (c.fire_due.ensures.owes.usable usable)))
+          (c.loop-subject.invariant.4 (c.fire_due.ensures.preserves.usable usable)))
           (c.fire_due.ensures.kept usable) (c.fire_due.ensures.elsewhere usable)
           (c.in_ok-fire_due.ensures.settled usable (subject_of c.subject-item.result)
           (subject_eq-refl (subject_of c.subject-item.result))),
       λ used honest m may.
-          let read = c.fire_due.ensures.owes.honest honest in
+          let read = c.fire_due.ensures.preserves.honest honest in
           let ready = c.loop-subject.invariant.3 used read in
           elim (c.fire_due.ensures.left ready honest m may) [
             | inl before ↦ c.loop-subject.invariant.5 used read m before

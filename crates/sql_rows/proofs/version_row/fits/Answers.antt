@@ -1,7 +1,7 @@
 use Rattle.std.proofs.Common.{rules, ◌≡◌, ◌<◌, ◌≤◌, Some, subst}
 use Rattle.std.specs.Prelude.{option_map, true}
-use Rattle.numbers.specs.Views.{routing_of}
-use Rattle.meaning.specs.Views.{status_of}
+use Rattle.numbers.specs.Abstraction.{routing_of}
+use Rattle.model.specs.Abstraction.{status_of}
 use Rattle.sql_rows.specs.Versions.{version_entry, version_row, bare, is_routed_while_modified}
 use Rattle.sql_rows.proofs.Backs.{reads_back}
 use Rattle.sql_rows.proofs.version_row.fits.Goals as goal

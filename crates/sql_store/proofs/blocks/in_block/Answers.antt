@@ -17,8 +17,8 @@ returns-clause-value g c up =
     let block = c.args.block.number in
     let in_force = c.in_ok-in_force.in_force.items in
     let opened = c.in_ok-opened.opened.items in
-    let mid_up = (c.in_ok-opened.ensures.looked.same up).was_open in
-    let same = (c.in_ok-in_force.ensures.looked.same mid_up).now in
+    let mid_up = (c.in_ok-opened.ensures.queried.same up).was_open in
+    let same = (c.in_ok-in_force.ensures.queried.same mid_up).now in
     let two = subst (λ (d : Database). AreNumbers (content_in d.trees) Open block opened) same
     (c.in_ok-opened.ensures.value up) in
     let listed =
@@ -38,4 +38,4 @@ returns-clause-value g c up =
 pub numbers-requires-2-clause-ours : goal.numbers-requires-2-clause-ours
 numbers-requires-2-clause-ours g c =
     looked_ours (state g.S.Store c.args.conn.now) (state g.S.Store c.numbers.new.conn) _
-    c.requires.ours c.in_ok-in_force.ensures.looked
+    c.requires.ours c.in_ok-in_force.ensures.queried

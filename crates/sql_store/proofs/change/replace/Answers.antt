@@ -2,7 +2,7 @@ use Rattle.std.proofs.Common.{rules, ◌≡◌, true, false, is_ok, sym, subst}
 use Rattle.sqlite.specs.Held.{state}
 use Rattle.sqlite.specs.Values.{bound}
 use Rattle.sql_rows.specs.Written.{Removed, Replaced}
-use Rattle.sql_store.specs.Store.{Writes}
+use Rattle.sql_store.specs.Store.{WritesInTransaction}
 use Rattle.sql_store.proofs.CallLemmas.{replaces, writes_nothing}
 use Rattle.sql_store.proofs.change.replace.Goals as goal
 
@@ -11,7 +11,8 @@ returns-in_err-take-clause-writes g c =
     let a = state g.S.Store c.args.tx.now.conn.now in
     let b = state g.S.Store c.take.new.tx.conn.now in
     let fails : is_ok c.from_residual.result ≡ false = search rules in
-    subst (λ d. Writes a b d (Replaced c.args.table (bound c.args.key.now) (bound c.args.row.now)))
+    subst (λ d. WritesInTransaction a b d (Replaced c.args.table (bound c.args.key.now)
+    (bound c.args.row.now)))
     (sym fails) (writes_nothing a b (Removed c.args.table (bound c.args.key.now)) _
     c.in_err-take.ensures.writes)
 
@@ -21,7 +22,8 @@ returns-in_err-insert-clause-writes g c =
     let b = state g.S.Store c.take.new.tx.conn.now in
     let d = state g.S.Store c.insert.new.tx.conn.now in
     let fails : is_ok c.from_residual-in_err-insert.result ≡ false = search rules in
-    subst (λ x. Writes a d x (Replaced c.args.table (bound c.args.key.now) (bound c.args.row.now)))
+    subst (λ x. WritesInTransaction a d x (Replaced c.args.table (bound c.args.key.now)
+    (bound c.args.row.now)))
     (sym fails) (replaces a b d c.args.table (bound c.args.key.now) (bound c.args.row.now) false
     c.in_ok-take.ensures.writes c.in_err-insert.ensures.writes)
 

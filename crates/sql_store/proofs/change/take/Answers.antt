@@ -4,7 +4,7 @@ use Rattle.sqlite.specs.State.{Executes}
 use Rattle.sqlite.specs.Values.{bound}
 use Rattle.sql_rows.specs.Written.{Removed}
 use Rattle.sql_rows.proofs.WriteLemmas.{removes}
-use Rattle.sql_store.specs.Store.{Writes}
+use Rattle.sql_store.specs.Store.{WritesInTransaction}
 use Rattle.sql_store.proofs.CallLemmas.{clean_if_open, statement_writes}
 use Rattle.sql_store.proofs.change.take.Goals as goal
 
@@ -14,7 +14,7 @@ returns-in_err-execute-clause-writes g c =
     let new = state g.S.Store c.execute.new.self.conn.now in
     let params = bound c.args.key.now in
     let fails : is_ok c.from_residual.result ≡ false = search rules in
-    subst (λ b. Writes old new b (Removed c.args.table params)) (sym fails)
+    subst (λ b. WritesInTransaction old new b (Removed c.args.table params)) (sym fails)
     (statement_writes g.S.Store c.args.tx.now.conn.now c.execute.new.self.conn.now
     c.delete_text.result.now params c.execute.result false (Removed c.args.table params)
     (clean_if_open new.is_clean new.is_open (g.met.S.Store.shut_if_dirty _)) c.execute.ensures.ended

@@ -3,56 +3,56 @@ use Rattle.std.specs.Prelude.{option_map}
 use Rattle.sqlite.specs.Effect.{Database}
 use Rattle.sqlite.specs.Held.{state}
 use Rattle.sqlite.specs.State.{State}
-use Rattle.meaning.specs.Content.{Content}
-use Rattle.settle.specs.Changes.{changes_of, IsChanged}
-use Rattle.settle.specs.Views.{clock_row_of}
+use Rattle.model.specs.Content.{Content}
+use Rattle.settle.specs.Changes.{changes_of, AppliesChanges}
+use Rattle.settle.specs.Abstraction.{clock_row_of}
 use Rattle.settle.specs.declared.changes.Changes.{Changes}
 use Rattle.settle.specs.declared.rows.ClockRow.{ClockRow}
 use Rattle.sql_rows.specs.Content.{content_in}
-use Rattle.sql_store.specs.Store.{Looked, Turned, content_at}
+use Rattle.sql_store.specs.Store.{HasQueried, HasCommitted, content_at}
 use Rattle.sql_store.specs.Changes.{IsChangedOver}
 use Rattle.sql_store.proofs.CallLemmas.{looked_ours, looked_turned, looked_unturned, read_leaves, unread_leaves}
 use Rattle.sql_store.proofs.commit.commit.Goals as goal
 
 -- the clock's row that was read is the one before the changes
 by_clock_read : (old mid : State) (changes : Changes) (row : Option ClockRow)
-    → Looked old mid true
+    → HasQueried old mid true
     → (IsTrue mid.is_open → option_map clock_row_of row ≡ (content_at old).clock)
     → IsTrue mid.is_open → (after : Content) → IsChangedOver changes row (content_at mid) after
-    → IsChanged (changes_of changes) (content_at mid) after
+    → AppliesChanges (changes_of changes) (content_at mid) after
 by_clock_read old mid changes row looked is up after turns = turns
     (λ moves. subst (λ (d : Database). option_map clock_row_of row ≡ (content_in d.trees).clock)
     (sym (looked.same up).now) (is up))
 
-pub returns-in_err-row-clause-turned : goal.returns-in_err-row-clause-turned
-returns-in_err-row-clause-turned g c =
+pub returns-in_err-row-clause-committed : goal.returns-in_err-row-clause-committed
+returns-in_err-row-clause-committed g c =
     let old = state g.S.Store c.args.conn.now in
     let new = state g.S.Store c.clock.new.conn in
     let fails : is_ok c.from_residual.result ≡ false = search rules in
-    subst (λ d. Turned old new d (IsChanged (changes_of c.args.changes.now))) (sym fails)
-    (looked_unturned old new (IsChanged (changes_of c.args.changes.now)) c.requires.ours
-    c.in_err-row.ensures.looked)
+    subst (λ d. HasCommitted old new d (AppliesChanges (changes_of c.args.changes.now))) (sym fails)
+    (looked_unturned old new (AppliesChanges (changes_of c.args.changes.now)) c.requires.ours
+    c.in_err-row.ensures.queried)
 
 pub returns-in_err-row-clause-left : goal.returns-in_err-row-clause-left
 returns-in_err-row-clause-left g c =
     unread_leaves (state g.S.Store c.args.conn.now) (state g.S.Store c.clock.new.conn)
-    (IsChanged (changes_of c.args.changes.now)) c.in_err-row.ensures.looked
+    (AppliesChanges (changes_of c.args.changes.now)) c.in_err-row.ensures.queried
 
 pub commit_over-requires-clause-ours : goal.commit_over-requires-clause-ours
 commit_over-requires-clause-ours g c =
     looked_ours (state g.S.Store c.args.conn.now) (state g.S.Store c.clock.new.conn) _
-    c.requires.ours c.in_ok-row.ensures.looked
+    c.requires.ours c.in_ok-row.ensures.queried
 
-pub returns-clause-turned : goal.returns-clause-turned
-returns-clause-turned g c =
+pub returns-clause-committed : goal.returns-clause-committed
+returns-clause-committed g c =
     let old = state g.S.Store c.args.conn.now in
     let mid = state g.S.Store c.clock.new.conn in
     let new = state g.S.Store c.commit_over.new.conn in
     looked_turned old mid new (IsChangedOver c.args.changes.now c.in_ok-row.row)
-    (IsChanged (changes_of c.args.changes.now)) c.in_ok-row.ensures.looked
-    (by_clock_read old mid c.args.changes.now c.in_ok-row.row c.in_ok-row.ensures.looked
+    (AppliesChanges (changes_of c.args.changes.now)) c.in_ok-row.ensures.queried
+    (by_clock_read old mid c.args.changes.now c.in_ok-row.row c.in_ok-row.ensures.queried
     c.in_ok-row.ensures.value)
-    (is_ok c.commit_over.result) c.commit_over.ensures.turned
+    (is_ok c.commit_over.result) c.commit_over.ensures.committed
 
 pub returns-clause-left : goal.returns-clause-left
 returns-clause-left g c =
@@ -60,7 +60,7 @@ returns-clause-left g c =
     let mid = state g.S.Store c.clock.new.conn in
     let new = state g.S.Store c.commit_over.new.conn in
     read_leaves old mid new (IsChangedOver c.args.changes.now c.in_ok-row.row)
-    (IsChanged (changes_of c.args.changes.now)) c.in_ok-row.ensures.looked
-    (by_clock_read old mid c.args.changes.now c.in_ok-row.row c.in_ok-row.ensures.looked
+    (AppliesChanges (changes_of c.args.changes.now)) c.in_ok-row.ensures.queried
+    (by_clock_read old mid c.args.changes.now c.in_ok-row.row c.in_ok-row.ensures.queried
     c.in_ok-row.ensures.value)
-    (is_ok c.commit_over.result) c.commit_over.ensures.turned
+    (is_ok c.commit_over.result) c.commit_over.ensures.committed

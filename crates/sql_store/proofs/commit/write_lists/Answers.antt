@@ -4,8 +4,8 @@ use Rattle.sql_store.specs.Changes.{lists}
 use Rattle.sql_store.proofs.CallLemmas.{makes_then, alike}
 use Rattle.sql_store.proofs.commit.write_lists.Goals as goal
 
-pub returns-clause-makes : goal.returns-clause-makes
-returns-clause-makes g c =
+pub returns-clause-applies : goal.returns-clause-applies
+returns-clause-applies g c =
     let a = state g.S.Store c.args.tx.now.conn.now in
     let b = state g.S.Store c.clear_versions.new.tx.conn.now in
     let d = state g.S.Store c.put_versions.new.tx.conn.now in
@@ -13,11 +13,11 @@ returns-clause-makes g c =
     let f = state g.S.Store c.put_waits.new.tx.conn.now in
     let h = state g.S.Store c.take_broadcasts.new.tx.conn.now in
     let i = state g.S.Store c.take_waits.new.tx.conn.now in
-    let two = makes_then a b d true _ _ c.in_ok-clear_versions.ensures.makes
-    c.in_ok-put_versions.ensures.makes in
-    let three = makes_then a d e true _ _ two c.in_ok-put_broadcasts.ensures.makes in
-    let four = makes_then a e f true _ _ three c.in_ok-put_waits.ensures.makes in
-    let five = makes_then a f h true _ _ four c.in_ok-take_broadcasts.ensures.makes in
+    let two = makes_then a b d true _ _ c.in_ok-clear_versions.ensures.applies
+    c.in_ok-put_versions.ensures.applies in
+    let three = makes_then a d e true _ _ two c.in_ok-put_broadcasts.ensures.applies in
+    let four = makes_then a e f true _ _ three c.in_ok-put_waits.ensures.applies in
+    let five = makes_then a f h true _ _ four c.in_ok-take_broadcasts.ensures.applies in
     alike a i true _ (lists c.args.changes.now) (λ m. rw (
       c.as_slice.ensures,
       c.as_slice-2.ensures,
@@ -26,4 +26,4 @@ returns-clause-makes g c =
       c.as_slice-5.ensures,
       c.as_slice-6.ensures,
     ) refl)
-    (makes_then a h i true _ _ five c.in_ok-take_waits.ensures.makes)
+    (makes_then a h i true _ _ five c.in_ok-take_waits.ensures.applies)

@@ -3,7 +3,7 @@ use Rattle.std.specs.Prelude.{◌==◌}
 use Rattle.std.specs.List.{list_all}
 use Rattle.sqlite.specs.Held.{state}
 use Rattle.numbers.specs.declared.spid.Spid.{Spid}
-use Rattle.settle.specs.Views.{wait_key_of}
+use Rattle.settle.specs.Abstraction.{wait_key_of}
 use Rattle.sql_store.specs.Store.{content_at}
 use Rattle.sql_store.proofs.WaiterLemmas.{last_is}
 use Rattle.sql_store.proofs.lists.is_last_wait.Goals as goal

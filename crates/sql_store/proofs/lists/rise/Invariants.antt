@@ -1,7 +1,7 @@
 use Rattle.std.proofs.Common.{◌≡◌, ℕ, ◌+◌, ◌<◌, ◌-◌, length, slice_index_or, Less}
 use Rattle.delivery.specs.declared.broadcast.Broadcast.{Broadcast}
-use Rattle.meaning.specs.Content.{broadcast_cmp}
-use Rattle.settle.specs.Views.{broadcast_key_of}
+use Rattle.model.specs.Content.{broadcast_cmp}
+use Rattle.settle.specs.Abstraction.{broadcast_key_of}
 use Rattle.settle.specs.declared.rows.BroadcastKey.{BroadcastKey}
 use Rattle.sql_store.proofs.lists.rise.Given as goal
 

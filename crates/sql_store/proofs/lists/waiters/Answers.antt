@@ -5,7 +5,7 @@ use Rattle.settle.specs.Reads.{AreCarriers, AreWaiters}
 use Rattle.sql_rows.specs.Content.{content_in, wait_in}
 use Rattle.sql_rows.specs.Found.{IsListAnswer}
 use Rattle.sql_rows.specs.declared.statement.Query.TheVariants.{WaitsOf}
-use Rattle.settle.specs.Views.{broadcast_key_of}
+use Rattle.settle.specs.Abstraction.{broadcast_key_of}
 use Rattle.sql_rows.proofs.BoundLemmas.{bound_broadcast_key}
 use Rattle.sql_rows.proofs.QueriesListed.{wait_seen, waits_of_picked}
 use Rattle.sql_store.specs.Lists.{is_waiting}
@@ -42,8 +42,8 @@ returns-clause-value g c up =
     let key = c.args.key in
     let waits = c.in_ok-waits.waits.items in
     let carriers = c.in_ok-carriers.carriers.items in
-    let open_mid = (c.in_ok-waits.ensures.looked.same up).was_open in
-    let same = (c.in_ok-carriers.ensures.looked.same open_mid).now in
+    let open_mid = (c.in_ok-waits.ensures.queried.same up).was_open in
+    let same = (c.in_ok-carriers.ensures.queried.same open_mid).now in
     let answer = subst (λ p. IsListAnswer WaitsOf wait_in mid.now.trees p (map wait_seen waits))
     (bound_broadcast_key _ (broadcast_key_of key) c.broadcast_key.ensures)
     (c.in_ok-waits.ensures.value up) in
@@ -64,4 +64,4 @@ returns-clause-value g c up =
 pub find_all-requires-clause-ours : goal.find_all-requires-clause-ours
 find_all-requires-clause-ours g c =
     looked_ours (state g.S.Store c.args.conn.now) (state g.S.Store c.carriers.new.conn) _
-    c.requires.ours c.in_ok-carriers.ensures.looked
+    c.requires.ours c.in_ok-carriers.ensures.queried

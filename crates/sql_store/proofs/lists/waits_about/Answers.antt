@@ -4,7 +4,7 @@ use Rattle.sqlite.specs.Value.{owned}
 use Rattle.sqlite.specs.Values.{bound_value}
 use Rattle.sqlite.specs.declared.types.Value.TheVariants.{Text}
 use Rattle.sqlite_rules.specs.Lists.{Has}
-use Rattle.numbers.specs.Views.{subject_of}
+use Rattle.numbers.specs.Abstraction.{subject_of}
 use Rattle.sql_store.specs.Store.{content_at}
 use Rattle.sql_store.specs.Lists.{download_of}
 use Rattle.sql_rows.specs.Values.{subject_value}

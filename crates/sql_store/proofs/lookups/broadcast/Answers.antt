@@ -1,6 +1,6 @@
 use Rattle.std.proofs.Common.{◌≡◌, nat_lt, ◌&&◌, Bool, true, false, refl, sym, arith}
 use Rattle.sqlite.specs.Held.{state}
-use Rattle.settle.specs.Views.{broadcast_key_of}
+use Rattle.settle.specs.Abstraction.{broadcast_key_of}
 use Rattle.sql_rows.proofs.FoundLemmas.{no_great_broadcast}
 use Rattle.sql_store.proofs.LookupLemmas.{broadcast_is}
 use Rattle.sql_store.proofs.lookups.broadcast.Goals as goal

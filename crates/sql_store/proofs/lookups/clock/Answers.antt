@@ -3,7 +3,7 @@ use Rattle.std.specs.FinMap.{get}
 use Rattle.std.specs.Prelude.{option_map}
 use Rattle.sqlite.specs.Held.{state}
 use Rattle.sqlite.specs.Effect.{Database}
-use Rattle.version.specs.Views.{windows_of}
+use Rattle.version.specs.Abstraction.{windows_of}
 use Rattle.sql_rows.specs.Content.{content_in}
 use Rattle.sql_store.proofs.LookupLemmas.{no_clock, the_clock}
 use Rattle.sql_store.proofs.CallLemmas.{looked_ours}
@@ -12,8 +12,8 @@ use Rattle.sql_store.proofs.lookups.clock.Goals as goal
 pub returns-in-Some-found-clause-value : goal.returns-in-Some-found-clause-value
 returns-in-Some-found-clause-value g c up =
     let old = (state g.S.Store c.args.conn.now).now in
-    let second = c.in_ok-found.ensures.looked.same up in
-    let first = c.in_ok-stored.ensures.looked.same second.was_open in
+    let second = c.in_ok-found.ensures.queried.same up in
+    let first = c.in_ok-stored.ensures.queried.same second.was_open in
     the_clock old.trees c.in_ok-stored.stored c.in-Some.row c.in_ok-found.found
     c.in-Some-found.windows c.in-Some.is (c.in_ok-stored.ensures.value second.was_open)
     c.in-Some-found.is
@@ -29,4 +29,4 @@ returns-in_default-clause-value g c up =
 pub window_set-requires-clause-ours : goal.window_set-requires-clause-ours
 window_set-requires-clause-ours g c =
     looked_ours (state g.S.Store c.args.conn.now) (state g.S.Store c.stored_clock.new.conn) _
-    c.requires.ours c.in_ok-stored.ensures.looked
+    c.requires.ours c.in_ok-stored.ensures.queried

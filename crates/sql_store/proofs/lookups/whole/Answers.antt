@@ -2,7 +2,7 @@ use Rattle.std.proofs.Common.{◌≡◌, true, refl, rules, subst}
 use Rattle.std.specs.FinMap.{get}
 use Rattle.std.specs.Prelude.{is_some, option_map}
 use Rattle.sqlite.specs.Held.{state}
-use Rattle.numbers.specs.Views.{routing_of}
+use Rattle.numbers.specs.Abstraction.{routing_of}
 use Rattle.sql_rows.specs.Content.{nexts_in}
 use Rattle.sql_rows.specs.Versions.{next_of}
 use Rattle.sql_store.proofs.LookupLemmas.{routed_next, unrouted_next}

@@ -13,8 +13,8 @@ returns-clause-value g c up =
     let old = state g.S.Store c.args.conn.now in
     let waits = c.in_ok-waits.waits.items in
     let downloads = c.in_ok-downloads.downloads.items in
-    let mid_up = (c.in_ok-downloads.ensures.looked.same up).was_open in
-    let same = (c.in_ok-waits.ensures.looked.same mid_up).now in
+    let mid_up = (c.in_ok-downloads.ensures.queried.same up).was_open in
+    let same = (c.in_ok-waits.ensures.queried.same mid_up).now in
     let told = subst (λ w. AreFirstTold (content_at (state g.S.Store c.queue.new.conn)) c.args.many
     w downloads) c.as_slice.ensures.value (c.in_ok-downloads.ensures.value up) in
     first_are (content_at old) c.args.spid.number c.args.many ⊥ waits downloads
@@ -25,4 +25,4 @@ returns-clause-value g c up =
 pub first_told-requires-clause-ours : goal.first_told-requires-clause-ours
 first_told-requires-clause-ours g c =
     looked_ours (state g.S.Store c.args.conn.now) (state g.S.Store c.queue.new.conn) _
-    c.requires.ours c.in_ok-waits.ensures.looked
+    c.requires.ours c.in_ok-waits.ensures.queried

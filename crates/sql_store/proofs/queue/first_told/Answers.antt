@@ -20,9 +20,9 @@ loop-wait-preserved g c =
     download = c.in_ok-put_behind.ensures in
     record {
       idle = next.idle;
-      looked = looked_then first before after true c.loop-wait.invariant.looked next.looked;
+      looked = looked_then first before after true c.loop-wait.invariant.looked next.queried;
       told = λ up.
-          let was = (next.looked.same up).was_open in
+          let was = (next.queried.same up).was_open in
           let same = (c.loop-wait.invariant.looked.same was).now in
           let is = subst (λ (d : Database). IsNext (content_in d.trees) c.wait-item.result download)
           same (next.value up) in

@@ -2,14 +2,14 @@ use Rattle.std.proofs.Common.{◌≡◌, ◌≤◌, false, true, length, take}
 use Rattle.std.specs.Prelude.{IsTrue}
 use Rattle.sqlite.specs.Held.{state}
 use Rattle.sql_store.specs.Queues.{AreTold}
-use Rattle.sql_store.specs.Store.{Looked, content_at}
+use Rattle.sql_store.specs.Store.{HasQueried, content_at}
 use Rattle.sql_store.proofs.queue.first_told.Given as goal
 
 -- of what was passed all that has a broadcast is in the list
 abbrev pub invariant-loop-wait : goal.invariant-loop-wait
 invariant-loop-wait g l = record {
   idle : l.conn.in_transaction ≡ false;
-  looked : Looked (state g.S.Store l.fn.conn) (state g.S.Store l.conn) true;
+  looked : HasQueried (state g.S.Store l.fn.conn) (state g.S.Store l.conn) true;
   told : IsTrue (state g.S.Store l.conn).is_open
       → AreTold (content_at (state g.S.Store l.fn.conn)) (take l.wait-index l.waits)
       l.downloads.items;

@@ -1,6 +1,6 @@
 use Rattle.std.proofs.Common.{◌≡◌, ℕ, ◌+◌, ◌<◌, ◌-◌, length, slice_index_or, Less}
 use Rattle.std.specs.Ordering.{nat_cmp}
-use Rattle.numbers.specs.Views.{key_of}
+use Rattle.numbers.specs.Abstraction.{key_of}
 use Rattle.delivery.specs.declared.mirror.RoutedRow.{RoutedRow}
 use Rattle.sql_store.proofs.routed.rise.Given as goal
 

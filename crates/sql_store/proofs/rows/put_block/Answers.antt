@@ -7,13 +7,13 @@ use Rattle.sql_rows.proofs.PutLemmas.{put_block}
 use Rattle.sql_store.specs.Changes.{with_block}
 use Rattle.sql_rows.proofs.Backs.{block_back}
 use Rattle.sql_rows.proofs.BoundLemmas.{bound_block}
-use Rattle.settle.specs.Views.{block_row_of}
+use Rattle.settle.specs.Abstraction.{block_row_of}
 use Rattle.sql_store.proofs.LookupLemmas.{one_bound}
 use Rattle.sql_store.proofs.MadeLemmas.{put_made}
 use Rattle.sql_store.proofs.rows.put_block.Goals as goal
 
-pub returns-clause-makes : goal.returns-clause-makes
-returns-clause-makes g c =
+pub returns-clause-applies : goal.returns-clause-applies
+returns-clause-applies g c =
     let old = state g.S.Store c.args.tx.now.conn.now in
     let new = state g.S.Store c.replace.new.tx.conn.now in
     let n = c.args.block.number in

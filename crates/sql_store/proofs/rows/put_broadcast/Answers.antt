@@ -6,12 +6,12 @@ use Rattle.sql_rows.proofs.PutLemmas.{put_broadcast}
 use Rattle.sql_store.specs.Changes.{with_broadcast}
 use Rattle.sql_rows.proofs.Backs.{broadcast_back}
 use Rattle.sql_rows.proofs.BoundLemmas.{bound_broadcast, bound_broadcast_key}
-use Rattle.settle.specs.Views.{broadcast_key_of, broadcast_row_of}
+use Rattle.settle.specs.Abstraction.{broadcast_key_of, broadcast_row_of}
 use Rattle.sql_store.proofs.MadeLemmas.{put_made}
 use Rattle.sql_store.proofs.rows.put_broadcast.Goals as goal
 
-pub returns-clause-makes : goal.returns-clause-makes
-returns-clause-makes g c =
+pub returns-clause-applies : goal.returns-clause-applies
+returns-clause-applies g c =
     let old = state g.S.Store c.args.tx.now.conn.now in
     let new = state g.S.Store c.replace.new.tx.conn.now in
     let k = broadcast_key_of c.args.key in

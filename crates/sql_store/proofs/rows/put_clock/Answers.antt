@@ -12,8 +12,8 @@ use Rattle.sql_store.proofs.LookupLemmas.{one_bound}
 use Rattle.sql_store.proofs.MadeLemmas.{put_made}
 use Rattle.sql_store.proofs.rows.put_clock.Goals as goal
 
-pub returns-clause-makes : goal.returns-clause-makes
-returns-clause-makes g c =
+pub returns-clause-applies : goal.returns-clause-applies
+returns-clause-applies g c =
     let old = state g.S.Store c.args.tx.now.conn.now in
     let new = state g.S.Store c.replace.new.tx.conn.now in
     let row = c.args.row.now in

@@ -1,13 +1,13 @@
 use Rattle.std.proofs.Common.{◌≡◌, Some, false, true, is_ok, pos, refl, rules, sym, subst, subst₂, ◌∷◌, []}
 use Rattle.sqlite.specs.declared.types.Value.TheVariants.{Int}
 use Rattle.sqlite.specs.Held.{state}
-use Rattle.numbers.specs.Views.{routing_of}
+use Rattle.numbers.specs.Abstraction.{routing_of}
 use Rattle.sql_rows.specs.Content.{next_params}
 use Rattle.sql_rows.specs.Written.{Replaced}
 use Rattle.sql_rows.specs.declared.statement.Table.TheVariants.{NextRouting}
 use Rattle.sql_rows.proofs.Backs.{next_back}
 use Rattle.sql_rows.proofs.BoundLemmas.{bound_next}
-use Rattle.sql_store.specs.Store.{IsNextPut, Writes}
+use Rattle.sql_store.specs.Store.{IsNextPut, WritesInTransaction}
 use Rattle.sql_store.proofs.CallLemmas.{writes_as, writes_nothing}
 use Rattle.sql_store.proofs.LookupLemmas.{one_bound}
 use Rattle.sql_store.proofs.rows.put_routing.Goals as goal
@@ -17,7 +17,8 @@ returns-in_err-replace-clause-writes g c =
     let old = state g.S.Store c.args.tx.now.conn.now in
     let new = state g.S.Store c.replace.new.tx.conn.now in
     let fails : is_ok c.from_residual.result ≡ false = search rules in
-    subst (λ d. Writes old new d (IsNextPut c.args.id (Some (routing_of c.args.routing))))
+    subst (λ d. WritesInTransaction old new d
+    (IsNextPut c.args.id (Some (routing_of c.args.routing))))
     (sym fails) (writes_nothing old new _ _ c.in_err-replace.ensures.writes)
 
 pub returns-clause-writes : goal.returns-clause-writes
@@ -28,6 +29,6 @@ returns-clause-writes g c =
     let routing = routing_of c.args.routing in
     writes_as old new true (Replaced NextRouting (Int (pos id) ∷ []) (next_params id routing))
     (IsNextPut id (Some routing)) (λ did. (did, next_back id c.args.routing c.requires))
-    (subst₂ (λ k r. Writes old new true (Replaced NextRouting k r))
+    (subst₂ (λ k r. WritesInTransaction old new true (Replaced NextRouting k r))
     (one_bound c.number.result (Int (pos id)) refl c.number.ensures)
     (bound_next _ id routing c.next_params-params.ensures) c.in_ok-replace.ensures.writes)

@@ -1,32 +1,32 @@
 use Rattle.std.proofs.Common.{◌≡◌, true, false, is_ok, pos, refl, rules, sym, ap, ◌∙◌, subst, subst₂, ◌<◌, ◌≤◌, ◌∷◌, []}
 use Rattle.sqlite.specs.declared.types.Value.TheVariants.{Int}
 use Rattle.sqlite.specs.Held.{state}
-use Rattle.version.specs.Views.{windows_of}
+use Rattle.version.specs.Abstraction.{windows_of}
 use Rattle.sql_rows.specs.declared.statement.Table.TheVariants.{Clock, WindowSet}
 use Rattle.sql_rows.specs.Clocks.{clock_of}
 use Rattle.sql_rows.specs.Content.{clock_params, set_params}
 use Rattle.sql_rows.specs.Written.{Replaced}
 use Rattle.sql_rows.proofs.PutLemmas.{put_set, put_set_clock}
 use Rattle.sql_store.specs.Changes.{with_set}
-use Rattle.sql_store.specs.Store.{Makes, Writes}
+use Rattle.sql_store.specs.Store.{AppliesInTransaction, WritesInTransaction}
 use Rattle.sql_rows.proofs.Backs.{clock_back, set_back}
 use Rattle.sql_rows.proofs.BoundLemmas.{bound_clock, bound_set}
 use Rattle.sql_store.proofs.CallLemmas.{two_made, two_stop}
 use Rattle.sql_store.proofs.LookupLemmas.{one_bound}
 use Rattle.sql_store.proofs.rows.put_set.Goals as goal
 
-pub returns-in_err-replace-2-clause-makes : goal.returns-in_err-replace-2-clause-makes
-returns-in_err-replace-2-clause-makes g c =
+pub returns-in_err-replace-2-clause-applies : goal.returns-in_err-replace-2-clause-applies
+returns-in_err-replace-2-clause-applies g c =
     let old = state g.S.Store c.args.tx.now.conn.now in
     let mid = state g.S.Store c.replace.new.tx.conn.now in
     let new = state g.S.Store c.replace-2.new.tx.conn.now in
     let fails : is_ok c.from_residual-in_err-replace-2.result ≡ false = search rules in
-    subst (λ d. Makes old new d (with_set (clock_of c.args.row.now)
+    subst (λ d. AppliesInTransaction old new d (with_set (clock_of c.args.row.now)
     (windows_of c.args.windows.now))) (sym fails)
     (two_stop old mid new _ _ _ c.in_ok-replace.ensures.writes c.in_err-replace-2.ensures.writes)
 
-pub returns-clause-makes : goal.returns-clause-makes
-returns-clause-makes g c =
+pub returns-clause-applies : goal.returns-clause-applies
+returns-clause-applies g c =
     let old = state g.S.Store c.args.tx.now.conn.now in
     let mid = state g.S.Store c.replace.new.tx.conn.now in
     let new = state g.S.Store c.replace-2.new.tx.conn.now in
@@ -36,12 +36,12 @@ returns-clause-makes g c =
     let least : 0 < row.present = search rules in
     let most : row.present ≤ 1000 = search rules in
     let first =
-    subst₂ (λ k r. Writes old mid true (Replaced WindowSet k r))
+    subst₂ (λ k r. WritesInTransaction old mid true (Replaced WindowSet k r))
     (one_bound c.number-key.result (Int (pos row.present)) refl (c.number-key.ensures
     ∙ ap (λ k. Int (pos k)) c.from.ensures)) (bound_set _ row.present windows c.set_params.ensures)
     c.in_ok-replace.ensures.writes in
     let second =
-    subst₂ (λ k r. Writes mid new true (Replaced Clock k r))
+    subst₂ (λ k r. WritesInTransaction mid new true (Replaced Clock k r))
     (one_bound c.number.result (Int (pos 0)) refl c.number.ensures) (bound_clock _ 0 (clock_of row)
     c.clock_params.ensures) c.in_ok-replace-2.ensures.writes in
     let back = set_back (record {

@@ -3,7 +3,7 @@ use Rattle.sqlite.specs.declared.types.Value.TheVariants.{Int}
 use Rattle.sqlite.specs.Held.{state}
 use Rattle.sqlite.specs.Effect.{Database}
 use Rattle.numbers.specs.Routings.{Routing}
-use Rattle.meaning.specs.Content.{VersionRow}
+use Rattle.model.specs.Content.{VersionRow}
 use Rattle.sql_rows.specs.Shaped.{AreShaped}
 use Rattle.sql_rows.specs.Written.{Replaced}
 use Rattle.sql_rows.specs.declared.statement.Table.TheVariants.{Version}
@@ -11,7 +11,7 @@ use Rattle.sql_rows.specs.Content.{content_in}
 use Rattle.sql_rows.specs.Versions.{bare, next_of, version_entry, version_params, version_row}
 use Rattle.sql_rows.proofs.PutLemmas.{Became, put_modified, put_plain, version_between}
 use Rattle.sql_store.specs.Changes.{with_version}
-use Rattle.sql_store.specs.Store.{IsNextPut, Makes, Writes}
+use Rattle.sql_store.specs.Store.{IsNextPut, AppliesInTransaction, WritesInTransaction}
 use Rattle.sql_rows.proofs.BoundLemmas.{bound_version}
 use Rattle.sql_store.proofs.CallLemmas.{two_made, two_stop}
 use Rattle.sql_store.proofs.LookupLemmas.{one_bound}
@@ -28,17 +28,17 @@ whole_put old mid new shaped id v None sends back first second =
 whole_put old mid new shaped id v (Some r) sends back first second =
     put_modified old mid new shaped id v r sends back second.1 first second.0
 
-pub returns-in_err-put_next-clause-makes : goal.returns-in_err-put_next-clause-makes
-returns-in_err-put_next-clause-makes g c =
+pub returns-in_err-put_next-clause-applies : goal.returns-in_err-put_next-clause-applies
+returns-in_err-put_next-clause-applies g c =
     let old = state g.S.Store c.args.tx.now.conn.now in
     let mid = state g.S.Store c.replace.new.tx.conn.now in
     let new = state g.S.Store c.put_next.new.tx.conn.now in
     let fails : is_ok c.from_residual-in_err-put_next.result ≡ false = search rules in
-    subst (λ d. Makes old new d (with_version c.args.id c.args.row.now)) (sym fails)
+    subst (λ d. AppliesInTransaction old new d (with_version c.args.id c.args.row.now)) (sym fails)
     (two_stop old mid new _ _ _ c.in_ok-replace.ensures.writes c.in_err-put_next.ensures.writes)
 
-pub returns-clause-makes : goal.returns-clause-makes
-returns-clause-makes g c =
+pub returns-clause-applies : goal.returns-clause-applies
+returns-clause-applies g c =
     let old = state g.S.Store c.args.tx.now.conn.now in
     let mid = state g.S.Store c.replace.new.tx.conn.now in
     let new = state g.S.Store c.put_next.new.tx.conn.now in
@@ -47,10 +47,11 @@ returns-clause-makes g c =
     let fit : IsTrue c.fits.result = search rules in
     let back = c.fits.ensures.back fit in
     let first =
-    subst₂ (λ k r. Writes old mid true (Replaced Version k r))
+    subst₂ (λ k r. WritesInTransaction old mid true (Replaced Version k r))
     (one_bound c.number.result (Int (pos id)) refl c.number.ensures)
     (bound_version _ id row c.version_params-params.ensures) c.in_ok-replace.ensures.writes in
-    let second = subst (λ (v : VersionRow). Writes mid new true (IsNextPut id (next_of v.status)))
+    let second =
+    subst (λ (v : VersionRow). WritesInTransaction mid new true (IsNextPut id (next_of v.status)))
     c.row.view_is c.in_ok-put_next.ensures.writes in
     two_made old mid new true (Replaced Version (Int (pos id) ∷ []) (version_params id row))
     (IsNextPut id (next_of row.status)) (with_version id row) first second

@@ -6,13 +6,13 @@ use Rattle.sql_rows.proofs.PutLemmas.{put_wait}
 use Rattle.sql_store.specs.Changes.{with_wait}
 use Rattle.sql_rows.proofs.Backs.{wait_back}
 use Rattle.sql_rows.proofs.BoundLemmas.{bound_wait, bound_wait_key}
-use Rattle.settle.specs.Views.{wait_key_of}
-use Rattle.numbers.specs.Views.{subject_of}
+use Rattle.settle.specs.Abstraction.{wait_key_of}
+use Rattle.numbers.specs.Abstraction.{subject_of}
 use Rattle.sql_store.proofs.MadeLemmas.{put_made}
 use Rattle.sql_store.proofs.rows.put_wait.Goals as goal
 
-pub returns-clause-makes : goal.returns-clause-makes
-returns-clause-makes g c =
+pub returns-clause-applies : goal.returns-clause-applies
+returns-clause-applies g c =
     let old = state g.S.Store c.args.tx.now.conn.now in
     let new = state g.S.Store c.replace.new.tx.conn.now in
     let k = wait_key_of c.args.key in

@@ -2,17 +2,17 @@ use Rattle.std.proofs.Common.{rules, ◌≡◌, false, is_ok, sym, subst}
 use Rattle.sqlite.specs.Held.{state}
 use Rattle.sqlite.specs.State.{HasCleanDisk, Shown, FailsToQuery, Survives, CommitsShowing}
 use Rattle.sqlite.specs.Values.{bound}
-use Rattle.sql_store.specs.Store.{Looked}
+use Rattle.sql_store.specs.Store.{HasQueried}
 use Rattle.sql_store.proofs.CallLemmas.{clean_if_open, looked_ok, looked_err, answers}
 use Rattle.sql_store.proofs.select.select.Goals as goal
 
-pub returns-in_err-rows-clause-looked : goal.returns-in_err-rows-clause-looked
-returns-in_err-rows-clause-looked g c =
+pub returns-in_err-rows-clause-queried : goal.returns-in_err-rows-clause-queried
+returns-in_err-rows-clause-queried g c =
     let old = state g.S.Store c.args.conn.now in
     let new = state g.S.Store c.query_all.new.self in
     let params = bound c.args.params.now in
     let fails : is_ok c.from_residual.result ≡ false = search rules in
-    subst (Looked old new) (sym fails) (looked_err c.args.query params old new c.requires.ours
+    subst (HasQueried old new) (sym fails) (looked_err c.args.query params old new c.requires.ours
     c.in_err-rows.field-0.0 (clean_if_open new.is_clean new.is_open (g.met.S.Store.shut_if_dirty _))
     (subst (λ t. HasCleanDisk new → FailsToQuery t params old new c.in_err-rows.field-0.0)
     c.text.ensures c.in_err-rows.ensures.err)
@@ -35,8 +35,8 @@ returns-clause-value g c up =
     answers c.args.query params old new c.requires.ours c.in_ok-rows.rows.items
     (looked.same up).was_open shown
 
-pub returns-clause-looked : goal.returns-clause-looked
-returns-clause-looked g c =
+pub returns-clause-queried : goal.returns-clause-queried
+returns-clause-queried g c =
     let old = state g.S.Store c.args.conn.now in
     let new = state g.S.Store c.query_all.new.self in
     let params = bound c.args.params.now in

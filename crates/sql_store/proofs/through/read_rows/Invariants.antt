@@ -7,6 +7,6 @@ use Rattle.sql_store.proofs.through.read_rows.Given as goal
 abbrev pub invariant-rows : goal.invariant-rows
 invariant-rows g l = record {
   same_reference : l.rows.conn.ghost_name ≡ l.fn.rows.conn.ghost_name;
-  reads : ReadsSoFar g.S.Store g.T.Stored.seen_in (TellsNone l.blank) l.fn.rows.conn.now
+  reads : ReadsSoFar g.S.Store g.T.FromRow.seen_in (TellsNone l.blank) l.fn.rows.conn.now
       l.rows.conn.now;
 }

@@ -34,7 +34,7 @@ pub returns-clause-all : goal.returns-clause-all
 returns-clause-all g c =
     let told = read_from g.S.Store (all_text c.args.table) c.text.ensures c.args.conn.now
     c.in_ok-rows.rows.conn.now c.read_rows.new.rows.conn.now c.requires.plain
-    c.in_ok-rows.ensures.begun c.read_rows.ensures.survives g.T.Stored.seen_in TellsNone
+    c.in_ok-rows.ensures.begun c.read_rows.ensures.survives g.T.FromRow.seen_in TellsNone
     c.read_rows.result c.read_rows.ensures.all in
     search rules
 

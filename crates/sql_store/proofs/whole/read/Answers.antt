@@ -8,7 +8,7 @@ use Rattle.sql_store.proofs.whole.read.Goals as goal
 
 pub read_table-requires : goal.read_table-requires
 read_table-requires g c = record {
-  plain = ours_plain g.T.Stored.seen_in c.args.table (state g.S.Store c.args.conn.now)
+  plain = ours_plain g.T.FromRow.seen_in c.args.table (state g.S.Store c.args.conn.now)
       (state g.S.Store c.args.conn.now) c.requires.ours;
 }
 
@@ -18,15 +18,15 @@ returns-clause-value g c = λ up.
     let new = state g.S.Store c.read_table.new.conn in
     let clean : HasCleanDisk new =
     clean_if_open new.is_clean new.is_open (g.met.S.Store.shut_if_dirty _) up in
-    ours_read g.T.Stored.seen_in c.args.table old new c.requires.ours c.read_table.result
+    ours_read g.T.FromRow.seen_in c.args.table old new c.requires.ours c.read_table.result
     (c.read_table.ensures.all clean)
 
-pub returns-clause-looked : goal.returns-clause-looked
-returns-clause-looked g c =
+pub returns-clause-queried : goal.returns-clause-queried
+returns-clause-queried g c =
     let old = state g.S.Store c.args.conn.now in
     let new = state g.S.Store c.read_table.new.conn in
-    table_looked g.T.Stored.seen_in TellsNone (all_text c.args.table) old new c.read_table.result
-    (ours_plain g.T.Stored.seen_in c.args.table old new c.requires.ours)
+    table_looked g.T.FromRow.seen_in TellsNone (all_text c.args.table) old new c.read_table.result
+    (ours_plain g.T.FromRow.seen_in c.args.table old new c.requires.ours)
     (λ was. settled old (c.requires.ours was))
     (clean_if_open new.is_clean new.is_open (g.met.S.Store.shut_if_dirty _))
     c.read_table.ensures.all c.read_table.ensures.err c.read_table.ensures.survives

@@ -11,8 +11,8 @@ use Rattle.sql_store.proofs.whole.read_added.Goals as goal
 pub returns-clause-value : goal.returns-clause-value
 returns-clause-value g c up =
     let db = (state g.S.Store c.args.conn.now).now.trees in
-    let second = c.in_ok-sets.ensures.looked.same up in
-    let first = c.in_ok-nexts.ensures.looked.same second.was_open in
+    let second = c.in_ok-sets.ensures.queried.same up in
+    let first = c.in_ok-nexts.ensures.queried.same second.was_open in
     subst (ReadsAdded db) (sym c.are_blank.ensures)
     (added_told db c.in_ok-nexts.nexts c.in_ok-sets.sets
     (c.in_ok-nexts.ensures.value second.was_open)
@@ -22,4 +22,4 @@ returns-clause-value g c up =
 pub read-requires-2-clause-ours : goal.read-requires-2-clause-ours
 read-requires-2-clause-ours g c =
     looked_ours (state g.S.Store c.args.conn.now) (state g.S.Store c.read.new.conn) _
-    c.requires.ours c.in_ok-nexts.ensures.looked
+    c.requires.ours c.in_ok-nexts.ensures.queried

@@ -9,10 +9,10 @@ use Rattle.sql_store.proofs.whole.read_all.Goals as goal
 pub returns-clause-value : goal.returns-clause-value
 returns-clause-value g c up =
     let db = (state g.S.Store c.args.conn.now).now.trees in
-    let fourth = c.in_ok-see_moved.ensures.looked.same up in
-    let third = c.in_ok-added.ensures.looked.same fourth.was_open in
-    let second = c.in_ok-versions.ensures.looked.same third.was_open in
-    let first = c.in_ok-registry.ensures.looked.same second.was_open in
+    let fourth = c.in_ok-see_moved.ensures.queried.same up in
+    let third = c.in_ok-added.ensures.queried.same fourth.was_open in
+    let second = c.in_ok-versions.ensures.queried.same third.was_open in
+    let first = c.in_ok-registry.ensures.queried.same second.was_open in
     let two = second.now ∙ first.now in
     let three = third.now ∙ two in
     subst (ReadsAll db) (sym c.are_blank.ensures)
@@ -27,15 +27,15 @@ returns-clause-value g c up =
 pub read_versions-requires-clause-ours : goal.read_versions-requires-clause-ours
 read_versions-requires-clause-ours g c =
     looked_ours (state g.S.Store c.args.conn.now) (state g.S.Store c.read_registry.new.conn) _
-    c.requires.ours c.in_ok-registry.ensures.looked
+    c.requires.ours c.in_ok-registry.ensures.queried
 
 pub read_added-requires-clause-ours : goal.read_added-requires-clause-ours
 read_added-requires-clause-ours g c =
     let a = state g.S.Store c.args.conn.now in
     let b = state g.S.Store c.read_registry.new.conn in
     let d = state g.S.Store c.read_versions.new.conn in
-    looked_ours b d _ (looked_ours a b _ c.requires.ours c.in_ok-registry.ensures.looked)
-    c.in_ok-versions.ensures.looked
+    looked_ours b d _ (looked_ours a b _ c.requires.ours c.in_ok-registry.ensures.queried)
+    c.in_ok-versions.ensures.queried
 
 pub see_moved-requires-clause-ours : goal.see_moved-requires-clause-ours
 see_moved-requires-clause-ours g c =
@@ -44,5 +44,5 @@ see_moved-requires-clause-ours g c =
     let d = state g.S.Store c.read_versions.new.conn in
     let e = state g.S.Store c.read_added.new.conn in
     looked_ours d e _
-    (looked_ours b d _ (looked_ours a b _ c.requires.ours c.in_ok-registry.ensures.looked)
-    c.in_ok-versions.ensures.looked) c.in_ok-added.ensures.looked
+    (looked_ours b d _ (looked_ours a b _ c.requires.ours c.in_ok-registry.ensures.queried)
+    c.in_ok-versions.ensures.queried) c.in_ok-added.ensures.queried

@@ -11,10 +11,10 @@ use Rattle.sql_store.proofs.whole.read_versions.Goals as goal
 pub returns-clause-value : goal.returns-clause-value
 returns-clause-value g c up =
     let db = (state g.S.Store c.args.conn.now).now.trees in
-    let fourth = c.in_ok-clock.ensures.looked.same up in
-    let third = c.in_ok-waits.ensures.looked.same fourth.was_open in
-    let second = c.in_ok-broadcasts.ensures.looked.same third.was_open in
-    let first = c.in_ok-versions.ensures.looked.same second.was_open in
+    let fourth = c.in_ok-clock.ensures.queried.same up in
+    let third = c.in_ok-waits.ensures.queried.same fourth.was_open in
+    let second = c.in_ok-broadcasts.ensures.queried.same third.was_open in
+    let first = c.in_ok-versions.ensures.queried.same second.was_open in
     let two = second.now ∙ first.now in
     let three = third.now ∙ two in
     subst (ReadsVersions db) (sym c.are_blank.ensures)
@@ -30,18 +30,18 @@ returns-clause-value g c up =
 pub read-requires-2-clause-ours : goal.read-requires-2-clause-ours
 read-requires-2-clause-ours g c =
     looked_ours (state g.S.Store c.args.conn.now) (state g.S.Store c.read.new.conn) _
-    c.requires.ours c.in_ok-versions.ensures.looked
+    c.requires.ours c.in_ok-versions.ensures.queried
 
 pub read-requires-3-clause-ours : goal.read-requires-3-clause-ours
 read-requires-3-clause-ours g c =
     looked_ours (state g.S.Store c.read.new.conn) (state g.S.Store c.read-2.new.conn) _
     (looked_ours (state g.S.Store c.args.conn.now) (state g.S.Store c.read.new.conn) _
-    c.requires.ours c.in_ok-versions.ensures.looked) c.in_ok-broadcasts.ensures.looked
+    c.requires.ours c.in_ok-versions.ensures.queried) c.in_ok-broadcasts.ensures.queried
 
 pub read-requires-4-clause-ours : goal.read-requires-4-clause-ours
 read-requires-4-clause-ours g c =
     looked_ours (state g.S.Store c.read-2.new.conn) (state g.S.Store c.read-3.new.conn) _
     (looked_ours (state g.S.Store c.read.new.conn) (state g.S.Store c.read-2.new.conn) _
     (looked_ours (state g.S.Store c.args.conn.now) (state g.S.Store c.read.new.conn) _
-    c.requires.ours c.in_ok-versions.ensures.looked) c.in_ok-broadcasts.ensures.looked)
-    c.in_ok-waits.ensures.looked
+    c.requires.ours c.in_ok-versions.ensures.queried) c.in_ok-broadcasts.ensures.queried)
+    c.in_ok-waits.ensures.queried

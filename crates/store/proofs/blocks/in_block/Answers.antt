@@ -1,4 +1,4 @@
-use Rattle.settle.specs.Views.{block_of}
+use Rattle.settle.specs.Abstraction.{block_of}
 use Rattle.store.specs.Tables.{content_of}
 use Rattle.store.proofs.BlockListed.{in-block-are}
 use Rattle.store.proofs.SubjectsListed.{if_ok}

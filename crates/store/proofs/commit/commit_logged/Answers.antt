@@ -1,7 +1,7 @@
 use Rattle.std.proofs.Common.{rules, ◌≡◌, [], refl, ap, sym, subst, ◌∙◌}
 use Rattle.std.specs.FinMap.{get}
-use Rattle.settle.specs.Changes.{IsChanged}
-use Rattle.store.specs.Steps.{ArePut}
+use Rattle.settle.specs.Changes.{AppliesChanges}
+use Rattle.store.specs.UndoLog.{ArePut}
 use Rattle.store.specs.Tables.{content_of, from_waits, IsKept, IsKeptBelow}
 use Rattle.store.proofs.Spare.{needed-after, spares-same}
 use Rattle.store.proofs.Steps.{can-take-last, last-taken, none-left}
@@ -17,7 +17,7 @@ forget-init c =
         put.0,
         put.1,
         record {
-          spares = λ k spare. put.2 k (c.finish.ensures.spares k spare);
+          spares = λ k stale. put.2 k (c.finish.ensures.spares k stale);
           rows = λ id small. c.finish.ensures.changed.versions id ∙ ap (λ m. get m id) put.3;
         },
       );
@@ -45,7 +45,8 @@ forget-preserved c = record {
 pub returns-in_default-clause-done : goal.returns-in_default-clause-done
 returns-in_default-clause-done c =
     c.in-Ok.ensures.put (content_of c.forget.tables)
-    (subst (λ x. IsChanged (from_waits [] c.args.changes.now) (content_of c.put_rows.new.tables) x)
+    (subst (λ x. AppliesChanges (from_waits [] c.args.changes.now)
+    (content_of c.put_rows.new.tables) x)
     (sym c.forget.invariant.same) c.finish.ensures.changed)
 
 pub returns-in_default-clause-needed : goal.returns-in_default-clause-needed

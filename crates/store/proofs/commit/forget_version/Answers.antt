@@ -4,7 +4,7 @@ use Rattle.store.proofs.commit.forget_version.Goals as goal
 
 pub returns-then-id-least-clause-indexed : goal.returns-then-id-least-clause-indexed
 returns-then-id-least-clause-indexed c =
-    indexed-beside c.args.tables.now c.take_version_keys.new.tables c.args.spare
+    indexed-beside c.args.tables.now c.take_version_keys.new.tables c.args.stale
     c.take_version_keys.ensures (c.requires.unneeded c.if-id-least.true) c.requires.indexed
 
 pub returns-then-id-least-clause-spares : goal.returns-then-id-least-clause-spares
@@ -14,14 +14,14 @@ returns-then-id-least-clause-spares c =
 
 pub returns-then-id-least-clause-none : goal.returns-then-id-least-clause-none
 returns-then-id-least-clause-none c =
-    none-taken c.args.tables.now c.take_version_keys.new.tables c.args.spare
+    none-taken c.args.tables.now c.take_version_keys.new.tables c.args.stale
     c.take_version_keys.ensures
 
 pub returns-else-id-least-clause-indexed : goal.returns-else-id-least-clause-indexed
 returns-else-id-least-clause-indexed c =
     indexed-left c.args.tables.now c.take_version_keys-else-id-least.new.tables
     c.unneeded_keys.result
-    c.take_version_keys-else-id-least.ensures c.args.id c.args.spare c.needed_keys-needed.result
+    c.take_version_keys-else-id-least.ensures c.args.id c.args.stale c.needed_keys-needed.result
     c.needed_keys-needed.ensures.own c.needed_keys-needed.ensures.without c.unneeded_keys.ensures
     c.requires.own c.requires.indexed
 
@@ -33,5 +33,5 @@ returns-else-id-least-clause-spares c =
 pub returns-else-id-least-clause-none : goal.returns-else-id-least-clause-none
 returns-else-id-least-clause-none c =
     none-left c.args.tables.now c.take_version_keys-else-id-least.new.tables c.unneeded_keys.result
-    c.take_version_keys-else-id-least.ensures c.args.id c.args.spare c.needed_keys-needed.result
+    c.take_version_keys-else-id-least.ensures c.args.id c.args.stale c.needed_keys-needed.result
     c.needed_keys-needed.ensures.own c.needed_keys-needed.ensures.without c.unneeded_keys.ensures

@@ -1,6 +1,6 @@
 use Rattle.std.proofs.Common.{sym, subst}
-use Rattle.store.specs.Places.{sets}
-use Rattle.store.specs.Steps.{IsPutWithSet}
+use Rattle.store.specs.TableLenses.{sets}
+use Rattle.store.specs.UndoLog.{IsPutWithSet}
 use Rattle.store.specs.Tables.{IsSetThere}
 use Rattle.store.proofs.Places.{on-err, kept, sets-is}
 use Rattle.store.proofs.Sets.{put-with_set, put-there}

@@ -1,6 +1,6 @@
 use Rattle.std.proofs.Common.{rules, ◌≡◌, [], ◌∷◌, length, sym, ◌∙◌}
 use Rattle.settle.specs.Lists.{items_of}
-use Rattle.store.specs.Places.{broadcasts}
+use Rattle.store.specs.TableLenses.{broadcasts}
 use Rattle.store.proofs.Places.{on-err, kept, broadcasts-is}
 use Rattle.store.proofs.Sole.{one-there, sole-broadcast, sole-version}
 use Rattle.numbers.proofs.Small.{no_members}

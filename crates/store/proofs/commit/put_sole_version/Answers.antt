@@ -1,5 +1,5 @@
 use Rattle.std.proofs.Common.{rules, ◌<◌, ap, sym, ◌∙◌}
-use Rattle.store.specs.Tables.{AddNoSpare, AreIndexed, content_of}
+use Rattle.store.specs.Tables.{AddNoStale, AreIndexed, content_of}
 use Rattle.store.proofs.Forgotten.{left-by, none-unneeded}
 use Rattle.store.proofs.Sole.{sole-content, sole-indexed, sole-new, sole-taken, not-there}
 use Rattle.store.proofs.Undone.{all-kept, versions-undone}
@@ -7,7 +7,7 @@ use Rattle.store.proofs.commit.put_sole_version.Goals as goal
 
 -- what the commit leaves, once the keys that nothing needs are taken
 taken : (c : goal.After-take_version_keys) → AreIndexed c.take_version_keys.new.tables
-    × AddNoSpare c.args.tables.now c.take_version_keys.new.tables
+    × AddNoStale c.args.tables.now c.take_version_keys.new.tables
 taken c =
     let put = c.put_row_keys.ensures in
     sole-taken c.args.tables.now c.put_row_keys.new.tables c.take_version_keys.new.tables
@@ -37,7 +37,7 @@ returns-else-stood-clause-spares c =
     let put = c.put_row_keys.ensures in
     let new = record c.put_row_keys.new.tables {
       versions = c.write.new.self;
-      guesses = c.note.new.self;
+      hints = c.note.new.self;
     } in
     let standing = c.needed_keys-standing.ensures in
     let none = standing.without (not-there old c.put_row_keys.new.tables c.args.id put.same

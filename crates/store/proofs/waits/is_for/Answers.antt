@@ -1,5 +1,5 @@
 use Rattle.std.proofs.Common.{rules, ◌≡◌, Some, None, ap, sym, ◌∙◌, option_map}
-use Rattle.numbers.specs.Views.{subject_of}
+use Rattle.numbers.specs.Abstraction.{subject_of}
 use Rattle.store.specs.Lists.{is_subject}
 use Rattle.store.specs.WaitRows.{row_in, row_key_in, waiting_of, awaited}
 use Rattle.store.proofs.AboutListed.{compared}

@@ -3,7 +3,7 @@ use Rattle.std.specs.Str.Iter.{split_text, split_has_more, split_pattern}
 use Rattle.std.proofs.lemmas.Iterator.Consumers.{YieldsList-end}
 use Rattle.std.proofs.lemmas.Iterator.Splits.{YieldsList-from_str_split}
 use Rattle.telnp.specs.Answer.{all_placed, kept}
-use Rattle.telnp.specs.Views.{part_texts}
+use Rattle.telnp.specs.Abstraction.{part_texts}
 use Rattle.telnp.proofs.answer.place_kept.Goals as goal
 
 pub returns : goal.returns

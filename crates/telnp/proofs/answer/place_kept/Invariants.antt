@@ -1,6 +1,6 @@
 use Rattle.std.proofs.Common.{◌≡◌, ℕ, List, Bor, map}
 use Rattle.telnp.specs.Answer.{all_placed, kept}
-use Rattle.telnp.specs.Views.{part_texts}
+use Rattle.telnp.specs.Abstraction.{part_texts}
 use Rattle.telnp.proofs.answer.place_kept.Given as goal
 
 abbrev pub invariant-loop-part : goal.invariant-loop-part

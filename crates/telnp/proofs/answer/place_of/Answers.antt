@@ -1,6 +1,6 @@
 use Rattle.std.proofs.Common.{Bool, arith}
 use Rattle.telnp.specs.Answer.{goes_before}
-use Rattle.telnp.specs.Views.{part_text}
+use Rattle.telnp.specs.Abstraction.{part_text}
 use Rattle.telnp.specs.declared.part.Part.{Part}
 use Rattle.telnp.proofs.Places.{place_found, place_none, place-le}
 use Rattle.telnp.proofs.answer.place_of.Goals as goal

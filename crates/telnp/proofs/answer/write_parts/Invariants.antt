@@ -1,6 +1,6 @@
 use Rattle.std.proofs.Common.{◌≡◌, ◌≤◌, ◌++◌, take, string_bytes, string_capacity}
 use Rattle.telnp.specs.Uri.{written}
-use Rattle.telnp.specs.Views.{part_texts}
+use Rattle.telnp.specs.Abstraction.{part_texts}
 use Rattle.telnp.proofs.answer.write_parts.Given as goal
 
 abbrev pub invariant-loop-part : goal.invariant-loop-part

@@ -1,12 +1,12 @@
 -- The refusals in turn, and the versions.
 use Rattle.std.proofs.Common.{◌≡◌, ◌∙◌, List, Some, None, length, map, rules, sym, subst, arith}
 use Rattle.numbers.specs.declared.tn.Tn.{Tn}
-use Rattle.meaning.specs.RefusalNumbers.{number_of}
+use Rattle.model.specs.RefusalNumbers.{number_of}
 use Rattle.pool.specs.Donations.{tn_subject, donation_refusal, AreProtective}
 use Rattle.pool.proofs.BlockRefused.{donation_refused_in}
 use Rattle.pool.proofs.Planned.{refused, answered, handed, refused_as, within, planned}
 use Rattle.pool.proofs.donation.Donation.plan.Goals as goal
-use Rattle.version.specs.Views.{set_of}
+use Rattle.version.specs.Abstraction.{set_of}
 
 pub returns-in_err-check_donor-clause-refused : goal.returns-in_err-check_donor-clause-refused
 returns-in_err-check_donor-clause-refused c =

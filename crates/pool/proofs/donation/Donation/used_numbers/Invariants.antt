@@ -1,7 +1,7 @@
 use Rattle.std.proofs.Common.{◌≡◌, map, take}
 use Rattle.numbers.specs.Digits.{number_in}
 use Rattle.numbers.specs.declared.tn.Tn.{Tn}
-use Rattle.meaning.specs.History.{rising}
+use Rattle.model.specs.History.{rising}
 use Rattle.pool.specs.Donations.{lines_of}
 use Rattle.pool.proofs.donation.Donation.used_numbers.Given as goal
 

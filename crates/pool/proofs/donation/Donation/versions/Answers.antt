@@ -2,7 +2,7 @@
 use Rattle.std.proofs.Common.{arith}
 use Rattle.pool.proofs.Numbered.{next-made}
 use Rattle.pool.proofs.donation.Donation.versions.Goals as goal
-use Rattle.version.specs.Views.{set_of}
+use Rattle.version.specs.Abstraction.{set_of}
 
 pub loop-tn-preserved : goal.loop-tn-preserved
 loop-tn-preserved c = record {

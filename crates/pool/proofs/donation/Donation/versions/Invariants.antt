@@ -1,7 +1,7 @@
 use Rattle.std.proofs.Common.{◌≡◌, ◌+◌, map, take}
 use Rattle.pool.specs.Donations.{AreProtective, tn_subject}
 use Rattle.pool.proofs.donation.Donation.versions.Given as goal
-use Rattle.version.specs.Views.{set_of}
+use Rattle.version.specs.Abstraction.{set_of}
 
 -- a version for each number passed
 abbrev pub invariant-loop-tn : goal.invariant-loop-tn

@@ -1,33 +1,33 @@
 use Rattle.std.proofs.Common.{rules}
-use Rattle.meaning.specs.Machine.{Found}
-use Rattle.meaning.specs.Refusals.{Asks, Ids}
-use Rattle.calls.specs.Calls.{replied}
+use Rattle.model.specs.Machine.{Found}
+use Rattle.model.specs.Refusals.{QuestionFrom, Ids}
+use Rattle.requests.specs.Calls.{replied}
 use Rattle.register.proofs.EveryCall.Before.{answers_after, leaves_after}
 use Rattle.settle.proofs.Faults.{fault_is_none}
 use Rattle.register.proofs.register.Register.ids.Goals as goal
 
 pub returns-clause-answers : goal.returns-clause-answers
 returns-clause-answers g c = λ usable caller.
-    let middle = c.ids.ensures.owes.usable usable in
+    let middle = c.ids.ensures.preserves.usable usable in
     answers_after (g.S.Store.content c.args.self.now.store)
     (g.S.Store.content c.settle_number.new.store) (g.S.Store.content c.ids.new.store)
-    (Asks caller (Ids c.args.tn.number))
+    (QuestionFrom caller (Ids c.args.tn.number))
     (c.in_ok-settle_number.ensures.kept middle) (c.in_ok-settle_number.ensures.settled middle)
     (replied (λ found. Found found.in_force found.opened) c.ids.result)
     (c.ids.ensures.answers usable caller)
 
 pub returns-clause-elsewhere : goal.returns-clause-elsewhere
 returns-clause-elsewhere g c = λ usable caller.
-    let middle = c.ids.ensures.owes.usable usable in
+    let middle = c.ids.ensures.preserves.usable usable in
     leaves_after (g.S.Store.content c.args.self.now.store)
     (g.S.Store.content c.settle_number.new.store) (g.S.Store.content c.ids.new.store)
-    (Asks caller (Ids c.args.tn.number))
+    (QuestionFrom caller (Ids c.args.tn.number))
     (c.in_ok-settle_number.ensures.kept middle) (c.in_ok-settle_number.ensures.settled middle)
     (replied (λ found. Found found.in_force found.opened) c.ids.result)
     (c.ids.ensures.answers usable caller)
 
-pub returns-in_err-settle_number-clause-owes : goal.returns-in_err-settle_number-clause-owes
-returns-in_err-settle_number-clause-owes g c = record {
+pub returns-in_err-settle_number-clause-preserves : goal.returns-in_err-settle_number-clause-preserves
+returns-in_err-settle_number-clause-preserves g c = record {
   usable = search rules;
   honest = search rules;
   stays = λ answered. absurd (fault_is_none c.from_residual.result c.in_err-settle_number.field-0.0

@@ -1,8 +1,8 @@
 use Rattle.std.proofs.Common.{map, rules}
-use Rattle.meaning.specs.Machine.{Awaited}
-use Rattle.meaning.specs.Refusals.{Asks, Waiting}
-use Rattle.numbers.specs.Views.{subject_of}
-use Rattle.calls.specs.Calls.{replied}
+use Rattle.model.specs.Machine.{Awaited}
+use Rattle.model.specs.Refusals.{QuestionFrom, Waiting}
+use Rattle.numbers.specs.Abstraction.{subject_of}
+use Rattle.requests.specs.Calls.{replied}
 use Rattle.register.proofs.EveryCall.Before.{all_kept, all_settled, answers_after, owes_after}
 use Rattle.register.proofs.Registering.ClockMoved.{means_fault}
 use Rattle.register.proofs.Downloads.Awaited.{if_all_but}
@@ -11,33 +11,34 @@ use Rattle.register.proofs.register.Register.waiting.Goals as goal
 pub returns-in_err-settle_all-clause-answers : goal.returns-in_err-settle_all-clause-answers
 returns-in_err-settle_all-clause-answers g c = λ usable.
     means_fault (g.S.Store.content c.args.self.now.store) (g.S.Store.content c.settle_all.new.store)
-    (Asks c.args.caller.number Waiting) (λ subjects. Awaited (map subject_of subjects.items))
+    (QuestionFrom c.args.caller.number Waiting)
+    (λ subjects. Awaited (map subject_of subjects.items))
     c.from_residual.result c.in_err-settle_all.field-0.0 (search rules)
-    (λ st stands. (all_kept (g.S.Store.content c.args.self.now.store)
+    (λ st refines. (all_kept (g.S.Store.content c.args.self.now.store)
     (g.S.Store.content c.settle_all.new.store) (c.in_err-settle_all.ensures.kept usable) st
-    stands).0)
+    refines).0)
 
-pub returns-clause-owes : goal.returns-clause-owes
-returns-clause-owes g c =
-    owes_after g.S.Store.IsUsable g.S.Store.IsHonest g.S.Store.failed c.args.self.now.store
+pub returns-clause-preserves : goal.returns-clause-preserves
+returns-clause-preserves g c =
+    owes_after g.S.Store.IsUsable g.S.Store.HasHonestDevice g.S.Store.failed c.args.self.now.store
     c.settle_all.new.store c.waiting.new.store
     (g.S.Store.content c.args.self.now.store) (g.S.Store.content c.settle_all.new.store)
-    (Asks c.args.caller.number Waiting)
-    tt c.in_ok-settle_all.ensures.owes
+    (QuestionFrom c.args.caller.number Waiting)
+    tt c.in_ok-settle_all.ensures.preserves
     (λ middle. all_kept (g.S.Store.content c.args.self.now.store)
     (g.S.Store.content c.settle_all.new.store) (c.in_ok-settle_all.ensures.kept middle))
     (λ middle. all_settled (g.S.Store.content c.args.self.now.store)
     (g.S.Store.content c.settle_all.new.store) (c.in_ok-settle_all.ensures.settled middle))
-    c.waiting.ensures.owes
+    c.waiting.ensures.preserves
 
 pub returns-clause-published : goal.returns-clause-published
 returns-clause-published g c = λ usable.
-    let middle = c.waiting.ensures.owes.usable usable in
+    let middle = c.waiting.ensures.preserves.usable usable in
     if_all_but (g.S.Store.content c.args.self.now.store) (g.S.Store.content c.waiting.new.store)
     c.args.caller.number (λ v. map subject_of v.items) c.waiting.result
     (answers_after (g.S.Store.content c.args.self.now.store)
     (g.S.Store.content c.settle_all.new.store) (g.S.Store.content c.waiting.new.store)
-    (Asks c.args.caller.number Waiting)
+    (QuestionFrom c.args.caller.number Waiting)
     (all_kept (g.S.Store.content c.args.self.now.store) (g.S.Store.content c.settle_all.new.store)
     (c.in_ok-settle_all.ensures.kept middle))
     (all_settled (g.S.Store.content c.args.self.now.store)

@@ -4,7 +4,7 @@ use Rattle.sqlite.specs.Files.{file_state, over_files}
 use Rattle.sqlite.specs.WalFiles.{image_at}
 use Rattle.sqlite_trees.specs.Objects.{catalog_tree}
 use Rattle.sql_rows.specs.Tables.{no_schema}
-use Rattle.version.specs.Views.{windows_of}
+use Rattle.version.specs.Abstraction.{windows_of}
 use Rattle.sql_store.specs.Opened.{IsTakenAs}
 use Rattle.sql_store.proofs.FoundLemmas.{found_shaped}
 use Rattle.sql_store.proofs.OpeningLemmas.{empty_finds_none, empty_is_unlisted, never_windows, refused_of, sound_as}

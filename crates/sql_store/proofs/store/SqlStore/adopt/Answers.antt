@@ -1,6 +1,6 @@
 use Rattle.std.proofs.Common.{subst}
 use Rattle.sqlite.specs.Held.{state}
-use Rattle.version.specs.Views.{windows_of}
+use Rattle.version.specs.Abstraction.{windows_of}
 use Rattle.sql_store.specs.Opened.{HadOtherWindows, IsTakenAs}
 use Rattle.sql_store.proofs.OpeningLemmas.{stands_clean}
 use Rattle.sql_store.proofs.store.SqlStore.adopt.Goals as goal

@@ -1,7 +1,7 @@
 use Rattle.std.proofs.Common.{IsTrue, rules, sym, ap, ◌∙◌, inl, inr}
 use Rattle.sqlite.specs.Effect.{Database}
 use Rattle.sqlite.specs.Held.{state}
-use Rattle.sql_rows.specs.Moving.{schema_of}
+use Rattle.sql_rows.specs.Migration.{schema_of}
 use Rattle.sql_rows.specs.Tables.{no_schema, the_schema}
 use Rattle.sql_store.proofs.OpeningLemmas.{never_windows, sound_as, taken_found, taken_moved, taken_new}
 use Rattle.sql_store.proofs.store.SqlStore.opened.Goals as goal

@@ -6,12 +6,12 @@ use Rattle.sql_store.proofs.OpeningLemmas.{falls}
 use Rattle.sql_store.proofs.store.SqlStore.read.Goals as goal
 
 pub returns-in-Ok-clause-clean : goal.returns-in-Ok-clause-clean
-returns-in-Ok-clause-clean g c = falls _ _ c.in-Ok.ensures.looked.honest
+returns-in-Ok-clause-clean g c = falls _ _ c.in-Ok.ensures.queried.honest
 
 pub returns-in-Err-clause-err_clean : goal.returns-in-Err-clause-err_clean
 returns-in-Err-clause-err_clean g c =
     let before : doubt (state g.S.Store c.args.self.conn).is_clean ≤ doubt
-    (state g.S.Store c.read_all.new.conn).is_clean = falls _ _ c.in-Err.ensures.looked.honest in
+    (state g.S.Store c.read_all.new.conn).is_clean = falls _ _ c.in-Err.ensures.queried.honest in
     let after : doubt (state g.S.Store c.read_all.new.conn).is_clean ≤ doubt
     (g.S.Store.view c.into_store.result).is_clean =
     subst (λ (h : Held _). doubt (g.S.Store.view h.store).is_clean ≤ doubt
@@ -23,13 +23,13 @@ returns-in-Err-clause-err_clean g c =
 pub invariant_of-self : goal.invariant_of-self
 invariant_of-self g c = record {
   ours = looked_ours (state g.S.Store c.args.self.conn) (state g.S.Store c.read_all.new.conn) _
-      c.args.self.ours c.read_all.ensures.looked;
+      c.args.self.ours c.read_all.ensures.queried;
   idle = c.read_all.ensures.idle;
 }
 
 pub invariant_of-self-in-Err : goal.invariant_of-self-in-Err
 invariant_of-self-in-Err g c = record {
   ours = looked_ours (state g.S.Store c.args.self.conn) (state g.S.Store c.read_all.new.conn) _
-      c.args.self.ours c.read_all.ensures.looked;
+      c.args.self.ours c.read_all.ensures.queried;
   idle = c.read_all.ensures.idle;
 }

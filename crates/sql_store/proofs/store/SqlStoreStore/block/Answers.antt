@@ -5,6 +5,6 @@ use Rattle.sql_store.proofs.store.SqlStoreStore.block.Goals as goal
 pub invariant_of-self : goal.invariant_of-self
 invariant_of-self g c = record {
   ours = looked_ours (state g.S.Store c.args.self.now.conn) (state g.S.Store c.block.new.conn) _
-      c.args.self.now.ours c.block.ensures.looked;
+      c.args.self.now.ours c.block.ensures.queried;
   idle = c.block.ensures.idle;
 }

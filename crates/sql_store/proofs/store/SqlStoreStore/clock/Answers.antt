@@ -5,6 +5,6 @@ use Rattle.sql_store.proofs.store.SqlStoreStore.clock.Goals as goal
 pub invariant_of-self : goal.invariant_of-self
 invariant_of-self g c = record {
   ours = looked_ours (state g.S.Store c.args.self.now.conn) (state g.S.Store c.clock.new.conn) _
-      c.args.self.now.ours c.clock.ensures.looked;
+      c.args.self.now.ours c.clock.ensures.queried;
   idle = c.clock.ensures.idle;
 }

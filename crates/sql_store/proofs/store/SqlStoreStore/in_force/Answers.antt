@@ -5,6 +5,6 @@ use Rattle.sql_store.proofs.store.SqlStoreStore.in_force.Goals as goal
 pub invariant_of-self : goal.invariant_of-self
 invariant_of-self g c = record {
   ours = looked_ours (state g.S.Store c.args.self.now.conn) (state g.S.Store c.in_force.new.conn) _
-      c.args.self.now.ours c.in_force.ensures.looked;
+      c.args.self.now.ours c.in_force.ensures.queried;
   idle = c.in_force.ensures.idle;
 }

@@ -6,6 +6,6 @@ pub invariant_of-self : goal.invariant_of-self
 invariant_of-self g c = record {
   ours = looked_ours (state g.S.Store c.args.self.now.conn)
       (state g.S.Store c.is_last_wait.new.conn) _ c.args.self.now.ours
-      c.is_last_wait.ensures.looked;
+      c.is_last_wait.ensures.queried;
   idle = c.is_last_wait.ensures.idle;
 }

@@ -6,6 +6,6 @@ pub invariant_of-self : goal.invariant_of-self
 invariant_of-self g c = record {
   ours = looked_ours (state g.S.Store c.args.self.now.conn)
       (state g.S.Store c.open_version.new.conn) _ c.args.self.now.ours
-      c.open_version.ensures.looked;
+      c.open_version.ensures.queried;
   idle = c.open_version.ensures.idle;
 }

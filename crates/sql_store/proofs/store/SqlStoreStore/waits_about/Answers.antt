@@ -5,6 +5,6 @@ use Rattle.sql_store.proofs.store.SqlStoreStore.waits_about.Goals as goal
 pub invariant_of-self : goal.invariant_of-self
 invariant_of-self g c = record {
   ours = looked_ours (state g.S.Store c.args.self.now.conn) (state g.S.Store c.waits_about.new.conn)
-      _ c.args.self.now.ours c.waits_about.ensures.looked;
+      _ c.args.self.now.ours c.waits_about.ensures.queried;
   idle = c.waits_about.ensures.idle;
 }

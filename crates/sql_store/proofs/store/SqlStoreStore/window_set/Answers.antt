@@ -5,6 +5,6 @@ use Rattle.sql_store.proofs.store.SqlStoreStore.window_set.Goals as goal
 pub invariant_of-self : goal.invariant_of-self
 invariant_of-self g c = record {
   ours = looked_ours (state g.S.Store c.args.self.now.conn) (state g.S.Store c.window_set.new.conn)
-      _ c.args.self.now.ours c.window_set.ensures.looked;
+      _ c.args.self.now.ours c.window_set.ensures.queried;
   idle = c.window_set.ensures.idle;
 }

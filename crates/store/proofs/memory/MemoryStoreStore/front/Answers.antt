@@ -1,6 +1,6 @@
 use Rattle.std.proofs.Common.{rules}
 use Rattle.std.specs.Prelude.{IfOk}
-use Rattle.settle.specs.Views.{spid_of}
+use Rattle.settle.specs.Abstraction.{spid_of}
 use Rattle.settle.specs.Reads.{AreFirst}
 use Rattle.store.specs.Tables.{content_of}
 use Rattle.store.proofs.Lists.{all-first}

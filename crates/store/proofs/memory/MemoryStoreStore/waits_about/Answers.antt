@@ -1,7 +1,7 @@
 use Rattle.std.proofs.Common.{rules}
 use Rattle.std.specs.Prelude.{IfOk}
-use Rattle.numbers.specs.Views.{subject_of}
-use Rattle.settle.specs.Views.{spid_of}
+use Rattle.numbers.specs.Abstraction.{subject_of}
+use Rattle.settle.specs.Abstraction.{spid_of}
 use Rattle.settle.specs.Lists.{items_of}
 use Rattle.settle.specs.Reads.{AreWaitsAbout}
 use Rattle.store.specs.Tables.{content_of}

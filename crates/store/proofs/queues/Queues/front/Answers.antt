@@ -4,9 +4,9 @@ use Rattle.std.specs.BTreeMap.Range.{entries_between}
 use Rattle.std.specs.declared.ops.Bound.TheVariants.{Included}
 use Rattle.std.specs.FinMap.{FinMap}
 use Rattle.numbers.specs.Subjects.{Subject}
-use Rattle.meaning.specs.Content.{wait_cmp, empty_content}
+use Rattle.model.specs.Content.{wait_cmp, empty_content}
 use Rattle.settle.specs.Reads.{AreFirst}
-use Rattle.settle.specs.Views.{broadcast_key_of, broadcast_row_of, spid_of, wait_key_of}
+use Rattle.settle.specs.Abstraction.{broadcast_key_of, broadcast_row_of, spid_of, wait_key_of}
 use Rattle.store.specs.Maps.{map_of}
 use Rattle.store.proofs.QueueListed.{walked}
 use Rattle.store.proofs.queues.Queues.front.Goals as goal

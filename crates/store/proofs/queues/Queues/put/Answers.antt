@@ -1,7 +1,7 @@
 use Rattle.std.proofs.Common.{rules, ◌≡◌, true, Some, None, refl, sym, ◌∙◌, ap, subst}
 use Rattle.std.specs.Prelude.{is_some}
-use Rattle.numbers.specs.Views.{subject_of}
-use Rattle.settle.specs.Views.{wait_key_of}
+use Rattle.numbers.specs.Abstraction.{subject_of}
+use Rattle.settle.specs.Abstraction.{wait_key_of}
 use Rattle.store.specs.QueueRows.{AreOrdered, order_of}
 use Rattle.store.specs.WaitRows.{IsDownload, download_of}
 use Rattle.store.proofs.Ordered.{order-written, ordered-set, ordered-again, ordered-back, order-gone, order-at}

@@ -3,9 +3,9 @@ use Rattle.std.specs.Ordering.{on}
 use Rattle.std.specs.BTreeMap.Range.{entries_between}
 use Rattle.std.specs.declared.ops.Bound.TheVariants.{Included}
 use Rattle.std.specs.FinMap.{get, empty}
-use Rattle.numbers.specs.Views.{subject_of}
-use Rattle.meaning.specs.Content.{wait_cmp}
-use Rattle.settle.specs.Views.{wait_key_of}
+use Rattle.numbers.specs.Abstraction.{subject_of}
+use Rattle.model.specs.Content.{wait_cmp}
+use Rattle.settle.specs.Abstraction.{wait_key_of}
 use Rattle.store.specs.QueueRows.{AreOrdered, order_of, gathered, subjects_of}
 use Rattle.store.proofs.SubjectsListed.{gathered-step, subjects-are, if_ok}
 use Rattle.store.proofs.queues.Queues.subjects.Goals as goal

@@ -1,5 +1,5 @@
 use Rattle.std.proofs.Common.{◌≡◌, true, false, None, refl, sym, subst}
-use Rattle.settle.specs.Views.{wait_key_of}
+use Rattle.settle.specs.Abstraction.{wait_key_of}
 use Rattle.store.specs.QueueRows.{AreOrdered, order_of}
 use Rattle.store.proofs.Ordered.{order-written, ordered-set}
 use Rattle.store.proofs.queues.Queues.take.Goals as goal

@@ -1,8 +1,8 @@
 use Rattle.std.proofs.Common.{◌≡◌, Bool, true, false, sym, ◌∙◌, subst, refl, map}
 use Rattle.std.specs.Prelude.{◌==◌, not}
-use Rattle.numbers.specs.Views.{subject_of, key_of}
+use Rattle.numbers.specs.Abstraction.{subject_of, key_of}
 use Rattle.numbers.proofs.SubjectKeys.{subject_key-exact}
-use Rattle.settle.specs.Views.{spid_of}
+use Rattle.settle.specs.Abstraction.{spid_of}
 use Rattle.store.specs.WaitRows.{IsAdded}
 use Rattle.numbers.proofs.Small.{equal_number, denied}
 use Rattle.store.proofs.OneRow.{added}

@@ -1,7 +1,7 @@
 use Rattle.std.proofs.Common.{rules, ◌≡◌, true, false, cond, Some, None, ap, sym, ◌∙◌}
 use Rattle.std.specs.Prelude.{◌==◌}
 use Rattle.std.specs.List.{list_any}
-use Rattle.numbers.specs.Views.{subject_of}
+use Rattle.numbers.specs.Abstraction.{subject_of}
 use Rattle.numbers.specs.declared.spid.Spid.{Spid}
 use Rattle.store.proofs.OneRow.{any-seen}
 use Rattle.store.proofs.waiting.Waiting.subject_for.Goals as goal

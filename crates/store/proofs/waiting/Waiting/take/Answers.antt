@@ -1,4 +1,4 @@
-use Rattle.numbers.specs.Views.{subject_of}
+use Rattle.numbers.specs.Abstraction.{subject_of}
 use Rattle.store.proofs.OneRow.{without}
 use Rattle.store.proofs.waiting.Waiting.take.Goals as goal
 

@@ -4,11 +4,11 @@ use Rattle.std.specs.BTreeMap.Range.{entries_between}
 use Rattle.std.specs.declared.ops.Bound.TheVariants.{Included}
 use Rattle.std.specs.FinMap.{FinMap}
 use Rattle.numbers.specs.Subjects.{Subject}
-use Rattle.numbers.specs.Views.{subject_of}
-use Rattle.meaning.specs.Content.{wait_cmp, empty_content}
+use Rattle.numbers.specs.Abstraction.{subject_of}
+use Rattle.model.specs.Content.{wait_cmp, empty_content}
 use Rattle.settle.specs.Lists.{items_of}
 use Rattle.settle.specs.Reads.{AreWaitsAbout}
-use Rattle.settle.specs.Views.{spid_of}
+use Rattle.settle.specs.Abstraction.{spid_of}
 use Rattle.store.specs.WaitRows.{subject_download_of, subject_download_cmp}
 use Rattle.store.proofs.AboutListed.{about-are}
 use Rattle.store.proofs.waits.Waits.about.Goals as goal

@@ -3,7 +3,7 @@ use Rattle.std.specs.Prelude.{is_some, ◌==◌}
 use Rattle.std.specs.List.{list_any}
 use Rattle.std.specs.FinMap.{get}
 use Rattle.numbers.specs.declared.spid.Spid.{Spid}
-use Rattle.settle.specs.Views.{wait_key_of}
+use Rattle.settle.specs.Abstraction.{wait_key_of}
 use Rattle.store.specs.WaitRows.{download_of, wait_for}
 use Rattle.store.proofs.OneRow.{any-seen}
 use Rattle.store.proofs.WaitsKept.{wait-at}

@@ -1,7 +1,7 @@
 use Rattle.std.proofs.Common.{rules, ◌≡◌, Some, None, ap, sym, ◌∙◌, option_map}
-use Rattle.numbers.specs.Views.{subject_of}
+use Rattle.numbers.specs.Abstraction.{subject_of}
 use Rattle.std.specs.FinMap.{get}
-use Rattle.settle.specs.Views.{wait_key_of}
+use Rattle.settle.specs.Abstraction.{wait_key_of}
 use Rattle.store.proofs.WaitsKept.{wait-at}
 use Rattle.store.proofs.waits.Waits.get.Goals as goal
 

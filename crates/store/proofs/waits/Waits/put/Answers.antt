@@ -1,9 +1,9 @@
 use Rattle.std.proofs.Common.{rules, ◌≡◌, Some, None, ap, sym, ◌∙◌, subst}
 use Rattle.std.specs.FinMap.{FinMap, get, from_entries}
 use Rattle.numbers.specs.Subjects.{Subject}
-use Rattle.numbers.specs.Views.{subject_of}
-use Rattle.meaning.specs.Content.{wait_cmp}
-use Rattle.settle.specs.Views.{wait_key_of}
+use Rattle.numbers.specs.Abstraction.{subject_of}
+use Rattle.model.specs.Content.{wait_cmp}
+use Rattle.settle.specs.Abstraction.{wait_key_of}
 use Rattle.store.specs.Maps.{set, seen_entries}
 use Rattle.store.specs.WaitRows.{row_key_of, download_of, waiting_of, rows_of, about_of, key_about, subject_download_of, IsDownload}
 use Rattle.store.proofs.RowsChanged.{Agrees, agrees-kept, agrees-new, agrees-back, row-same}

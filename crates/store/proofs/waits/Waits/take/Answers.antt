@@ -1,8 +1,8 @@
 use Rattle.std.proofs.Common.{rules, ◌≡◌, Some, None, ap, sym, ◌∙◌, subst, [], map}
 use Rattle.std.specs.FinMap.{FinMap, get}
 use Rattle.numbers.specs.Subjects.{Subject}
-use Rattle.meaning.specs.Content.{wait_cmp}
-use Rattle.settle.specs.Views.{spid_of, wait_key_of}
+use Rattle.model.specs.Content.{wait_cmp}
+use Rattle.settle.specs.Abstraction.{spid_of, wait_key_of}
 use Rattle.store.specs.Maps.{set}
 use Rattle.store.specs.WaitRows.{download_of, waiting_of, rows_of, about_of, key_about, subject_download_of, waits_of}
 use Rattle.store.proofs.RowsChanged.{Agrees, agrees-kept, agrees-gone}

@@ -1,6 +1,6 @@
 -- What is refused as the facts say is refused as the state says.
 use Rattle.std.proofs.Common.{rules}
-use Rattle.version.specs.Views.{set_of}
+use Rattle.version.specs.Abstraction.{set_of}
 use Rattle.version.proofs.CreateRefused.{create_refused_in}
 use Rattle.version.proofs.create.Create.apply.Goals as goal
 

@@ -1,5 +1,5 @@
 use Rattle.std.proofs.Common.{◌≡◌, false, refl, rules}
-use Rattle.meaning.specs.Conditions.{has_no_attempt_left}
+use Rattle.model.specs.Conditions.{has_no_attempt_left}
 use Rattle.version.proofs.Changed.{attempt_fits}
 use Rattle.version.proofs.version.Version.modified.Goals as goal
 

@@ -1,9 +1,0 @@
-use Rattle.api.proofs.StorageLemmas.{storage_tells}
-use Rattle.api.proofs.StorageRuns.{stays_clear}
-use Rattle.api.proofs.laws.storage_tells_of_a_failure.Goals as goal
-
-pub returns-clause-step : goal.returns-clause-step
-returns-clause-step c = storage_tells
-
-pub returns-clause-run : goal.returns-clause-run
-returns-clause-run c = stays_clear

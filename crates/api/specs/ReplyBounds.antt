@@ -1,0 +1,25 @@
+-- What is counted before a call is made, and the room for it.
+use Rattle.std.specs.Prelude.{◌≡◌, ℕ, ◌+◌, ◌*◌, ◌≤◌, List, length, Option}
+use Rattle.model.specs.Commands.{RegisterCarrier, Donate}
+use Rattle.model.specs.History.{CommandRequest}
+use Rattle.model.specs.State.{State, all_in_force}
+use Rattle.model.specs.Refusals.{Fetch}
+use Rattle.requests.specs.Calls.{ModelCall, RequestCall, QuestionCall}
+use Rattle.json_api.specs.declared.response.ResponseBuffer.{ResponseBuffer}
+use Rattle.json_api.specs.ResponseBuffers.{HasCapacity}
+use Rattle.api.specs.declared.reply.ReplyBounds.{ReplyBounds}
+
+-- the rows that a registration shows, the downloads that are asked for, and the hundred ids that a
+-- donation may make
+pub record AreReplyBounds (st : State) (called : ModelCall) (counted : ReplyBounds) : Type 0 where
+  pub rows : (spid : ℕ) → called ≡ RequestCall (CommandRequest (RegisterCarrier spid))
+      → length (all_in_force st) ≡ counted.rows
+  pub downloads : (n : ℕ) → called ≡ QuestionCall (Fetch n) → n ≡ counted.downloads
+  pub ids : (block : ℕ) (used : List ℕ) (lrn : ℕ) (cic : Option ℕ)
+      → called ≡ RequestCall (CommandRequest (Donate block used lrn cic)) → 100 ≤ counted.ids
+
+-- a body with so many rows fits, one with so many downloads, and one with so many ids
+pub record HasCapacityFor (counted : ReplyBounds) (r : ResponseBuffer) : Type 0 where
+  pub rows : HasCapacity (64 + counted.rows * 64) r
+  pub downloads : HasCapacity (64 + counted.downloads * 192) r
+  pub ids : HasCapacity (64 + counted.ids * 21) r

@@ -1,5 +1,0 @@
-use Rattle.bodies.proofs.FormLemmas.{no_donation}
-use Rattle.bodies.proofs.forms.donation.Goals as goal
-
-pub returns-in_default-routing_at-clause-none : goal.returns-in_default-routing_at-clause-none
-returns-in_default-routing_at-clause-none g c = no_donation _ c.in_default-routing_at.ensures.none

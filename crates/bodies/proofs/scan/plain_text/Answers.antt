@@ -1,5 +1,0 @@
-use Rattle.bodies.proofs.ScanLemmas.{plain_utf8}
-use Rattle.bodies.proofs.scan.plain_text.Goals as goal
-
-pub from_utf8_unchecked-requires : goal.from_utf8_unchecked-requires
-from_utf8_unchecked-requires c = plain_utf8 c.args.bytes.now c.requires

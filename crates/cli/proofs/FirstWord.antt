@@ -1,0 +1,127 @@
+-- The first word names the subcommand, and its rule reads the rest.
+use Rattle.std.proofs.Common.{◌≡◌, List, [], ◌∷◌, ◌++◌, Option, Some, option_map, refl, ap, sym, ◌∙◌, append-nil, append_assoc, codes, subst}
+use Rattle.std.specs.Prelude.{fold}
+use Rattle.clap.specs.Words.{Row, Rule, Text, subcommand_of}
+use Rattle.clap.specs.Walk.{Names, Walk, walked, walked_from, walk_from, nothing_held}
+use Rattle.clap.specs.Simple.{built, names_of, entered}
+use Rattle.clap.proofs.OnLiterals.{clap_on_literals}
+use Rattle.cli.specs.declared.parse.Subcommand.{Subcommand}
+use Rattle.cli.specs.declared.parse.Subcommand.TheVariants as sub
+use Rattle.cli.specs.CommandLine.{IsLineOf, IsNoLine, IsNoLineOf, IsSubcommand, npacd_app, rows_named}
+
+abbrev Stop : Type 0
+Stop = Text × List Text
+
+met_again : (c : List Rule) (names : Names) (w : Walk) (p : Stop) (word : Text) → w.stopped ≡ Some p
+    → (walked c names w word).stopped ≡ Some (p.0, p.1 ++ word ∷ [])
+unfolding walked
+met_again c names w p word e = ap (λ (o : Option Stop). (walked_from c names o w word).stopped) e
+
+-- after a subcommand was met, each word goes to it
+kept : (c : List Rule) (names : Names) (w : Walk) (p : Stop) (rest : List Text)
+    → w.stopped ≡ Some p → (fold (walked c names) w rest).stopped ≡ Some (p.0, p.1 ++ rest)
+kept c names w p [] e = e ∙ ap (λ (t : List Text). Some (p.0, t)) (sym (append-nil p.1))
+kept c names w p (word ∷ rest) e =
+    kept c names (walked c names w word) (p.0, p.1 ++ word ∷ []) rest (met_again c names w p word e)
+    ∙ ap (λ (t : List Text). Some (p.0, t)) (append_assoc p.1 (word ∷ []) rest)
+
+-- a name is met at once
+abbrev IsMet : Text → Type 0
+IsMet name =
+    (walked (built npacd_app).top.rules (names_of (built npacd_app)) (walk_from nothing_held)
+    name).stopped ≡ Some (name, [])
+
+-- where a name is met at once, its rule reads the words after it
+entered_at : (program name : Text) (after : List Text) → IsMet name
+    → subcommand_of npacd_app (program ∷ name ∷ after) ≡ entered (built npacd_app)
+    (Some (name, after))
+entered_at program name after met =
+    ap (entered (built npacd_app)) (kept (built npacd_app).top.rules (names_of (built npacd_app)) _
+    (name, []) after met)
+
+abbrev Pair : Type 0
+Pair = Text × List Row
+
+-- the rows of the named subcommand
+abbrev Reads : Text → List Text → List Row → Type 0
+Reads name after rows = entered (built npacd_app) (Some (name, after)) ≡ Some (name, rows)
+    → rows_named name after ≡ Some rows
+
+-- a subcommand by this name
+record IsNamed (name : Text) : Type 0 where
+  met : IsMet name
+  reads : (after : List Text) (rows : List Row) → Reads name after rows
+
+feed_named : IsNamed (codes "feed")
+unfolding clap_on_literals
+feed_named = record { met = refl; reads = λ after rows e. ap (option_map (λ (p : Pair). p.1)) e }
+
+serve_named : IsNamed (codes "serve")
+unfolding clap_on_literals
+serve_named = record { met = refl; reads = λ after rows e. ap (option_map (λ (p : Pair). p.1)) e }
+
+bulk_named : IsNamed (codes "bulk")
+unfolding clap_on_literals
+bulk_named = record { met = refl; reads = λ after rows e. ap (option_map (λ (p : Pair). p.1)) e }
+
+export_named : IsNamed (codes "export")
+unfolding clap_on_literals
+export_named = record { met = refl; reads = λ after rows e. ap (option_map (λ (p : Pair). p.1)) e }
+
+audit_named : IsNamed (codes "audit")
+unfolding clap_on_literals
+audit_named = record { met = refl; reads = λ after rows e. ap (option_map (λ (p : Pair). p.1)) e }
+
+at_name : (program literal name : Text) (after : List Text) (rows : List Row) → IsNamed literal
+    → name ≡ literal
+    → subcommand_of npacd_app (program ∷ name ∷ after) ≡ Some (name, rows)
+    → rows_named name after ≡ Some rows
+at_name program literal name after rows named e found =
+    let P : Text → Type 0 = λ n. subcommand_of npacd_app (program ∷ n ∷ after) ≡ Some (n, rows) in
+    let Q : Text → Type 0 = λ n. rows_named n after ≡ Some rows in
+    subst Q (sym e) (named.reads after rows (sym (entered_at program literal after named.met)
+    ∙ subst P e found))
+
+second_same : {p q a b : Text} {xs ys : List Text} → p ∷ a ∷ xs ≡ q ∷ b ∷ ys → a ≡ b
+second_same e = cc
+
+rest_same : {p q a b : Text} {xs ys : List Text} → p ∷ a ∷ xs ≡ q ∷ b ∷ ys → xs ≡ ys
+rest_same e = cc
+
+some_same : {r s : List Row} → Some r ≡ Some s → r ≡ s
+some_same e = cc
+
+-- by whatever rows the name is known to be a subcommand's
+pub rows_are_named : (program name : Text) (after : List Text) (told rows : List Row)
+    (s : Subcommand) → IsSubcommand name told s
+    → subcommand_of npacd_app (program ∷ name ∷ after) ≡ Some (name, rows)
+    → rows_named name after ≡ Some rows
+rows_are_named program name after told rows sub.Feed h found =
+    at_name program (codes "feed") name after rows feed_named h found
+rows_are_named program name after told rows (sub.Serve port connections) h found =
+    at_name program (codes "serve") name after rows serve_named h.0 found
+rows_are_named program name after told rows sub.Bulk h found =
+    at_name program (codes "bulk") name after rows bulk_named h found
+rows_are_named program name after told rows sub.Export h found =
+    at_name program (codes "export") name after rows export_named h found
+rows_are_named program name after told rows (sub.Audit spid) h found =
+    at_name program (codes "audit") name after rows audit_named h.0 found
+
+-- where the rows after a word are no line of it, the words are no line
+pub no_line : (program name : Text) (after : List Text) (rows : List Row)
+    → subcommand_of npacd_app (program ∷ name ∷ after) ≡ Some (name, rows)
+    → IsNoLineOf name rows → IsNoLine (program ∷ name ∷ after)
+no_line program name after rows found none line takes is =
+    let same = is.words_are in
+    let name_is : is.name ≡ name = sym (second_same same) in
+    let after_is : is.after ≡ after = sym (rest_same same) in
+    let told = subst (λ (n : Text). IsSubcommand n is.rows line.subcommand) name_is
+    is.line_is.subcommand in
+    let named : rows_named name after ≡ Some rows =
+    rows_are_named program name after is.rows rows line.subcommand told found in
+    let other : rows_named name after ≡ Some is.rows =
+    subst (λ (n : Text). rows_named n after ≡ Some is.rows) name_is
+    (subst (λ (a : List Text). rows_named is.name a ≡ Some is.rows) after_is is.rows_are) in
+    let rows_is : is.rows ≡ rows = some_same (sym other ∙ named) in
+    none line (subst (λ (n : Text). IsLineOf n rows line) name_is
+    (subst (λ (r : List Row). IsLineOf is.name r line) rows_is is.line_is))

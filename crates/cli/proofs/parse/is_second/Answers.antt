@@ -1,0 +1,21 @@
+use Rattle.std.proofs.Common.{◌≡◌, ◌≤◌, List, [], ◌∷◌, length, get_or, map, ap, sym, ◌∙◌, arith}
+use Rattle.std.proofs.lemmas.Slice.Eq.{bytes_eq-Decides}
+use Rattle.clap.specs.Words.{Text}
+use Rattle.cli.specs.CommandLine.{HasSecond}
+use Rattle.cli.proofs.parse.is_second.Goals as goal
+
+second_of : {X : Type 0} (f : X → Text) (xs : List X) (x : X) (name : Text) → 2 ≤ length xs
+    → x ≡ get_or xs 1 x → f x ≡ name → HasSecond (map f xs) name
+second_of f [] x name len is e = absurd (omega arith)
+second_of f (a ∷ []) x name len is e = absurd (omega arith)
+second_of f (a ∷ b ∷ xs) x name len is e = (
+  f a,
+  map f xs,
+  ap (λ (t : Text). f a ∷ t ∷ map f xs) (ap f (sym is) ∙ e),
+)
+
+pub returns-in-len2-up : goal.returns-in-len2-up
+returns-in-len2-up g c = λ yes.
+    let same = (bytes_eq-Decides c.as_str.result.now c.args.name.now).0 (sym c.eq.ensures ∙ yes) in
+    second_of g.S.AsStr.text c.args.words.now c.second-item.result c.args.name.now
+    c.in-len2-up.len_at_least c.second-item.is (sym c.as_str.ensures ∙ same)

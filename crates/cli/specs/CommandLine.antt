@@ -1,0 +1,123 @@
+-- The command line: what `clap`'s rule reads off the words.
+use Rattle.std.specs.Prelude.{◌≡◌, ℕ, nat_lt, Bool, true, false, List, ◌∷◌, [], codes, Option, Some, None, option_map, option_and_then, find, if◌then◌else◌}
+use Rattle.clap.specs.declared.builder.value_parser.ValueParser.TheVariants.{Unsigned}
+use Rattle.http_messages.specs.Fields.{number_of}
+use Rattle.clap.specs.Walk.{answers_to, rows_after}
+use Rattle.clap.specs.Simple.{built, label_of}
+use Rattle.clap.specs.Takes.{takes}
+use Rattle.clap.specs.Words.{App, Row, Rule, Text, first_of, new_app, new_rule, with_rule, with_subcommand}
+use Rattle.cli.specs.declared.parse.Subcommand.{Subcommand}
+use Rattle.cli.specs.declared.parse.Subcommand.TheVariants as sub
+use Rattle.cli.specs.declared.parse.CommandLine.{CommandLine}
+
+-- an option `--id`, which may be required
+abbrev pub option_rule : Text → Bool → Rule
+option_rule id required = record (new_rule id) {
+  long = Some id;
+  value_names = 1;
+  required = required;
+}
+
+-- the same, of a whole number from 1 to 65535
+abbrev pub number_rule : Text → Bool → Rule
+number_rule id required = record (option_rule id required) { parser = Some (Unsigned 1 65535) }
+
+-- a subcommand with the options that each has
+abbrev pub plain_app : Text → App
+plain_app name =
+    with_rule (with_rule (with_rule (new_app name) (option_rule (codes "windows") true))
+    (option_rule (codes "feed") false)) (option_rule (codes "db") false)
+
+abbrev pub serve_app : App
+serve_app = with_rule (with_rule (plain_app (codes "serve")) (number_rule (codes "port") true))
+    (number_rule (codes "connections") false)
+
+abbrev pub audit_app : App
+audit_app = with_rule (plain_app (codes "audit")) (option_rule (codes "spid") true)
+
+abbrev pub with_wanted_subcommand : App → App
+with_wanted_subcommand a = record a { top = record a.top { subcommand_required = true } }
+
+abbrev pub with_version : App → App
+with_version a = record a { top = record a.top { has_version = true } }
+
+-- the subcommands that serve messages, behind those of a
+abbrev pub with_serving : App → App
+with_serving a = with_subcommand (with_subcommand a (plain_app (codes "feed")).top) serve_app.top
+
+-- those that read and write files
+abbrev pub with_files : App → App
+with_files a =
+    with_subcommand (with_subcommand (with_subcommand a (plain_app (codes "bulk")).top)
+    (plain_app (codes "export")).top) audit_app.top
+
+abbrev pub npacd_app : App
+npacd_app =
+    with_files (with_serving (with_wanted_subcommand (with_version (new_app (codes "npacd")))))
+
+-- a number below 2^16
+abbrev pub small_number : Option ℕ → Option ℕ
+small_number o = option_and_then (λ n. if nat_lt n 65536 then Some n else None) o
+
+-- the number below 2^16 that an option's value writes in digits
+abbrev pub number_under : Text → List Row → Option ℕ
+number_under id rows = small_number (option_and_then number_of (first_of id rows))
+
+-- the same of an option that may be left out
+abbrev pub IsNumberIfAny : Text → List Row → Option ℕ → Type 0
+IsNumberIfAny id rows None = first_of id rows ≡ None
+IsNumberIfAny id rows (Some n) = number_under id rows ≡ Some n
+
+-- no number is given so, and neither is it left out
+abbrev pub IsNoNumber : Text → List Row → Type 0
+IsNoNumber id rows = (number : Option ℕ) → ¬ (IsNumberIfAny id rows number)
+
+-- which subcommand a name is
+abbrev pub IsSubcommand : Text → List Row → Subcommand → Type 0
+IsSubcommand name rows sub.Feed = name ≡ codes "feed"
+IsSubcommand name rows sub.Bulk = name ≡ codes "bulk"
+IsSubcommand name rows sub.Export = name ≡ codes "export"
+IsSubcommand name rows (sub.Audit spid) =
+    (name ≡ codes "audit") × (first_of (codes "spid") rows ≡ Some spid.now)
+IsSubcommand name rows (sub.Serve port connections) =
+    (name ≡ codes "serve") × (number_under (codes "port") rows ≡ Some port)
+    × IsNumberIfAny (codes "connections") rows connections
+
+-- it is none
+abbrev pub IsNoSubcommand : Text → List Row → Type 0
+IsNoSubcommand name rows = (subcommand : Subcommand) → ¬ (IsSubcommand name rows subcommand)
+
+pub record IsLineOf (name : Text) (rows : List Row) (line : CommandLine) : Type 0 where
+  pub subcommand : IsSubcommand name rows line.subcommand
+  pub windows : first_of (codes "windows") rows ≡ Some line.windows.now
+  pub feed : first_of (codes "feed") rows ≡ option_map (λ s. s.now) line.feed
+  pub db : first_of (codes "db") rows ≡ option_map (λ s. s.now) line.db
+
+abbrev pub IsNoLineOf : Text → List Row → Type 0
+IsNoLineOf name rows = (line : CommandLine) → ¬ (IsLineOf name rows line)
+
+-- the rows that the rule of the subcommand of this name reads off the words after it
+abbrev pub rows_named : Text → List Text → Option (List Row)
+rows_named name words =
+    option_map (λ s. rows_after s.rules [] words) (find (λ s. answers_to name (label_of s))
+    (built npacd_app).subs)
+
+-- the line is what the words say: the first after the program's name is the subcommand, and the
+-- values are those that
+-- its rule reads off the words after it
+pub record IsLine (words : List Text) (line : CommandLine) : Type 0 where
+  pub program : Text
+  pub name : Text
+  pub after : List Text
+  pub rows : List Row
+  pub words_are : words ≡ program ∷ name ∷ after
+  pub rows_are : rows_named name after ≡ Some rows
+  pub line_is : IsLineOf name rows line
+
+-- no line that `clap` takes is in these words
+abbrev pub IsNoLine : List Text → Type 0
+IsNoLine words = (line : CommandLine) → takes npacd_app words ≡ true → ¬ (IsLine words line)
+
+-- the second word is this one
+abbrev pub HasSecond : List Text → Text → Type 0
+HasSecond words name = (program : Text) × (after : List Text) × (words ≡ program ∷ name ∷ after)

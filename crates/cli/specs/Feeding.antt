@@ -1,0 +1,74 @@
+-- What feeding a new register comes to: the answers of the history machine, from its first state
+-- on. No minute is handed in beside the
+-- messages, and the device of a store in memory never fails: its count of failures is 0 before and
+-- after.
+use Rattle.std.specs.Prelude.{◌≡◌, ℕ, ◌⊎◌, List, [], Option, Some, Result, Ok, Err, true}
+use Rattle.std.specs.Io.KnownBytes.{append_known}
+use Rattle.model.specs.Content.{Content}
+use Rattle.model.specs.State.{first_state}
+use Rattle.model.specs.Windows.{Windows}
+use Rattle.api.specs.Serving.{EndsAt, FailsAt, Serves, IoTrace}
+use Rattle.api.specs.declared.serving.End.{End}
+use Rattle.api.specs.declared.serving.End.TheVariants.{Input, Closed, Refused}
+use Rattle.api.specs.declared.serving.Served.{Served}
+use Rattle.api.specs.declared.serving.Fault.{Fault as ServingFault}
+use Rattle.api.specs.declared.serving.Fault.TheVariants as serving
+use Rattle.register.specs.declared.register.OpenFault.TheVariants as opening
+use Rattle.cli.specs.declared.fault.Fault.{Fault}
+use Rattle.cli.specs.declared.fault.Fault.TheVariants as fault
+
+-- what is told where no minute is handed in
+abbrev pub io_of_feed : (input : List ℕ) → (unread had has : Option (List ℕ)) → IoTrace
+io_of_feed input unread had has = record {
+  input = input;
+  unread = unread;
+  ticks_before = Some [];
+  ticks_after = Some [];
+  written_before = had;
+  written_after = has;
+}
+
+-- serving ended so, after k messages, and left the content new
+abbrev pub Ended : Windows → IoTrace → End → Type 0
+Ended w trace end = (new : Content) × (k : ℕ) × EndsAt end true 0 0 (first_state w) new trace k
+
+-- serving failed so, after k messages
+abbrev pub Failed : Windows → IoTrace → (ℕ → ServingFault) → Type 0
+Failed w trace fault_after =
+    (new : Content) × (k : ℕ) × FailsAt (fault_after k) true 0 0 (first_state w) new trace
+
+-- The input was fed to a new register of these windows, through a buffer: the writer that is told
+-- of is the one behind it, and unwritten is
+-- what the buffer still holds. Where a write failed, what was written is a front of the answers:
+-- with what is unwritten it is all that serving
+-- answered, however that came to its end. Elsewhere all is written. Where no memory was left to
+-- open the register, nothing was answered
+abbrev pub Feeds : Windows → IoTrace → (unwritten : List ℕ) → Result (Unit {0}) Fault → Type 0
+Feeds w trace unwritten (Ok done) = Ended w trace Input ⊎ Ended w trace Closed
+Feeds w trace unwritten (Err (fault.Message refused)) = Ended w trace (Refused refused)
+Feeds w trace unwritten (Err fault.Read) = Failed w trace serving.Read
+Feeds w trace unwritten (Err fault.Write) = (served : Result Served ServingFault) × (new : Content)
+    × Serves served true 0 0 (first_state w) new (record trace {
+      written_after =
+          append_known trace.written_after unwritten;
+    })
+Feeds w trace unwritten (Err fault.NoMemory) = Failed w trace serving.Memory
+Feeds w trace unwritten (Err (fault.Open opening.NoMemory)) =
+    append_known trace.written_after unwritten ≡ trace.written_before
+Feeds w trace unwritten (Err (fault.Open opening.Storage)) = ⊥
+Feeds w trace unwritten (Err (fault.Open opening.WindowsDiffer)) = ⊥
+Feeds w trace unwritten (Err (fault.Windows refused)) = ⊥
+Feeds w trace unwritten (Err (fault.File refused)) = ⊥
+Feeds w trace unwritten (Err fault.Listen) = ⊥
+
+-- how serving ended, as the program's fault
+abbrev pub fault_of_end : End → Result (Unit {0}) Fault
+fault_of_end Input = Ok tt
+fault_of_end Closed = Ok tt
+fault_of_end (Refused refused) = Err (fault.Message refused)
+
+abbrev pub outcome_of : Result Served ServingFault → Result (Unit {0}) Fault
+outcome_of (Ok served) = fault_of_end served.end
+outcome_of (Err (serving.Read k)) = Err fault.Read
+outcome_of (Err (serving.Write k)) = Err fault.Write
+outcome_of (Err (serving.Memory k)) = Err fault.NoMemory

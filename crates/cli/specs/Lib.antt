@@ -1,0 +1,4 @@
+pub mod CommandLine
+pub mod Feeding
+pub mod Faults
+pub mod Reporting

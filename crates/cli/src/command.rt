@@ -1,0 +1,197 @@
+//! The command as `clap` knows it.
+ghost use Rattle.std.specs.Prelude.{◌≡◌, IfOk, codes, false};
+ghost use Rattle.clap.specs.Words.{app_of, rule_of, new_app, with_rule, with_subcommand};
+ghost use Rattle.clap.specs.declared.builder.command.Command.TheViews.{out-Command};
+ghost use Rattle.cli.specs.CommandLine.{audit_app, number_rule, option_rule, plain_app, serve_app, npacd_app, with_files, with_serving, with_version, with_wanted_subcommand};
+
+use clap::builder::ValueParser;
+use clap::{Arg, Command};
+use std::alloc::{AllocError, Global};
+
+// What `--version` prints behind the program's name.
+const VERSION: &str = "0.1.0";
+
+// An option `--id VALUE`, and its line of help.
+fn option<'a>(alloc: Global, id: &'a str, value: &'a str, help: &'a str, required: bool) -> Arg<'a>
+    ensures rule { rule_of result ≡ option_rule id.entry.now required }
+    ensures local { result.global ≡ false }
+{
+    Arg::new(alloc, id)
+        .long(id)
+        .value_name(value)
+        .help(help)
+        .required(required)
+}
+
+// An option whose value is a whole number from 1 to 65535.
+fn number<'a>(alloc: Global, id: &'a str, value: &'a str, help: &'a str, required: bool) -> Arg<'a>
+    ensures rule { rule_of result ≡ number_rule id.entry.now required }
+    ensures local { result.global ≡ false }
+{
+    let parser = ValueParser::unsigned(1, 65_535);
+    option(alloc, id, value, help, required).value_parser(parser)
+}
+
+// With one more option.
+fn with_option<'a>(
+    alloc: Global,
+    command: Command<'a>,
+    id: &'a str,
+    value: &'a str,
+    help: &'a str,
+    required: bool,
+) -> Result<Command<'a>, AllocError>
+    requires { (out-Command command).has_globals ≡ false }
+    ensures { IfOk result (λ c.
+        (app_of c ≡ with_rule (app_of command.entry) (option_rule id.entry.now required))
+        × ((out-Command c).has_globals ≡ false)) }
+{
+    command.arg(option(alloc, id, value, help, required))
+}
+
+// A subcommand with the options that each has.
+fn plain<'a>(alloc: Global, name: &'a str, about: &'a str) -> Result<Command<'a>, AllocError>
+    ensures { IfOk result
+        (λ c. (app_of c ≡ plain_app name.entry.now) × ((out-Command c).has_globals ≡ false)) }
+{
+    let command = Command::new(alloc, name).about(about);
+    let command = with_option(
+        alloc,
+        command,
+        "windows",
+        "FILE",
+        "The windows, in TOML",
+        true,
+    )?;
+    let command = with_option(
+        alloc,
+        command,
+        "feed",
+        "FILE",
+        "HTTP messages that are served first, their answers dropped",
+        false,
+    )?;
+    with_option(
+        alloc,
+        command,
+        "db",
+        "FILE",
+        "The database of the register, in place of memory",
+        false,
+    )
+}
+
+// The subcommand that listens.
+fn serve<'a>(alloc: Global) -> Result<Command<'a>, AllocError>
+    ensures { IfOk result
+        (λ c. (app_of c ≡ serve_app) × ((out-Command c).has_globals ≡ false)) }
+{
+    let command = plain(
+        alloc,
+        "serve",
+        "Serve connections to a port of this machine",
+    )?;
+    let port = number(alloc, "port", "PORT", "The port of 127.0.0.1", true);
+    let connections = number(
+        alloc,
+        "connections",
+        "N",
+        "End after so many connections",
+        false,
+    );
+    command.arg(port)?.arg(connections)
+}
+
+// The subcommand that compares a copy.
+fn audit<'a>(alloc: Global) -> Result<Command<'a>, AllocError>
+    ensures { IfOk result
+        (λ c. (app_of c ≡ audit_app) × ((out-Command c).has_globals ≡ false)) }
+{
+    let command = plain(
+        alloc,
+        "audit",
+        "Compare a carrier's copy with what is in force",
+    )?;
+    let spid = option(alloc, "spid", "SPID", "The carrier whose copy it is", true);
+    command.arg(spid)
+}
+
+fn with<'a>(command: Command<'a>, part: Command<'a>) -> Result<Command<'a>, AllocError>
+    requires { (out-Command part).has_globals ≡ false }
+    ensures { IfOk result
+        (λ c. app_of c ≡ with_subcommand (app_of command.entry) (app_of part.entry).top) }
+{
+    command.subcommand(part)
+}
+
+fn top<'a>(alloc: Global) -> Command<'a>
+    ensures { app_of result ≡ with_wanted_subcommand (with_version (new_app (codes "npacd"))) }
+{
+    Command::new(alloc, "npacd")
+        .about("Number portability clearinghouse")
+        .version(VERSION)
+        .subcommand_required(true)
+}
+
+// With a subcommand that has no other options.
+fn with_plain<'a>(
+    alloc: Global,
+    command: Command<'a>,
+    name: &'a str,
+    about: &'a str,
+) -> Result<Command<'a>, AllocError>
+    ensures { IfOk result (λ c.
+        app_of c ≡ with_subcommand (app_of command.entry) (plain_app name.entry.now).top) }
+{
+    let part = plain(alloc, name, about)?;
+    with(command, part)
+}
+
+fn with_serve<'a>(alloc: Global, command: Command<'a>) -> Result<Command<'a>, AllocError>
+    ensures { IfOk result (λ c. app_of c ≡ with_subcommand (app_of command.entry) serve_app.top) }
+{
+    let part = serve(alloc)?;
+    with(command, part)
+}
+
+fn with_audit<'a>(alloc: Global, command: Command<'a>) -> Result<Command<'a>, AllocError>
+    ensures { IfOk result (λ c. app_of c ≡ with_subcommand (app_of command.entry) audit_app.top) }
+{
+    let part = audit(alloc)?;
+    with(command, part)
+}
+
+// With the subcommands that serve messages.
+fn with_serving<'a>(alloc: Global, command: Command<'a>) -> Result<Command<'a>, AllocError>
+    ensures { IfOk result (λ c. app_of c ≡ with_serving (app_of command.entry)) }
+{
+    let command = with_plain(
+        alloc,
+        command,
+        "feed",
+        "Serve standard input to standard output",
+    )?;
+    with_serve(alloc, command)
+}
+
+// With those that read and write files.
+fn with_files<'a>(alloc: Global, command: Command<'a>) -> Result<Command<'a>, AllocError>
+    ensures { IfOk result (λ c. app_of c ≡ with_files (app_of command.entry)) }
+{
+    let command = with_plain(
+        alloc,
+        command,
+        "bulk",
+        "Run a bulk file, and write its report",
+    )?;
+    let command = with_plain(alloc, command, "export", "Write everything in force")?;
+    with_audit(alloc, command)
+}
+
+/// The whole command.
+pub fn npacd<'a>(alloc: Global) -> Result<Command<'a>, AllocError>
+    ensures { IfOk result (λ c. app_of c ≡ npacd_app) }
+{
+    let command = with_serving(alloc, top(alloc))?;
+    with_files(alloc, command)
+}

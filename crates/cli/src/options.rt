@@ -1,0 +1,115 @@
+//! Reading the options of a subcommand.
+ghost use Rattle.std.specs.Prelude.{◌≡◌, IfErr, IfOk, option_map, codes};
+ghost use Rattle.http_messages.specs.Fields.{number_of as number_in};
+ghost use Rattle.clap.specs.Words.{first_of, rows_of, found_of};
+ghost use Rattle.cli.specs.CommandLine.{IsLineOf, IsNoLineOf, IsNoNumber, IsNoSubcommand, IsNumberIfAny, IsSubcommand, number_under, small_number};
+
+use crate::parse::{CommandLine, Subcommand};
+use clap::ArgMatches;
+use http_messages::read_number;
+
+/// No line: `clap` found no subcommand of ours, or not its options.
+#[derive(Clone, Copy, PartialEq, Eq, Debug)]
+pub struct NoLine;
+
+fn text_of<'a>(matches: &ArgMatches<'a>, id: &str) -> Option<&'a str>
+    ensures { option_map (λ s. s.now) result ≡ first_of id.now (rows_of (found_of matches.now)) }
+{
+    matches.get_str(id)
+}
+
+// The number that the text writes in digits.
+fn number_of(text: &str) -> Option<u16>
+    ensures { result ≡ small_number (number_in text.now) }
+{
+    let number = read_number(text.as_bytes())?;
+    if number > 65_535 {
+        return None;
+    }
+    Some(number as u16)
+}
+
+// The number that an option is given.
+fn number_under(matches: &ArgMatches<'_>, id: &str) -> Option<u16>
+    ensures { result ≡ number_under id.now (rows_of (found_of matches.now)) }
+{
+    number_of(text_of(matches, id)?)
+}
+
+// The number that an option is given, if it is.
+fn number_if_any(matches: &ArgMatches<'_>, id: &str) -> Result<Option<u16>, NoLine>
+    ensures given { IfOk result (IsNumberIfAny id.now (rows_of (found_of matches.now))) }
+    ensures none { IfErr result (λ _. IsNoNumber id.now (rows_of (found_of matches.now))) }
+{
+    if text_of(matches, id).is_none() {
+        return Ok(None);
+    }
+    match number_under(matches, id) {
+        Some(number) => Ok(Some(number)),
+        None => Err(NoLine),
+    }
+}
+
+// The port and the connections of a `serve`.
+fn serve_of<'a>(matches: &ArgMatches<'a>) -> Result<Subcommand<'a>, NoLine>
+    ensures given { IfOk result (IsSubcommand (codes "serve") (rows_of (found_of matches.now))) }
+    ensures none { IfErr result (λ _. IsNoSubcommand (codes "serve")
+        (rows_of (found_of matches.now))) }
+{
+    let Some(port) = number_under(matches, "port") else {
+        return Err(NoLine);
+    };
+    let connections = number_if_any(matches, "connections")?;
+    Ok(Subcommand::Serve { port, connections })
+}
+
+// The carrier of an `audit`.
+fn audit_of<'a>(matches: &ArgMatches<'a>) -> Result<Subcommand<'a>, NoLine>
+    ensures given { IfOk result (IsSubcommand (codes "audit") (rows_of (found_of matches.now))) }
+    ensures none { IfErr result (λ _. IsNoSubcommand (codes "audit")
+        (rows_of (found_of matches.now))) }
+{
+    match text_of(matches, "spid") {
+        Some(spid) => Ok(Subcommand::Audit { spid }),
+        None => Err(NoLine),
+    }
+}
+
+fn subcommand_of<'a>(name: &str, matches: &ArgMatches<'a>) -> Result<Subcommand<'a>, NoLine>
+    ensures given { IfOk result (IsSubcommand name.now (rows_of (found_of matches.now))) }
+    ensures none { IfErr result (λ _. IsNoSubcommand name.now (rows_of (found_of matches.now))) }
+{
+    if name == "feed" {
+        return Ok(Subcommand::Feed);
+    }
+    if name == "bulk" {
+        return Ok(Subcommand::Bulk);
+    }
+    if name == "export" {
+        return Ok(Subcommand::Export);
+    }
+    if name == "audit" {
+        return audit_of(matches);
+    }
+    if name == "serve" {
+        return serve_of(matches);
+    }
+    Err(NoLine)
+}
+
+/// The line of a subcommand and its matches.
+pub fn line_of<'a>(name: &str, matches: &ArgMatches<'a>) -> Result<CommandLine<'a>, NoLine>
+    ensures given { IfOk result (IsLineOf name.now (rows_of (found_of matches.now))) }
+    ensures none { IfErr result (λ _. IsNoLineOf name.now (rows_of (found_of matches.now))) }
+{
+    let subcommand = subcommand_of(name, matches)?;
+    match text_of(matches, "windows") {
+        Some(windows) => Ok(CommandLine {
+            subcommand,
+            windows,
+            feed: text_of(matches, "feed"),
+            db: text_of(matches, "db"),
+        }),
+        None => Err(NoLine),
+    }
+}

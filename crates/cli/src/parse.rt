@@ -1,0 +1,132 @@
+//! The command line.
+ghost use Rattle.std.specs.Prelude.{◌≡◌, ◌≢◌, ◌⊎◌, IfErr, IfOk, IsTrue, map};
+ghost use Rattle.clap.specs.Values.{kind_of};
+ghost use Rattle.clap.specs.declared.error.kind.ErrorKind.TheVariants.{DisplayHelp, DisplayVersion, OutOfMemory as NoRoom};
+ghost use Rattle.cli.specs.CommandLine.{IsLine, IsNoLine, HasSecond};
+ghost use Rattle.cli.specs.Reporting.{AsksForHelp, IsMistake, IsUsage};
+
+use crate::command::npacd;
+use crate::options::line_of;
+use clap::Error;
+use clap::error::ErrorKind;
+use std::alloc::Global;
+use std::convert::AsStr;
+
+/// What a subcommand does, with its own options.
+#[derive(Clone, Copy, PartialEq, Eq, Debug)]
+pub enum Subcommand<'a> {
+    /// Serves standard input to standard output.
+    Feed,
+    /// Serves connections to a port of this machine: so many, or without end.
+    Serve {
+        port: u16,
+        connections: Option<u16>,
+    },
+    /// Runs the bulk file on standard input, and writes its report to standard output.
+    Bulk,
+    /// Writes everything in force to standard output.
+    Export,
+    /// Compares the copy on standard input with the register, and writes what it finds to standard
+    /// output.
+    Audit {
+        /// The carrier whose copy it is, as it is written.
+        spid: &'a str,
+    },
+}
+
+/// A command line that is carried out.
+#[derive(Clone, Copy, PartialEq, Eq, Debug)]
+pub struct CommandLine<'a> {
+    pub subcommand: Subcommand<'a>,
+    /// The file of the windows.
+    pub windows: &'a str,
+    /// The file of the messages that are served first, if there is one.
+    pub feed: Option<&'a str>,
+    /// The file that the register stands in, if it is not memory.
+    pub db: Option<&'a str>,
+}
+
+/// A text for the user and the exit status that goes with it: 0 for help, 2 for a mistake, 3 where
+/// memory was refused, and then there is no text.
+#[derive(Debug, Drop)]
+pub struct Usage {
+    pub text: String,
+    pub status: u8,
+}
+
+/// No line for want of memory.
+pub fn no_memory(alloc: Global) -> Usage
+    ensures { result.status ≡ 3 }
+{
+    Usage {
+        text: String::new(alloc),
+        status: 3,
+    }
+}
+
+/// A mistake in the words that `clap` does not know of, with the text that tells it.
+pub fn mistake(alloc: Global, why: &str) -> Usage
+    ensures { IsMistake result.status }
+{
+    let mut text = String::new(alloc);
+    match text.push_str(why) {
+        Ok(()) => Usage { text, status: 2 },
+        Err(_) => no_memory(alloc),
+    }
+}
+
+fn usage_of(alloc: Global, error: &Error) -> Usage
+    ensures status { IsUsage result.status }
+    ensures memory { kind_of error.now ≡ NoRoom → result.status ≡ 3 }
+    ensures help { result.status ≡ 0
+        → (kind_of error.now ≡ DisplayHelp) ⊎ (kind_of error.now ≡ DisplayVersion) }
+{
+    if error.kind() == ErrorKind::OutOfMemory {
+        return no_memory(alloc);
+    }
+    match error.to_string(alloc) {
+        Ok(text) => Usage {
+            text,
+            status: if error.use_stderr() { 2 } else { 0 },
+        },
+        Err(_) => no_memory(alloc),
+    }
+}
+
+// The first word after the program's name is this name. A subcommand that `clap` found is.
+fn is_second<S: AsStr>(words: &[S], name: &str) -> bool
+    ensures { IsTrue result → HasSecond (map S.text words.now) name.now }
+{
+    match words {
+        [_, second, ..] => second.as_str() == name,
+        _ => false,
+    }
+}
+
+/// Reads the words of a command line, of which the first is the program's name. Where there is no
+/// line, the answer is a text for the user with the exit status: 0 for help, 2 for a mistake in the
+/// words, 3 where memory was refused.
+pub fn parse<'a, S: AsStr>(alloc: Global, words: &'a [S]) -> Result<CommandLine<'a>, Usage>
+    ensures line { IfOk result (IsLine (map S.text words.entry.now)) }
+    ensures status { IfErr result (λ usage. IsUsage usage.status) }
+    ensures help { IfErr result (λ usage. usage.status ≡ 0
+        → AsksForHelp (map S.text words.entry.now)) }
+    ensures refused { IfErr result (λ usage. usage.status ≢ 3
+        → IsNoLine (map S.text words.entry.now)) }
+{
+    let command = match npacd(alloc) {
+        Ok(command) => command,
+        Err(_) => return Err(no_memory(alloc)),
+    };
+    let matches = match command.try_get_matches_from(words) {
+        Ok(matches) => matches,
+        Err(error) => return Err(usage_of(alloc, &error)),
+    };
+    match matches.subcommand() {
+        Some((name, found)) if is_second(words, name) => match line_of(name, found) {
+            Ok(line) => Ok(line),
+            Err(_) => Err(mistake(alloc, "error: a number is written in digits\n")),
+        },
+        _ => Err(no_memory(alloc)),
+    }
+}

@@ -1,0 +1,72 @@
+//! What the program tells as it ends, and its exit status.
+ghost use Rattle.std.specs.Prelude.{◌≡◌, OnErr, OnOk, string_bytes};
+ghost use Rattle.std.specs.Io.KnownBytes.{Appends};
+ghost use Rattle.http_messages.specs.Sending.{AppendsFront};
+ghost use Rattle.cli.specs.Reporting.{TellsFault, TellsMistake, TellsOutcome, TellsUsage, line_of};
+
+use crate::fault::Fault;
+use crate::parse::Usage;
+use http_messages::send_all;
+use std::io;
+use std::io::Write;
+
+// Writes one line, which the program's name begins.
+fn write_line<E: Write>(errors: &mut E, name: &str) -> io::Result<()>
+    ensures ok { OnOk result (Appends (E.contents errors.old) (E.contents errors.new)
+        (line_of name.now)) }
+    ensures err { OnErr result (AppendsFront (E.contents errors.old) (E.contents errors.new)
+        (line_of name.now)) }
+{
+    send_all(errors, "npacd: ".as_bytes(), false)?;
+    send_all(errors, name.as_bytes(), false)?;
+    send_all(errors, "\n".as_bytes(), true)
+}
+
+/// Tells a fault by one line on the errors, and gives its exit status; 3 where the line could not
+/// be written.
+pub fn report_fault<E: Write>(errors: &mut E, fault: Fault) -> u8
+    ensures { TellsFault fault (E.contents errors.old) (E.contents errors.new) result }
+{
+    match write_line(errors, fault.name()) {
+        Ok(()) => fault.status(),
+        Err(_) => 3,
+    }
+}
+
+/// Tells how a line was carried out: nothing and 0 where it was, else its fault.
+pub fn report_outcome<E: Write>(errors: &mut E, outcome: Result<(), Fault>) -> u8
+    ensures { TellsOutcome outcome (E.contents errors.old) (E.contents errors.new) result }
+{
+    match outcome {
+        Ok(()) => 0,
+        Err(fault) => report_fault(errors, fault),
+    }
+}
+
+// A text on the errors, of a mistake in the command line.
+fn report_mistake<E: Write>(errors: &mut E, text: &str) -> u8
+    ensures { TellsMistake text.now (E.contents errors.old) (E.contents errors.new) result }
+{
+    match send_all(errors, text.as_bytes(), true) {
+        Ok(()) => 2,
+        Err(_) => 3,
+    }
+}
+
+/// Tells why there is no line: help is written, with 0, and a mistake of the words goes to the
+/// errors, with 2. Where memory was refused, or help cannot be written, that fault is told.
+pub fn report_usage<W: Write, E: Write>(writer: &mut W, errors: &mut E, usage: &Usage) -> u8
+    ensures { TellsUsage usage.now.status (string_bytes usage.now.text)
+        (W.contents writer.old) (W.contents writer.new)
+        (E.contents errors.old) (E.contents errors.new) result }
+{
+    let text = usage.text.as_str();
+    match usage.status {
+        0 => match send_all(writer, text.as_bytes(), true) {
+            Ok(()) => 0,
+            Err(_) => report_fault(errors, Fault::Write),
+        },
+        2 => report_mistake(errors, text),
+        _ => report_fault(errors, Fault::NoMemory),
+    }
+}

@@ -1,0 +1,373 @@
+//! Carrying out a command line.
+ghost use Rattle.std.specs.Prelude.{◌≡◌, ◌≤◌, [], Err, IfErr, IfOk, IfSome, IsOk, IsTrue, OnOk, map};
+ghost use Rattle.model.specs.Content.{empty_content};
+ghost use Rattle.sqlite.specs.Files.{file_state};
+ghost use Rattle.sqlite.specs.State.{HasCleanDisk};
+ghost use Rattle.sqlite.specs.WalFiles.{image_at};
+ghost use Rattle.std.specs.Io.Buffered.{writer_buffer, writer_contents, writer_inner};
+ghost use Rattle.model.specs.State.{first_state};
+ghost use Rattle.model.specs.Windows.{Windows as WindowsModel};
+ghost use Rattle.version.specs.Abstraction.{windows_of};
+ghost use Rattle.register.specs.Refinement.{Refines};
+ghost use Rattle.cli.specs.Feeding.{Feeds, io_of_feed, outcome_of};
+ghost use Rattle.cli.specs.Reporting.{Ends};
+
+use crate::fault::Fault;
+use crate::listening::listen;
+use crate::parse::{CommandLine, Subcommand, parse};
+use crate::reporting::{report_outcome, report_usage};
+use api::{End, NoTicks, Options, Served, serve};
+use bulk::{BulkFault, FaultKind, audit, export, run_file};
+use numbers::Spid;
+use register::{OpenFault, Register, law_of_new_stores};
+use settle::Store;
+use sql_store::{FileFault, SqlStore, StoreAt, UnopenedAt};
+use sqlite::{Start, Unknown};
+use std::alloc::Global;
+use std::convert::AsStr;
+use std::fs::File;
+use std::io::{BufWriter, ErrorKind, Read, Write};
+use std::net::Net;
+use std::rt::Files;
+use std::time::Clock;
+use std::{fs, io};
+use store::MemoryStore;
+use windows::{WindowFault, Windows};
+
+// Why a file was not read.
+fn read_fault(error: io::Error) -> Fault {
+    match error.kind() {
+        ErrorKind::OutOfMemory => Fault::NoMemory,
+        _ => Fault::Read,
+    }
+}
+
+fn windows_at<T: Files + AllocGlobal>(rt: &T, path: &str) -> Result<Windows, Fault> {
+    let bytes = fs::read(rt, path).map_err(read_fault)?;
+    match str::from_utf8(bytes.as_slice()) {
+        Ok(text) => Windows::from_toml(rt.alloc(), text).map_err(Fault::Windows),
+        Err(_) => Err(Fault::Windows(WindowFault::Syntax)),
+    }
+}
+
+// A connection that ended by a message's fault ends the program by it.
+fn ended(served: Result<Served, api::Fault>) -> Result<(), Fault>
+    ensures { result ≡ outcome_of served }
+{
+    match served {
+        Ok(served) => match served.end {
+            End::Input | End::Closed => Ok(()),
+            End::Refused(fault) => Err(Fault::Message(fault)),
+        },
+        Err(api::Fault::Read(_)) => Err(Fault::Read),
+        Err(api::Fault::Write(_)) => Err(Fault::Write),
+        Err(api::Fault::Memory(_)) => Err(Fault::NoMemory),
+    }
+}
+
+// How many bytes of answers are gathered, at most, before they are written.
+pub(crate) const GATHERED: usize = 65_536;
+
+// Serves the reader to the writer over a register: where its content stands for the first state of
+// some windows, and its device never failed, the answers are those of the history machine from
+// there on. Unless a write fails, all of them are handed on to the writer behind the buffer.
+fn feed_to<S: Store, R: Read, W: Write + Drop>(
+    alloc: Global,
+    register: &mut Register<S>,
+    reader: &mut R,
+    writer: &mut BufWriter<W>,
+) -> Result<(), Fault>
+    ensures usable { S.IsUsable register.new.store → S.IsUsable register.old.store }
+    ensures honest { S.HasHonestDevice register.new.store → S.HasHonestDevice register.old.store }
+    ensures rises { S.failed register.old.store ≤ S.failed register.new.store }
+    ensures feeds { S.IsUsable register.new.store → S.failed register.old.store ≡ 0
+        → S.failed register.new.store ≡ 0 → (w : WindowsModel)
+        → Refines (S.content register.old.store) (first_state w)
+        → IfSome (R.remaining reader.old)
+        (λ input. Feeds w (io_of_feed input (R.remaining reader.new)
+        (writer_contents W.contents writer.old) (W.contents (writer_inner writer.new)))
+        (writer_buffer writer.new) result) }
+{
+    let options = Options { clock_route: true };
+    let served = serve(alloc, register, &mut NoTicks, &options, reader, writer);
+    match writer.flush() {
+        Ok(()) => ended(served),
+        Err(_) => Err(Fault::Write),
+    }
+}
+
+// Serves the messages of a reader to a writer, over a store, which is handed back: where nothing
+// was written in it yet and its device never failed, the answers are those of the history machine,
+// from its first state on.
+fn feed_over<S: Store, R: Read, W: Write + Drop>(
+    alloc: Global,
+    store: S,
+    windows: &Windows,
+    reader: &mut R,
+    writer: &mut BufWriter<W>,
+) -> (S, Result<(), Fault>)
+    ensures usable { S.IsUsable result.0 → S.IsUsable store }
+    ensures honest { S.HasHonestDevice result.0 → S.HasHonestDevice store }
+    ensures feeds { S.IsUsable result.0 → S.failed result.0 ≡ 0
+        → S.content store ≡ empty_content → IfSome (R.remaining reader.old) (λ input.
+        Feeds (windows_of windows.now) (io_of_feed input (R.remaining reader.new)
+        (writer_contents W.contents writer.old) (W.contents (writer_inner writer.new)))
+        (writer_buffer writer.new) result.1) }
+{
+    law_of_new_stores();
+    match Register::open(alloc, store, windows) {
+        Ok(register) => {
+            let mut register = register;
+            let outcome = feed_to(alloc, &mut register, reader, writer);
+            (register.close(), outcome)
+        }
+        Err((store, fault)) => (store, Err(Fault::Open(fault))),
+    }
+}
+
+/// Serves the messages of a reader to a writer, over a new register in memory with these windows
+/// and with the path of the clock. The answers are those of the history machine, from its first
+/// state on. Unless a write fails, all of them are handed on to the writer behind the buffer.
+///
+/// Input that ends with a message that is refused with `BadHead`, `TooLarge` or `CutBody` is a
+/// `Fault::Message`, and that message is answered too. A read or a write that fails is a
+/// `Fault::Read` or a `Fault::Write`, memory that is refused a `Fault::NoMemory`, or, for a
+/// register that was not opened, a `Fault::Open`.
+pub fn feed<R: Read, W: Write + Drop>(
+    alloc: Global,
+    windows: &Windows,
+    reader: &mut R,
+    writer: &mut BufWriter<W>,
+) -> Result<(), Fault>
+    ensures { IfSome (R.remaining reader.old) (λ input.
+        Feeds (windows_of windows.now) (io_of_feed input (R.remaining reader.new)
+        (writer_contents W.contents writer.old) (W.contents (writer_inner writer.new)))
+        (writer_buffer writer.new) result) }
+{
+    let store = MemoryStore::new(alloc);
+    let (_store, outcome) = feed_over(alloc, store, windows, reader, writer);
+    outcome
+}
+
+/// The same over the file at a path, which `SqlStore::at` opens, and the store over it behind the
+/// outcome. Where the file was new, its disk returned what was written, the store can still be used
+/// and no failure was counted, the answers are those of the history machine, from its first state
+/// on.
+///
+/// The refusals are those of `SqlStore::at`.
+pub fn feed_at<S: Start, R: Read, W: Write + Drop>(
+    rt: &HostRuntime,
+    path: &str,
+    start: S,
+    windows: &Windows,
+    reader: &mut R,
+    writer: &mut BufWriter<W>,
+) -> Result<(StoreAt<S>, Result<(), Fault>), (FileFault, UnopenedAt<S>)>
+    ensures { IfOk result (λ r. HasCleanDisk (file_state r.0.conn)
+        → IsTrue (file_state r.0.conn).is_open → r.0.failures ≡ 0
+        → (image_at S.Start).db ≡ [] → IfSome (R.remaining reader.old) (λ input.
+        Feeds (windows_of windows.now) (io_of_feed input (R.remaining reader.new)
+        (writer_contents W.contents writer.old) (W.contents (writer_inner writer.new)))
+        (writer_buffer writer.new) r.1)) }
+{
+    let store = SqlStore::at(rt, path, start, windows)?;
+    Ok(feed_over(rt.alloc(), store, windows, reader, writer))
+}
+
+// The same to a writer with no buffer, through one that is made for it. What a failed write leaves
+// there is let go.
+fn feed_gathering<R: Read, W: Write>(
+    alloc: Global,
+    windows: &Windows,
+    reader: &mut R,
+    writer: &mut W,
+) -> Result<(), Fault> {
+    let Ok(mut gathering) = BufWriter::with_capacity(alloc, GATHERED, writer) else {
+        return Err(Fault::NoMemory);
+    };
+    let outcome = feed(alloc, windows, reader, &mut gathering);
+    let (_writer, _unwritten) = gathering.into_parts();
+    outcome
+}
+
+// The same over a register.
+fn feed_gathering_to<S: Store, R: Read, W: Write>(
+    alloc: Global,
+    register: &mut Register<S>,
+    reader: &mut R,
+    writer: &mut W,
+) -> Result<(), Fault> {
+    let Ok(mut gathering) = BufWriter::with_capacity(alloc, GATHERED, writer) else {
+        return Err(Fault::NoMemory);
+    };
+    let outcome = feed_to(alloc, register, reader, &mut gathering);
+    let (_writer, _unwritten) = gathering.into_parts();
+    outcome
+}
+
+// The same over the file at a path.
+fn feed_gathering_at<R: Read, W: Write>(
+    rt: &HostRuntime,
+    path: &str,
+    windows: &Windows,
+    reader: &mut R,
+    writer: &mut W,
+) -> Result<(StoreAt<Unknown>, Result<(), Fault>), Fault> {
+    let Ok(mut gathering) = BufWriter::with_capacity(rt.alloc(), GATHERED, writer) else {
+        return Err(Fault::NoMemory);
+    };
+    let fed = feed_at(rt, path, Unknown, windows, reader, &mut gathering);
+    let (_writer, _unwritten) = gathering.into_parts();
+    fed.map_err(open_fault)
+}
+
+// Serves the messages of a file, whose answers nobody sees.
+fn feed_file<T: Files + AllocGlobal, S: Store>(
+    rt: &T,
+    register: &mut Register<S>,
+    path: &str,
+) -> Result<(), Fault> {
+    let mut file = File::open(rt, path).map_err(read_fault)?;
+    let offered = Options { clock_route: true };
+    let mut nobody = io::sink();
+    ended(serve(
+        rt.alloc(),
+        register,
+        &mut NoTicks,
+        &offered,
+        &mut file,
+        &mut nobody,
+    ))
+}
+
+// A file that was read or written whole, or broke off, ends the program so.
+fn file_ended(ran: Result<u64, BulkFault>) -> Result<(), Fault>
+    ensures done { OnOk ran (IsOk result) }
+    ensures broken { IfErr ran (λ fault. result ≡ Err (Fault.File fault.kind)) }
+{
+    match ran {
+        Ok(_) => Ok(()),
+        Err(fault) => Err(Fault::File(fault.kind)),
+    }
+}
+
+// Feeds the file of `--feed` to a register, and then does what the subcommand does.
+fn run_on<T: Files + AllocGlobal + Net + Clock, S: Store, R: Read, W: Write>(
+    rt: &T,
+    register: &mut Register<S>,
+    line: &CommandLine<'_>,
+    reader: &mut R,
+    writer: &mut W,
+) -> Result<(), Fault> {
+    let alloc = rt.alloc();
+    if let Some(path) = line.feed {
+        feed_file(rt, register, path)?;
+    }
+    match line.subcommand {
+        Subcommand::Feed => feed_gathering_to(alloc, register, reader, writer),
+        Subcommand::Serve { port, connections } => listen(rt, register, port, connections, writer),
+        Subcommand::Bulk => file_ended(run_file(alloc, register, reader, writer)),
+        Subcommand::Export => file_ended(export(alloc, register, writer)),
+        Subcommand::Audit { spid } => match Spid::read(spid) {
+            Some(carrier) => file_ended(audit(alloc, register, carrier, reader, writer)),
+            None => Err(Fault::File(FaultKind::UnknownCarrier)),
+        },
+    }
+}
+
+// Carries out a line over a store, which is handed back.
+fn run_over<T: Files + AllocGlobal + Net + Clock, S: Store, R: Read, W: Write>(
+    rt: &T,
+    store: S,
+    windows: &Windows,
+    line: &CommandLine<'_>,
+    reader: &mut R,
+    writer: &mut W,
+) -> (S, Result<(), Fault>) {
+    match Register::open(rt.alloc(), store, windows) {
+        Ok(register) => {
+            let mut register = register;
+            let outcome = run_on(rt, &mut register, line, reader, writer);
+            (register.close(), outcome)
+        }
+        Err((store, fault)) => (store, Err(Fault::Open(fault))),
+    }
+}
+
+// What is told of a file that is not opened. What is left of it is closed.
+fn open_fault(refused: (FileFault, UnopenedAt<Unknown>)) -> Fault {
+    let (fault, _left) = refused;
+    Fault::Open(match fault {
+        FileFault::WindowsDiffer => OpenFault::WindowsDiffer,
+        FileFault::Storage => OpenFault::Storage,
+        FileFault::NoMemory => OpenFault::NoMemory,
+    })
+}
+
+// Carries out a line over the file of `--db`, which is closed behind it.
+fn run_at<R: Read, W: Write>(
+    rt: &HostRuntime,
+    path: &str,
+    windows: &Windows,
+    line: &CommandLine<'_>,
+    reader: &mut R,
+    writer: &mut W,
+) -> Result<(), Fault> {
+    let (store, outcome) = match (line.subcommand, line.feed) {
+        (Subcommand::Feed, None) => feed_gathering_at(rt, path, windows, reader, writer)?,
+        _ => {
+            let store = SqlStore::at(rt, path, Unknown, windows).map_err(open_fault)?;
+            run_over(rt, store, windows, line, reader, writer)
+        }
+    };
+    let closed = store.close_files();
+    outcome?;
+    match closed {
+        Ok(_files) => Ok(()),
+        Err((fault, left)) => {
+            drop(left.close());
+            Err(Fault::Open(OpenFault::from(fault)))
+        }
+    }
+}
+
+// Carries out a line. A plain `feed` is the function that says what it answers.
+fn run_line<R: Read, W: Write>(
+    rt: &HostRuntime,
+    line: &CommandLine<'_>,
+    reader: &mut R,
+    writer: &mut W,
+) -> Result<(), Fault> {
+    let windows = windows_at(rt, line.windows)?;
+    match (line.subcommand, line.feed, line.db) {
+        (_, _, Some(path)) => run_at(rt, path, &windows, line, reader, writer),
+        (Subcommand::Feed, None, None) => feed_gathering(rt.alloc(), &windows, reader, writer),
+        _ => {
+            let store = MemoryStore::new(rt.alloc());
+            let (_store, outcome) = run_over(rt, store, &windows, line, reader, writer);
+            outcome
+        }
+    }
+}
+
+/// Carries out the words of a command line, of which the first is the program's name, and gives the
+/// exit status: 0 done, or help; 1 a file that is refused, or messages that ended by a fault; 2 the
+/// command line; 3 memory, a read or a write. With 1 and 3 one line `npacd: ` and the fault's name
+/// goes to the errors, unless it cannot be written.
+///
+/// The windows file comes first, then the file of `--db`, then that of `--feed`, then the
+/// subcommand: nothing is done behind the first fault.
+pub fn run<S: AsStr, R: Read, W: Write, E: Write>(
+    rt: &HostRuntime,
+    words: &[S],
+    reader: &mut R,
+    writer: &mut W,
+    errors: &mut E,
+) -> u8
+    ensures { Ends (map S.text words.now) (E.contents errors.old) (E.contents errors.new) result }
+{
+    match parse(rt.alloc(), words) {
+        Ok(line) => report_outcome(errors, run_line(rt, &line, reader, writer)),
+        Err(usage) => report_usage(writer, errors, &usage),
+    }
+}

@@ -1,0 +1,82 @@
+-- Empty lines, by the test and as the grammar has them.
+use Rattle.std.proofs.Common.{◌≡◌, ℕ, ◌++◌, List, [], ◌∷◌, Bool, true, false, not, ◌&&◌, cond, Option, Some, None, refl, sym, ap, ◌∙◌, subst, append-nil}
+use Rattle.std.proofs.lemmas.Bool.{eqb-true}
+use Rattle.std.specs.Prelude.{IfSome, ◌==◌}
+use Rattle.std.specs.Io.KnownBytes.{IsAtEnd, Keeps, prepend_known}
+use Rattle.httparse.specs.Grammar.{LineEnd, lf, crlf, print_blank}
+use Rattle.http_messages.specs.Blank.{blank_after, is_blank}
+use Rattle.http_messages.specs.Front.{IsDone}
+use Rattle.http_messages.specs.Head.{IsBlank, IsEmptyLines}
+
+lines_are_blank : (ends : List LineEnd) → blank_after false (print_blank ends) ≡ true
+lines_are_blank [] = refl
+lines_are_blank (lf ∷ ends) = lines_are_blank ends
+lines_are_blank (crlf ∷ ends) = lines_are_blank ends
+
+-- the lines that the bytes are, behind a CR where the flag says so
+abbrev AreLines : Bool → List ℕ → Type 0
+AreLines true s = IsEmptyLines (13 ∷ s)
+AreLines false s = IsEmptyLines s
+
+after_lf : (cr : Bool) (b : ℕ) (s : List ℕ) → b ≡ 10 → IsEmptyLines s → AreLines cr (b ∷ s)
+after_lf true b s e h = (
+  crlf ∷ h.0,
+  ap (λ (t : List ℕ). 13 ∷ t) (ap (λ x. x ∷ s) e ∙ ap (λ (t : List ℕ). 10 ∷ t) h.1),
+)
+after_lf false b s e h = (lf ∷ h.0, ap (λ x. x ∷ s) e ∙ ap (λ (t : List ℕ). 10 ∷ t) h.1)
+
+after_cr : (cr : Bool) (b : ℕ) (s : List ℕ) → b ≡ 13 → (blank_after true s ≡ true → AreLines true s)
+    → (not cr && blank_after true s) ≡ true → AreLines cr (b ∷ s)
+after_cr true b s e ih h = cc
+after_cr false b s e ih h = let lines = ih h in (lines.0, ap (λ x. x ∷ s) e ∙ lines.1)
+
+lines_by : (cr : Bool) (b : ℕ) (s : List ℕ) (is_lf is_cr : Bool) → (b == 10) ≡ is_lf
+    → (b == 13) ≡ is_cr
+    → (blank_after false s ≡ true → AreLines false s)
+    → (blank_after true s ≡ true → AreLines true s)
+    → cond is_lf (blank_after false s) (cond is_cr (not cr && blank_after true s) false) ≡ true
+    → AreLines cr (b ∷ s)
+lines_by cr b s true is_cr e f ih jh h = after_lf cr b s (eqb-true b 10 e) (ih h)
+lines_by cr b s false true e f ih jh h = after_cr cr b s (eqb-true b 13 f) jh h
+lines_by cr b s false false e f ih jh h = cc
+
+lines : (cr : Bool) (s : List ℕ) → blank_after cr s ≡ true → AreLines cr s
+lines true [] h = cc
+lines false [] h = ([], refl)
+lines cr (b ∷ s) h = lines_by cr b s (b == 10) (b == 13) refl refl (lines false s) (lines true s) h
+
+-- where the input ended, what is held is all of it
+all_is : (all r : Option (List ℕ)) (held : List ℕ) (P : List ℕ → Type 0)
+    → Keeps all (prepend_known held r) → IsAtEnd r → P held → IfSome all P
+all_is None r held P k end h = tt
+all_is (Some xs) None held P k end h = absurd k
+all_is (Some xs) (Some more) held P k end h =
+    let same : held ≡ xs = sym (append-nil held) ∙ ap (λ (t : List ℕ). held ++ t) (sym end) ∙ k in
+    subst P same h
+
+pub blank_is : (all r : Option (List ℕ)) (held : List ℕ) → Keeps all (prepend_known held r)
+    → IsDone held r → IfSome all IsBlank
+blank_is all r held k done = all_is all r held IsBlank k done.2 (lines false held done.0, done.1)
+
+not_lines : (held : List ℕ) → is_blank held ≡ false → ¬ (IsBlank held)
+not_lines held e blank = let is = lines_are_blank blank.0.0 in let h : is_blank held ≡ true =
+    ap (blank_after false) blank.0.1 ∙ is in cc
+
+known : (held : List ℕ) (r : Option (List ℕ)) (P : List ℕ → Type 0)
+    → ((more : List ℕ) → P (held ++ more)) → IfSome (prepend_known held r) P
+known held None P f = tt
+known held (Some more) P f = f more
+
+-- the ways of a front that is no empty line
+pub not_blank_end : (held : List ℕ) (r : Option (List ℕ)) → is_blank held ≡ false → IsAtEnd r
+    → IfSome (prepend_known held r) (λ input. ¬ (IsBlank input))
+not_blank_end held None e end = tt
+not_blank_end held (Some more) e end =
+    let same : held ++ more ≡ held = ap (λ (t : List ℕ). held ++ t) end ∙ append-nil held in
+    λ blank. not_lines held e (subst IsBlank same blank)
+
+pub not_blank_bad : (held : List ℕ) (r : Option (List ℕ)) → ((more : List ℕ) (ends : List LineEnd)
+    → ¬ (held ++ more ≡ print_blank ends))
+    → IfSome (prepend_known held r) (λ input. ¬ (IsBlank input))
+not_blank_bad held r f =
+    known held r (λ input. ¬ (IsBlank input)) (λ more blank. f more blank.0.0 blank.0.1)

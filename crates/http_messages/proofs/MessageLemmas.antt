@@ -1,0 +1,155 @@
+-- The front of the input, by what is held of it.
+use Rattle.std.proofs.Common.{◌≡◌, ℕ, ◌<◌, ◌≤◌, List, [], ◌∷◌, ◌++◌, length, take, drop, Option, Some, None, refl, sym, ap, ◌∙◌, subst, arith, length-append, vec_len}
+use Rattle.std.specs.Prelude.{IfSome}
+use Rattle.std.specs.Io.KnownBytes.{Consumes, Keeps, prepend_known}
+use Rattle.std.proofs.KnownBytes.{Consumes-nil, Keeps-refl}
+use Rattle.std.proofs.lemmas.List.{length-take-le}
+use Rattle.httparse.specs.Grammar.{RequestHead, ReadsRequest, print_request}
+use Rattle.httparse.proofs.GrammarLemmas.{ReadsRequest-append}
+use Rattle.http_messages.specs.Parsing.{IsRequestOf, IsCutShort, IsNextMessage, ParsesAs, RefusedMessage, RefusesHead}
+use Rattle.http_messages.specs.Fields.{body_length}
+use Rattle.http_messages.specs.Head.{HasHead, IsBlank}
+use Rattle.http_messages.specs.ReadBuffer.{buffered_bytes}
+use Rattle.http_messages.specs.declared.fault.MessageFault.{MessageFault}
+use Rattle.http_messages.specs.declared.fault.MessageFault.TheVariants.{BadRequest, NoPath, BadMethod, TooLarge, BadHead, CutBody}
+use Rattle.http_messages.specs.declared.read_buffer.ReadBuffer.{ReadBuffer}
+use Rattle.http_messages.specs.declared.message.Request.{Request}
+use Rattle.http_messages.specs.declared.message.NextMessage.TheVariants.{Message}
+use Rattle.http_messages.proofs.BodyLemmas.{more_taken}
+use Rattle.http_messages.proofs.HeldLemmas.{held_length}
+use Rattle.numbers.proofs.Small.{no_members}
+
+pub held_short : (held : ReadBuffer) → vec_len held.bytes ≡ 8192
+    → length (buffered_bytes held) ≤ 8192
+held_short held size =
+    omega (arith, held_length held, held.fits, size)
+
+-- a head of so many bytes is at the front of what is held
+pub record HoldsHead (all r : Option (List ℕ)) (held : List ℕ) (len : ℕ)
+    (h : RequestHead) : Type 0 where
+  pub keeps : Keeps all (prepend_known held r)
+  pub reads : ReadsRequest held h (drop len held)
+  pub len_is : len ≡ length (print_request h)
+  pub fits : length held ≤ 8192
+  pub few : length h.fields < 65
+
+front_of : (input more held : List ℕ) (len : ℕ) (h : RequestHead)
+    → HoldsHead (Some input) (Some more) held len h → HasHead input h (drop len held ++ more)
+front_of input more held len h x = record {
+  reads = subst (λ (t : List ℕ). ReadsRequest t h (drop len held ++ more)) x.keeps
+      (ReadsRequest-append held h (drop len held) more x.reads);
+  short = omega (
+    arith,
+    x.fits,
+    ap length x.reads.1,
+    length-append (print_request h) (drop len held),
+  );
+  few = omega (arith, x.few);
+}
+
+pub message_made : (all r left : Option (List ℕ)) (held held' body : List ℕ) (len : ℕ)
+    (h : RequestHead) (request : Request)
+    → HoldsHead all r held len h → IsRequestOf h request → request.length ≤ 1048576
+    → held' ≡ drop len held
+    → Consumes (prepend_known held' r) left body → length body ≡ request.length
+    → IfSome all (λ input. IsNextMessage input (Message request) body left)
+message_made None r left held held' body len h request x asks small e taken whole = tt
+message_made (Some input) None left held held' body len h request x asks small e taken whole =
+    absurd x.keeps
+message_made (Some input) (Some more) None held held' body len h request x asks small e taken
+    whole = absurd taken
+message_made (Some input) (Some more) (Some rest) held held' body len h request x asks small e taken
+    whole =
+    let same : drop len held ++ more ≡ body ++ rest =
+    ap (λ (t : List ℕ). t ++ more) (sym e) ∙ taken in (
+      rest,
+      refl,
+      record {
+        head = h;
+        front = subst (HasHead input h) same (front_of input more held len h x);
+        asks = asks;
+        whole = whole;
+        small = omega (arith, whole, small);
+      },
+    )
+
+-- a message that is held whole: its body is taken off what is held behind its head, by a body that
+-- was empty
+pub taken_made : (r : Option (List ℕ)) (held held' held'' body body' : List ℕ) (len : ℕ)
+    (h : RequestHead) (request : Request)
+    → HoldsHead (prepend_known held r) r held len h → IsRequestOf h request
+    → request.length ≤ 1048576 → held' ≡ drop len held
+    → request.length ≤ length held' → length body ≡ 0 → held'' ≡ drop request.length held'
+    → body' ≡ body ++ take request.length held'
+    → IfSome (prepend_known held r) (λ input. IsNextMessage input (Message request) body'
+    (prepend_known held'' r))
+taken_made r held held' held'' body body' len h request x asks small e fits empty left taken =
+    let behind = prepend_known held' r in
+    let none : Consumes behind behind body =
+    subst (Consumes behind behind) (sym (no_members body empty)) (Consumes-nil behind) in
+    let whole : length body' ≡ request.length = omega (
+      arith,
+      ap length taken,
+      length-append body (take request.length held'),
+      length-take-le request.length held' fits,
+      empty,
+    ) in
+    message_made (prepend_known held r) r (prepend_known held'' r) held held' body' len h request x
+    asks small e
+    (more_taken behind behind r held' held'' body body' request.length none (Keeps-refl behind) left
+    taken) whole
+
+pub cut_made : (all r : Option (List ℕ)) (held held' : List ℕ) (len : ℕ) (h : RequestHead)
+    (request : Request)
+    → HoldsHead all r held len h → IsRequestOf h request → request.length ≤ 1048576
+    → held' ≡ drop len held
+    → IfSome (prepend_known held' r) (λ input. length input < request.length)
+    → IfSome all IsCutShort
+cut_made None r held held' len h request x asks small e short = tt
+cut_made (Some input) None held held' len h request x asks small e short = absurd x.keeps
+cut_made (Some input) (Some more) held held' len h request x asks small e short = record {
+  head = h;
+  rest = drop len held ++ more;
+  front = front_of input more held len h x;
+  says = request.length;
+  said = asks.length;
+  small = small;
+  short = subst (λ (t : List ℕ). length (t ++ more) < request.length) e short;
+}
+
+-- what a head of the input says of its body, every head says
+abbrev pub OneHead : Type 0
+OneHead = (s : List ℕ) (h k : RequestHead) (r q : List ℕ) → HasHead s h r → HasHead s k q
+    → (h ≡ k) × (r ≡ q)
+
+abbrev pub HeadsAreNoLines : Type 0
+HeadsAreNoLines = (s : List ℕ) (h : RequestHead) (rest : List ℕ) → HasHead s h rest → ¬ (IsBlank s)
+
+refused_here : (input rest : List ℕ) (h : RequestHead) (fault : MessageFault) → OneHead
+    → HeadsAreNoLines → HasHead input h rest → RefusesHead h fault
+    → ParsesAs input (RefusedMessage fault)
+refused_here input rest h BadHead one lines x refuses =
+    record {
+      not_blank = lines input h rest x;
+      none = λ k q y. ap body_length (one input k h q rest y x).0 ∙ refuses;
+    }
+refused_here input rest h TooLarge one lines x refuses = record {
+  head = h;
+  rest = rest;
+  front = x;
+  large = refuses;
+}
+refused_here input rest h CutBody one lines x refuses = absurd refuses
+refused_here input rest h BadRequest one lines x refuses = absurd refuses
+refused_here input rest h NoPath one lines x refuses = absurd refuses
+refused_here input rest h BadMethod one lines x refuses = absurd refuses
+
+pub refused_made : (all r : Option (List ℕ)) (held : List ℕ) (len : ℕ) (h : RequestHead)
+    (fault : MessageFault) → OneHead → HeadsAreNoLines
+    → HoldsHead all r held len h → RefusesHead h fault
+    → IfSome all (λ input. ParsesAs input (RefusedMessage fault))
+refused_made None r held len h fault one lines x refuses = tt
+refused_made (Some input) None held len h fault one lines x refuses = absurd x.keeps
+refused_made (Some input) (Some more) held len h fault one lines x refuses =
+    refused_here input (drop len held ++ more) h fault one lines (front_of input more held len h x)
+    refuses

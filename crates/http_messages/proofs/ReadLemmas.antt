@@ -1,0 +1,91 @@
+-- How much was read of the input.
+use Rattle.std.proofs.Common.{◌≡◌, ℕ, ◌<◌, ◌≤◌, List, [], ◌++◌, length, drop, Option, Some, None, refl, sym, ap, ◌∙◌, subst, arith, append_assoc, length-append}
+use Rattle.std.specs.Prelude.{IfSome}
+use Rattle.std.specs.Io.KnownBytes.{Consumes, Keeps, prepend_known}
+use Rattle.std.proofs.KnownBytes.{Consumes-kept}
+use Rattle.httparse.specs.Grammar.{RequestHead, print_request}
+use Rattle.httparse.proofs.GrammarLemmas.{request_unique}
+use Rattle.http_messages.specs.Parsing.{IsMessage, IsRequestOf}
+use Rattle.http_messages.specs.Fields.{body_length}
+use Rattle.http_messages.specs.Head.{HasHead}
+use Rattle.http_messages.specs.Reading.{HasNoWholeMessage, IsReadAhead}
+use Rattle.http_messages.specs.declared.message.Request.{Request}
+use Rattle.http_messages.proofs.MessageLemmas.{HoldsHead}
+use Rattle.numbers.proofs.Small.{some_is}
+
+-- all that was read is held
+pub held_ahead : (all r : Option (List ℕ)) (held : List ℕ) → Keeps all (prepend_known held r)
+    → length held ≤ 8192 → IfSome all (λ input. IsReadAhead input r)
+held_ahead None r held keeps short = tt
+held_ahead (Some input) None held keeps short = absurd keeps
+held_ahead (Some input) (Some more) held keeps short = record {
+  read = held;
+  short = short;
+  all =
+      ap Some keeps;
+}
+
+-- where nothing is held, what is left of the input is what the reader has
+pub nothing_held : (all before behind : Option (List ℕ)) (held body : List ℕ)
+    → Consumes all before body → Keeps before (prepend_known held behind) → held ≡ []
+    → Consumes all behind body
+nothing_held all before None held body taken keeps e =
+    Consumes-kept all before None body taken keeps
+nothing_held all before (Some more) held body taken keeps e =
+    Consumes-kept all before (Some more) body taken
+    (subst (λ (h : List ℕ). Keeps before (Some (h ++ more))) e keeps)
+
+-- behind the head there are fewer bytes than it says
+short_body : (read body : List ℕ) (h : RequestHead) (request other : Request) (text rest : List ℕ)
+    → HasHead read h body → IsRequestOf h request → length body < request.length
+    → ¬ (IsMessage read other text rest)
+short_body read body h request other text rest front asks short message =
+    let heads = request_unique read h message.head body (text ++ rest) front.reads
+    message.front.reads in
+    let sizes : Some request.length ≡ Some other.length = sym asks.length ∙ ap body_length heads.0
+    ∙ message.asks.length in
+    omega (
+      arith,
+      short,
+      some_is request.length other.length sizes,
+      message.whole,
+      ap length heads.1,
+      length-append text rest,
+    )
+
+-- the head was read, and of its body less than it says
+pub no_body_yet : (all r left : Option (List ℕ)) (held held' body : List ℕ) (len : ℕ)
+    (h : RequestHead) (request : Request)
+    → HoldsHead all r held len h → IsRequestOf h request → held' ≡ drop len held
+    → Consumes (prepend_known held' r) left body → length body < request.length
+    → IfSome all (λ input. HasNoWholeMessage input left)
+no_body_yet None r left held held' body len h request x asks e taken short = tt
+no_body_yet (Some input) None left held held' body len h request x asks e taken short =
+    absurd x.keeps
+no_body_yet (Some input) (Some more) None held held' body len h request x asks e taken short =
+    absurd taken
+no_body_yet (Some input) (Some more) (Some rest) held held' body len h request x asks e taken
+    short =
+    let same : drop len held ++ more ≡ body ++ rest =
+    ap (λ (t : List ℕ). t ++ more) (sym e) ∙ taken in
+    let whole : (print_request h ++ body) ++ rest ≡ input =
+    append_assoc (print_request h) body rest ∙ ap (λ (t : List ℕ). print_request h ++ t) (sym same)
+    ∙ sym (append_assoc (print_request h) (drop len held) more)
+    ∙ ap (λ (t : List ℕ). t ++ more) (sym x.reads.1) ∙ x.keeps in
+    let long : length (print_request h) ≤ 8192 = omega (
+      arith,
+      x.fits,
+      ap length x.reads.1,
+      length-append (print_request h) (drop len held),
+    ) in
+    let front : HasHead (print_request h ++ body) h body = record {
+      reads = (x.reads.0, refl);
+      short = long;
+      few = omega (arith, x.few);
+    } in
+    record {
+      read = print_request h ++ body;
+      all = ap Some whole;
+      none = λ other text behind. short_body (print_request h ++ body) body h request other text
+          behind front asks short;
+    }

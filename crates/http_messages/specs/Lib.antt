@@ -1,0 +1,10 @@
+pub mod Blank
+pub mod Parsing
+pub mod Faults
+pub mod Fields
+pub mod Front
+pub mod Head
+pub mod ReadBuffer
+pub mod Reading
+pub mod Sending
+pub mod Table

@@ -1,0 +1,19 @@
+//! Messages of HTTP/1.1, cut out of any reader: heads, paths, callers and bodies, and texts written
+//! whole to any writer.
+#![tactic(auto)]
+
+mod body;
+mod fault;
+mod front;
+mod head;
+mod message;
+mod paths;
+mod read_buffer;
+mod send;
+
+pub use fault::MessageFault;
+pub use head::read_number;
+pub use message::{NextFault, NextMessage, Request, next_buffered, next_message, parse_is_unique};
+pub use paths::{BlockPath, Method, Route, VersionPath, allows_method, offered_route, router};
+pub use read_buffer::ReadBuffer;
+pub use send::send_all;

@@ -1,0 +1,113 @@
+//! The bytes that were read and are not yet used up.
+ghost use Rattle.std.specs.Prelude.{◌≡◌, ℕ, ◌≤◌, ◌<◌, vec_len, IfOk, OnErr, List, [], take, length, drop, ◌+◌};
+ghost use Rattle.std.specs.Io.KnownBytes.{Keeps, IsAtEnd};
+
+use std::alloc::{AllocError, Global};
+use std::io;
+use std::io::Read;
+
+mod reads;
+
+/// How many bytes a head may have, with the empty lines in front of it.
+pub const HEAD_LIMIT: usize = 8192;
+
+/// Less room than this behind what is held is too little for a read.
+pub const LEAST_CAPACITY: usize = 1024;
+
+/// What was read and is not yet used up: the bytes of a buffer from `start` to `filled`.
+#[derive(Drop)]
+pub struct ReadBuffer {
+    pub(crate) bytes: Vec<u8>,
+    start: usize,
+    filled: usize,
+    ghost begins: { start ≤ filled },
+    ghost fits: { filled ≤ vec_len bytes },
+}
+
+impl ReadBuffer {
+    ghost use Rattle.http_messages.specs.ReadBuffer.{buffered_bytes, remaining_input};
+
+    /// An empty buffer for a head of up to 8,192 bytes, or want of memory.
+    pub fn new(alloc: Global) -> Result<ReadBuffer, AllocError>
+        ensures size { IfOk result (λ held. vec_len held.bytes ≡ 8192) }
+        ensures empty { IfOk result (λ held. buffered_bytes held ≡ []) }
+    {
+        let bytes = vec![in alloc; 0; HEAD_LIMIT]?;
+        Ok(ReadBuffer {
+            bytes,
+            start: 0,
+            filled: 0,
+        })
+    }
+
+    /// What is held.
+    pub(crate) fn held(&self) -> &[u8]
+        ensures { result.now ≡ buffered_bytes self.now }
+    {
+        &self.bytes[self.start..self.filled]
+    }
+
+    /// How many bytes are held.
+    pub(crate) fn len(&self) -> usize
+        ensures value { result ≡ length (buffered_bytes self.now) }
+        ensures most { result ≤ vec_len self.now.bytes }
+    {
+        self.filled - self.start
+    }
+
+    /// Lets go of the first n bytes. They stay where they are: only what is behind them is held.
+    pub(crate) fn drop_front(&mut self, n: usize)
+        requires { n ≤ length (buffered_bytes self.old) }
+        ensures size { vec_len self.new.bytes ≡ vec_len self.old.bytes }
+        ensures held { buffered_bytes self.new ≡ drop n (buffered_bytes self.old) }
+    {
+        self.start += n;
+        if self.start == self.filled {
+            self.start = 0;
+            self.filled = 0;
+        }
+    }
+
+    // Moves what is held to the front.
+    fn move_to_front(&mut self)
+        ensures size { vec_len self.new.bytes ≡ vec_len self.old.bytes }
+        ensures held { buffered_bytes self.new ≡ buffered_bytes self.old }
+        ensures front { self.new.start ≡ 0 }
+    {
+        self.bytes.copy_within(self.start..self.filled, 0);
+        self.filled -= self.start;
+        self.start = 0;
+    }
+
+    // Makes room behind what is held, where there is too little.
+    fn make_room(&mut self)
+        requires { length (buffered_bytes self.old) < vec_len self.old.bytes }
+        ensures size { vec_len self.new.bytes ≡ vec_len self.old.bytes }
+        ensures held { buffered_bytes self.new ≡ buffered_bytes self.old }
+        ensures room { self.new.filled < vec_len self.new.bytes }
+    {
+        if self.start > 0 && self.bytes.len() - self.filled < LEAST_CAPACITY {
+            self.move_to_front();
+        }
+    }
+
+    /// Reads once more behind what is held. 0 bytes come only at the end of the input.
+    pub(crate) fn fill<R: Read>(&mut self, reader: &mut R) -> io::Result<usize>
+        requires { length (buffered_bytes self.old) < vec_len self.old.bytes }
+        ensures size { vec_len self.new.bytes ≡ vec_len self.old.bytes }
+        ensures left { Keeps (remaining_input self.old (R.remaining reader.old))
+            (remaining_input self.new (R.remaining reader.new)) }
+        ensures grows { IfOk result
+            (λ n. length (buffered_bytes self.new) ≡ length (buffered_bytes self.old) + n) }
+        ensures end { IfOk result (λ n. n ≡ 0
+            → IsAtEnd (R.remaining reader.new)
+            × (buffered_bytes self.new ≡ buffered_bytes self.old)) }
+        ensures same { OnErr result (buffered_bytes self.new ≡ buffered_bytes self.old) }
+    {
+        self.make_room();
+        let start = self.filled;
+        let n = reads::read_at(reader, &mut self.bytes, start)?;
+        self.filled = start + n;
+        Ok(n)
+    }
+}

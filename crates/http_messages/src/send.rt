@@ -1,0 +1,62 @@
+//! Writing the whole of a text.
+ghost use Rattle.std.specs.Prelude.{◌≡◌, ◌≢◌, ℕ, ◌≤◌, List, length, take, ◌++◌, IfOk, IfErr, OnOk, OnErr};
+ghost use Rattle.std.specs.Io.KnownBytes.{Appends, Keeps};
+ghost use Rattle.std.specs.IoError.{error_kind};
+ghost use Rattle.http_messages.specs.Sending.{AppendsFront};
+
+use std::io;
+use std::io::{ErrorKind, Write};
+
+// Writes once. A write that is interrupted is tried again, as often as the standard's own writers
+// try.
+fn write_some<W: Write>(writer: &mut W, text: &[u8]) -> io::Result<usize>
+    ensures ok { IfOk result (λ n. (n ≤ length text.now)
+        × Appends (W.contents writer.old) (W.contents writer.new) (take n text.now)) }
+    ensures err { OnErr result (Keeps (W.contents writer.old) (W.contents writer.new)) }
+    ensures retried { IfErr result (λ e. error_kind e ≢ ErrorKind.Interrupted) }
+{
+    'tries: for _ in 0..u64::MAX {
+        match writer.write(text) {
+            Ok(n) => return Ok(n),
+            Err(e) if e.kind() == ErrorKind::Interrupted => {}
+            Err(e) => return Err(e),
+        }
+    }
+    Err(ErrorKind::Other.into())
+}
+
+// Flushes. What is interrupted is tried again.
+fn flush<W: Write>(writer: &mut W) -> io::Result<()>
+    ensures kept { Keeps (W.contents writer.old) (W.contents writer.new) }
+    ensures retried { IfErr result (λ e. error_kind e ≢ ErrorKind.Interrupted) }
+{
+    'tries: for _ in 0..u64::MAX {
+        match writer.flush() {
+            Ok(()) => return Ok(()),
+            Err(e) if e.kind() == ErrorKind::Interrupted => {}
+            Err(e) => return Err(e),
+        }
+    }
+    Err(ErrorKind::Other.into())
+}
+
+/// Writes a text, and flushes where it is told to. After an `Err` a front of the text may have been
+/// written. What is interrupted is tried again.
+pub fn send_all<W: Write>(writer: &mut W, text: &[u8], flushes: bool) -> io::Result<()>
+    ensures ok { OnOk result (Appends (W.contents writer.old) (W.contents writer.new) text.now) }
+    ensures err { OnErr result
+        (AppendsFront (W.contents writer.old) (W.contents writer.new) text.now) }
+    ensures retried { IfErr result (λ e. error_kind e ≢ ErrorKind.Interrupted) }
+{
+    let mut at = 0;
+    'writes: while at < text.len() {
+        match write_some(writer, &text[at..])? {
+            0 => return Err(ErrorKind::WriteZero.into()),
+            n => at += n,
+        }
+    }
+    if flushes {
+        flush(writer)?;
+    }
+    Ok(())
+}

@@ -1,0 +1,136 @@
+//! Writing into room that was taken before, which cannot fail.
+ghost use Rattle.std.specs.Prelude.{◌≡◌, ◌+◌, ◌<◌, ◌≤◌, ◌++◌, length, decimal, string_bytes, string_len, string_capacity};
+ghost use Rattle.numbers.specs.Texts.{block_text, digits_of, spid_text, subject_text};
+ghost use Rattle.numbers.specs.Abstraction.{subject_of};
+
+use numbers::{BlockId, Cic, CodeId, Lrn, Minute, Spid, Subject};
+
+/// Appends a text.
+pub fn put(out: &mut String, text: &str)
+    requires { string_len out.old + length text.now ≤ string_capacity out.old }
+    ensures bytes { string_bytes out.new ≡ string_bytes out.old ++ text.now }
+    ensures len { string_len out.new ≡ string_len out.old + length text.now }
+    ensures capacity { string_capacity out.old ≤ string_capacity out.new }
+{
+    match out.push_str(text) {
+        Ok(()) => {}
+        Err(_) => unreachable!(),
+    }
+}
+
+// Appends a number of one digit.
+fn put_digit(out: &mut String, digit: u8)
+    requires digit { digit < 10 }
+    requires room { string_len out.old + 20 ≤ string_capacity out.old }
+    ensures bytes { string_bytes out.new ≡ string_bytes out.old ++ decimal digit }
+    ensures len { string_len out.new ≤ string_len out.old + 20 }
+    ensures capacity { string_capacity out.old ≤ string_capacity out.new }
+{
+    match out.push(char::from(b'0' + digit)) {
+        Ok(()) => {}
+        Err(_) => unreachable!(),
+    }
+}
+
+/// Appends a whole number in decimal: at most twenty digits.
+pub fn put_number(out: &mut String, number: u64)
+    requires { string_len out.old + 20 ≤ string_capacity out.old }
+    ensures bytes { string_bytes out.new ≡ string_bytes out.old ++ decimal number }
+    ensures len { string_len out.new ≤ string_len out.old + 20 }
+    ensures capacity { string_capacity out.old ≤ string_capacity out.new }
+{
+    // as most are
+    if number < 10 {
+        return put_digit(out, number as u8);
+    }
+    put(out, itoa::Buffer::new().format(number))
+}
+
+/// Appends a minute in decimal.
+pub fn put_minute(out: &mut String, minute: Minute)
+    requires { string_len out.old + 20 ≤ string_capacity out.old }
+    ensures bytes { string_bytes out.new ≡ string_bytes out.old ++ decimal minute.number }
+    ensures len { string_len out.new ≤ string_len out.old + 20 }
+    ensures capacity { string_capacity out.old ≤ string_capacity out.new }
+{
+    put_number(out, minute.number)
+}
+
+/// Appends a provider's four characters.
+pub fn put_spid(out: &mut String, spid: Spid)
+    requires { string_len out.old + 4 ≤ string_capacity out.old }
+    ensures bytes { string_bytes out.new ≡ string_bytes out.old ++ spid_text spid.number }
+    ensures len { string_len out.new ≤ string_len out.old + 4 }
+    ensures capacity { string_capacity out.old ≤ string_capacity out.new }
+{
+    match spid.write(out) {
+        Ok(()) => {}
+        Err(_) => unreachable!(),
+    }
+}
+
+/// Appends a routing number's ten digits.
+pub fn put_lrn(out: &mut String, lrn: Lrn)
+    requires { string_len out.old + 10 ≤ string_capacity out.old }
+    ensures bytes { string_bytes out.new ≡ string_bytes out.old ++ digits_of 10 lrn.number }
+    ensures len { string_len out.new ≤ string_len out.old + 10 }
+    ensures capacity { string_capacity out.old ≤ string_capacity out.new }
+{
+    match lrn.write(out) {
+        Ok(()) => {}
+        Err(_) => unreachable!(),
+    }
+}
+
+/// Appends a carrier code's four digits.
+pub fn put_cic(out: &mut String, cic: Cic)
+    requires { string_len out.old + 4 ≤ string_capacity out.old }
+    ensures bytes { string_bytes out.new ≡ string_bytes out.old ++ digits_of 4 cic.number }
+    ensures len { string_len out.new ≤ string_len out.old + 4 }
+    ensures capacity { string_capacity out.old ≤ string_capacity out.new }
+{
+    match cic.write(out) {
+        Ok(()) => {}
+        Err(_) => unreachable!(),
+    }
+}
+
+/// Appends a code's six digits.
+pub fn put_code(out: &mut String, code: CodeId)
+    requires { string_len out.old + 6 ≤ string_capacity out.old }
+    ensures bytes { string_bytes out.new ≡ string_bytes out.old ++ digits_of 6 code.number }
+    ensures len { string_len out.new ≤ string_len out.old + 6 }
+    ensures capacity { string_capacity out.old ≤ string_capacity out.new }
+{
+    match code.write(out) {
+        Ok(()) => {}
+        Err(_) => unreachable!(),
+    }
+}
+
+/// Appends a block's seven digits.
+pub fn put_block(out: &mut String, block: BlockId)
+    requires { string_len out.old + 7 ≤ string_capacity out.old }
+    ensures bytes { string_bytes out.new ≡ string_bytes out.old ++ block_text block.number }
+    ensures len { string_len out.new ≤ string_len out.old + 7 }
+    ensures capacity { string_capacity out.old ≤ string_capacity out.new }
+{
+    match block.write(out) {
+        Ok(()) => {}
+        Err(_) => unreachable!(),
+    }
+}
+
+/// Appends a subject's ten or seven digits.
+pub fn put_subject(out: &mut String, subject: Subject)
+    requires { string_len out.old + 10 ≤ string_capacity out.old }
+    ensures bytes { string_bytes out.new
+        ≡ string_bytes out.old ++ subject_text (subject_of subject) }
+    ensures len { string_len out.new ≤ string_len out.old + 10 }
+    ensures capacity { string_capacity out.old ≤ string_capacity out.new }
+{
+    match subject.write(out) {
+        Ok(()) => {}
+        Err(_) => unreachable!(),
+    }
+}

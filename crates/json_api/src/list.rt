@@ -1,0 +1,59 @@
+//! Lists in bodies.
+ghost use Rattle.std.specs.Prelude.{◌≡◌, ℕ, List, ◌+◌, ◌*◌, ◌≤◌, ◌++◌, length, codes, string_bytes, string_len, string_capacity};
+ghost use Rattle.std.specs.List.{flat_map};
+ghost use Rattle.json_api.specs.Texts.{listed};
+
+use crate::append::put;
+
+/// What stands in a list.
+pub(crate) trait Item {
+    // its text
+    ghost text: { Self → List ℕ };
+    // the most bytes that it takes
+    ghost room: { ℕ };
+
+    /// Appends it.
+    fn put(&self, out: &mut String)
+        requires { string_len out.old + room ≤ string_capacity out.old }
+        ensures bytes { string_bytes out.new ≡ string_bytes out.old ++ text self.now }
+        ensures len { string_len out.new ≤ string_len out.old + room }
+        ensures capacity { string_capacity out.old ≤ string_capacity out.new };
+}
+
+// One behind another.
+fn put_next<T: Item>(out: &mut String, item: &T)
+    requires { string_len out.old + (T.room + 1) ≤ string_capacity out.old }
+    ensures bytes { string_bytes out.new
+        ≡ string_bytes out.old ++ (codes "," ++ T.text item.now) }
+    ensures len { string_len out.new ≤ string_len out.old + (T.room + 1) }
+    ensures capacity { string_capacity out.old ≤ string_capacity out.new }
+{
+    put(out, ",");
+    item.put(out);
+}
+
+// Those behind the first.
+fn put_rest<T: Item>(out: &mut String, items: &[T])
+    requires { string_len out.old + length items.now * (T.room + 1) ≤ string_capacity out.old }
+    ensures bytes { string_bytes out.new
+        ≡ string_bytes out.old ++ flat_map (λ i. codes "," ++ T.text i) items.now }
+    ensures len { string_len out.new ≤ string_len out.old + length items.now * (T.room + 1) }
+    ensures capacity { string_capacity out.old ≤ string_capacity out.new }
+{
+    for item in items {
+        put_next(out, item);
+    }
+}
+
+/// Appends these, with a comma between two: for each the bytes that it takes, and one.
+pub(crate) fn put_list<T: Item>(out: &mut String, items: &[T])
+    requires { string_len out.old + length items.now * (T.room + 1) ≤ string_capacity out.old }
+    ensures bytes { string_bytes out.new ≡ string_bytes out.old ++ listed T.text items.now }
+    ensures len { string_len out.new ≤ string_len out.old + length items.now * (T.room + 1) }
+    ensures capacity { string_capacity out.old ≤ string_capacity out.new }
+{
+    if let Some((first, rest)) = items.split_first() {
+        first.put(out);
+        put_rest(out, rest);
+    }
+}

@@ -1,0 +1,520 @@
+//! The bodies of answers.
+ghost use Rattle.std.specs.Prelude.{◌≡◌, ℕ, ◌+◌, ◌*◌, ◌≤◌, ◌++◌, OnOk, length, map, decimal, option_map, string_bytes, string_len, string_capacity};
+ghost use Rattle.numbers.specs.declared.cic.Cic.{Cic as CicImpl};
+ghost use Rattle.numbers.specs.declared.lrn.Lrn.{Lrn as LrnImpl};
+ghost use Rattle.numbers.specs.Abstraction.{routing_of};
+ghost use Rattle.model.specs.Abstraction.{status_of as status_model};
+ghost use Rattle.model.specs.State.{release_of};
+ghost use Rattle.version.specs.Abstraction.{routings_of, phase_model};
+ghost use Rattle.requests.specs.Calls.{view_of, in_force_of, download_of};
+ghost use Rattle.json_api.specs.Response.{refusal_body};
+ghost use Rattle.telnp.specs.Answer.{answer_text};
+ghost use Rattle.telnp.specs.Abstraction.{uri_of};
+ghost use Rattle.json_api.specs.Failures.{failure_body};
+ghost use Rattle.json_api.specs.ResponseBuffers.{HasCapacity, IsEmpty, IsWritten};
+ghost use Rattle.json_api.specs.Texts.{cic_value, lrn_value, number_value, phase_value, status_word, cic_in, lrn_in, counts_text, parties_text, times_text, standing_text, view_text, listed, row_text, registered_text, donated_text, action_word, sent_text, placed_text, download_text, downloads_text, routing_number_text, opened_code_text, ids_text, now_text, windows_set_text, uri_text};
+
+use crate::append::{
+    put, put_block, put_cic, put_code, put_lrn, put_minute, put_number, put_spid, put_subject,
+};
+use crate::fault::Failure;
+use crate::list::{Item, put_list};
+use crate::response::ResponseBuffer;
+use delivery::{Download, RoutedRow};
+use model::{Action, Status};
+use numbers::{BlockId, Cic, CodeId, Lrn, Minute, Routing, Spid};
+use requests::{Ids, VersionView};
+use std::alloc::{AllocError, Global};
+use telnp::TelUri;
+use version::Phase;
+
+/// The most bytes that a version's body takes.
+pub const VERSION_CAPACITY: usize = 400;
+
+/// The most bytes that a row in force takes, with a comma.
+pub const ROW_CAPACITY: usize = 64;
+
+/// The most bytes that an id takes, with a comma.
+pub const ID_CAPACITY: usize = 21;
+
+/// The most bytes that a download takes, with a comma.
+pub const DOWNLOAD_CAPACITY: usize = 192;
+
+/// Appends the body of a refusal, of at most 64 bytes.
+pub fn put_failure(out: &mut String, failure: Failure)
+    requires { string_len out.old + 64 ≤ string_capacity out.old }
+    ensures bytes { string_bytes out.new ≡ string_bytes out.old ++ failure_body failure }
+    ensures len { string_len out.new ≤ string_len out.old + 64 }
+    ensures capacity { string_capacity out.old ≤ string_capacity out.new }
+{
+    put(out, "{\"error\":\"");
+    put(out, failure.name());
+    put(out, "\",\"number\":");
+    put_number(out, u64::from(failure.number()));
+    put(out, "}");
+}
+
+fn put_cic_or_null(out: &mut String, cic: Option<Cic>)
+    requires { string_len out.old + 6 ≤ string_capacity out.old }
+    ensures bytes { string_bytes out.new
+        ≡ string_bytes out.old ++ cic_value (option_map (λ (c : CicImpl). c.number) cic) }
+    ensures len { string_len out.new ≤ string_len out.old + 6 }
+    ensures capacity { string_capacity out.old ≤ string_capacity out.new }
+{
+    match cic {
+        None => put(out, "null"),
+        Some(cic) => {
+            put(out, "\"");
+            put_cic(out, cic);
+            put(out, "\"");
+        }
+    }
+}
+
+fn put_lrn_or_null(out: &mut String, lrn: Option<Lrn>)
+    requires { string_len out.old + 12 ≤ string_capacity out.old }
+    ensures bytes { string_bytes out.new
+        ≡ string_bytes out.old ++ lrn_value (option_map (λ (n : LrnImpl). n.number) lrn) }
+    ensures len { string_len out.new ≤ string_len out.old + 12 }
+    ensures capacity { string_capacity out.old ≤ string_capacity out.new }
+{
+    match lrn {
+        None => put(out, "null"),
+        Some(lrn) => {
+            put(out, "\"");
+            put_lrn(out, lrn);
+            put(out, "\"");
+        }
+    }
+}
+
+fn phase_text(phase: Option<Phase>) -> &'static str
+    ensures text { result.now ≡ phase_value (option_map phase_model phase) }
+    ensures len { length result.now ≤ 9 }
+{
+    match phase {
+        None => "null",
+        Some(Phase::Initial) => "\"initial\"",
+        Some(Phase::Final) => "\"final\"",
+        Some(Phase::Ended) => "\"ended\"",
+    }
+}
+
+fn status_text(status: Status) -> &'static str
+    ensures text { result.now ≡ status_word (status_model status) }
+    ensures len { length result.now ≤ 20 }
+{
+    match status {
+        Status::Pending => "pending",
+        Status::Conflict => "conflict",
+        Status::CancelPending(_) => "cancel-pending",
+        Status::SendingCreate | Status::SendingDelete | Status::SendingModify { .. } => "sending",
+        Status::Active => "active",
+        Status::PartialFailure => "partial-failure",
+        Status::Failed => "failed",
+        Status::DisconnectPending(_) => "disconnect-pending",
+        Status::Old => "old",
+        Status::Canceled => "canceled",
+    }
+}
+
+// The minute of the release that a disconnect-pending version waits for, or null.
+fn put_release(out: &mut String, status: Status)
+    requires { string_len out.old + 20 ≤ string_capacity out.old }
+    ensures bytes { string_bytes out.new
+        ≡ string_bytes out.old ++ number_value (release_of (status_model status)) }
+    ensures len { string_len out.new ≤ string_len out.old + 20 }
+    ensures capacity { string_capacity out.old ≤ string_capacity out.new }
+{
+    match status {
+        Status::DisconnectPending(release) => put_minute(out, release),
+        _ => put(out, "null"),
+    }
+}
+
+// The members `attempt` to `id`.
+fn put_counts(out: &mut String, view: &VersionView)
+    requires { string_len out.old + 120 ≤ string_capacity out.old }
+    ensures bytes { string_bytes out.new ≡ string_bytes out.old ++ counts_text (view_of view.now) }
+    ensures len { string_len out.new ≤ string_len out.old + 120 }
+    ensures capacity { string_capacity out.old ≤ string_capacity out.new }
+{
+    put(out, "{\"attempt\":");
+    put_number(out, view.version.attempt);
+    put(out, ",\"cic\":");
+    put_cic_or_null(out, cic_of(view.version.routing));
+    put(out, ",\"due\":");
+    put_minute(out, view.version.due);
+    put(out, ",\"id\":");
+    put_number(out, view.id);
+}
+
+fn cic_of(routing: Option<Routing>) -> Option<Cic>
+    ensures { option_map (λ (c : CicImpl). c.number) result ≡ cic_in (routings_of routing) }
+{
+    routing?.cic
+}
+
+fn lrn_of(routing: Option<Routing>) -> Option<Lrn>
+    ensures { option_map (λ (n : LrnImpl). n.number) result ≡ lrn_in (routings_of routing) }
+{
+    Some(routing?.lrn)
+}
+
+// The members `lrn` to `old`.
+fn put_parties(out: &mut String, view: &VersionView)
+    requires { string_len out.old + 60 ≤ string_capacity out.old }
+    ensures bytes { string_bytes out.new ≡ string_bytes out.old ++ parties_text (view_of view.now) }
+    ensures len { string_len out.new ≤ string_len out.old + 60 }
+    ensures capacity { string_capacity out.old ≤ string_capacity out.new }
+{
+    put(out, ",\"lrn\":");
+    put_lrn_or_null(out, lrn_of(view.version.routing));
+    put(out, ",\"new\":\"");
+    put_spid(out, view.version.new_provider);
+    put(out, "\",\"old\":\"");
+    put_spid(out, view.version.old_provider);
+    put(out, "\"");
+}
+
+// The members `phase` to `since`.
+fn put_times(out: &mut String, view: &VersionView)
+    requires { string_len out.old + 80 ≤ string_capacity out.old }
+    ensures bytes { string_bytes out.new ≡ string_bytes out.old ++ times_text (view_of view.now) }
+    ensures len { string_len out.new ≤ string_len out.old + 80 }
+    ensures capacity { string_capacity out.old ≤ string_capacity out.new }
+{
+    put(out, ",\"phase\":");
+    put(out, phase_text(view.phase));
+    put(out, ",\"release\":");
+    put_release(out, view.version.status);
+    put(out, ",\"since\":");
+    put_minute(out, view.version.since);
+}
+
+// The members `status` and `subject`.
+fn put_standing(out: &mut String, view: &VersionView)
+    requires { string_len out.old + 80 ≤ string_capacity out.old }
+    ensures bytes { string_bytes out.new
+        ≡ string_bytes out.old ++ standing_text (view_of view.now) }
+    ensures len { string_len out.new ≤ string_len out.old + 80 }
+    ensures capacity { string_capacity out.old ≤ string_capacity out.new }
+{
+    put(out, ",\"status\":\"");
+    put(out, status_text(view.version.status));
+    put(out, "\",\"subject\":\"");
+    put_subject(out, view.version.subject);
+    put(out, "\"}");
+}
+
+/// Appends the body that shows a version, of at most 400 bytes.
+#[tactic(auto, unfolding(crate::specs::Texts::view_text))]
+pub fn put_version(out: &mut String, view: &VersionView)
+    requires { string_len out.old + 400 ≤ string_capacity out.old }
+    ensures bytes { string_bytes out.new ≡ string_bytes out.old ++ view_text (view_of view.now) }
+    ensures len { string_len out.new ≤ string_len out.old + 400 }
+    ensures capacity { string_capacity out.old ≤ string_capacity out.new }
+{
+    put_counts(out, view);
+    put_parties(out, view);
+    put_times(out, view);
+    put_standing(out, view);
+}
+
+/// Appends the body that shows a routing number and whose it is, of at most 64 bytes.
+#[tactic(auto, unfolding(crate::specs::Texts::routing_number_text))]
+pub fn put_routing_number(out: &mut String, lrn: Lrn, spid: Spid)
+    requires { string_len out.old + 64 ≤ string_capacity out.old }
+    ensures bytes { string_bytes out.new
+        ≡ string_bytes out.old ++ routing_number_text lrn.number spid.number }
+    ensures len { string_len out.new ≤ string_len out.old + 64 }
+    ensures capacity { string_capacity out.old ≤ string_capacity out.new }
+{
+    put(out, "{\"lrn\":\"");
+    put_lrn(out, lrn);
+    put(out, "\",\"spid\":\"");
+    put_spid(out, spid);
+    put(out, "\"}");
+}
+
+/// Appends the body that shows a code and its holder, of at most 64 bytes.
+#[tactic(auto, unfolding(crate::specs::Texts::opened_code_text))]
+pub fn put_opened_code(out: &mut String, code: CodeId, spid: Spid)
+    requires { string_len out.old + 64 ≤ string_capacity out.old }
+    ensures bytes { string_bytes out.new
+        ≡ string_bytes out.old ++ opened_code_text code.number spid.number }
+    ensures len { string_len out.new ≤ string_len out.old + 64 }
+    ensures capacity { string_capacity out.old ≤ string_capacity out.new }
+{
+    put(out, "{\"code\":\"");
+    put_code(out, code);
+    put(out, "\",\"spid\":\"");
+    put_spid(out, spid);
+    put(out, "\"}");
+}
+
+fn put_id_or_null(out: &mut String, id: Option<u64>)
+    requires { string_len out.old + 20 ≤ string_capacity out.old }
+    ensures bytes { string_bytes out.new ≡ string_bytes out.old ++ number_value id }
+    ensures len { string_len out.new ≤ string_len out.old + 20 }
+    ensures capacity { string_capacity out.old ≤ string_capacity out.new }
+{
+    match id {
+        None => put(out, "null"),
+        Some(id) => put_number(out, id),
+    }
+}
+
+/// Appends the body that tells the ids of a number's versions, of at most 64 bytes.
+#[tactic(auto, unfolding(crate::specs::Texts::ids_text))]
+pub fn put_ids(out: &mut String, ids: Ids)
+    requires { string_len out.old + 64 ≤ string_capacity out.old }
+    ensures bytes { string_bytes out.new
+        ≡ string_bytes out.old ++ ids_text ids.in_force ids.opened }
+    ensures len { string_len out.new ≤ string_len out.old + 64 }
+    ensures capacity { string_capacity out.old ≤ string_capacity out.new }
+{
+    put(out, "{\"in_force\":");
+    put_id_or_null(out, ids.in_force);
+    put(out, ",\"open\":");
+    put_id_or_null(out, ids.opened);
+    put(out, "}");
+}
+
+/// Appends the body that shows the minute that it is, of at most 64 bytes.
+#[tactic(auto, unfolding(crate::specs::Texts::now_text))]
+pub fn put_now(out: &mut String, now: Minute)
+    requires { string_len out.old + 64 ≤ string_capacity out.old }
+    ensures bytes { string_bytes out.new ≡ string_bytes out.old ++ now_text now.number }
+    ensures len { string_len out.new ≤ string_len out.old + 64 }
+    ensures capacity { string_capacity out.old ≤ string_capacity out.new }
+{
+    put(out, "{\"now\":");
+    put_minute(out, now);
+    put(out, "}");
+}
+
+/// Appends the body that shows the minute that it is and the number of the present set of windows,
+/// of at most 64 bytes.
+#[tactic(auto, unfolding(crate::specs::Texts::windows_set_text))]
+pub fn put_windows_set(out: &mut String, now: Minute, number: u16)
+    requires { string_len out.old + 64 ≤ string_capacity out.old }
+    ensures bytes { string_bytes out.new
+        ≡ string_bytes out.old ++ windows_set_text now.number number }
+    ensures len { string_len out.new ≤ string_len out.old + 64 }
+    ensures capacity { string_capacity out.old ≤ string_capacity out.new }
+{
+    put(out, "{\"now\":");
+    put_minute(out, now);
+    put(out, ",\"set\":");
+    put_number(out, u64::from(number));
+    put(out, "}");
+}
+
+// A row in force.
+impl Item for RoutedRow {
+    ghost text = { λ r. row_text (in_force_of r) };
+
+    ghost room = { 63 };
+
+    fn put(&self, out: &mut String) {
+        put(out, "{\"cic\":");
+        put_cic_or_null(out, self.routing.cic);
+        put(out, ",\"lrn\":");
+        put_lrn_or_null(out, Some(self.routing.lrn));
+        put(out, ",\"subject\":\"");
+        put_subject(out, self.subject);
+        put(out, "\"}");
+    }
+}
+
+// Rows in force, one after another.
+#[tactic(auto, using(crate::proofs::ListLemmas::listed_of))]
+fn put_rows(out: &mut String, rows: &[RoutedRow])
+    requires { string_len out.old + length rows.now * 64 ≤ string_capacity out.old }
+    ensures bytes { string_bytes out.new
+        ≡ string_bytes out.old ++ listed row_text (map in_force_of rows.now) }
+    ensures len { string_len out.new ≤ string_len out.old + length rows.now * 64 }
+    ensures capacity { string_capacity out.old ≤ string_capacity out.new }
+{
+    put_list(out, rows);
+}
+
+/// Appends the body that shows a carrier and its starting rows, of at most 64 bytes and 64 for each
+/// row.
+#[tactic(auto, unfolding(crate::specs::Texts::registered_text))]
+pub fn put_registered(out: &mut String, spid: Spid, rows: &[RoutedRow])
+    requires { string_len out.old + 64 + length rows.now * 64 ≤ string_capacity out.old }
+    ensures bytes { string_bytes out.new
+        ≡ string_bytes out.old ++ registered_text spid.number (map in_force_of rows.now) }
+    ensures len { string_len out.new ≤ string_len out.old + 64 + length rows.now * 64 }
+    ensures capacity { string_capacity out.old ≤ string_capacity out.new }
+{
+    put(out, "{\"rows\":[");
+    put_rows(out, rows);
+    put(out, "],\"spid\":\"");
+    put_spid(out, spid);
+    put(out, "\"}");
+}
+
+// An id.
+impl Item for u64 {
+    ghost text = { λ id. decimal id };
+
+    ghost room = { 20 };
+
+    fn put(&self, out: &mut String) {
+        put_number(out, *self);
+    }
+}
+
+// Ids, one after another.
+fn put_id_list(out: &mut String, ids: &[u64])
+    requires { string_len out.old + length ids.now * 21 ≤ string_capacity out.old }
+    ensures bytes { string_bytes out.new ≡ string_bytes out.old ++ listed decimal ids.now }
+    ensures len { string_len out.new ≤ string_len out.old + length ids.now * 21 }
+    ensures capacity { string_capacity out.old ≤ string_capacity out.new }
+{
+    put_list(out, ids);
+}
+
+/// Appends the body that shows a donated block and the ids of the versions that were made, of at
+/// most 64 bytes and 21 for each id.
+#[tactic(auto, unfolding(crate::specs::Texts::donated_text))]
+pub fn put_donated(out: &mut String, block: BlockId, ids: &[u64])
+    requires { string_len out.old + 64 + length ids.now * 21 ≤ string_capacity out.old }
+    ensures bytes { string_bytes out.new
+        ≡ string_bytes out.old ++ donated_text block.number ids.now }
+    ensures len { string_len out.new ≤ string_len out.old + 64 + length ids.now * 21 }
+    ensures capacity { string_capacity out.old ≤ string_capacity out.new }
+{
+    put(out, "{\"block\":\"");
+    put_block(out, block);
+    put(out, "\",\"ids\":[");
+    put_id_list(out, ids);
+    put(out, "]}");
+}
+
+fn action_text(action: Action) -> &'static str
+    ensures text { result.now ≡ action_word action }
+    ensures len { length result.now ≤ 6 }
+{
+    match action {
+        Action::Create => "create",
+        Action::Delete => "delete",
+        Action::Modify => "modify",
+    }
+}
+
+// The members `action` to `id`.
+fn put_sent(out: &mut String, download: &Download)
+    requires { string_len out.old + 100 ≤ string_capacity out.old }
+    ensures bytes { string_bytes out.new
+        ≡ string_bytes out.old ++ sent_text (download_of download.now) }
+    ensures len { string_len out.new ≤ string_len out.old + 100 }
+    ensures capacity { string_capacity out.old ≤ string_capacity out.new }
+{
+    put(out, "{\"action\":\"");
+    put(out, action_text(download.action));
+    put(out, "\",\"attempt\":");
+    put_number(out, download.attempt);
+    put(out, ",\"cic\":");
+    put_cic_or_null(out, cic_of(download.routing));
+    put(out, ",\"id\":");
+    put_number(out, download.id);
+}
+
+// The members `lrn` to `subject`.
+fn put_placed(out: &mut String, download: &Download)
+    requires { string_len out.old + 80 ≤ string_capacity out.old }
+    ensures bytes { string_bytes out.new
+        ≡ string_bytes out.old ++ placed_text (download_of download.now) }
+    ensures len { string_len out.new ≤ string_len out.old + 80 }
+    ensures capacity { string_capacity out.old ≤ string_capacity out.new }
+{
+    put(out, ",\"lrn\":");
+    put_lrn_or_null(out, lrn_of(download.routing));
+    put(out, ",\"minute\":");
+    put_minute(out, download.minute);
+    put(out, ",\"subject\":\"");
+    put_subject(out, download.subject);
+    put(out, "\"}");
+}
+
+// A download.
+impl Item for Download {
+    ghost text = { λ d. download_text (download_of d) };
+
+    ghost room = { 191 };
+
+    fn put(&self, out: &mut String) {
+        put_sent(out, self);
+        put_placed(out, self);
+    }
+}
+
+// Downloads, one after another.
+#[tactic(auto, using(crate::proofs::ListLemmas::listed_of))]
+fn put_download_list(out: &mut String, downloads: &[Download])
+    requires { string_len out.old + length downloads.now * 192 ≤ string_capacity out.old }
+    ensures bytes { string_bytes out.new
+        ≡ string_bytes out.old ++ listed download_text (map download_of downloads.now) }
+    ensures len { string_len out.new ≤ string_len out.old + length downloads.now * 192 }
+    ensures capacity { string_capacity out.old ≤ string_capacity out.new }
+{
+    put_list(out, downloads);
+}
+
+/// Appends the body that shows a carrier's first downloads, of at most 64 bytes and 192 for each
+/// download.
+pub fn put_downloads(out: &mut String, downloads: &[Download])
+    requires { string_len out.old + 64 + length downloads.now * 192 ≤ string_capacity out.old }
+    ensures bytes { string_bytes out.new
+        ≡ string_bytes out.old ++ downloads_text (map download_of downloads.now) }
+    ensures len { string_len out.new ≤ string_len out.old + 64 + length downloads.now * 192 }
+    ensures capacity { string_capacity out.old ≤ string_capacity out.new }
+{
+    put(out, "{\"downloads\":[");
+    put_download_list(out, downloads);
+    put(out, "]}");
+}
+
+/// The most bytes that the body of a query's answer takes beside its URI.
+pub const URI_CAPACITY: usize = 10;
+
+/// Appends the body that answers a query with a tel URI, of at most 10 bytes more than the URI. The
+/// bytes of a tel URI are letters, digits and marks of the grammar, none of them a quote, a
+/// backslash or a control byte, so none has to be escaped (`uris_need_no_escape` of `api`).
+#[tactic(auto, unfolding(crate::specs::Texts::uri_text))]
+pub fn put_uri(out: &mut String, uri: &str)
+    requires { string_len out.old + length uri.now + 10 ≤ string_capacity out.old }
+    ensures bytes { string_bytes out.new ≡ string_bytes out.old ++ uri_text uri.now }
+    ensures len { string_len out.new ≤ string_len out.old + length uri.now + 10 }
+    ensures capacity { string_capacity out.old ≤ string_capacity out.new }
+{
+    put(out, "{\"uri\":\"");
+    put(out, uri);
+    put(out, "\"}");
+}
+
+/// Writes the body that answers a query by a tel URI whose number was looked up, and takes the room
+/// for the whole answer. Where the URI has no parameters, it takes no memory that was not taken for
+/// an answer before.
+#[tactic(auto, unfolding(crate::specs::Texts::uri_text))]
+pub fn put_looked_up(
+    alloc: Global,
+    room: &mut ResponseBuffer,
+    uri: &TelUri<'_>,
+    routing: Option<Routing>,
+) -> Result<(), AllocError>
+    requires { IsEmpty room.old }
+    ensures ok { OnOk result (IsWritten room.new) }
+    ensures body { OnOk result (string_bytes room.new.body
+        ≡ uri_text (answer_text (uri_of uri.now) (option_map routing_of routing))) }
+    ensures room { (n : ℕ) → HasCapacity n room.old → HasCapacity n room.new }
+{
+    room.body.push_str("{\"uri\":\"")?;
+    uri.write_answer(alloc, routing, &mut room.body)?;
+    room.body.push_str("\"}")?;
+    room.fit()
+}

@@ -1,0 +1,152 @@
+//! Answers, written into room that was taken before.
+ghost use Rattle.std.specs.Prelude.{◌≡◌, ℕ, ◌+◌, ◌≤◌, ◌<◌, ◌^◌, ◌++◌, length, string_bytes, IfOk, OnOk, string_len, string_capacity};
+ghost use Rattle.json_api.specs.Response.{response, head, head_start, IsAnswered, phrase};
+
+use crate::append::{put, put_number};
+use http::StatusCode;
+use std::alloc::{AllocError, Global};
+
+/// The room for every answer but those of everything in force and of queries.
+pub const SMALL_CAPACITY: usize = 512;
+
+/// The most that the head of an answer takes.
+pub const HEAD_CAPACITY: usize = 160;
+
+/// An answer under way: its body, and then its whole text.
+#[derive(Drop)]
+pub struct ResponseBuffer {
+    pub body: String,
+    pub text: String,
+}
+
+// The phrase of a status.
+#[tactic(auto, using(crate::proofs::Phrases::short_phrase), unfolding(crate::specs::Response::phrase))]
+fn phrase_of(status: StatusCode) -> &'static str
+    ensures text { result.now ≡ phrase status }
+    ensures short { IsAnswered status → length result.now ≤ 31 }
+{
+    status.canonical_reason().unwrap_or("")
+}
+
+// Appends the head of an answer with this status, up to the length of the body.
+fn put_status(out: &mut String, status: StatusCode)
+    requires room { string_len out.old + 136 ≤ string_capacity out.old }
+    requires answered { IsAnswered status }
+    ensures bytes { string_bytes out.new ≡ string_bytes out.old ++ head_start status }
+    ensures len { string_len out.new ≤ string_len out.old + 136 }
+    ensures capacity { string_capacity out.old ≤ string_capacity out.new }
+{
+    put(out, "HTTP/1.1 ");
+    put(out, status.as_str());
+    put(out, " ");
+    put(out, phrase_of(status));
+    put(
+        out,
+        "\r\ncontent-type: application/json\r\ncontent-length: ",
+    );
+}
+
+#[tactic(auto, unfolding(crate::specs::Response::phrase))]
+fn put_success_head(out: &mut String)
+    requires room { string_len out.old + 136 ≤ string_capacity out.old }
+    ensures bytes { string_bytes out.new ≡ string_bytes out.old ++ head_start 200 }
+    ensures len { string_len out.new ≤ string_len out.old + 136 }
+    ensures capacity { string_capacity out.old ≤ string_capacity out.new }
+{
+    put(
+        out,
+        "HTTP/1.1 200 OK\r\ncontent-type: application/json\r\ncontent-length: ",
+    );
+}
+
+// The head up to the length of the body, in one piece where the answer is one of success, as almost
+// each is.
+fn put_start(out: &mut String, status: u16)
+    requires room { string_len out.old + 136 ≤ string_capacity out.old }
+    requires answered { IsAnswered status }
+    ensures bytes { string_bytes out.new ≡ string_bytes out.old ++ head_start status }
+    ensures len { string_len out.new ≤ string_len out.old + 136 }
+    ensures capacity { string_capacity out.old ≤ string_capacity out.new }
+{
+    if status == 200 {
+        return put_success_head(out);
+    }
+    match StatusCode::from_u16(status) {
+        Ok(status) => put_status(out, status),
+        Err(_) => unreachable!(),
+    }
+}
+
+// Appends the head of an answer with this status before a body of this length.
+fn put_head(out: &mut String, status: u16, length: u64)
+    requires room { string_len out.old + 160 ≤ string_capacity out.old }
+    requires answered { IsAnswered status }
+    ensures bytes { string_bytes out.new ≡ string_bytes out.old ++ head status length }
+    ensures len { string_len out.new ≤ string_len out.old + 160 }
+    ensures capacity { string_capacity out.old ≤ string_capacity out.new }
+{
+    put_start(out, status);
+    put_number(out, length);
+    put(out, "\r\n\r\n");
+}
+
+impl ResponseBuffer {
+    ghost use Rattle.json_api.specs.ResponseBuffers.{HasCapacity, IsEmpty, IsWritten};
+
+    /// Takes the room for a small answer, whose body has at most 512 bytes, or answers want of
+    /// memory.
+    pub fn new(alloc: Global) -> Result<ResponseBuffer, AllocError>
+        ensures room { IfOk result (HasCapacity 512) }
+        ensures empty { IfOk result IsEmpty }
+    {
+        Ok(ResponseBuffer {
+            body: String::with_capacity(alloc, SMALL_CAPACITY)?,
+            text: String::with_capacity(alloc, SMALL_CAPACITY + HEAD_CAPACITY)?,
+        })
+    }
+
+    /// Empties it for the next answer.
+    pub fn clear(&mut self)
+        ensures empty { IsEmpty self.new }
+        ensures room { (n : ℕ) → HasCapacity n self.old → HasCapacity n self.new }
+    {
+        self.body.clear();
+        self.text.clear();
+    }
+
+    /// Takes the room for a body of so many bytes. After want of memory what room there was is
+    /// there still.
+    pub fn take(&mut self, length: usize) -> Result<(), AllocError>
+        requires empty { IsEmpty self.old }
+        requires fits { length + 160 < 2 ^ 64 }
+        ensures ok { OnOk result (HasCapacity length self.new) }
+        ensures empty { IsEmpty self.new }
+        ensures room { (n : ℕ) → HasCapacity n self.old → HasCapacity n self.new }
+    {
+        self.body.reserve(length)?;
+        self.text.reserve(length + HEAD_CAPACITY)?;
+        Ok(())
+    }
+
+    /// Takes the room for the whole answer with the body that is written.
+    pub fn fit(&mut self) -> Result<(), AllocError>
+        requires empty { string_len self.old.text ≡ 0 }
+        ensures ok { OnOk result (IsWritten self.new) }
+        ensures body { string_bytes self.new.body ≡ string_bytes self.old.body }
+        ensures room { (n : ℕ) → HasCapacity n self.old → HasCapacity n self.new }
+    {
+        self.text.reserve(self.body.len() + HEAD_CAPACITY)
+    }
+
+    /// Writes the whole text of an answer with this status and the body.
+    pub fn finish(&mut self, status: u16)
+        requires answered { IsAnswered status }
+        requires written { IsWritten self.old }
+        ensures text { string_bytes self.new.text
+            ≡ string_bytes self.old.text ++ response status (string_bytes self.old.body) }
+        ensures room { (n : ℕ) → HasCapacity n self.old → HasCapacity n self.new }
+    {
+        put_head(&mut self.text, status, self.body.len() as u64);
+        put(&mut self.text, &self.body);
+    }
+}

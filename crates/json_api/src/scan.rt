@@ -1,0 +1,165 @@
+//! The bytes of a body, gone over once: an object of plain values, with spaces and line feeds
+//! between its parts alone and no escapes in its texts.
+ghost use Rattle.std.specs.Prelude.{◌≡◌, ◌≤◌, ◌∷◌, ◌++◌, [], true, length, take, Some, IfSome};
+ghost use Rattle.std.specs.List.{list_all};
+ghost use Rattle.std.specs.Char.{is_ascii_digit};
+ghost use Rattle.std.specs.Str.{IsUtf8};
+ghost use Rattle.json.specs.Print.{quoted, token_text, IsNumber};
+ghost use Rattle.json.specs.Token.{number};
+ghost use Rattle.serde_json.specs.Read.{number_of};
+ghost use Rattle.serde_json.specs.Data.{unsigned};
+ghost use Rattle.json_api.specs.Flat.{flat_data};
+ghost use Rattle.json_api.specs.Forms.{json_of};
+ghost use Rattle.json_api.specs.Scanned.{is_plain as is_plain_byte, IsBehindGap, IsScalarThen, IsMemberThen};
+
+use crate::flat::{MOST_MEMBERS, Member, Scalar};
+use arrayvec::ArrayVec;
+use http_messages::read_number;
+
+// Of each byte whether it stands for itself in a text, a row for 32 of them: a printable character
+// of ASCII that is no quote and no backslash does. They are looked up, which takes half of what
+// four comparisons take.
+static PLAIN: [u8; 256] = *b"\
+    00000000000000000000000000000000\
+    11011111111111111111111111111111\
+    11111111111111111111111111110111\
+    11111111111111111111111111111110\
+    00000000000000000000000000000000\
+    00000000000000000000000000000000\
+    00000000000000000000000000000000\
+    00000000000000000000000000000000";
+
+// Whether a byte stands for itself in a text.
+fn is_plain(byte: u8) -> bool
+    ensures { result ≡ is_plain_byte byte }
+{
+    PLAIN[usize::from(byte)] == b'1'
+}
+
+// What follows spaces and line feeds.
+fn behind_gap(bytes: &[u8]) -> &[u8]
+    ensures { IsBehindGap bytes.now result.now }
+{
+    let mut rest = bytes;
+    'gap: loop {
+        match rest.split_first() {
+            Some((byte, behind)) if *byte == b' ' || *byte == b'\n' => rest = behind,
+            _ => return rest,
+        }
+    }
+}
+
+// What follows this byte, if it comes first.
+fn behind(bytes: &[u8], first: u8) -> Option<&[u8]>
+    ensures { IfSome result (λ rest. bytes.now ≡ first ∷ rest.now) }
+{
+    match bytes.split_first() {
+        Some((byte, rest)) if *byte == first => Some(rest),
+        _ => None,
+    }
+}
+
+// How many plain bytes come first.
+fn plain_len(bytes: &[u8]) -> usize
+    ensures within { result ≤ length bytes.now }
+    ensures plain { list_all is_plain_byte (take result bytes.now) ≡ true }
+{
+    let mut len = 0;
+    'bytes: while len < bytes.len() && is_plain(bytes[len]) {
+        len += 1;
+    }
+    len
+}
+
+// How many digits come first.
+fn digits_len(bytes: &[u8]) -> usize
+    ensures within { result ≤ length bytes.now }
+    ensures digits { list_all is_ascii_digit (take result bytes.now) ≡ true }
+{
+    let mut len = 0;
+    'bytes: while len < bytes.len() && bytes[len].is_ascii_digit() {
+        len += 1;
+    }
+    len
+}
+
+// Plain bytes as a text.
+fn plain_text(bytes: &[u8]) -> &str
+    requires { list_all is_plain_byte bytes.now ≡ true }
+    ensures { result.now ≡ bytes.now }
+{
+    // Plain bytes are characters of ASCII.
+    unsafe { str::from_utf8_unchecked(bytes) }
+}
+
+// The text in quotes that comes first, and what follows it.
+fn text_at(bytes: &[u8]) -> Option<(&str, &[u8])>
+    ensures utf8 { IfSome result (λ found. IsUtf8 found.0.now) }
+    ensures text { IfSome result (λ found. bytes.now ≡ quoted found.0.now ++ found.1.now) }
+{
+    let inner = behind(bytes, b'"')?;
+    let (text, rest) = inner.split_at(plain_len(inner));
+    let rest = behind(rest, b'"')?;
+    Some((plain_text(text), rest))
+}
+
+// The whole number that comes first, with no zero in front, and what follows it.
+fn number_at(bytes: &[u8]) -> Option<(Scalar<'_>, &[u8])>
+    ensures { IfSome result (λ found. IsScalarThen bytes.now found.0 found.1.now) }
+{
+    let (digits, rest) = bytes.split_at(digits_len(bytes));
+    if digits.len() > 1 && digits[0] == b'0' {
+        return None;
+    }
+    Some((Scalar::Whole(read_number(digits)?), rest))
+}
+
+// The plain value that comes first, and what follows it.
+fn scalar_at(bytes: &[u8]) -> Option<(Scalar<'_>, &[u8])>
+    ensures { IfSome result (λ found. IsScalarThen bytes.now found.0 found.1.now) }
+{
+    match bytes.first()? {
+        b'"' => {
+            let (text, rest) = text_at(bytes)?;
+            Some((Scalar::Text(text), rest))
+        }
+        b't' => Some((Scalar::Flag(true), bytes.strip_prefix(b"true")?)),
+        b'f' => Some((Scalar::Flag(false), bytes.strip_prefix(b"false")?)),
+        b'n' => Some((Scalar::Null, bytes.strip_prefix(b"null")?)),
+        _ => number_at(bytes),
+    }
+}
+
+// The key with its value that comes first, and what follows them.
+fn member_at(bytes: &[u8]) -> Option<(Member<'_>, &[u8])>
+    ensures { IfSome result (λ found. IsMemberThen bytes.now found.0 found.1.now) }
+{
+    let (key, rest) = text_at(behind_gap(bytes))?;
+    let (value, rest) = scalar_at(behind_gap(behind(rest, b':')?))?;
+    Some((Member { key, value }, rest))
+}
+
+/// Reads the members of the object that a body is. `None` says nothing of the body.
+pub(crate) fn read_members<'a>(
+    body: &'a [u8],
+    members: &mut ArrayVec<Member<'a>, MOST_MEMBERS>,
+) -> Option<()>
+    requires { members.old.items ≡ [] }
+    ensures { IfSome result (λ _. json_of body.now ≡ Some (flat_data members.new.items)) }
+{
+    let mut rest = behind(body, b'{')?;
+    'members: loop {
+        let (member, after) = member_at(rest)?;
+        let Ok(()) = members.try_push(member) else {
+            return None;
+        };
+        if let Some(behind) = behind(after, b',') {
+            rest = behind;
+        } else {
+            return match behind(behind_gap(after), b'}') {
+                Some([]) => Some(()),
+                _ => None,
+            };
+        }
+    }
+}

@@ -1,5 +1,0 @@
-use Rattle.meaning.proofs.Queues.{queue_is_what_waits}
-use Rattle.meaning.proofs.laws.law_of_queues.Goals as goal
-
-pub returns : goal.returns
-returns c = queue_is_what_waits

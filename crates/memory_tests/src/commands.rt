@@ -1,0 +1,41 @@
+//! Commands that the tests share, and routings.
+use numbers::{Lrn, Minute, Routing, Spid, Tn};
+use register::Register;
+use requests::Command;
+use store::MemoryStore;
+use version::{Create, Creator};
+
+/// A routing number with no carrier code.
+pub fn routed_to(lrn: &str) -> Option<Routing> {
+    Some(Routing {
+        lrn: Lrn::read(lrn)?,
+        cic: None,
+    })
+}
+
+/// The routing of AAAA.
+pub fn routing() -> Option<Routing> {
+    routed_to("2025440000")
+}
+
+/// A provider's create of the port of a number from BBBB to AAAA.
+pub fn create_of(number: &str, due: Minute, creator: Creator) -> Option<Create> {
+    let tn = Tn::read(number)?;
+    let old_provider = Spid::read("BBBB")?;
+    let new_provider = Spid::read("AAAA")?;
+    Some(Create {
+        tn,
+        old_provider,
+        new_provider,
+        due,
+        creator,
+    })
+}
+
+/// The register does what a caller commands.
+pub fn does(register: &mut Register<MemoryStore>, caller: Spid, command: Command) -> Option<()> {
+    match register.do_it(caller, &command) {
+        Ok(_) => Some(()),
+        Err(_) => None,
+    }
+}

@@ -1,0 +1,61 @@
+//! The numbers of the refusals.
+use model::Refusal;
+use std::alloc::Global;
+
+static ALL: [Refusal; 30] = [
+    Refusal::UnknownCarrier,
+    Refusal::NotAdmin,
+    Refusal::UnknownCode,
+    Refusal::CarrierTaken,
+    Refusal::CodeTaken,
+    Refusal::LrnTaken,
+    Refusal::BadLrn,
+    Refusal::InPool,
+    Refusal::WrongOld,
+    Refusal::NotFound,
+    Refusal::NotYours,
+    Refusal::Busy,
+    Refusal::WrongStatus,
+    Refusal::DuePast,
+    Refusal::DueMismatch,
+    Refusal::NotConcurred,
+    Refusal::BeforeDue,
+    Refusal::ConflictSpent,
+    Refusal::TooLate,
+    Refusal::TooEarly,
+    Refusal::Protected,
+    Refusal::Contaminated,
+    Refusal::OpenPorts,
+    Refusal::BlockTaken,
+    Refusal::NotQueued,
+    Refusal::OutOfOrder,
+    Refusal::ClockBack,
+    Refusal::Full,
+    Refusal::Storage,
+    Refusal::NoMemory,
+];
+
+// The first refusal that has not the number of its place.
+fn misnumbered() -> Option<Refusal> {
+    let mut number = 0u8;
+    for refusal in &ALL {
+        number = number.saturating_add(1);
+        if refusal.number() != number {
+            return Some(*refusal);
+        }
+    }
+    None
+}
+
+// A push and a clone refuse memory in two ways, and each becomes a refusal.
+fn copied(alloc: Global) -> Result<usize, Refusal> {
+    let mut numbers = Vec::new(alloc);
+    numbers.push(12u8)?;
+    let copy = numbers.clone()?;
+    Ok(copy.len())
+}
+
+#[test]
+fn refusals_have_their_numbers(rt: HostRuntime) {
+    assert_eq!(rt; (misnumbered(), copied(rt.alloc())), (None, Ok(1)));
+}

@@ -1,0 +1,82 @@
+//! A carrier's own copy.
+use crate::commands::{routed_to, routing};
+use delivery::{Download, Mirror, RoutedRow};
+use model::Action;
+use numbers::{Minute, Routing, Subject, Tn};
+use std::alloc::{AllocError, Global};
+
+fn subject(text: &str) -> Option<Subject> {
+    Some(Subject::Number(Tn::read(text)?))
+}
+
+fn download(id: u64, action: Action, routing: Option<Routing>) -> Option<Download> {
+    Some(Download {
+        id,
+        attempt: id,
+        minute: Minute::new(id)?,
+        subject: subject("2025331234")?,
+        action,
+        routing,
+    })
+}
+
+fn row(text: &str, routing: Routing) -> Option<RoutedRow> {
+    Some(RoutedRow {
+        subject: subject(text)?,
+        routing,
+    })
+}
+
+fn routing_in(mirror: &Mirror, text: &str) -> Option<Routing> {
+    mirror.get(subject(text)?)
+}
+
+fn held(mirror: &Mirror) -> [Option<Routing>; 2] {
+    [
+        routing_in(mirror, "2025331234"),
+        routing_in(mirror, "2025339999"),
+    ]
+}
+
+// What a copy has of the number and of another, as it is started with both, as the number is
+// disconnected, and as it is ported again; and once it is started anew with nothing.
+type Held = [[Option<Routing>; 2]; 4];
+
+fn walk(
+    mirror: &mut Mirror,
+    rows: &[RoutedRow],
+    delete: &Download,
+    create: &Download,
+) -> Result<Held, AllocError> {
+    mirror.start(rows)?;
+    let started = held(mirror);
+    mirror.apply(delete)?;
+    let deleted = held(mirror);
+    mirror.apply(create)?;
+    let ported = held(mirror);
+    mirror.start(&[])?;
+    Ok([started, deleted, ported, held(mirror)])
+}
+
+fn walked(alloc: Global, old: Routing, new: Routing) -> Option<Held> {
+    let rows = [row("2025331234", old)?, row("2025339999", old)?];
+    let delete = download(2, Action::Delete, None)?;
+    let create = download(3, Action::Create, Some(new))?;
+    let mut mirror = Mirror::new(alloc);
+    walk(&mut mirror, &rows, &delete, &create).ok()
+}
+
+#[test]
+fn a_copy_follows_its_downloads(rt: HostRuntime) {
+    let (Some(old), Some(new)) = (routed_to("2025330000"), routing()) else {
+        assert!(rt; false);
+        return;
+    };
+    let wanted = [
+        [Some(old), Some(old)],
+        [None, Some(old)],
+        [Some(new), Some(old)],
+        [None, None],
+    ];
+    assert_eq!(rt; walked(rt.alloc(), old, new), Some(wanted));
+}

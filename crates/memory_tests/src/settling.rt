@@ -1,0 +1,145 @@
+//! What a call settles: the subjects that it reads, and no other.
+use crate::port::{FIRST_PORT, Said, Texts, answer, asked, is_answered, is_served, opened};
+use register::Register;
+use settle::Store;
+use std::alloc::{AllocError, Global};
+use std::cell::Cell;
+use store::{CommitCounter, MemoryStore};
+
+// The old provider's create of a number, due at 300.
+fn offer(alloc: Global, line: u64, out: &mut String) -> Result<(), AllocError> {
+    let body = format!(in alloc;
+        "{{\"authorized\":true,\"due\":300,\"new\":\"AAAA\",\"old\":\"BBBB\",\"tn\":\"202533{line}\"}}"
+    )?;
+    let path = "/subscriptionVersionOldSP-Create";
+    let text = asked(alloc, &("BBBB", path, body.as_str(), ""))?;
+    out.push_str(text.as_str())
+}
+
+static AT_120: Said<'static> = ("NPAC", "/clock", r#"{"minute":120}"#, r#"{"now":120}"#);
+
+// What opens a register, a thousand creates, whose windows end at 120, and the clock at that
+// minute.
+fn ask_until_120(alloc: Global, texts: &mut Texts) -> Result<(), AllocError> {
+    texts.add_rows(alloc, &FIRST_PORT[..5])?;
+    for line in 1000..2000 {
+        offer(alloc, line, &mut texts.asked)?;
+    }
+    let clock = asked(alloc, &AT_120)?;
+    texts.asked.push_str(clock.as_str())
+}
+
+fn is_told_until_120<S: Store>(alloc: Global, register: &mut Register<S>) -> bool {
+    let mut texts = Texts::new(alloc);
+    ask_until_120(alloc, &mut texts).is_ok()
+        && is_served(alloc, register, texts.asked.as_str(), 1006)
+}
+
+// What is said, the answer's status, and how often the store is asked for a commit.
+type Step = (Said<'static>, &'static str, u64);
+
+static STEPS: [Step; 6] = [
+    // a number that no version is of is asked for
+    (
+        (
+            "AAAA",
+            "/query",
+            r#"{"uri":"tel:+12025339999"}"#,
+            r#"{"uri":"tel:+12025339999;npdi"}"#,
+        ),
+        "200 OK",
+        0,
+    ),
+    // the first version is shown: canceled at 120
+    (
+        (
+            "AAAA",
+            "/versions/1",
+            "",
+            r#"{"attempt":0,"cic":null,"due":300,"id":1,"lrn":null,"new":"AAAA","old":"BBBB","phase":null,"release":null,"since":120,"status":"canceled","subject":"2025331000"}"#,
+        ),
+        "200 OK",
+        1,
+    ),
+    // the clock is refused to go back
+    (
+        (
+            "NPAC",
+            "/clock",
+            r#"{"minute":119}"#,
+            r#"{"error":"clock_back","number":27}"#,
+        ),
+        "409 Conflict",
+        0,
+    ),
+    // the clock is moved to the minute at which it stands
+    (
+        ("NPAC", "/clock", r#"{"minute":120}"#, r#"{"now":120}"#),
+        "200 OK",
+        0,
+    ),
+    // the new provider fetches: the other 999 end, and nothing waits
+    (
+        ("AAAA", "/downloads/10", "", r#"{"downloads":[]}"#),
+        "200 OK",
+        999,
+    ),
+    // a carrier is registered
+    (
+        (
+            "NPAC",
+            "/carriers",
+            r#"{"spid":"CCCC"}"#,
+            r#"{"rows":[],"spid":"CCCC"}"#,
+        ),
+        "200 OK",
+        1,
+    ),
+];
+
+fn takes<S: Store>(alloc: Global, register: &mut Register<S>, step: &Step) -> Option<bool> {
+    let text = asked(alloc, &step.0).ok()?;
+    let wanted = answer(alloc, step.1, step.0.3).ok()?;
+    Some(is_answered(alloc, register, text.as_str(), wanted.as_str()))
+}
+
+// The first step that is answered otherwise, or with other commits.
+fn taken_otherwise<S: Store>(
+    alloc: Global,
+    register: &mut Register<S>,
+    commits: &Cell<u64>,
+) -> Option<usize> {
+    for (at, step) in STEPS.iter().enumerate() {
+        commits.set(0);
+        if takes(alloc, register, step) != Some(true) || commits.get() != step.2 {
+            return Some(at);
+        }
+    }
+    None
+}
+
+fn settled_otherwise_in<S: Store>(
+    alloc: Global,
+    register: &mut Register<S>,
+    commits: &Cell<u64>,
+) -> Option<Option<usize>> {
+    if !is_told_until_120(alloc, register) {
+        return None;
+    }
+    Some(taken_otherwise(alloc, register, commits))
+}
+
+fn settled_otherwise(alloc: Global, commits: &Cell<u64>) -> Option<Option<usize>> {
+    let store = CommitCounter {
+        store: MemoryStore::new(alloc),
+        commits,
+    };
+    let mut register = opened(alloc, store)?;
+    settled_otherwise_in(alloc, &mut register, commits)
+}
+
+#[test]
+fn a_call_settles_what_it_reads_alone(rt: HostRuntime) {
+    let commits = Cell::new(0);
+    assert_eq!(rt; settled_otherwise(rt.alloc(), &commits), Some(None));
+}

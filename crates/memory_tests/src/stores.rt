@@ -1,0 +1,322 @@
+//! A commit and each read. The same tests run with each allocation refused in turn: a commit that
+//! is refused leaves every read as it was.
+use delivery::{Broadcast, DownloadKey};
+use model::{Action, Status};
+use numbers::{BlockId, CodeId, Lrn, Minute, Routing, Spid, Subject, Tn};
+use settle::{BlockRow, BroadcastKey, Changes, Few, Store, VersionRow, WaitKey};
+use std::alloc::Global;
+use store::MemoryStore;
+use version::Version;
+use windows::{Window, WindowSet, Windows};
+
+const WINDOWS: Windows = Windows {
+    initial_concurrence: Window { minutes: 540 },
+    final_concurrence: Window { minutes: 540 },
+    conflict_restriction: Window { minutes: 1080 },
+    conflict_resolution: Window { minutes: 360 },
+    conflict_expiration: Window { minutes: 43_200 },
+    cancellation_initial: Window { minutes: 540 },
+    cancellation_final: Window { minutes: 540 },
+    pending_retention: Window { minutes: 43_200 },
+    broadcast: Window { minutes: 15 },
+};
+
+#[derive(Clone, Copy)]
+struct Sample {
+    carrier: Spid,
+    lrn: Lrn,
+    code: CodeId,
+    block: BlockId,
+    subject: Subject,
+}
+
+fn make_sample() -> Option<Sample> {
+    Some(Sample {
+        carrier: Spid::read("A001")?,
+        lrn: Lrn::read("2025440000")?,
+        code: CodeId::read("202533")?,
+        block: BlockId::read("2025337")?,
+        subject: Subject::Number(Tn::read("2025331234")?),
+    })
+}
+
+fn row(sample: &Sample) -> VersionRow {
+    let version = Version {
+        subject: sample.subject,
+        old_provider: sample.carrier,
+        new_provider: sample.carrier,
+        due: Minute::ZERO,
+        routing: Some(Routing {
+            lrn: sample.lrn,
+            cic: None,
+        }),
+        old_at: None,
+        new_at: None,
+        status: Status::Active,
+        since: Minute::ZERO,
+        held: 1,
+        attempt: 1,
+        is_conflict_spent: false,
+        is_protective: false,
+    };
+    VersionRow {
+        version,
+        deadline: None,
+        is_in_force: true,
+        is_open: false,
+    }
+}
+
+const KEY: BroadcastKey = BroadcastKey { id: 1, attempt: 1 };
+
+// A version in force and what was sent of it, which one carrier has to acknowledge.
+fn add_version(changes: &mut Changes, sample: &Sample) -> Option<()> {
+    changes.versions = Few::One([(1, row(sample))]);
+    let sent = Broadcast::send(Minute::ZERO, sample.subject, Action::Create, None);
+    changes.broadcasts = Few::One([(KEY, sent)]);
+    let wait = WaitKey {
+        carrier: sample.carrier,
+        minute: Minute::ZERO,
+        id: 1,
+        attempt: 1,
+    };
+    changes.waits.push((wait, sample.subject)).ok()
+}
+
+fn changes(alloc: Global, sample: &Sample) -> Option<Changes> {
+    let row = BlockRow {
+        donor: sample.carrier,
+        last: None,
+    };
+    let mut changes = Changes {
+        carrier: Some(sample.carrier),
+        lrn: Some((sample.lrn, sample.carrier)),
+        code: Some((sample.code, sample.carrier)),
+        block: Some((sample.block, row)),
+        set: Some(WindowSet {
+            number: 1,
+            windows: WINDOWS,
+        }),
+        ..Changes::none(alloc)
+    };
+    add_version(&mut changes, sample)?;
+    Some(changes)
+}
+
+// The download that would be the last of another carrier.
+fn another_wait() -> Option<WaitKey> {
+    Some(WaitKey {
+        carrier: Spid::read("B001")?,
+        minute: Minute::ZERO,
+        id: KEY.id,
+        attempt: KEY.attempt,
+    })
+}
+
+// Whether a clock, a carrier, a routing number, a code and a block stand under the sample's keys,
+// and the first set of windows.
+fn registered(store: &mut MemoryStore, sample: &Sample) -> Option<[bool; 6]> {
+    Some([
+        store.clock().ok()?.is_some(),
+        store.carrier(sample.carrier).ok()?,
+        store.lrn(sample.lrn).ok()? == Some(sample.carrier),
+        store.code(sample.code).ok()? == Some(sample.carrier),
+        store.block(sample.block).ok()?.is_some(),
+        store.window_set(1).ok()? == Some(WINDOWS),
+    ])
+}
+
+// Whether a version does, in force, open, and a broadcast, and whether another's download is the
+// last.
+fn ported(store: &mut MemoryStore, sample: &Sample) -> Option<[bool; 5]> {
+    Some([
+        store.version(1).ok()?.is_some(),
+        store.version_in_force(sample.subject).ok()?.is_some(),
+        store.open_version(sample.subject).ok()?.is_some(),
+        store.broadcast(KEY).ok()?.is_some(),
+        store.is_last_wait(another_wait()?).ok()?,
+    ])
+}
+
+// How many downloads of the sample wait for its carrier.
+fn about(store: &mut MemoryStore, sample: &Sample) -> Option<usize> {
+    let about = store.waits_about(sample.carrier, sample.subject).ok()?;
+    Some(about.as_slice().len())
+}
+
+// How many rows each list has that is one carrier's or one broadcast's.
+fn waiting(store: &mut MemoryStore, sample: &Sample) -> Option<[usize; 4]> {
+    let waits = store.waits(sample.carrier).ok()?.len();
+    let front = store.front(sample.carrier, 10).ok()?.len();
+    let waiters = store.waiters(Minute::ZERO, KEY).ok()?.len();
+    Some([about(store, sample)?, waits, front, waiters])
+}
+
+// And each other one.
+fn listed(store: &mut MemoryStore) -> Option<[usize; 4]> {
+    let block = BlockId::read("2025331")?;
+    let carriers = store.carriers().ok()?.len();
+    let broadcasts = store.open_broadcasts().ok()?.len();
+    let in_force = store.in_force().ok()?.len();
+    let in_block = store.in_block(block).ok()?.len();
+    Some([carriers, broadcasts, in_force, in_block])
+}
+
+fn is_committed(store: &mut MemoryStore, changes: &Changes) -> bool {
+    store.commit(changes).is_ok()
+}
+
+// Whether that is found after a commit that was done, or was refused.
+fn is_read(store: &mut MemoryStore, sample: &Sample, done: bool) -> Option<bool> {
+    let registered = registered(store, sample)?;
+    let ported = ported(store, sample)?;
+    let lists = [waiting(store, sample)?, listed(store)?];
+    let are_rows = registered == [false, done, done, done, done, done];
+    let are_versions = ported == [done, done, false, done, !done];
+    let are_lists = lists == [[usize::from(done); 4]; 2];
+    Some(are_rows && are_versions && are_lists && store.failures() == 0)
+}
+
+fn is_found(alloc: Global) -> Option<bool> {
+    let sample = make_sample()?;
+    let changes = changes(alloc, &sample)?;
+    let mut store = MemoryStore::new(alloc);
+    let done = is_committed(&mut store, &changes);
+    is_read(&mut store, &sample, done)
+}
+
+#[test]
+fn commits_and_reads(rt: HostRuntime) {
+    assert_eq!(rt; is_found(rt.alloc()), Some(true));
+}
+
+// The id of a version, and its deadline.
+type Deadline = (u64, Option<u64>);
+
+fn changes_of(alloc: Global, versions: &[Deadline]) -> Option<Changes> {
+    let sample = make_sample()?;
+    let mut rows = Vec::new(alloc);
+    for (id, deadline) in versions {
+        let mut row = row(&sample);
+        row.deadline = deadline.and_then(Minute::new);
+        rows.push((*id, row)).ok()?;
+    }
+    Some(Changes {
+        versions: Few::Many(rows),
+        ..Changes::none(alloc)
+    })
+}
+
+fn are_committed(alloc: Global, store: &mut MemoryStore, versions: &[Deadline]) -> Option<bool> {
+    let changes = changes_of(alloc, versions)?;
+    Some(is_committed(store, &changes))
+}
+
+// The id of the version whose deadline is least, where that minute is not after this one.
+fn least_due(store: &mut MemoryStore, now: u64) -> Option<Option<u64>> {
+    let least = store.least_due(Minute::new(now)?).ok()?;
+    Some(least.map(|version| version.id))
+}
+
+static FIRST: [Deadline; 4] = [(1, Some(30)), (2, Some(10)), (3, Some(20)), (4, None)];
+
+// The second version is over, and a fifth comes.
+static NEXT: [Deadline; 2] = [(2, None), (5, Some(40))];
+
+// After the first commit, which was done or refused, none is due at 9, and the second from 10 on.
+fn is_second_due(store: &mut MemoryStore, done: bool) -> Option<bool> {
+    let second = if done { Some(2) } else { None };
+    let early = least_due(store, 9)?;
+    Some(early.is_none() && least_due(store, 10)? == second && least_due(store, 1000)? == second)
+}
+
+fn is_least_found_in(alloc: Global, store: &mut MemoryStore) -> Option<bool> {
+    let done = are_committed(alloc, store, &FIRST)?;
+    let at_first = is_second_due(store, done)?;
+    let changed = are_committed(alloc, store, &NEXT)?;
+    let least = match (done, changed) {
+        (true, true) => Some(3),
+        (true, false) => Some(2),
+        (false, true) => Some(5),
+        (false, false) => None,
+    };
+    Some(at_first && least_due(store, 1000)? == least)
+}
+
+fn is_least_found(alloc: Global) -> Option<bool> {
+    let mut store = MemoryStore::new(alloc);
+    is_least_found_in(alloc, &mut store)
+}
+
+#[test]
+fn the_least_deadline_is_found(rt: HostRuntime) {
+    assert_eq!(rt; is_least_found(rt.alloc()), Some(true));
+}
+
+// Downloads of one subject, attempts of one version, in the order in which they are put.
+fn add_waits(changes: &mut Changes, sample: &Sample, attempts: &[u64]) -> Option<()> {
+    for attempt in attempts {
+        let wait = WaitKey {
+            carrier: sample.carrier,
+            minute: Minute::ZERO,
+            id: 1,
+            attempt: *attempt,
+        };
+        changes.waits.push((wait, sample.subject)).ok()?;
+    }
+    Some(())
+}
+
+fn waits_of(alloc: Global, sample: &Sample, attempts: &[u64]) -> Option<Changes> {
+    let mut changes = Changes::none(alloc);
+    add_waits(&mut changes, sample, attempts)?;
+    Some(changes)
+}
+
+// Whether the attempts are those from the first on.
+fn rise(downloads: &[DownloadKey]) -> bool {
+    let mut next: u64 = 1;
+    for download in downloads {
+        if download.attempt != next {
+            return false;
+        }
+        next = next.saturating_add(1);
+    }
+    true
+}
+
+// Whether so many are told, from the first attempt on.
+fn are_told(store: &mut MemoryStore, sample: &Sample, many: usize) -> Option<bool> {
+    let told = store.waits_about(sample.carrier, sample.subject).ok()?;
+    Some(told.as_slice().len() == many && rise(told.as_slice()))
+}
+
+// Whether as many are told as were put.
+fn are_put_and_told(store: &mut MemoryStore, sample: &Sample, changes: &Changes) -> Option<bool> {
+    let done = is_committed(store, changes);
+    are_told(store, sample, if done { changes.waits.len() } else { 0 })
+}
+
+fn are_told_in_order(alloc: Global, attempts: &[u64]) -> Option<bool> {
+    let sample = make_sample()?;
+    let changes = waits_of(alloc, &sample, attempts)?;
+    let mut store = MemoryStore::new(alloc);
+    are_put_and_told(&mut store, &sample, &changes)
+}
+
+static ATTEMPTS: [&[u64]; 4] = [&[], &[2, 1], &[3, 1, 2], &[5, 3, 1, 4, 2]];
+
+// The first row whose downloads are told otherwise.
+fn told_otherwise(alloc: Global) -> Option<usize> {
+    for (at, attempts) in ATTEMPTS.iter().enumerate() {
+        if are_told_in_order(alloc, attempts) != Some(true) {
+            return Some(at);
+        }
+    }
+    None
+}
+
+#[test]
+fn downloads_about_a_subject_are_told_in_order(rt: HostRuntime) {
+    assert_eq!(rt; told_otherwise(rt.alloc()), None);
+}

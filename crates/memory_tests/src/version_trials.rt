@@ -1,0 +1,283 @@
+//! One port of a number: created from both sides, activated, completed, and ended by minutes.
+use crate::commands::{create_of, routed_to, routing};
+use model::{Refusal, Send, Side, Status};
+use numbers::{Minute, Spid};
+use version::{
+    CommandFacts, Create, CreateFacts, Created, Creator, ID_LIMIT, Phase, Version, VersionCommand,
+};
+use windows::{Window, WindowSet, Windows};
+
+const WINDOWS: Windows = Windows {
+    initial_concurrence: Window { minutes: 540 },
+    final_concurrence: Window { minutes: 540 },
+    conflict_restriction: Window { minutes: 1080 },
+    conflict_resolution: Window { minutes: 360 },
+    conflict_expiration: Window { minutes: 43_200 },
+    cancellation_initial: Window { minutes: 540 },
+    cancellation_final: Window { minutes: 540 },
+    pending_retention: Window { minutes: 43_200 },
+    broadcast: Window { minutes: 15 },
+};
+
+// The present windows are another set of the same.
+const PRESENT: WindowSet = WindowSet {
+    number: 2,
+    windows: WINDOWS,
+};
+
+fn create(creator: Creator) -> Option<Create> {
+    create_of("2025331234", Minute::new(5000)?, creator)
+}
+
+// What is known of the number: BBBB serves it, and this version of it is open under the id 6.
+fn facts(opened: Option<Version>) -> Option<CreateFacts> {
+    Some(CreateFacts {
+        is_code_open: true,
+        is_lrn_good: true,
+        server: Some(Spid::read("BBBB")?),
+        in_force: None,
+        opened: opened.map(|version| (6, version)),
+        is_block_released: false,
+        next_id: 7,
+    })
+}
+
+fn first() -> Option<Version> {
+    let create = create(Creator::OldProvider { authorized: true })?;
+    let facts = facts(None)?;
+    match create.apply(create.old_provider, &facts, Minute::new(600)?, &PRESENT) {
+        Ok(Created::First(version)) => Some(version),
+        _ => None,
+    }
+}
+
+fn second() -> Option<Version> {
+    let routing = routing()?;
+    let create = create(Creator::NewProvider { routing })?;
+    let facts = facts(Some(first()?))?;
+    match create.apply(create.new_provider, &facts, Minute::new(700)?, &PRESENT) {
+        Ok(Created::Second { id: 6, version }) => Some(version),
+        _ => None,
+    }
+}
+
+// A minute, and the version's phase in it.
+static PHASES: [(u64, Phase); 3] = [
+    (1139, Phase::Initial),
+    (1140, Phase::Final),
+    (1680, Phase::Ended),
+];
+
+fn has_phases(version: &Version) -> bool {
+    for (number, phase) in &PHASES {
+        let minute = Minute::new(*number).unwrap_or(Minute::ZERO);
+        if version.phase(minute, &WINDOWS) != Some(*phase) {
+            return false;
+        }
+    }
+    true
+}
+
+fn deadline_of(version: &Version) -> Option<u64> {
+    Some(version.deadline(&WINDOWS)?.number)
+}
+
+// Whether a version with one create is open, pending, and over at 1680.
+fn is_offered(version: &Version) -> bool {
+    let stands = version.is_open() && !version.is_in_force() && !version.is_sent_too_often();
+    stands && version.status == Status::Pending && deadline_of(version) == Some(1680)
+}
+
+fn is_first() -> Option<bool> {
+    let version = first()?;
+    Some(is_offered(&version) && has_phases(&version))
+}
+
+#[test]
+fn a_first_create_waits(rt: HostRuntime) {
+    assert!(rt; is_first() == Some(true));
+}
+
+// Whether a version with both creates is routed, has no phase, and is over at 48200.
+fn is_agreed(version: &Version) -> Option<bool> {
+    let phase = version.phase(Minute::new(1140)?, &WINDOWS);
+    let is_routed = version.routing == Some(routing()?);
+    Some(is_routed && phase.is_none() && deadline_of(version) == Some(48_200))
+}
+
+// The version as it is activated in a minute, or why it is not.
+fn activated(both: &Version, number: u64) -> Option<Result<Version, Refusal>> {
+    let minute = Minute::new(number)?;
+    let step = both.commanded(
+        VersionCommand::Activate,
+        both.new_provider,
+        CommandFacts::nothing(),
+        minute,
+        &WINDOWS,
+        &PRESENT,
+    );
+    Some(step.map(|step| step.version))
+}
+
+// Whether it is refused before its due minute, and sent in it.
+fn is_sent_when_due(both: &Version) -> Option<bool> {
+    let sent = both.sending(Send::Create, Minute::new(5000)?, &PRESENT);
+    let is_early = activated(both, 4999)? == Err(Refusal::BeforeDue);
+    Some(is_early && activated(both, 5000)? == Ok(sent) && sent.attempt == 1)
+}
+
+// Whether it is active once it is completed, and waits for nothing.
+fn is_completed(both: &Version) -> Option<bool> {
+    let sent = activated(both, 5000)?.ok()?;
+    let minute = Minute::new(5003)?;
+    let active = sent.completed(minute, &PRESENT);
+    Some(
+        active == sent.with_status(Status::Active, minute, &PRESENT)
+            && active.deadline(&WINDOWS).is_none(),
+    )
+}
+
+// A status, whether a broadcast was acknowledged, and the status after its window.
+type Ended = (Status, bool, Status);
+
+fn ended() -> [Ended; 8] {
+    [
+        (Status::Pending, false, Status::Canceled),
+        (Status::Conflict, false, Status::Canceled),
+        (
+            Status::CancelPending(Side::OldProvider),
+            false,
+            Status::Conflict,
+        ),
+        (
+            Status::CancelPending(Side::NewProvider),
+            false,
+            Status::Canceled,
+        ),
+        (Status::SendingCreate, true, Status::PartialFailure),
+        (Status::SendingCreate, false, Status::Failed),
+        (Status::SendingDelete, true, Status::Old),
+        (Status::SendingDelete, false, Status::Active),
+    ]
+}
+
+// Whether the minute makes of the version in the one status what it is in the other.
+fn is_ended(both: &Version, end: Minute, row: Ended) -> bool {
+    let (status, is_acknowledged, after) = row;
+    let fired = both
+        .with_status(status, Minute::ZERO, &PRESENT)
+        .fired(end, &PRESENT, is_acknowledged);
+    fired == both.with_status(after, end, &PRESENT)
+}
+
+fn are_ended(both: &Version) -> Option<bool> {
+    let end = Minute::new(9000)?;
+    for row in ended() {
+        if !is_ended(both, end, row) {
+            return Some(false);
+        }
+    }
+    let planned = both.with_status(Status::DisconnectPending(end), Minute::ZERO, &PRESENT);
+    Some(planned.fired(end, &PRESENT, false) == both.sending(Send::Delete, end, &PRESENT))
+}
+
+// What a second create, an activation and the end of a window make of it.
+fn goes_on() -> Option<[bool; 4]> {
+    let both = second()?;
+    Some([
+        is_agreed(&both)?,
+        is_sent_when_due(&both)?,
+        is_completed(&both)?,
+        are_ended(&both)?,
+    ])
+}
+
+#[test]
+fn a_second_create_goes_on(rt: HostRuntime) {
+    assert_eq!(rt; goes_on(), Some([true; 4]));
+}
+
+// ---- what is wrong with a modify, from the least refusal to the greatest
+
+const REFUSALS: [Refusal; 5] = [
+    Refusal::BadLrn,
+    Refusal::NotYours,
+    Refusal::Busy,
+    Refusal::WrongStatus,
+    Refusal::Full,
+];
+
+// Of 32 ways to be wrong, those with the bit of a refusal are wrong by it.
+const BITS: [usize; 5] = [1, 2, 4, 8, 16];
+
+fn is_wrong(way: usize, bit: usize) -> bool {
+    way & bit != 0
+}
+
+// The least refusal of a way.
+fn least(way: usize) -> Option<Refusal> {
+    for (refusal, bit) in REFUSALS.iter().zip(BITS.iter()) {
+        if is_wrong(way, *bit) {
+            return Some(*refusal);
+        }
+    }
+    None
+}
+
+// A version that is modified, wrong by its status and its attempts where the way says so.
+fn standing(way: usize) -> Option<Version> {
+    let minute = Minute::new(5003)?;
+    let active = second()?.with_status(Status::Active, minute, &PRESENT);
+    Some(Version {
+        status: if is_wrong(way, 8) {
+            Status::PartialFailure
+        } else {
+            Status::Active
+        },
+        attempt: if is_wrong(way, 16) {
+            ID_LIMIT - 1
+        } else {
+            ID_LIMIT - 2
+        },
+        ..active
+    })
+}
+
+// Why the modify is refused, if it is.
+fn modify_refusal(way: usize) -> Option<Option<Refusal>> {
+    let version = standing(way)?;
+    let told = CommandFacts {
+        is_another_open: is_wrong(way, 4),
+        is_lrn_good: !is_wrong(way, 1),
+    };
+    let caller = if is_wrong(way, 2) {
+        version.old_provider
+    } else {
+        version.new_provider
+    };
+    let routing = routed_to("2025440001")?;
+    let step = version.commanded(
+        VersionCommand::ModifyRouting { routing },
+        caller,
+        told,
+        Minute::new(5004)?,
+        &WINDOWS,
+        &PRESENT,
+    );
+    Some(step.err())
+}
+
+// The first way of which another refusal is told.
+fn first_other_refusal() -> Option<usize> {
+    for way in 0..32 {
+        if modify_refusal(way) != Some(least(way)) {
+            return Some(way);
+        }
+    }
+    None
+}
+
+#[test]
+fn a_modify_is_refused_by_the_least_refusal(rt: HostRuntime) {
+    assert_eq!(rt; first_other_refusal(), None);
+}

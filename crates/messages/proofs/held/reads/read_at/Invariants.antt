@@ -1,8 +1,0 @@
-use Rattle.std.proofs.Common.{◌≡◌, length, take}
-use Rattle.std.specs.Io.KnownBytes.{Keeps}
-use Rattle.messages.proofs.held.reads.read_at.Given as goal
-
-abbrev pub invariant-tries : goal.invariant-tries
-invariant-tries g l = (length l.buf ≡ length l.fn.buf)
-    × (take l.fn.start l.buf ≡ take l.fn.start l.fn.buf) × Keeps (g.R.Read.remaining l.fn.reader)
-    (g.R.Read.remaining l.reader)

@@ -1,0 +1,38 @@
+-- The statuses of a subscription version.
+use Rattle.std.specs.Prelude.{ℕ, Option, Some, None}
+use Rattle.numbers.specs.Routings.{Routing}
+use Rattle.model.specs.declared.words.Side.{Side}
+
+-- what a version sends. A modify has the routing that it puts, which is under way until the
+-- broadcast closes
+pub data Send : Type 0 where
+  Create : Send
+  Delete : Send
+  Modify : (routing : Routing) → Send
+
+-- a cancel-pending version was cancelled by one side, a sending one sends a create, a delete or a
+-- modify, and a disconnect-pending one waits for its release minute
+pub data Status : Type 0 where
+  Pending : Status
+  Conflict : Status
+  CancelPending : (by : Side) → Status
+  Sending : (send : Send) → Status
+  Active : Status
+  PartialFailure : Status
+  Failed : Status
+  DisconnectPending : (release : ℕ) → Status
+  Old : Status
+  Canceled : Status
+
+-- what a version in this status sends, if it sends
+abbrev pub sent_by : Status → Option Send
+sent_by Pending = None
+sent_by Conflict = None
+sent_by (CancelPending by) = None
+sent_by (Sending send) = Some send
+sent_by Active = None
+sent_by PartialFailure = None
+sent_by Failed = None
+sent_by (DisconnectPending release) = None
+sent_by Old = None
+sent_by Canceled = None

@@ -1,5 +1,0 @@
-use Rattle.std.proofs.Common.{refl}
-use Rattle.npac.proofs.running.feed.Goals as goal
-
-pub returns : goal.returns
-returns g c = c.feed_over-store.ensures.feeds tt refl c.new-store.ensures

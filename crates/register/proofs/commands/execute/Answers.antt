@@ -1,0 +1,100 @@
+use Rattle.std.proofs.Common.{arith, rules, ap, ◌∙◌, inl, inr}
+use Rattle.std.specs.Prelude.{Err}
+use Rattle.model.specs.Refusals.{RequestFrom}
+use Rattle.settle.proofs.Risen.{risen-since}
+use Rattle.requests.specs.Calls.{reply_of}
+use Rattle.register.specs.Crashes.{TakesSettledStep}
+use Rattle.register.specs.Requesting.{request_of}
+use Rattle.register.proofs.EveryCall.Composed.{answers_fault}
+use Rattle.settle.proofs.Faults.{fault_is_none}
+use Rattle.register.proofs.EveryCall.Deciding.{carried, carried_refused}
+use Rattle.register.proofs.EveryCall.Left.{comes, left_kept}
+use Rattle.settle.proofs.Faults.{same_refusal, storage_by}
+use Rattle.register.proofs.commands.execute.Goals as goal
+
+pub returns-in_err-reply-clause-answers : goal.returns-in_err-reply-clause-answers
+returns-in_err-reply-clause-answers g c = λ usable.
+    carried_refused (g.S.Store.content c.args.store.now) (g.S.Store.content c.decide.new.store)
+    (RequestFrom c.args.caller.number (request_of c.args.request)) _
+    c.from_residual.result c.in_err-reply.field-0.0 (search rules)
+    (c.in_err-reply.ensures.read_only.same usable).1 (c.in_err-reply.ensures.decides usable)
+
+pub returns-in_err-commit-clause-answers : goal.returns-in_err-commit-clause-answers
+returns-in_err-commit-clause-answers g c = λ usable.
+    answers_fault (g.S.Store.content c.args.store.now) (g.S.Store.content c.commit.new.self)
+    (RequestFrom c.args.caller.number (request_of c.args.request)) reply_of
+    c.from_residual-in_err-commit.result c.in_err-commit.field-0.0 (search rules)
+    (c.in_err-commit.ensures.refused usable ∙ (c.in_ok-reply.ensures.read_only.same
+    (c.in_err-commit.ensures.preserves.usable usable)).1)
+
+pub returns-clause-answers : goal.returns-clause-answers
+returns-clause-answers g c = λ usable.
+    let before = c.in_ok-commit.ensures.preserves.usable usable in
+    carried (g.S.Store.content c.args.store.now) (g.S.Store.content c.decide.new.store)
+    (g.S.Store.content c.commit.new.self) (RequestFrom c.args.caller.number
+    (request_of c.args.request))
+    _ c.in_ok-reply.reply (c.in_ok-reply.ensures.read_only.same before).1
+    (c.in_ok-reply.ensures.decides before) (c.in_ok-commit.ensures.done usable)
+
+pub returns-in_err-reply-clause-preserves : goal.returns-in_err-reply-clause-preserves
+returns-in_err-reply-clause-preserves g c = record {
+  usable = search rules;
+  honest = search rules;
+  stays = search rules;
+  rises = search rules;
+  storage = λ says. c.in_err-reply.ensures.read_only.storage (record {
+    usable = says.usable;
+    st = says.st;
+    refines = says.refines;
+    settled = says.settled;
+    says = ap Err (same_refusal c.in_err-reply.field-0.0 c.from_residual.result
+        (search rules) says.says);
+  });
+}
+
+pub returns-in_err-commit-clause-preserves : goal.returns-in_err-commit-clause-preserves
+returns-in_err-commit-clause-preserves g c = record {
+  usable = search rules;
+  honest = search rules;
+  stays = λ answered. absurd (fault_is_none c.from_residual-in_err-commit.result
+      c.in_err-commit.field-0.0 (search rules) answered);
+  rises = omega arith;
+  storage = λ says. risen-since (g.S.Store.failed c.args.store.now)
+      (g.S.Store.failed c.decide.new.store) (g.S.Store.failed c.commit.new.self)
+      c.decide.ensures.read_only.rises c.commit.ensures.preserves.rises
+      (c.in_err-commit.ensures.preserves.storage
+      (ap Err (storage_by c.from_residual-in_err-commit.result
+      c.in_err-commit.field-0.0 (search rules) says.says)));
+}
+
+pub returns-in_err-commit-clause-left : goal.returns-in_err-commit-clause-left
+returns-in_err-commit-clause-left g c = λ honest m may.
+    let before = c.commit.ensures.preserves.honest honest in
+    let ready = c.in_ok-reply.ensures.open before in
+    let start = c.in_ok-reply.ensures.read_only.same ready in
+    let old = g.S.Store.content c.args.store.now in
+    elim (c.commit.ensures.left honest m may) [
+      | inl earlier ↦ inl (c.in_ok-reply.ensures.read_only.left before m earlier)
+      | inr changed ↦ inr (
+        start.0,
+        comes old m (RequestFrom c.args.caller.number (request_of c.args.request)) _
+            (carried old (g.S.Store.content c.decide.new.store) m (RequestFrom c.args.caller.number
+            (request_of c.args.request)) _ c.in_ok-reply.reply start.1
+            (c.in_ok-reply.ensures.decides ready) changed),
+      )
+    ]
+
+pub returns-clause-left : goal.returns-clause-left
+returns-clause-left g c =
+    let old = c.args.store.now in
+    left_kept g.S.Store.IsUsable g.S.Store.HasHonestDevice g.S.Store.content g.S.Store.IsCrashState
+    old old
+    c.commit.new.self g.met.S.Store.leaves_content
+    (TakesSettledStep (g.S.Store.content old) (RequestFrom c.args.caller.number
+    (request_of c.args.request)))
+    (λ honest. c.in_ok-commit.ensures.preserves.stays tt (c.in_ok-reply.ensures.open
+    (c.in_ok-commit.ensures.preserves.honest honest)) honest)
+    (λ used. search (rules, used))
+    (λ used. comes (g.S.Store.content old) (g.S.Store.content c.commit.new.self)
+    (RequestFrom c.args.caller.number (request_of c.args.request)) _
+    (returns-clause-answers g c used))

@@ -1,0 +1,26 @@
+-- What a command on a version is told of its subject.
+use Rattle.std.specs.Prelude.{◌≡◌, ⊤, ℕ, Option, is_some}
+use Rattle.std.specs.FinMap.{get}
+use Rattle.version.specs.declared.command.CommandFacts.{CommandFacts}
+use Rattle.model.specs.Conditions.{is_the}
+use Rattle.numbers.specs.Subjects.{Subject}
+use Rattle.model.specs.Content.{Content}
+use Rattle.model.specs.Commands.{VersionCommand, Activate, PutInConflict, RemoveFromConflict, Cancel, OldProviderCancellationAcknowledge, NewProviderCancellationAcknowledge, Disconnect, ModifyRouting}
+use Rattle.settle.specs.Reads.{IsOpen}
+use Rattle.settle.specs.declared.rows.NumberedRow.{NumberedRow}
+
+-- a disconnect and a modify ask whether the subject has an open version, a modify whether the
+-- routing number is the provider's
+abbrev pub AreCommandFacts : Content → VersionCommand → Subject → (provider : ℕ) → CommandFacts
+    → Type 0
+AreCommandFacts c Activate s provider told = ⊤
+AreCommandFacts c PutInConflict s provider told = ⊤
+AreCommandFacts c RemoveFromConflict s provider told = ⊤
+AreCommandFacts c Cancel s provider told = ⊤
+AreCommandFacts c OldProviderCancellationAcknowledge s provider told = ⊤
+AreCommandFacts c NewProviderCancellationAcknowledge s provider told = ⊤
+AreCommandFacts c (Disconnect release) s provider told = (o : Option NumberedRow) × IsOpen c s o
+    × (told.is_another_open ≡ is_some o)
+AreCommandFacts c (ModifyRouting lrn cic) s provider told =
+    ((o : Option NumberedRow) × IsOpen c s o × (told.is_another_open ≡ is_some o))
+    × (told.is_lrn_good ≡ is_the provider (get c.lrns lrn))

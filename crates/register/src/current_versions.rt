@@ -1,0 +1,113 @@
+//! What stands of a number and of its block.
+ghost use Rattle.settle.specs.StoreContract.{IsAnswer, IsReadOnly};
+ghost use Rattle.std.specs.Prelude.{Err, ◌≡◌, ◌≤◌, IfOk, option_map};
+ghost use Rattle.numbers.specs.Digits.{block_of};
+ghost use Rattle.numbers.specs.Subjects.{Number, Block};
+ghost use Rattle.numbers.specs.Abstraction.{subject_of};
+ghost use Rattle.register.specs.Serving.{AreServing, IsVersionInForce, IsOpened, is_released};
+
+use model::Status;
+use numbers::{Subject, Tn};
+use pool::ServingFacts;
+use settle::{Store, StoreFault};
+use version::Version;
+
+/// What stands of a number and of its block.
+#[derive(Clone, Copy, Debug)]
+pub struct CurrentVersions {
+    pub in_force: Option<Version>,
+    /// The id of the open version, and the version.
+    pub opened: Option<(u64, Version)>,
+    pub block_in_force: Option<Version>,
+}
+
+fn in_force<S: Store>(store: &mut S, subject: Subject) -> Result<Option<Version>, StoreFault>
+    ensures value { S.IsUsable store.new
+        → IfOk result (IsVersionInForce (S.content store.old) (subject_of subject)) }
+    ensures read_only { IsReadOnly S.IsUsable S.HasHonestDevice S.IsCrashState S.content S.failed
+        store.old store.new (IsAnswer result) (result ≡ Err StoreFault.Storage) }
+{
+    match store.version_in_force(subject)? {
+        None => Ok(None),
+        Some(found) => Ok(Some(found.row.version)),
+    }
+}
+
+fn opened<S: Store>(store: &mut S, subject: Subject) -> Result<Option<(u64, Version)>, StoreFault>
+    ensures value { S.IsUsable store.new
+        → IfOk result (IsOpened (S.content store.old) (subject_of subject)) }
+    ensures read_only { IsReadOnly S.IsUsable S.HasHonestDevice S.IsCrashState S.content S.failed
+        store.old store.new (IsAnswer result) (result ≡ Err StoreFault.Storage) }
+{
+    match store.open_version(subject)? {
+        None => Ok(None),
+        Some(found) => Ok(Some((found.id, found.row.version))),
+    }
+}
+
+impl CurrentVersions {
+    /// Reads the rows of a number and its block.
+    pub fn read<S: Store>(store: &mut S, tn: Tn) -> Result<CurrentVersions, StoreFault>
+        ensures in_force { S.IsUsable store.new
+            → IfOk result (λ row. IsVersionInForce (S.content store.old) (Number tn.number)
+            row.in_force) }
+        ensures opened { S.IsUsable store.new
+            → IfOk result (λ row. IsOpened (S.content store.old) (Number tn.number) row.opened) }
+        ensures block { S.IsUsable store.new
+            → IfOk result (λ row. IsVersionInForce (S.content store.old)
+            (Block (block_of tn.number))
+            row.block_in_force) }
+        ensures read_only { IsReadOnly S.IsUsable S.HasHonestDevice S.IsCrashState S.content
+            S.failed store.old store.new
+            (IsAnswer result) (result ≡ Err StoreFault.Storage) }
+    {
+        Ok(CurrentVersions {
+            in_force: in_force(store, Subject::Number(tn))?,
+            opened: opened(store, Subject::Number(tn))?,
+            block_in_force: in_force(store, Subject::Block(tn.block()))?,
+        })
+    }
+
+    /// Whether the block's version in force sends a delete.
+    pub fn is_block_released(&self) -> bool
+        ensures { result ≡ is_released self.now.block_in_force }
+    {
+        match &self.block_in_force {
+            None => false,
+            Some(version) => matches!(version.status, Status::SendingDelete),
+        }
+    }
+}
+
+// The version without its id.
+fn version_of(opened: Option<(u64, Version)>) -> Option<Version>
+    ensures { result ≡ option_map (λ e. e.1) opened }
+{
+    match opened {
+        None => None,
+        Some((_, version)) => Some(version),
+    }
+}
+
+/// What tells who serves a number.
+pub fn serving_facts<S: Store>(
+    store: &mut S,
+    tn: Tn,
+    row: &CurrentVersions,
+) -> Result<ServingFacts, StoreFault>
+    ensures value { S.IsUsable store.new
+        → IfOk result (AreServing (S.content store.old) tn.number row.now.in_force
+        (option_map (λ e. e.1) row.now.opened) row.now.block_in_force) }
+    ensures read_only { IsReadOnly S.IsUsable S.HasHonestDevice S.IsCrashState S.content S.failed
+        store.old store.new (IsAnswer result) (result ≡ Err StoreFault.Storage) }
+{
+    let is_donated = store.block(tn.block())?.is_some();
+    let code_holder = store.code(tn.code())?;
+    Ok(ServingFacts {
+        in_force: row.in_force,
+        opened: version_of(row.opened),
+        is_donated,
+        block_in_force: row.block_in_force,
+        code_holder,
+    })
+}

@@ -1,0 +1,38 @@
+use Rattle.std.proofs.Common.{◌≡◌, false, rules, subst, sym, ◌∙◌}
+use Rattle.sqlite.specs.Held.{state}
+use Rattle.sqlite.specs.Effect.{Database}
+use Rattle.sql_rows.specs.Content.{next_row_in, wait_in}
+use Rattle.sql_rows.specs.declared.statement.Table.TheVariants.{NextRouting, Wait}
+use Rattle.sql_rows.specs.declared.migration.SchemaVersion.TheVariants.{First}
+use Rattle.sql_store.specs.Migration.{AreNextsRead}
+use Rattle.sql_store.specs.Whole.{IsRead}
+use Rattle.sql_store.proofs.WholeLemmas.{broadcasts_read, nexts_read, waits_read}
+use Rattle.sql_store.proofs.migration.see_sent.Goals as goal
+
+pub returns-clause-value : goal.returns-clause-value
+returns-clause-value g c up =
+    let db = (state g.S.Store c.args.conn.now).now.trees in
+    let third = c.in_ok-see-3.ensures.queried.same up in
+    let second = c.in_ok-see-2.ensures.queried.same third.was_open in
+    let first = c.in_ok-see.ensures.queried.same second.was_open in
+    record {
+      broadcasts = broadcasts_read db false (c.in_ok-see.ensures.value second.was_open);
+      waits = waits_read db false (subst (λ (d : Database). IsRead Wait wait_in d.trees false)
+          first.now (c.in_ok-see-2.ensures.value third.was_open));
+      nexts = subst (λ f. AreNextsRead f db) (sym c.in-Modify.is)
+          (nexts_read db false (subst (λ (d : Database). IsRead NextRouting next_row_in d.trees
+          false) (second.now ∙ first.now) (c.in_ok-see-3.ensures.value up)));
+    }
+
+pub returns-in_default-clause-value : goal.returns-in_default-clause-value
+returns-in_default-clause-value g c up =
+    let db = (state g.S.Store c.args.conn.now).now.trees in
+    let second = c.in_ok-see-2.ensures.queried.same up in
+    let first = c.in_ok-see.ensures.queried.same second.was_open in
+    let is : c.args.form ≡ First = search rules in
+    record {
+      broadcasts = broadcasts_read db false (c.in_ok-see.ensures.value second.was_open);
+      waits = waits_read db false (subst (λ (d : Database). IsRead Wait wait_in d.trees false)
+          first.now (c.in_ok-see-2.ensures.value up));
+      nexts = subst (λ f. AreNextsRead f db) (sym is) (λ r at. absurd at);
+    }

@@ -1,0 +1,500 @@
+//! A file of an earlier form made one of this form, in one transaction.
+ghost use Rattle.std.specs.Prelude.{◌≡◌, ◌⊎◌, ◌<◌, ℕ, List, false, [], Err, IsTrue, IfOk, OnErr, OnOk, is_ok, map};
+ghost use Rattle.sqlite.specs.Given.{HasGiven, IsPlain};
+ghost use Rattle.sqlite.specs.Listing.{understood};
+ghost use Rattle.sqlite.specs.State.{HasCleanDisk, IsRolledBack, Survives};
+ghost use Rattle.sql_rows.specs.Versions.{old_version_in};
+ghost use Rattle.sql_store.specs.Through.{HasReadAll, Unmoved};
+ghost use Rattle.sqlite.specs.Held.{state};
+ghost use Rattle.sqlite.specs.Program.{overlay};
+ghost use Rattle.sqlite.specs.Query.{IsAnswer};
+ghost use Rattle.sql_rows.specs.Found.{IsListAnswer};
+ghost use Rattle.sql_rows.specs.Statements.{query_of};
+ghost use Rattle.sql_rows.specs.Migration.{IsCleared, IsMade, IsTableOf, schema_after, schema_before, schema_of};
+ghost use Rattle.sql_store.specs.Changes.{if_some, with_set};
+ghost use Rattle.sql_rows.specs.Content.{stored_clock};
+ghost use Rattle.version.specs.Abstraction.{windows_of};
+ghost use Rattle.sql_store.specs.Migration.{MigratesInTransaction, AreIdsOf, ArePutBut, HasIds, AreStayingRead, IsBarePut, IsBegun, IsBegunAs, IsCarried, AreRowsCopied, AreTablesCreated, IsIndexed, IsMovedFrom, HasSchemaVersion, IsOldPut, IsOldTaken, IsMigrated, AreTreesMigrated, IsSentRead, AreOldRowsDeleted, HasMigrated, WereItsWindows, WereOtherWindows};
+ghost use Rattle.sql_store.specs.Store.{HasQueried, AppliesInTransaction, WritesInTransaction};
+ghost use Rattle.sql_store.specs.Whole.{AreRegistryRead, IsRead};
+
+use crate::change::{replace, take};
+use crate::file_fault::FileFault;
+use crate::rows::put_set;
+use crate::through::{next_read, read_table};
+use numbers::Spid;
+use settle::VersionRow;
+use sql_rows::{
+    Fault, FromRow, KeyedBlock, KeyedBroadcast, KeyedCode, KeyedLrn, KeyedRouting, KeyedWait,
+    NewTable, OldClock, OldTable, OldVersion, Query, SchemaVersion, StoredClock, Table, all, fits,
+    index_text, number, sole, spid_bytes, version_params,
+};
+use sqlite::{Alter, Connection, Row, Rows, Transaction};
+use std::alloc::Global;
+use windows::Windows;
+
+fn make<S: Alter>(tx: &mut Transaction<'_, S>, table: NewTable) -> Result<(), Fault>
+    ensures same_reference { tx.new.conn.ghost_name ≡ tx.old.conn.ghost_name }
+    ensures alters { MigratesInTransaction (IsBegun (schema_before table))
+        (state S.Store tx.old.conn.now)
+        (state S.Store tx.new.conn.now) (is_ok result) (IsMade table) }
+{
+    tx.execute(table.create_text(), &[])?;
+    Ok(())
+}
+
+fn make_index<S: Alter>(tx: &mut Transaction<'_, S>) -> Result<(), Fault>
+    ensures same_reference { tx.new.conn.ghost_name ≡ tx.old.conn.ghost_name }
+    ensures alters { MigratesInTransaction (IsBegun (schema_after NewTable.Clock))
+        (state S.Store tx.old.conn.now) (state S.Store tx.new.conn.now) (is_ok result) IsIndexed }
+{
+    tx.execute(index_text(), &[])?;
+    Ok(())
+}
+
+// The tables of the sets of windows, of the versions that hold them and of the clock.
+fn make_set_tables<S: Alter>(tx: &mut Transaction<'_, S>) -> Result<(), Fault>
+    ensures same_reference { tx.new.conn.ghost_name ≡ tx.old.conn.ghost_name }
+    ensures alters { MigratesInTransaction (IsBegun (schema_of SchemaVersion.Modify))
+        (state S.Store tx.old.conn.now)
+        (state S.Store tx.new.conn.now) (is_ok result) (AreTablesCreated SchemaVersion.Modify) }
+{
+    make(tx, NewTable::WindowSet)?;
+    make(tx, NewTable::Version)?;
+    make(tx, NewTable::Clock)?;
+    make_index(tx)?;
+    Ok(())
+}
+
+fn make_all_tables<S: Alter>(tx: &mut Transaction<'_, S>) -> Result<(), Fault>
+    ensures same_reference { tx.new.conn.ghost_name ≡ tx.old.conn.ghost_name }
+    ensures alters { MigratesInTransaction (IsBegun (schema_of SchemaVersion.First))
+        (state S.Store tx.old.conn.now)
+        (state S.Store tx.new.conn.now) (is_ok result) (AreTablesCreated SchemaVersion.First) }
+{
+    make(tx, NewTable::NextRouting)?;
+    make_set_tables(tx)?;
+    Ok(())
+}
+
+// The tables that a file of the form lacks.
+fn create_tables<S: Alter>(tx: &mut Transaction<'_, S>, form: SchemaVersion) -> Result<(), Fault>
+    ensures same_reference { tx.new.conn.ghost_name ≡ tx.old.conn.ghost_name }
+    ensures alters { MigratesInTransaction (IsBegun (schema_of form))
+        (state S.Store tx.old.conn.now)
+        (state S.Store tx.new.conn.now) (is_ok result) (AreTablesCreated form) }
+{
+    match form {
+        SchemaVersion::First => make_all_tables(tx),
+        SchemaVersion::Modify => make_set_tables(tx),
+    }
+}
+
+// Puts a version's row as its table has it: the routing that it sends stays where it stands.
+fn put_bare<S: Alter>(tx: &mut Transaction<'_, S>, id: u64, row: &VersionRow) -> Result<(), Fault>
+    ensures same_reference { tx.new.conn.ghost_name ≡ tx.old.conn.ghost_name }
+    ensures writes { WritesInTransaction (state S.Store tx.old.conn.now)
+        (state S.Store tx.new.conn.now) (is_ok result) (IsBarePut id row.now) }
+{
+    if !fits(id, row) {
+        return Err(Fault::Device);
+    }
+    let old = spid_bytes(row.version.old_provider.number);
+    let new = spid_bytes(row.version.new_provider.number);
+    let params = version_params(id, row, &old, &new);
+    replace(tx, Table::Version, &[number(id)], &params)?;
+    Ok(())
+}
+
+// Puts the version with an id as it stands in the table of the earlier forms.
+fn put_old<S: Alter>(tx: &mut Transaction<'_, S>, id: u64) -> Result<(), Fault>
+    ensures same_reference { tx.new.conn.ghost_name ≡ tx.old.conn.ghost_name }
+    ensures writes { WritesInTransaction (state S.Store tx.old.conn.now)
+        (state S.Store tx.new.conn.now) (is_ok result) (IsOldPut id) }
+{
+    if id >= 9223372036854775808 {
+        return Err(Fault::Device);
+    }
+    let rows = tx.query_all(Query::OldVersionNumbered.text(), &[number(id)])?;
+    let Some(found) = sole::<OldVersion>(rows.as_slice())? else {
+        return Err(Fault::Device);
+    };
+    put_bare(tx, id, &found.version.row)?;
+    Ok(())
+}
+
+// Puts the versions with these ids, one at a time.
+fn put_each<S: Alter>(tx: &mut Transaction<'_, S>, ids: &[u64]) -> Result<(), Fault>
+    ensures same_reference { tx.new.conn.ghost_name ≡ tx.old.conn.ghost_name }
+    ensures writes { WritesInTransaction (state S.Store tx.old.conn.now)
+        (state S.Store tx.new.conn.now) (is_ok result) (ArePutBut [] ids.now) }
+{
+    for id in ids {
+        put_old(tx, *id)?;
+    }
+    Ok(())
+}
+
+// The windows of the clock's row are set 1.
+fn put_first_set<S: Alter>(
+    tx: &mut Transaction<'_, S>,
+    clock: Option<OldClock>,
+) -> Result<(), Fault>
+    ensures same_reference { tx.new.conn.ghost_name ≡ tx.old.conn.ghost_name }
+    ensures applies { AppliesInTransaction (state S.Store tx.old.conn.now)
+        (state S.Store tx.new.conn.now) (is_ok result)
+        (if_some (λ c. with_set (stored_clock c.minute.number c.next_id 1) (windows_of c.windows))
+        clock) }
+{
+    match clock {
+        Some(clock) => put_set(
+            tx,
+            &StoredClock {
+                minute: clock.minute,
+                next_id: clock.next_id,
+                present: 1,
+            },
+            &clock.windows,
+        ),
+        None => Ok(()),
+    }
+}
+
+fn clear<S: Alter>(tx: &mut Transaction<'_, S>, table: OldTable) -> Result<(), Fault>
+    ensures same_reference { tx.new.conn.ghost_name ≡ tx.old.conn.ghost_name }
+    ensures writes { WritesInTransaction (state S.Store tx.old.conn.now)
+        (state S.Store tx.new.conn.now) (is_ok result) (IsCleared table) }
+{
+    tx.execute(table.clear_text(), &[])?;
+    Ok(())
+}
+
+// Takes the version with an id away from the table of the earlier forms.
+fn take_old<S: Alter>(tx: &mut Transaction<'_, S>, id: u64) -> Result<(), Fault>
+    ensures same_reference { tx.new.conn.ghost_name ≡ tx.old.conn.ghost_name }
+    ensures writes { WritesInTransaction (state S.Store tx.old.conn.now)
+        (state S.Store tx.new.conn.now) (is_ok result) (IsOldTaken id) }
+{
+    if id >= 9223372036854775808 {
+        return Err(Fault::Device);
+    }
+    take(tx, Table::OldVersion, &[number(id)])
+}
+
+// Takes the versions with these ids away from there, one at a time.
+fn take_each<S: Alter>(tx: &mut Transaction<'_, S>, ids: &[u64]) -> Result<(), Fault>
+    ensures same_reference { tx.new.conn.ghost_name ≡ tx.old.conn.ghost_name }
+    ensures writes { WritesInTransaction (state S.Store tx.old.conn.now)
+        (state S.Store tx.new.conn.now) (is_ok result) AreOldRowsDeleted }
+{
+    for id in ids {
+        take_old(tx, *id)?;
+    }
+    Ok(())
+}
+
+// Empties the table of the earlier forms' versions, of which these are the ids. Each is taken away
+// by its id first: one statement that takes a million away writes a log of many times the file.
+fn clear_versions<S: Alter>(tx: &mut Transaction<'_, S>, ids: &[u64]) -> Result<(), Fault>
+    ensures same_reference { tx.new.conn.ghost_name ≡ tx.old.conn.ghost_name }
+    ensures writes { WritesInTransaction (state S.Store tx.old.conn.now)
+        (state S.Store tx.new.conn.now) (is_ok result) (IsCleared OldTable.Version) }
+{
+    take_each(tx, ids)?;
+    clear(tx, OldTable::Version)?;
+    Ok(())
+}
+
+// The rows of the earlier form, put into the tables of this one: the versions with these ids.
+fn copy_rows<S: Alter>(
+    tx: &mut Transaction<'_, S>,
+    ids: &[u64],
+    clock: Option<OldClock>,
+) -> Result<(), Fault>
+    ensures same_reference { tx.new.conn.ghost_name ≡ tx.old.conn.ghost_name }
+    ensures writes { WritesInTransaction (state S.Store tx.old.conn.now)
+        (state S.Store tx.new.conn.now) (is_ok result) (AreRowsCopied ids.now clock) }
+{
+    put_each(tx, ids)?;
+    put_first_set(tx, clock)?;
+    clear_versions(tx, ids)?;
+    clear(tx, OldTable::Clock)?;
+    Ok(())
+}
+
+fn migrate_tables<S: Alter>(
+    tx: &mut Transaction<'_, S>,
+    form: SchemaVersion,
+    ids: &[u64],
+    clock: Option<OldClock>,
+) -> Result<(), Fault>
+    ensures same_reference { tx.new.conn.ghost_name ≡ tx.old.conn.ghost_name }
+    ensures alters { MigratesInTransaction (IsBegunAs form) (state S.Store tx.old.conn.now)
+        (state S.Store tx.new.conn.now) (is_ok result) (IsMigrated form ids.now clock) }
+{
+    create_tables(tx, form)?;
+    copy_rows(tx, ids, clock)?;
+    Ok(())
+}
+
+// Puts the versions with these ids and the clock's row into the tables of this form, which it
+// makes, and empties those of the earlier one: in one transaction.
+fn move_rows<S: Alter>(
+    conn: &mut Connection<S>,
+    form: SchemaVersion,
+    ids: &[u64],
+    clock: Option<OldClock>,
+) -> Result<(), Fault>
+    requires old { IsTrue (state S.Store conn.old).is_open
+        → HasSchemaVersion form (state S.Store conn.old) }
+    requires idle { conn.old.in_transaction ≡ false }
+    ensures moves { HasMigrated (AreTreesMigrated form ids.now clock) (state S.Store conn.old)
+        (state S.Store conn.new) (is_ok result) }
+    ensures idle { conn.new.in_transaction ≡ false }
+{
+    let mut tx = conn.transaction();
+    migrate_tables(&mut tx, form, ids, clock)?;
+    tx.commit()?;
+    Ok(())
+}
+
+// The rows of a table that a file of the form has.
+fn select_old<S: Alter>(
+    conn: &mut Connection<S>,
+    form: SchemaVersion,
+    table: Table,
+) -> Result<Vec<Row>, Fault>
+    requires has { IsTableOf table form }
+    requires old { IsTrue (state S.Store conn.old).is_open
+        → HasSchemaVersion form (state S.Store conn.old) }
+    requires idle { conn.old.in_transaction ≡ false }
+    ensures value { IsTrue (state S.Store conn.new).is_open
+        → IfOk result (λ rows. IsAnswer (query_of (Query.All table))
+        (overlay (state S.Store conn.old).now.trees []) [] rows.items) }
+    ensures queried { HasQueried (state S.Store conn.old) (state S.Store conn.new) (is_ok result) }
+    ensures idle { conn.new.in_transaction ≡ false }
+{
+    let rows = conn.query_all(Query::All(table).text(), &[])?;
+    Ok(rows)
+}
+
+// The same, each read: one that does not read is a fault of the device.
+fn read_old<T: FromRow + Drop, S: Alter>(
+    conn: &mut Connection<S>,
+    form: SchemaVersion,
+    table: Table,
+) -> Result<Vec<T>, Fault>
+    requires has { IsTableOf table form }
+    requires old { IsTrue (state S.Store conn.old).is_open
+        → HasSchemaVersion form (state S.Store conn.old) }
+    requires idle { conn.old.in_transaction ≡ false }
+    ensures value { IsTrue (state S.Store conn.new).is_open
+        → IfOk result (λ items. IsListAnswer (Query.All table) T.seen_in
+        (state S.Store conn.old).now.trees [] (map T.seen items.items)) }
+    ensures queried { HasQueried (state S.Store conn.old) (state S.Store conn.new) (is_ok result) }
+    ensures idle { conn.new.in_transaction ≡ false }
+{
+    let rows = select_old(conn, form, table)?;
+    let items = all(*rows.allocator(), rows.as_slice())?;
+    Ok(items)
+}
+
+// The ids of the versions, each of which is read.
+fn ids_among<S: Alter>(alloc: Global, rows: &mut Rows<'_, S>) -> Result<Vec<u64>, Fault>
+    ensures same_reference { rows.new.conn.ghost_name ≡ rows.old.conn.ghost_name }
+    ensures all { HasCleanDisk (state S.Store rows.new.conn.now) → IfOk result (λ ids.
+        (sql : List ℕ) → IsPlain (understood (state S.Store rows.old.conn.now).now.schema sql)
+        → HasGiven S.Store sql [] rows.old.conn.now []
+        → HasReadAll old_version_in sql (state S.Store rows.old.conn.now)
+        (state S.Store rows.new.conn.now) (AreIdsOf ids.items)) }
+    ensures err { HasCleanDisk (state S.Store rows.new.conn.now) → OnErr result
+        (Unmoved S.Store rows.old.conn.now rows.new.conn.now
+        ⊎ IsRolledBack (state S.Store rows.old.conn.now) (state S.Store rows.new.conn.now)) }
+    ensures mode { rows.old.conn.now.in_transaction ≡ false
+        → rows.new.conn.now.in_transaction ≡ false }
+    ensures survives { Survives (state S.Store rows.old.conn.now)
+        (state S.Store rows.new.conn.now) (λ _. ⊥) }
+{
+    let mut ids = Vec::new(alloc);
+    'rows: for _ in 0..usize::MAX {
+        let Some(row) = next_read::<OldVersion, S>(rows)? else {
+            return Ok(ids);
+        };
+        ids.push(row.version.id)?;
+    }
+    Err(Fault::Device)
+}
+
+// The ids of the versions of a file of the form, each of which is read: so none but their ids is
+// held.
+fn ids_of<S: Alter>(
+    alloc: Global,
+    conn: &mut Connection<S>,
+    form: SchemaVersion,
+) -> Result<Vec<u64>, Fault>
+    requires old { IsTrue (state S.Store conn.old).is_open
+        → HasSchemaVersion form (state S.Store conn.old) }
+    requires idle { conn.old.in_transaction ≡ false }
+    ensures value { IsTrue (state S.Store conn.new).is_open → IfOk result (λ ids.
+        HasIds ids.items (state S.Store conn.old).now.trees) }
+    ensures queried { HasQueried (state S.Store conn.old) (state S.Store conn.new) (is_ok result) }
+    ensures idle { conn.new.in_transaction ≡ false }
+{
+    let mut rows = conn.query(Query::All(Table::OldVersion).text(), &[])?;
+    ids_among(alloc, &mut rows)
+}
+
+// ---- the tables that stay as they are
+
+// Reads a table that stays as it is.
+fn see<T: FromRow + Drop, S: Alter>(
+    conn: &mut Connection<S>,
+    form: SchemaVersion,
+    table: Table,
+) -> Result<(), Fault>
+    requires has { IsTableOf table form }
+    requires old { IsTrue (state S.Store conn.old).is_open
+        → HasSchemaVersion form (state S.Store conn.old) }
+    requires idle { conn.old.in_transaction ≡ false }
+    ensures value { IsTrue (state S.Store conn.new).is_open
+        → OnOk result (IsRead table T.seen_in (state S.Store conn.old).now.trees false) }
+    ensures queried { HasQueried (state S.Store conn.old) (state S.Store conn.new) (is_ok result) }
+    ensures idle { conn.new.in_transaction ≡ false }
+{
+    read_table::<T, S>(conn, table)?;
+    Ok(())
+}
+
+// Carriers, routing numbers, codes and blocks.
+#[tactic(auto, using(crate::proofs::MigrationLemmas::old_still))]
+fn see_registry<S: Alter>(conn: &mut Connection<S>, form: SchemaVersion) -> Result<(), Fault>
+    requires old { IsTrue (state S.Store conn.old).is_open
+        → HasSchemaVersion form (state S.Store conn.old) }
+    requires idle { conn.old.in_transaction ≡ false }
+    ensures value { IsTrue (state S.Store conn.new).is_open
+        → OnOk result (AreRegistryRead (state S.Store conn.old).now.trees) }
+    ensures queried { HasQueried (state S.Store conn.old) (state S.Store conn.new) (is_ok result) }
+    ensures idle { conn.new.in_transaction ≡ false }
+{
+    see::<Spid, S>(conn, form, Table::Carrier)?;
+    see::<KeyedLrn, S>(conn, form, Table::Lrn)?;
+    see::<KeyedCode, S>(conn, form, Table::Code)?;
+    see::<KeyedBlock, S>(conn, form, Table::Block)?;
+    Ok(())
+}
+
+// What is sent: the broadcasts, the downloads that wait, and the routings that versions send, if
+// the form has a table of those.
+#[tactic(auto, using(crate::proofs::MigrationLemmas::old_still))]
+fn see_sent<S: Alter>(conn: &mut Connection<S>, form: SchemaVersion) -> Result<(), Fault>
+    requires old { IsTrue (state S.Store conn.old).is_open
+        → HasSchemaVersion form (state S.Store conn.old) }
+    requires idle { conn.old.in_transaction ≡ false }
+    ensures value { IsTrue (state S.Store conn.new).is_open
+        → OnOk result (IsSentRead form (state S.Store conn.old).now.trees) }
+    ensures queried { HasQueried (state S.Store conn.old) (state S.Store conn.new) (is_ok result) }
+    ensures idle { conn.new.in_transaction ≡ false }
+{
+    see::<KeyedBroadcast, S>(conn, form, Table::Broadcast)?;
+    see::<KeyedWait, S>(conn, form, Table::Wait)?;
+    let SchemaVersion::Modify = form else {
+        return Ok(());
+    };
+    see::<KeyedRouting, S>(conn, SchemaVersion::Modify, Table::NextRouting)?;
+    Ok(())
+}
+
+// Reads the tables that stay as they are: a row that does not read is a fault of the device.
+#[tactic(auto, using(crate::proofs::MigrationLemmas::old_still))]
+fn see_staying<S: Alter>(conn: &mut Connection<S>, form: SchemaVersion) -> Result<(), Fault>
+    requires old { IsTrue (state S.Store conn.old).is_open
+        → HasSchemaVersion form (state S.Store conn.old) }
+    requires idle { conn.old.in_transaction ≡ false }
+    ensures value { IsTrue (state S.Store conn.new).is_open
+        → OnOk result (AreStayingRead form (state S.Store conn.old).now.trees) }
+    ensures queried { HasQueried (state S.Store conn.old) (state S.Store conn.new) (is_ok result) }
+    ensures idle { conn.new.in_transaction ≡ false }
+{
+    see_registry(conn, form)?;
+    see_sent(conn, form)?;
+    Ok(())
+}
+
+// ---- all
+
+// Whether these windows are the file's own, where it has a clock.
+fn has_windows<S: Alter>(
+    conn: &mut Connection<S>,
+    form: SchemaVersion,
+    windows: &Windows,
+) -> Result<bool, Fault>
+    requires old { IsTrue (state S.Store conn.old).is_open
+        → HasSchemaVersion form (state S.Store conn.old) }
+    requires idle { conn.old.in_transaction ≡ false }
+    ensures own { IsTrue (state S.Store conn.new).is_open → IfOk result (λ are_own. IsTrue are_own
+        → WereItsWindows (windows_of windows.now) (state S.Store conn.old).now.trees) }
+    ensures others { IsTrue (state S.Store conn.new).is_open → IfOk result (λ are_own.
+        are_own ≡ false
+        → WereOtherWindows (windows_of windows.now) (state S.Store conn.old).now.trees) }
+    ensures queried { HasQueried (state S.Store conn.old) (state S.Store conn.new) (is_ok result) }
+    ensures idle { conn.new.in_transaction ≡ false }
+{
+    let clocks: Vec<OldClock> = read_old(conn, form, Table::OldClock)?;
+    match clocks.as_slice() {
+        [] => Ok(true),
+        [clock] => Ok(clock.windows == *windows),
+        _ => Err(Fault::Device),
+    }
+}
+
+// Carries the versions and the clock over.
+#[tactic(auto, using(crate::proofs::MigrationLemmas::old_still))]
+fn carry_over<S: Alter>(
+    alloc: Global,
+    conn: &mut Connection<S>,
+    form: SchemaVersion,
+) -> Result<(), Fault>
+    requires old { IsTrue (state S.Store conn.old).is_open
+        → HasSchemaVersion form (state S.Store conn.old) }
+    requires idle { conn.old.in_transaction ≡ false }
+    ensures moves { HasMigrated (IsCarried form) (state S.Store conn.old)
+        (state S.Store conn.new) (is_ok result) }
+    ensures idle { conn.new.in_transaction ≡ false }
+{
+    let ids = ids_of(alloc, conn, form)?;
+    let clocks: Vec<OldClock> = read_old(conn, form, Table::OldClock)?;
+    match clocks.as_slice() {
+        [] => move_rows(conn, form, ids.as_slice(), None),
+        [clock] => move_rows(conn, form, ids.as_slice(), Some(*clock)),
+        _ => Err(Fault::Device),
+    }
+}
+
+/// Makes a file of an earlier form one of this form, in one transaction: its windows are set 1,
+/// each version holds that, and the tables of the earlier form are empty. Every row is read first.
+/// A row that does not read is a fault of the device, and with other windows than the file's own it
+/// is refused: neither changes anything.
+#[tactic(auto, using(crate::proofs::MigrationLemmas::old_still))]
+pub(crate) fn migrate<S: Alter>(
+    alloc: Global,
+    conn: &mut Connection<S>,
+    form: SchemaVersion,
+    windows: &Windows,
+) -> Result<(), FileFault>
+    requires old { IsTrue (state S.Store conn.old).is_open
+        → HasSchemaVersion form (state S.Store conn.old) }
+    requires idle { conn.old.in_transaction ≡ false }
+    ensures moves { HasMigrated (IsMovedFrom form (windows_of windows.now)) (state S.Store conn.old)
+        (state S.Store conn.new) (is_ok result) }
+    ensures differ { result ≡ Err FileFault.WindowsDiffer
+        → IsTrue (state S.Store conn.new).is_open
+        → WereOtherWindows (windows_of windows.now) (state S.Store conn.old).now.trees }
+    ensures idle { conn.new.in_transaction ≡ false }
+{
+    see_staying(conn, form)?;
+    if !has_windows(conn, form, windows)? {
+        return Err(FileFault::WindowsDiffer);
+    }
+    carry_over(alloc, conn, form)?;
+    Ok(())
+}

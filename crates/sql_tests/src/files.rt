@@ -1,0 +1,93 @@
+//! A database file and its log in memory, each of which may be made to stop.
+use crate::deeds::{DbOperation, PLAIN, Rows, Tell, with_database};
+use crate::said::Story;
+use sqlite::{Files, Options};
+use sqlite_disk::{Disk, Fuse, Memory};
+use std::alloc::Global;
+
+/// A file in memory that passes so many calls on, and fails each one after.
+pub type Fused = Fuse<Memory>;
+
+/// The bytes of a database file and of its log.
+#[derive(Drop)]
+pub struct Held {
+    pub log: Vec<u8>,
+    pub db: Vec<u8>,
+}
+
+/// How many calls each file passes on.
+#[derive(Clone, Copy)]
+pub struct Calls {
+    pub log: u64,
+    pub db: u64,
+}
+
+/// Files that never stop.
+pub const ENDLESS: Calls = Calls {
+    log: u64::MAX,
+    db: u64::MAX,
+};
+
+/// Bytes of their own.
+pub fn copy_of(alloc: Global, bytes: &[u8]) -> Option<Vec<u8>> {
+    let mut copy = Vec::new(alloc);
+    copy.extend_from_slice(bytes).ok()?;
+    Some(copy)
+}
+
+impl Held {
+    /// No bytes, as before the first open.
+    pub fn nothing(alloc: Global) -> Held {
+        Held {
+            log: Vec::new(alloc),
+            db: Vec::new(alloc),
+        }
+    }
+}
+
+/// The bytes that both files have.
+pub fn held_in(alloc: Global, files: &Files<Fused>) -> Option<Held> {
+    Some(Held {
+        log: copy_of(alloc, files.log.inner().bytes())?,
+        db: copy_of(alloc, files.db.inner().bytes())?,
+    })
+}
+
+// A file with these bytes, which are there after any crash.
+fn file_with(alloc: Global, bytes: &[u8], calls: u64) -> Option<Fused> {
+    let mut file = Memory::new(alloc);
+    file.write_at(0, bytes).ok()?;
+    file.sync().ok()?;
+    Some(Fuse::new(file, calls))
+}
+
+/// Files with these bytes, which pass so many calls on.
+pub fn files_with(alloc: Global, held: &Held, calls: Calls) -> Option<Files<Fused>> {
+    Some(Files {
+        log: file_with(alloc, &held.log, calls.log)?,
+        db: file_with(alloc, &held.db, calls.db)?,
+    })
+}
+
+/// What comes of a deed that is done with a database in these bytes, and the bytes then.
+pub fn done_in<D: DbOperation>(
+    alloc: Global,
+    held: &Held,
+    options: Options,
+    deed: D,
+) -> Option<(D::Made, Held)> {
+    let (made, files) = with_database(alloc, files_with(alloc, held, ENDLESS)?, options, deed);
+    Some((made?, held_in(alloc, &files)?))
+}
+
+/// What stands in these bytes: every row, and what is listed.
+pub fn rows_in(alloc: Global, held: &Held) -> Option<Vec<u8>> {
+    let (rows, _held) = done_in(alloc, held, PLAIN, Rows)?;
+    Some(rows)
+}
+
+/// The bytes of a new register to which the stories were told.
+pub fn told_stories(alloc: Global, stories: &[Story<'_>], options: Options) -> Option<Held> {
+    let (_told, held) = done_in(alloc, &Held::nothing(alloc), options, Tell(stories))?;
+    Some(held)
+}

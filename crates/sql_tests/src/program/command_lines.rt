@@ -1,0 +1,390 @@
+//! Command lines, carried out whole, with files that the test makes.
+use super::connections::{CUT, FIRST, LAST, new_listener};
+use crate::said::WINDOWS;
+use cli::parse::{CommandLine, Subcommand, parse};
+use cli::{run, words_of};
+use std::alloc::{AllocError, Global};
+use std::env::{Env, FillError};
+use std::net::OpenListener;
+use std::rt::Files;
+use std::{env, fs, io};
+
+/// A command line, its input, its exit status, what is written, and what is told. Where `None`
+/// stands some text of `clap`'s is.
+pub type Row<'a> = (&'a str, &'a str, u8, Option<&'a str>, Option<&'a str>);
+
+pub const NO_TEXT: Option<&str> = Some("");
+
+const BROADCAST: &str = "broadcast = 15\n";
+
+const REGISTERED: &str = "HTTP/1.1 200 OK\r\ncontent-type: application/json\r\n\
+    content-length: 25\r\n\r\n{\"rows\":[],\"spid\":\"AAAA\"}";
+
+const TAKEN: &str = "HTTP/1.1 409 Conflict\r\ncontent-type: application/json\r\n\
+    content-length: 36\r\n\r\n{\"error\":\"carrier_taken\",\"number\":4}";
+
+const REGISTERED_AND_CUT: &str = "HTTP/1.1 200 OK\r\ncontent-type: application/json\r\n\
+    content-length: 25\r\n\r\n{\"rows\":[],\"spid\":\"AAAA\"}HTTP/1.1 400 Bad Request\r\n\
+    content-type: application/json\r\ncontent-length: 32\r\n\r\n\
+    {\"error\":\"cut_body\",\"number\":46}";
+
+const FIRST_AND_CUT: &str = "POST /carriers HTTP/1.1\r\nx-spid: NPAC\r\n\
+    content-length: 15\r\n\r\n{\"spid\":\"AAAA\"}POST /carriers HTTP/1.1\r\n\
+    x-spid: NPAC\r\ncontent-length: 15\r\n\r\n{\"spid\"";
+
+// Mistakes of the line, before any file is opened.
+static MISTAKES: [Row<'static>; 11] = [
+    ("npacd", "", 2, NO_TEXT, None),
+    ("npacd listen --windows good.toml", "", 2, NO_TEXT, None),
+    ("npacd feed", "", 2, NO_TEXT, None),
+    (
+        "npacd feed --windows good.toml --port 8700",
+        "",
+        2,
+        NO_TEXT,
+        None,
+    ),
+    (
+        "npacd feed --windows good.toml --unknown",
+        FIRST,
+        2,
+        NO_TEXT,
+        None,
+    ),
+    ("npacd serve --windows good.toml", "", 2, NO_TEXT, None),
+    (
+        "npacd serve --windows none.toml --port 0",
+        "",
+        2,
+        NO_TEXT,
+        None,
+    ),
+    (
+        "npacd serve --windows good.toml --port 65536",
+        "",
+        2,
+        NO_TEXT,
+        None,
+    ),
+    (
+        "npacd serve --windows good.toml --port 1 --connections x",
+        "",
+        2,
+        NO_TEXT,
+        None,
+    ),
+    (
+        "npacd serve --windows good.toml --port 1 --connections 0",
+        "",
+        2,
+        NO_TEXT,
+        None,
+    ),
+    (
+        "npacd serve --windows good.toml --port +80",
+        "",
+        2,
+        NO_TEXT,
+        Some("error: a number is written in digits\n"),
+    ),
+];
+
+static HELP: [Row<'static>; 3] = [
+    ("npacd --help", FIRST, 0, None, NO_TEXT),
+    ("npacd serve --help", FIRST, 0, None, NO_TEXT),
+    ("npacd --version", FIRST, 0, Some("npacd 0.1.0\n"), NO_TEXT),
+];
+
+// Faults, the first of which is told: of the windows file, then of the file of messages, then of
+// the input.
+static FAULTS: [Row<'static>; 8] = [
+    (
+        "npacd feed --windows narrow.toml",
+        FIRST,
+        1,
+        NO_TEXT,
+        Some("npacd: missing_key\n"),
+    ),
+    (
+        "npacd feed --windows none.toml",
+        FIRST,
+        3,
+        NO_TEXT,
+        Some("npacd: read\n"),
+    ),
+    (
+        "npacd feed --windows narrow.toml --feed none.http",
+        FIRST,
+        1,
+        NO_TEXT,
+        Some("npacd: missing_key\n"),
+    ),
+    (
+        "npacd feed --windows good.toml --feed none.http",
+        FIRST,
+        3,
+        NO_TEXT,
+        Some("npacd: read\n"),
+    ),
+    (
+        "npacd feed --windows good.toml --feed cut.http",
+        FIRST,
+        1,
+        NO_TEXT,
+        Some("npacd: cut_body\n"),
+    ),
+    (
+        "npacd serve --windows good.toml --port 1 --feed cut.http",
+        FIRST,
+        1,
+        NO_TEXT,
+        Some("npacd: cut_body\n"),
+    ),
+    (
+        "npacd feed --windows good.toml",
+        FIRST_AND_CUT,
+        1,
+        Some(REGISTERED_AND_CUT),
+        Some("npacd: cut_body\n"),
+    ),
+    (
+        "npacd feed --windows good.toml --feed closed.http",
+        CUT,
+        1,
+        None,
+        Some("npacd: cut_body\n"),
+    ),
+];
+
+// What is fed first is answered to nobody, and what stands behind its end is dropped.
+static FED: [Row<'static>; 3] = [
+    (
+        "npacd feed --windows good.toml",
+        FIRST,
+        0,
+        Some(REGISTERED),
+        NO_TEXT,
+    ),
+    (
+        "npacd feed --windows good.toml --feed first.http",
+        FIRST,
+        0,
+        Some(TAKEN),
+        NO_TEXT,
+    ),
+    (
+        "npacd feed --windows good.toml --feed closed.http",
+        FIRST,
+        0,
+        Some(REGISTERED),
+        NO_TEXT,
+    ),
+];
+
+// Lines over a file, each after those before it.
+static STORED: [Row<'static>; 5] = [
+    (
+        "npacd feed --windows good.toml --db made.db",
+        FIRST,
+        0,
+        Some(REGISTERED),
+        NO_TEXT,
+    ),
+    (
+        "npacd feed --windows good.toml --db made.db",
+        FIRST,
+        0,
+        Some(TAKEN),
+        NO_TEXT,
+    ),
+    (
+        "npacd feed --windows wide.toml --db made.db",
+        FIRST,
+        1,
+        NO_TEXT,
+        Some("npacd: windows_differ\n"),
+    ),
+    (
+        "npacd feed --windows good.toml --db good.toml",
+        FIRST,
+        3,
+        NO_TEXT,
+        Some("npacd: storage\n"),
+    ),
+    (
+        "npacd feed --windows good.toml --db :memory:",
+        FIRST,
+        3,
+        NO_TEXT,
+        Some("npacd: storage\n"),
+    ),
+];
+
+fn is_text(bytes: &[u8], wanted: Option<&str>) -> bool {
+    match wanted {
+        Some(text) => bytes == text.as_bytes(),
+        None => !bytes.is_empty(),
+    }
+}
+
+/// The words of a line.
+pub fn words_in(alloc: Global, line: &str) -> Result<Vec<&str>, AllocError> {
+    let mut words = Vec::new(alloc);
+    for word in line.split(' ') {
+        words.push(word)?;
+    }
+    Ok(words)
+}
+
+fn is_carried_out(rt: &HostRuntime, row: &Row<'_>) -> Option<bool> {
+    let (line, input, status, written, told) = *row;
+    let words = words_in(rt.alloc(), line).ok()?;
+    let mut output = Vec::new(rt.alloc());
+    let mut errors = Vec::new(rt.alloc());
+    let mut reader = input.as_bytes();
+    let ended = run(rt, words.as_slice(), &mut reader, &mut output, &mut errors);
+    Some(ended == status && is_text(&output, written) && is_text(&errors, told))
+}
+
+/// The first line that ends otherwise.
+pub fn first_wrong<'a>(rt: &HostRuntime, rows: &'a [Row<'a>]) -> Option<&'a str> {
+    for row in rows {
+        if is_carried_out(rt, row) != Some(true) {
+            return Some(row.0);
+        }
+    }
+    None
+}
+
+// The files of the rows, in the folder that the test's own are in.
+fn make_files<T: Files + AllocGlobal + Env>(rt: &T) -> io::Result<()> {
+    env::set_current_dir(rt, env::temp_dir(rt)?)?;
+    let narrow = WINDOWS.strip_suffix(BROADCAST).unwrap_or("");
+    fs::write(rt, "good.toml", WINDOWS)?;
+    fs::write(rt, "narrow.toml", narrow)?;
+    let wide = WINDOWS.replace(rt.alloc(), BROADCAST, "broadcast = 16\n")?;
+    fs::write(rt, "wide.toml", wide)?;
+    fs::write(rt, "first.http", FIRST)?;
+    fs::write(rt, "cut.http", CUT)?;
+    fs::write(rt, "closed.http", LAST)
+}
+
+#[test]
+fn lines_are_carried_out(rt: HostRuntime) {
+    assert!(rt; make_files(&rt).is_ok());
+    assert_eq!(rt; first_wrong(&rt, &MISTAKES), None);
+    assert_eq!(rt; first_wrong(&rt, &HELP), None);
+    assert_eq!(rt; first_wrong(&rt, &FAULTS), None);
+    assert_eq!(rt; first_wrong(&rt, &FED), None);
+    assert_eq!(rt; first_wrong(&rt, &STORED), None);
+    assert_eq!(rt; is_port_taken(&rt), Some(true));
+}
+
+// A port that another listener has.
+fn is_port_taken(rt: &HostRuntime) -> Option<bool> {
+    let listener = new_listener(rt)?;
+    let port = listener.local_addr().ok()?.port();
+    let line = format!(in rt.alloc(); "npacd serve --windows good.toml --port {port}").ok()?;
+    is_carried_out(
+        rt,
+        &(line.as_str(), "", 3, NO_TEXT, Some("npacd: listen\n")),
+    )
+}
+
+// Whether the words are this line.
+fn is_line(alloc: Global, text: &str, line: &CommandLine<'_>) -> Option<bool> {
+    let words = words_in(alloc, text).ok()?;
+    let parsed = parse(alloc, words.as_slice()).ok()?;
+    Some(parsed == *line)
+}
+
+fn are_lines(alloc: Global) -> Option<bool> {
+    let windows = "w";
+    let feed = Some("f");
+    let subcommand = Subcommand::Serve {
+        port: 65_535,
+        connections: Some(3),
+    };
+    let text = "npacd serve --feed f --connections 3 --port 65535 --windows w";
+    let all = is_line(
+        alloc,
+        text,
+        &CommandLine {
+            subcommand,
+            windows,
+            feed,
+            db: None,
+        },
+    )?;
+    let subcommand = Subcommand::Serve {
+        port: 1,
+        connections: None,
+    };
+    let feed = None;
+    let text = "npacd serve --windows=w --port=1";
+    Some(
+        all && is_line(
+            alloc,
+            text,
+            &CommandLine {
+                subcommand,
+                windows,
+                feed,
+                db: None,
+            },
+        )?,
+    )
+}
+
+#[test]
+fn lines_that_serve(rt: HostRuntime) {
+    assert_eq!(rt; are_lines(rt.alloc()), Some(true));
+}
+
+// These words, and no environment.
+#[derive(Clone, Copy)]
+struct GivenWords<'a> {
+    words: &'a [&'a [u8]],
+}
+
+impl Env for GivenWords<'_> {
+    fn arg(&self, i: usize, buf: &mut [u8]) -> Result<usize, FillError> {
+        let Some(word) = self.words.get(i) else {
+            return Err(FillError::NotPresent);
+        };
+        if word.len() > buf.len() {
+            return Err(FillError::TooLong);
+        }
+        buf[..word.len()].copy_from_slice(word);
+        Ok(word.len())
+    }
+
+    fn var(&self, _name: &str, _buf: &mut [u8]) -> Result<usize, FillError> {
+        Err(FillError::NotPresent)
+    }
+
+    fn var_at(&self, _i: usize, _buf: &mut [u8]) -> Result<usize, FillError> {
+        Err(FillError::NotPresent)
+    }
+}
+
+static NOT_UTF_8: [&[u8]; 3] = [b"npacd", b"feed", b"\xff"];
+
+static ASCII: [&[u8]; 2] = [b"npacd", b"feed"];
+
+// The exit status of words that are not had, or how many there are.
+fn status_of(alloc: Global, words: &[&[u8]]) -> Result<usize, u8> {
+    match words_of(&(GivenWords { words }, alloc)) {
+        Ok(words) => Ok(words.len()),
+        Err(usage) if usage.text.as_str() == "error: an argument is not UTF-8\n" => Err(
+            usage.status,
+        ),
+        Err(_) => Err(0),
+    }
+}
+
+#[test]
+fn words_are_utf_8(rt: HostRuntime) {
+    assert_eq!(rt; status_of(rt.alloc(), &NOT_UTF_8), Err(2));
+    assert_eq!(rt; status_of(rt.alloc(), &ASCII), Ok(2));
+}

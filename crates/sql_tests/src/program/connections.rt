@@ -1,0 +1,197 @@
+//! Connections over a real listener, one after the other.
+use crate::said::{WINDOWS, windows_of};
+use api::{End, Fault, MessageFault, NoTicks, Served, Ticks};
+use cli::{serve_connections, serve_next};
+use numbers::Minute;
+use register::Register;
+use std::alloc::Global;
+use std::cell::Cell;
+use std::io;
+use std::io::{ErrorKind, Read, Write};
+use std::net::{
+    Ipv4Addr, Net, OpenListener, OpenStream, Shutdown, SocketAddr, TcpListener, TcpStream,
+};
+use store::MemoryStore;
+
+/// The carrier AAAA is registered.
+pub const FIRST: &str = "POST /carriers HTTP/1.1\r\nx-spid: NPAC\r\ncontent-length: 15\r\n\r\n\
+    {\"spid\":\"AAAA\"}";
+
+/// The same with a part of its body.
+pub const CUT: &str =
+    "POST /carriers HTTP/1.1\r\nx-spid: NPAC\r\ncontent-length: 15\r\n\r\n{\"spid\"";
+
+/// The carrier BBBB is registered, and asks for the end; what stands behind that is not read.
+pub const LAST: &str = "POST /carriers HTTP/1.1\r\nx-spid: NPAC\r\nconnection: close\r\n\
+    content-length: 15\r\n\r\n{\"spid\":\"BBBB\"}POST /carriers HTTP/1.1\r\n\r\n";
+
+const CLOCK: &str = "POST /clock HTTP/1.1\r\nx-spid: NPAC\r\ncontent-length: 12\r\n\r\n\
+    {\"minute\":9}";
+
+const BAD: &str = "GARBAGE\r\n\r\n";
+
+const FIRST_ROWS: &str = "\r\n\r\n{\"rows\":[],\"spid\":\"AAAA\"}";
+
+const LAST_ROWS: &str = "\r\n\r\n{\"rows\":[],\"spid\":\"BBBB\"}";
+
+const CUT_BODY: &str = "\r\n\r\n{\"error\":\"cut_body\",\"number\":46}";
+
+const BAD_HEAD: &str = "\r\n\r\n{\"error\":\"bad_head\",\"number\":45}";
+
+const NO_PATH: &str = "\r\n\r\n{\"error\":\"no_path\",\"number\":42}";
+
+// Hands in this minute, once.
+#[derive(Drop)]
+struct OneMinute {
+    minute: Option<Minute>,
+}
+
+impl Ticks for OneMinute {
+    fn next(&mut self) -> Option<Minute> {
+        self.minute.take()
+    }
+}
+
+/// A listener at some port of this machine.
+pub fn new_listener<T: Net>(rt: &T) -> Option<T::Listener> {
+    TcpListener::bind(rt, (Ipv4Addr::LOCALHOST, 0)).ok()
+}
+
+/// A register over memory with the windows of the tests.
+pub fn new_register(alloc: Global) -> Option<Register<MemoryStore>> {
+    let windows = windows_of(alloc, WINDOWS)?;
+    Register::open(alloc, MemoryStore::new(alloc), &windows).ok()
+}
+
+/// A client that has said this, and no more comes from it.
+pub fn client_of<T: Net>(rt: &T, address: SocketAddr, text: &str) -> Option<T::Stream> {
+    let mut client = TcpStream::connect(rt, address).ok()?;
+    client.write_all(text.as_bytes()).ok()?;
+    client.shutdown(Shutdown::Write).ok()?;
+    Some(client)
+}
+
+/// What a client hears until its connection ends.
+pub fn heard_by<C: Read>(alloc: Global, client: &mut C) -> Option<String> {
+    let mut heard = String::new(alloc);
+    client.read_to_string(&mut heard).ok()?;
+    Some(heard)
+}
+
+// What becomes of a connection that says this, and what it hears.
+fn met<T: Net + AllocGlobal>(
+    rt: &T,
+    listener: &T::Listener,
+    register: &mut Register<MemoryStore>,
+    ticks: &mut OneMinute,
+    text: &str,
+) -> Option<(Result<Served, Fault>, String)> {
+    let mut client = client_of(rt, listener.local_addr().ok()?, text)?;
+    let served = serve_next(rt.alloc(), listener, register, ticks);
+    Some((served, heard_by(rt.alloc(), &mut client)?))
+}
+
+// Whether a connection that says this, with the minute handed in, ends so and hears this last.
+fn is_met<T: Net + AllocGlobal>(
+    rt: &T,
+    listener: &T::Listener,
+    register: &mut Register<MemoryStore>,
+    said: (u64, &str),
+    end: End,
+    body: &str,
+) -> Option<bool> {
+    let (minute, text) = said;
+    let mut ticks = OneMinute {
+        minute: Minute::new(minute),
+    };
+    let (served, heard) = met(rt, listener, register, &mut ticks, text)?;
+    Some(served == Ok(Served { count: 1, end }) && heard.as_str().ends_with(body))
+}
+
+// A connection that ends, one that is cut, one that asks for its end, one for the clock, and one
+// that is no message, each as it should be. A minute below the present one is dropped. Each client
+// hears the end of its connection, which so is not left open.
+fn are_served<T: Net + AllocGlobal>(rt: &T) -> Option<bool> {
+    let listener = new_listener(rt)?;
+    let mut register = new_register(rt.alloc())?;
+    let first = is_met(
+        rt,
+        &listener,
+        &mut register,
+        (5, FIRST),
+        End::Input,
+        FIRST_ROWS,
+    )?;
+    let refused = End::Refused(MessageFault::CutBody);
+    let cut = is_met(rt, &listener, &mut register, (6, CUT), refused, CUT_BODY)?;
+    let last = is_met(
+        rt,
+        &listener,
+        &mut register,
+        (4, LAST),
+        End::Closed,
+        LAST_ROWS,
+    )?;
+    let clock = is_met(
+        rt,
+        &listener,
+        &mut register,
+        (7, CLOCK),
+        End::Input,
+        NO_PATH,
+    )?;
+    let refused = End::Refused(MessageFault::BadHead);
+    let bad = is_met(rt, &listener, &mut register, (8, BAD), refused, BAD_HEAD)?;
+    Some(first && cut && last && clock && bad)
+}
+
+#[test]
+fn connections_are_served_one_after_the_other(rt: HostRuntime) {
+    assert_eq!(rt; are_served(&rt), Some(true));
+}
+
+// A listener that refuses so many connections first, and counts how often it is asked.
+#[derive(Drop)]
+struct Refusing<'a, L> {
+    listener: &'a L,
+    refusals: Cell<u32>,
+    asked: Cell<u32>,
+}
+
+impl<L: OpenListener> OpenListener for Refusing<'_, L> {
+    type Stream = L::Stream;
+
+    fn accept(&self) -> io::Result<(L::Stream, SocketAddr)> {
+        self.asked.set(self.asked.get().wrapping_add(1));
+        let left = self.refusals.get();
+        if left == 0 {
+            return self.listener.accept();
+        }
+        self.refusals.set(left - 1);
+        Err(ErrorKind::ConnectionAborted.into())
+    }
+}
+
+// A connection that is refused and one that is cut leave the next one served, and count.
+fn are_counted<T: Net + AllocGlobal>(rt: &T) -> Option<bool> {
+    let listener = new_listener(rt)?;
+    let address = listener.local_addr().ok()?;
+    let mut register = new_register(rt.alloc())?;
+    let mut cut = client_of(rt, address, CUT)?;
+    let mut first = client_of(rt, address, FIRST)?;
+    let refusing = Refusing {
+        listener: &listener,
+        refusals: Cell::new(1),
+        asked: Cell::new(0),
+    };
+    serve_connections(rt.alloc(), &refusing, &mut register, &mut NoTicks, Some(3));
+    let cut = heard_by(rt.alloc(), &mut cut)?;
+    let first = heard_by(rt.alloc(), &mut first)?;
+    let heard = cut.as_str().ends_with(CUT_BODY) && first.as_str().ends_with(FIRST_ROWS);
+    Some(heard && refusing.asked.get() == 3)
+}
+
+#[test]
+fn refused_connections_count(rt: HostRuntime) {
+    assert_eq!(rt; are_counted(&rt), Some(true));
+}

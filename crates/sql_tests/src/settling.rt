@@ -1,0 +1,156 @@
+//! What a call settles of a register over a database: the subjects that it reads, and no other.
+use crate::said::{Said, Story, WINDOWS, message, windows_of};
+use api::{NoTicks, Options, serve};
+use register::Register;
+use settle::Store;
+use sql_store::SqlStore;
+use std::alloc::{AllocError, Global};
+use std::cell::Cell;
+use store::CommitCounter;
+
+// Two carriers, and a code that one of them holds.
+static OPENING: Story<'static> = &[
+    ("NPAC", "/carriers", r#"{"spid":"AAAA"}"#),
+    ("NPAC", "/carriers", r#"{"spid":"BBBB"}"#),
+    ("NPAC", "/codes", r#"{"code":"202533","spid":"BBBB"}"#),
+];
+
+// The old provider's create of a number, due at 300.
+fn offer(alloc: Global, line: u64, out: &mut String) -> Result<(), AllocError> {
+    let body = format!(in alloc;
+        "{{\"authorized\":true,\"due\":300,\"new\":\"AAAA\",\"old\":\"BBBB\",\"tn\":\"202533{line}\"}}"
+    )?;
+    let path = "/subscriptionVersionOldSP-Create";
+    out.push_str(message(alloc, &("BBBB", path, body.as_str()))?.as_str())
+}
+
+static AT_120: Said<'static> = ("NPAC", "/clock", r#"{"minute":120}"#);
+
+// What opens a register, a thousand creates, whose windows end at 120, and the clock at that
+// minute: so many messages.
+const UNTIL_120: u64 = 1004;
+
+fn ask_until_120(alloc: Global) -> Result<String, AllocError> {
+    let mut text = String::new(alloc);
+    for said in OPENING {
+        text.push_str(message(alloc, said)?.as_str())?;
+    }
+    for line in 1000..2000 {
+        offer(alloc, line, &mut text)?;
+    }
+    text.push_str(message(alloc, &AT_120)?.as_str())?;
+    Ok(text)
+}
+
+// What is answered to messages, and to how many.
+fn heard<S: Store>(alloc: Global, register: &mut Register<S>, text: &str) -> (Vec<u8>, u64) {
+    let mut heard = Vec::new(alloc);
+    let options = Options { clock_route: true };
+    let reader = &mut text.as_bytes();
+    let served = serve(alloc, register, &mut NoTicks, &options, reader, &mut heard);
+    let count = match served {
+        Ok(served) => served.count,
+        Err(_fault) => 0,
+    };
+    (heard, count)
+}
+
+fn is_told_until_120<S: Store>(alloc: Global, register: &mut Register<S>) -> bool {
+    match ask_until_120(alloc) {
+        Ok(text) => heard(alloc, register, text.as_str()).1 == UNTIL_120,
+        Err(_refused) => false,
+    }
+}
+
+// What is said, the answer's body, and how often the store is asked for a commit.
+type Step = (Said<'static>, &'static str, u64);
+
+static STEPS: [Step; 6] = [
+    // a number that no version is of is asked for
+    (
+        ("AAAA", "/query", r#"{"uri":"tel:+12025339999"}"#),
+        r#"{"uri":"tel:+12025339999;npdi"}"#,
+        0,
+    ),
+    // the first version is shown: canceled at 120
+    (
+        ("AAAA", "/versions/1", ""),
+        r#"{"attempt":0,"cic":null,"due":300,"id":1,"lrn":null,"new":"AAAA","old":"BBBB","phase":null,"release":null,"since":120,"status":"canceled","subject":"2025331000"}"#,
+        1,
+    ),
+    // the clock is refused to go back
+    (
+        ("NPAC", "/clock", r#"{"minute":119}"#),
+        r#"{"error":"clock_back","number":27}"#,
+        0,
+    ),
+    // the clock is moved to the minute at which it stands
+    (("NPAC", "/clock", r#"{"minute":120}"#), r#"{"now":120}"#, 0),
+    // the new provider fetches: the other 999 end, and nothing waits
+    (("AAAA", "/downloads/10", ""), r#"{"downloads":[]}"#, 999),
+    // a carrier is registered
+    (
+        ("NPAC", "/carriers", r#"{"spid":"CCCC"}"#),
+        r#"{"rows":[],"spid":"CCCC"}"#,
+        1,
+    ),
+];
+
+fn takes<S: Store>(alloc: Global, register: &mut Register<S>, step: &Step) -> Option<bool> {
+    let text = message(alloc, &step.0).ok()?;
+    let (heard, count) = heard(alloc, register, text.as_str());
+    let wanted = format!(in alloc; "\r\n\r\n{}", step.1).ok()?;
+    Some(count == 1 && heard.ends_with(wanted.as_bytes()))
+}
+
+// The first step that is answered otherwise, or with other commits.
+fn taken_otherwise<S: Store>(
+    alloc: Global,
+    register: &mut Register<S>,
+    commits: &Cell<u64>,
+) -> Option<usize> {
+    for (at, step) in STEPS.iter().enumerate() {
+        commits.set(0);
+        if takes(alloc, register, step) != Some(true) || commits.get() != step.2 {
+            return Some(at);
+        }
+    }
+    None
+}
+
+// Nothing, if the thousand creates are not told; and the store then.
+fn settled_over<S: Store>(
+    alloc: Global,
+    store: S,
+    commits: &Cell<u64>,
+) -> (Option<Option<usize>>, S) {
+    let Some(windows) = windows_of(alloc, WINDOWS) else {
+        return (None, store);
+    };
+    match Register::open(alloc, store, &windows) {
+        Ok(mut register) => {
+            let is_told = is_told_until_120(alloc, &mut register);
+            let otherwise = taken_otherwise(alloc, &mut register, commits);
+            let settled = if is_told { Some(otherwise) } else { None };
+            (settled, register.close())
+        }
+        Err((store, _fault)) => (None, store),
+    }
+}
+
+fn settled_otherwise(alloc: Global, commits: &Cell<u64>) -> Option<Option<usize>> {
+    let store = CommitCounter {
+        store: SqlStore::in_memory(alloc).ok()?,
+        commits,
+    };
+    let (settled, counted) = settled_over(alloc, store, commits);
+    let CommitCounter { store, commits: _ } = counted;
+    let _database = store.release().into_store();
+    settled
+}
+
+#[test]
+fn a_call_settles_what_it_reads_alone(rt: HostRuntime) {
+    let commits = Cell::new(0);
+    assert_eq!(rt; settled_otherwise(rt.alloc(), &commits), Some(None));
+}
